@@ -1,0 +1,305 @@
+use Rattle.std.proofs.Common.{◌≡◌, ℕ, Bool, ap, refl, subst, sym, ◌∙◌}
+use Rattle.std.specs.Prelude.{if◌then◌else◌, is_some}
+use Rattle.wl_interface.specs.declared.interface.Interface.TheVariants.{WlSubcompositor, WlSubsurface, XdgSurface as AnXdgSurface, XdgToplevel, XdgWmBase}
+use Rattle.wl_peer.specs.Requests.{request_of}
+use Rattle.wl_proto.specs.Messages.{Message, wl_compositor_request, wl_seat_request, wl_subcompositor_request, wl_subsurface_request, wl_surface_request, xdg_surface_request, xdg_wm_base_request}
+use Rattle.wl_proto.specs.declared.wl_compositor.WlCompositorRequest.{WlCompositorRequest}
+use Rattle.wl_proto.specs.declared.wl_compositor.WlCompositorRequest.TheVariants as compositor
+use Rattle.wl_proto.specs.declared.wl_seat.WlSeatRequest.{WlSeatRequest}
+use Rattle.wl_proto.specs.declared.wl_seat.WlSeatRequest.TheVariants as seat
+use Rattle.wl_plain.specs.Demanding.{demand_by, demand_of}
+use Rattle.wl_plain.specs.Desktop.{Resident}
+use Rattle.wl_plain.specs.WlSubsurface.{past_limit}
+use Rattle.wl_plain.specs.WlSurface.{surface_created}
+use Rattle.wl_without_popups.specs.ServedNext.{served_next}
+use Rattle.wl_owning.proofs.Keeping.OwningNames.{targets-at}
+use Rattle.wl_requests.specs.Messages.{IsKind}
+use Rattle.wl_requests.specs.declared.messages.Kind.TheVariants as kinds
+use Rattle.wl_requests.specs.declared.residents.Resident.{Resident as Kept}
+use Rattle.wl_requests.specs.declared.residents.Stacking.{Stacking}
+use Rattle.wl_requests.specs.declared.residents.Stacking.TheVariants.{Stays}
+use Rattle.wl_requests.specs.Residents.{AnswersDemand, AnswersDemandAs, NewIsFree, ObjectsFit, Stacks, StacksSo}
+use Rattle.wl_requests.proofs.Doing.{named-by}
+use Rattle.wl_requests.proofs.Interfaces.{object-is, of-base, of-subcompositor, of-subsurface, of-surface, of-xdg-surface}
+use Rattle.wl_requests.proofs.Simply.{asks-stay}
+use Rattle.wl_requests.proofs.Stackings.{base-stays, subcompositor-stays, subsurface-stays, xdg-stays}
+use Rattle.wl_requests.proofs.residents.Resident.answer.Goals as goal
+
+-- ---- the message is that of the request
+
+answered : {A : Type 0} (old new : Kept A) (object version : ℕ) (m n : Message) → m ≡ n → AnswersDemand (λ r. demand_of served_next r object version n) old new
+    → AnswersDemand (λ r. demand_of served_next r object version m) old new
+answered old new object version m n told h = subst (λ (x : Message). AnswersDemand (λ r. demand_of served_next r object version x) old new) (sym told) h
+
+decided : {A : Type 0} (done : Bool) (old new : Kept A) (object version : ℕ) (m n : Message) → m ≡ n → AnswersDemandAs done (λ r. demand_of served_next r object version n) old new
+    → AnswersDemandAs done (λ r. demand_of served_next r object version m) old new
+decided done old new object version m n told h = subst (λ (x : Message). AnswersDemandAs done (λ r. demand_of served_next r object version x) old new) (sym told) h
+
+stacked : {A : Type 0} (old : Kept A) (stacking : Stacking) (object version : ℕ) (m n : Message) → m ≡ n → Stacks (λ r. demand_of served_next r object version n) old stacking
+    → Stacks (λ r. demand_of served_next r object version m) old stacking
+stacked old stacking object version m n told h = subst (λ (x : Message). Stacks (λ r. demand_of served_next r object version x) old stacking) (sym told) h
+
+-- what isn't served is refused
+unserved-answered : {A : Type 0} (old new : Kept A) (object version : ℕ) (m : Message) → IsKind kinds.Unserved m → AnswersDemand (λ r. past_limit) old new
+    → AnswersDemand (λ r. demand_of served_next r object version m) old new
+unserved-answered old new object version m unserved h =
+    subst (λ (b : Bool). AnswersDemand (λ r. if b then past_limit else demand_by (request_of m) r object version) old new) (sym unserved) h
+
+unserved-stays : {A : Type 0} (old : Kept A) (r : Resident) (object version : ℕ) (m : Message) → IsKind kinds.Unserved m → StacksSo old r (demand_of served_next r object version m) Stays
+unserved-stays old r object version m unserved =
+    subst (λ (b : Bool). StacksSo old r (if b then past_limit else demand_by (request_of m) r object version) Stays) (sym unserved) tt
+
+-- ---- what leaves the stack as it is
+
+compositor-stays : {A : Type 0} (old : Kept A) (r : Resident) (object version : ℕ) (request : WlCompositorRequest)
+    → StacksSo old r (demand_of served_next r object version (wl_compositor_request request)) Stays
+compositor-stays old r object version (compositor.CreateSurface id) = asks-stay old r (surface_created r id version)
+compositor-stays old r object version (compositor.CreateRegion id) = refl
+
+seat-stays : {A : Type 0} (old : Kept A) (r : Resident) (object version : ℕ) (request : WlSeatRequest)
+    → StacksSo old r (demand_of served_next r object version (wl_seat_request request)) Stays
+seat-stays old r object version (seat.GetPointer id) = tt
+seat-stays old r object version (seat.GetKeyboard id) = tt
+seat-stays old r object version (seat.GetTouch id) = tt
+
+-- ---- what is answered
+
+pub returns-in-Surface-clause-answers : goal.returns-in-Surface-clause-answers
+returns-in-Surface-clause-answers g c = λ m kind entry free fit.
+    let v = c.args.self.now in
+    let told : m ≡ wl_surface_request c.in-Surface.request = rw c.in-Surface.is at kind in
+    let named = named-by v.client.objects c.args.object c.args.target _ entry (ap (λ (n : Message). n.interface) told ∙ of-surface c.in-Surface.request) refl in
+    answered v c.wl_surface.new.self c.args.object c.args.version m _ told
+    (c.wl_surface.ensures.answers named (subst (λ (n : Message). NewIsFree v n) told free))
+
+pub returns-in-Toplevel-clause-answers : goal.returns-in-Toplevel-clause-answers
+returns-in-Toplevel-clause-answers g c = λ m kind entry free fit.
+    let v = c.args.self.now in
+    let asked : IsKind (kinds.Toplevel c.in-Toplevel.asked) m = rw c.in-Toplevel.is at kind in
+    c.xdg_toplevel.ensures.answers (targets-at XdgToplevel v.client.objects c.args.object _ entry asked.0) c.args.version m asked.0 asked.1
+
+pub returns-in-Compositor-clause-answers : goal.returns-in-Compositor-clause-answers
+returns-in-Compositor-clause-answers g c = λ m kind entry free fit.
+    let v = c.args.self.now in
+    let told : m ≡ wl_compositor_request c.in-Compositor.request = rw c.in-Compositor.is at kind in
+    answered v c.wl_compositor.new.self c.args.object c.args.version m _ told
+    (c.wl_compositor.ensures.answers (subst (λ (n : Message). NewIsFree v n) told free))
+
+pub returns-in-Subcompositor-clause-answers : goal.returns-in-Subcompositor-clause-answers
+returns-in-Subcompositor-clause-answers g c = λ m kind entry free fit.
+    let v = c.args.self.now in
+    let told : m ≡ wl_subcompositor_request c.in-Subcompositor.request = rw c.in-Subcompositor.is at kind in
+    let is = object-is WlSubcompositor v.client.objects c.args.object _ entry (ap (λ (n : Message). n.interface) told ∙ of-subcompositor c.in-Subcompositor.request) in
+    answered v c.wl_subcompositor.new.self c.args.object c.args.version m _ told
+    (c.wl_subcompositor.ensures.answers is (subst (λ (n : Message). NewIsFree v n) told free) (subst (λ (n : Message). ObjectsFit v n) told fit))
+
+pub returns-in-Subsurface-clause-answers : goal.returns-in-Subsurface-clause-answers
+returns-in-Subsurface-clause-answers g c = λ m kind entry free fit.
+    let v = c.args.self.now in
+    let told : m ≡ wl_subsurface_request c.in-Subsurface.request = rw c.in-Subsurface.is at kind in
+    let is = object-is WlSubsurface v.client.objects c.args.object _ entry (ap (λ (n : Message). n.interface) told ∙ of-subsurface c.in-Subsurface.request) in
+    answered v c.wl_subsurface.new.self c.args.object c.args.version m _ told
+    (c.wl_subsurface.ensures.answers is (subst (λ (n : Message). ObjectsFit v n) told fit))
+
+pub returns-in-Seat-clause-answers : goal.returns-in-Seat-clause-answers
+returns-in-Seat-clause-answers g c = λ m kind entry free fit.
+    let v = c.args.self.now in
+    let told : m ≡ wl_seat_request c.in-Seat.request = rw c.in-Seat.is at kind in
+    answered v c.wl_seat.new.self c.args.object c.args.version m _ told
+    c.wl_seat.ensures.answers
+
+pub returns-in-Base-clause-answers : goal.returns-in-Base-clause-answers
+returns-in-Base-clause-answers g c = λ m kind entry free fit.
+    let v = c.args.self.now in
+    let told : m ≡ xdg_wm_base_request c.in-Base.request = rw c.in-Base.is at kind in
+    let is = object-is XdgWmBase v.client.objects c.args.object _ entry (ap (λ (n : Message). n.interface) told ∙ of-base c.in-Base.request) in
+    answered v c.xdg_wm_base.new.self c.args.object c.args.version m _ told
+    (c.xdg_wm_base.ensures.answers is (subst (λ (n : Message). NewIsFree v n) told free) (subst (λ (n : Message). ObjectsFit v n) told fit))
+
+pub returns-in-XdgSurface-clause-answers : goal.returns-in-XdgSurface-clause-answers
+returns-in-XdgSurface-clause-answers g c = λ m kind entry free fit.
+    let v = c.args.self.now in
+    let told : m ≡ xdg_surface_request c.in-XdgSurface.request = rw c.in-XdgSurface.is at kind in
+    let named = targets-at AnXdgSurface v.client.objects c.args.object _ entry (ap (λ (n : Message). n.interface) told ∙ of-xdg-surface c.in-XdgSurface.request) in
+    answered v c.xdg_surface.new.self c.args.object c.args.version m _ told
+    (c.xdg_surface.ensures.answers named (subst (λ (n : Message). NewIsFree v n) told free))
+
+pub returns-in-Unserved-clause-answers : goal.returns-in-Unserved-clause-answers
+returns-in-Unserved-clause-answers g c = λ m kind entry free fit.
+    unserved-answered c.args.self.now c.refuse_unserved.new.self c.args.object c.args.version m (rw c.in-Unserved.is at kind) c.refuse_unserved.ensures.answers
+
+-- ---- what becomes of the stack
+
+pub returns-in-Surface-clause-stacks : goal.returns-in-Surface-clause-stacks
+returns-in-Surface-clause-stacks g c = λ m kind entry.
+    let v = c.args.self.now in
+    let told : m ≡ wl_surface_request c.in-Surface.request = rw c.in-Surface.is at kind in
+    let named = named-by v.client.objects c.args.object c.args.target _ entry (ap (λ (n : Message). n.interface) told ∙ of-surface c.in-Surface.request) refl in
+    stacked v c.wl_surface.result.stacking c.args.object c.args.version m _ told (c.wl_surface.ensures.stacks named)
+
+pub returns-in-Toplevel-clause-stacks : goal.returns-in-Toplevel-clause-stacks
+returns-in-Toplevel-clause-stacks g c = rw c.of.ensures (λ m kind entry.
+    let asked : IsKind (kinds.Toplevel c.in-Toplevel.asked) m = rw c.in-Toplevel.is at kind in
+    c.xdg_toplevel.ensures.stacks (targets-at XdgToplevel c.args.self.now.client.objects c.args.object _ entry asked.0) c.args.version m asked.0 asked.1)
+
+pub returns-in-Compositor-clause-stacks : goal.returns-in-Compositor-clause-stacks
+returns-in-Compositor-clause-stacks g c = rw c.of-in-Compositor.ensures (λ m kind entry.
+    let v = c.args.self.now in
+    let told : m ≡ wl_compositor_request c.in-Compositor.request = rw c.in-Compositor.is at kind in
+    stacked v Stays c.args.object c.args.version m _ told (λ r is only. compositor-stays v r c.args.object c.args.version c.in-Compositor.request))
+
+pub returns-in-Subcompositor-clause-stacks : goal.returns-in-Subcompositor-clause-stacks
+returns-in-Subcompositor-clause-stacks g c = rw c.of-in-Subcompositor.ensures (λ m kind entry.
+    let v = c.args.self.now in
+    let told : m ≡ wl_subcompositor_request c.in-Subcompositor.request = rw c.in-Subcompositor.is at kind in
+    stacked v Stays c.args.object c.args.version m _ told (λ r is only. subcompositor-stays v r c.args.object c.args.version c.in-Subcompositor.request))
+
+pub returns-in-Subsurface-clause-stacks : goal.returns-in-Subsurface-clause-stacks
+returns-in-Subsurface-clause-stacks g c = rw c.wl_subsurface.ensures.stays (λ m kind entry.
+    let v = c.args.self.now in
+    let told : m ≡ wl_subsurface_request c.in-Subsurface.request = rw c.in-Subsurface.is at kind in
+    stacked v Stays c.args.object c.args.version m _ told (λ r is only. subsurface-stays v r c.args.object c.args.version c.in-Subsurface.request))
+
+pub returns-in-Seat-clause-stacks : goal.returns-in-Seat-clause-stacks
+returns-in-Seat-clause-stacks g c = rw c.of-in-Seat.ensures (λ m kind entry.
+    let v = c.args.self.now in
+    let told : m ≡ wl_seat_request c.in-Seat.request = rw c.in-Seat.is at kind in
+    stacked v Stays c.args.object c.args.version m _ told (λ r is only. seat-stays v r c.args.object c.args.version c.in-Seat.request))
+
+pub returns-in-Base-clause-stacks : goal.returns-in-Base-clause-stacks
+returns-in-Base-clause-stacks g c = rw c.of-in-Base.ensures (λ m kind entry.
+    let v = c.args.self.now in
+    let told : m ≡ xdg_wm_base_request c.in-Base.request = rw c.in-Base.is at kind in
+    stacked v Stays c.args.object c.args.version m _ told (λ r is only. base-stays v r c.args.object c.args.version c.in-Base.request))
+
+pub returns-in-XdgSurface-clause-stacks : goal.returns-in-XdgSurface-clause-stacks
+returns-in-XdgSurface-clause-stacks g c = rw c.of-in-XdgSurface.ensures (λ m kind entry.
+    let v = c.args.self.now in
+    let told : m ≡ xdg_surface_request c.in-XdgSurface.request = rw c.in-XdgSurface.is at kind in
+    stacked v Stays c.args.object c.args.version m _ told (λ r is only. xdg-stays v r c.args.object c.args.version c.in-XdgSurface.request))
+
+pub returns-in-Unserved-clause-stacks : goal.returns-in-Unserved-clause-stacks
+returns-in-Unserved-clause-stacks g c = rw c.of-in-Unserved.ensures (λ m kind entry r is only.
+    unserved-stays c.args.self.now r c.args.object c.args.version m (rw c.in-Unserved.is at kind))
+
+-- ---- what touches several surfaces, and what does not
+
+pub returns-in-Surface-clause-decides : goal.returns-in-Surface-clause-decides
+returns-in-Surface-clause-decides g c = λ touch touches m kind entry.
+    let v = c.args.self.now in
+    let told : m ≡ wl_surface_request c.in-Surface.request = rw c.in-Surface.is at kind in
+    let named = named-by v.client.objects c.args.object c.args.target _ entry (ap (λ (n : Message). n.interface) told ∙ of-surface c.in-Surface.request) refl in
+    decided (is_some c.wl_surface.result.applied) v c.wl_surface.new.self c.args.object c.args.version m _ told
+    (c.wl_surface.ensures.decides touch (rw c.in-Surface.is at touches) named)
+
+pub returns-in-Surface-clause-touched : goal.returns-in-Surface-clause-touched
+returns-in-Surface-clause-touched g c = λ touch touches. c.wl_surface.ensures.touched touch (rw c.in-Surface.is at touches)
+
+pub returns-in-Surface-clause-nothing : goal.returns-in-Surface-clause-nothing
+returns-in-Surface-clause-nothing g c = λ none numbers ss are. c.wl_surface.ensures.nothing (λ touch touches. none touch (rw c.in-Surface.is touches))
+
+pub returns-in-Toplevel-clause-decides : goal.returns-in-Toplevel-clause-decides
+returns-in-Toplevel-clause-decides g c = λ touch touches. absurd (rw c.in-Toplevel.is at touches)
+
+pub returns-in-Toplevel-clause-touched : goal.returns-in-Toplevel-clause-touched
+returns-in-Toplevel-clause-touched g c = λ touch touches. absurd (rw c.in-Toplevel.is at touches)
+
+pub returns-in-Toplevel-clause-nothing : goal.returns-in-Toplevel-clause-nothing
+returns-in-Toplevel-clause-nothing g c = λ none numbers ss are. rw c.of.ensures
+
+pub returns-in-Compositor-clause-decides : goal.returns-in-Compositor-clause-decides
+returns-in-Compositor-clause-decides g c = λ touch touches. absurd (rw c.in-Compositor.is at touches)
+
+pub returns-in-Compositor-clause-touched : goal.returns-in-Compositor-clause-touched
+returns-in-Compositor-clause-touched g c = λ touch touches. absurd (rw c.in-Compositor.is at touches)
+
+pub returns-in-Compositor-clause-nothing : goal.returns-in-Compositor-clause-nothing
+returns-in-Compositor-clause-nothing g c = λ none numbers ss are. rw c.of-in-Compositor.ensures
+
+pub returns-in-Subcompositor-clause-decides : goal.returns-in-Subcompositor-clause-decides
+returns-in-Subcompositor-clause-decides g c = λ touch touches. absurd (rw c.in-Subcompositor.is at touches)
+
+pub returns-in-Subcompositor-clause-touched : goal.returns-in-Subcompositor-clause-touched
+returns-in-Subcompositor-clause-touched g c = λ touch touches. absurd (rw c.in-Subcompositor.is at touches)
+
+pub returns-in-Subcompositor-clause-nothing : goal.returns-in-Subcompositor-clause-nothing
+returns-in-Subcompositor-clause-nothing g c = λ none numbers ss are. rw c.of-in-Subcompositor.ensures
+
+pub returns-in-Subsurface-clause-decides : goal.returns-in-Subsurface-clause-decides
+returns-in-Subsurface-clause-decides g c = λ touch touches m kind entry.
+    let v = c.args.self.now in
+    let told : m ≡ wl_subsurface_request c.in-Subsurface.request = rw c.in-Subsurface.is at kind in
+    let is = object-is WlSubsurface v.client.objects c.args.object _ entry (ap (λ (n : Message). n.interface) told ∙ of-subsurface c.in-Subsurface.request) in
+    decided (is_some c.wl_subsurface.result.applied) v c.wl_subsurface.new.self c.args.object c.args.version m _ told
+    (c.wl_subsurface.ensures.decides c.args.target touch (rw c.in-Subsurface.is at touches) is)
+
+pub returns-in-Subsurface-clause-touched : goal.returns-in-Subsurface-clause-touched
+returns-in-Subsurface-clause-touched g c = λ touch touches. c.wl_subsurface.ensures.touched c.args.target touch (rw c.in-Subsurface.is at touches)
+
+pub returns-in-Subsurface-clause-nothing : goal.returns-in-Subsurface-clause-nothing
+returns-in-Subsurface-clause-nothing g c = λ none numbers ss are. c.wl_subsurface.ensures.nothing c.args.target (λ touch touches. none touch (rw c.in-Subsurface.is touches)) numbers ss are
+
+pub returns-in-Seat-clause-decides : goal.returns-in-Seat-clause-decides
+returns-in-Seat-clause-decides g c = λ touch touches. absurd (rw c.in-Seat.is at touches)
+
+pub returns-in-Seat-clause-touched : goal.returns-in-Seat-clause-touched
+returns-in-Seat-clause-touched g c = λ touch touches. absurd (rw c.in-Seat.is at touches)
+
+pub returns-in-Seat-clause-nothing : goal.returns-in-Seat-clause-nothing
+returns-in-Seat-clause-nothing g c = λ none numbers ss are. rw c.of-in-Seat.ensures
+
+pub returns-in-Base-clause-decides : goal.returns-in-Base-clause-decides
+returns-in-Base-clause-decides g c = λ touch touches. absurd (rw c.in-Base.is at touches)
+
+pub returns-in-Base-clause-touched : goal.returns-in-Base-clause-touched
+returns-in-Base-clause-touched g c = λ touch touches. absurd (rw c.in-Base.is at touches)
+
+pub returns-in-Base-clause-nothing : goal.returns-in-Base-clause-nothing
+returns-in-Base-clause-nothing g c = λ none numbers ss are. rw c.of-in-Base.ensures
+
+pub returns-in-XdgSurface-clause-decides : goal.returns-in-XdgSurface-clause-decides
+returns-in-XdgSurface-clause-decides g c = λ touch touches. absurd (rw c.in-XdgSurface.is at touches)
+
+pub returns-in-XdgSurface-clause-touched : goal.returns-in-XdgSurface-clause-touched
+returns-in-XdgSurface-clause-touched g c = λ touch touches. absurd (rw c.in-XdgSurface.is at touches)
+
+pub returns-in-XdgSurface-clause-nothing : goal.returns-in-XdgSurface-clause-nothing
+returns-in-XdgSurface-clause-nothing g c = λ none numbers ss are. rw c.of-in-XdgSurface.ensures
+
+pub returns-in-Unserved-clause-decides : goal.returns-in-Unserved-clause-decides
+returns-in-Unserved-clause-decides g c = λ touch touches. absurd (rw c.in-Unserved.is at touches)
+
+pub returns-in-Unserved-clause-touched : goal.returns-in-Unserved-clause-touched
+returns-in-Unserved-clause-touched g c = λ touch touches. absurd (rw c.in-Unserved.is at touches)
+
+pub returns-in-Unserved-clause-nothing : goal.returns-in-Unserved-clause-nothing
+returns-in-Unserved-clause-nothing g c = λ none numbers ss are. rw c.of-in-Unserved.ensures
+
+-- ---- what has come gets no longer
+
+pub returns-in-Surface-clause-rest : goal.returns-in-Surface-clause-rest
+returns-in-Surface-clause-rest g c = c.wl_surface.ensures.rest
+
+pub returns-in-Toplevel-clause-rest : goal.returns-in-Toplevel-clause-rest
+returns-in-Toplevel-clause-rest g c = c.xdg_toplevel.ensures.rest
+
+pub returns-in-Compositor-clause-rest : goal.returns-in-Compositor-clause-rest
+returns-in-Compositor-clause-rest g c = c.wl_compositor.ensures.rest
+
+pub returns-in-Subcompositor-clause-rest : goal.returns-in-Subcompositor-clause-rest
+returns-in-Subcompositor-clause-rest g c = c.wl_subcompositor.ensures.rest
+
+pub returns-in-Subsurface-clause-rest : goal.returns-in-Subsurface-clause-rest
+returns-in-Subsurface-clause-rest g c = c.wl_subsurface.ensures.rest
+
+pub returns-in-Seat-clause-rest : goal.returns-in-Seat-clause-rest
+returns-in-Seat-clause-rest g c = c.wl_seat.ensures.rest
+
+pub returns-in-Base-clause-rest : goal.returns-in-Base-clause-rest
+returns-in-Base-clause-rest g c = c.xdg_wm_base.ensures.rest
+
+pub returns-in-XdgSurface-clause-rest : goal.returns-in-XdgSurface-clause-rest
+returns-in-XdgSurface-clause-rest g c = c.xdg_surface.ensures.rest
+
+pub returns-in-Unserved-clause-rest : goal.returns-in-Unserved-clause-rest
+returns-in-Unserved-clause-rest g c = c.refuse_unserved.ensures.rest

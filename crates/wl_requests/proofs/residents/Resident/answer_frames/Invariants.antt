@@ -1,0 +1,17 @@
+use Rattle.std.proofs.Common.{◌≡◌, None, length}
+use Rattle.wl_plain.specs.Desktop.{Resident}
+use Rattle.wl_orderly.specs.Orderly.{OwnsOrderly}
+use Rattle.wl_owning.specs.Owning.{names_in}
+use Rattle.wl_requests.specs.Residents.{IsResident}
+use Rattle.wl_requests.proofs.Answering.{IsAnswered}
+use Rattle.wl_requests.proofs.residents.Resident.answer_frames.Given as goal
+
+-- the client lives, and was told of some of its callbacks
+abbrev pub invariant-loop-callback : goal.invariant-loop-callback
+invariant-loop-callback g l =
+    (l.fn.self.client.ended ≡ None → (r : Resident) → IsResident l.fn.self r → OwnsOrderly r
+    → (mid : Resident) × IsAnswered l.time r mid × IsResident l.self mid × (names_in l.self.client.objects ≡ names_in l.fn.self.client.objects))
+    × (l.self.owned.linked.surfaces.places ≡ l.fn.self.owned.linked.surfaces.places)
+
+abbrev pub decreases-loop-callback : goal.decreases-loop-callback
+decreases-loop-callback g l = length l.self.owned.linked.surfaces.frames

@@ -1,0 +1,116 @@
+use Rattle.std.proofs.Common.{◌≡◌, ℕ, Bool, Result, refl, ap, subst, sym, ◌∙◌}
+use Rattle.std.specs.Prelude.{Err, is_some}
+use Rattle.wl_peer.specs.Peer.{counted}
+use Rattle.wl_shell.specs.Kept.{changing, commit_answer, kept_after, kept_of}
+use Rattle.wl_shell.specs.declared.acts.ShellAct.{ShellAct}
+use Rattle.wl_peer.specs.declared.refusals.Refusal.{Refusal}
+use Rattle.wl_owning.specs.Owning.{asks_by, kept_base, kept_id, names_in, shell_refusal}
+use Rattle.wl_plain.specs.Step.{with_peer}
+use Rattle.wl_plain.specs.WlSurface.{will_show}
+use Rattle.wl_owning.proofs.Keeping.OwningReads.{accepted-effect, committed-by, pending-read}
+use Rattle.wl_plain.specs.Demand.{Demand, CommitTree}
+use Rattle.wl_plain.specs.Demanding.{commit_demand}
+use Rattle.wl_requests.specs.Residents.{AnswersAs, StacksSo}
+use Rattle.wl_requests.proofs.Simply.{counted-orderly}
+use Rattle.wl_requests.proofs.Stackings.{commit-stacks}
+use Rattle.wl_requests.proofs.Shelling.{meets-from, names-counted, objects-counted, refused-as, told-err}
+use Rattle.wl_requests.proofs.residents.Resident.commit.Goals as goal
+use Rattle.wl_requests.proofs.Framing.{framed-names, one-more}
+
+pub returns-in-Ok-clause-answers : goal.returns-in-Ok-clause-answers
+returns-in-Ok-clause-answers g c = λ named client r on is only.
+    let v = c.args.self.now in
+    let object = c.args.object in
+    let number = c.args.surface in
+    let act = c.in-Ok.act in
+    let names = names_in v.client.objects in
+    let kept = kept_of v.owned.shell in
+    let shows = c.is_some-has_buffer.result in
+    let will : shows ≡ will_show r object = c.is_some-has_buffer.ensures ∙ pending-read names v.owned.linked.surfaces v.owned.linked.family kept r is.owns object number c.pending_buffer.result
+    named c.pending_buffer.ensures in
+    let answer = sym c.on_commit.ensures.answer ∙ c.in-Ok.is in
+    let judged = committed-by names v.owned.linked.surfaces v.owned.linked.family kept r is.owns object number 0 0 only.no_popups.roles named
+    ∙ ap (λ (b : Bool). asks_by (λ (a : ShellAct). CommitTree object) (shell_refusal 0 (kept_id (kept number)) 0) (commit_answer b (kept number))) (sym will)
+    ∙ ap (asks_by (λ (a : ShellAct). CommitTree object) (shell_refusal 0 (kept_id (kept number)) 0)) answer in
+    let serial : c.serial-serial.result ≡ r.peer.serial = c.serial-serial.ensures ∙ is.peer.serial in
+    let shell = c.in-Ok.ensures.ok ∙ ap (λ (n : ℕ). changing number (kept_after n act) kept) serial in
+    let comes = accepted-effect names v.owned.linked.surfaces v.owned.linked.family kept r is.owns object number act only.no_popups.roles named
+    (ap (λ (b : Bool). commit_answer b (kept number)) (sym will) ∙ answer) in
+    let applied = c.apply-applied.ensures.applies client (with_peer (counted r.peer) r) on names object kept shows (counted-orderly r only) comes
+    (sym is.peer.status ∙ is.lives) (c.count.ensures.counts r.peer is.peer) is.owns
+    (framed-names v.owned.linked.surfaces.frames v.client.objects v.client.objects r (with_peer (counted r.peer) r) refl (one-more r.peer.requests) is.frames refl refl)
+    is.subsurfaces (names-counted v.client c.count.new.self c.count.ensures.only) named answer serial shell in
+    let done = is_some c.apply-applied.result in
+    subst (λ (j : Result Demand Refusal). AnswersAs done j client r on v c.apply-applied.new.self) (sym judged)
+    (meets-from done (CommitTree object) client (with_peer (counted r.peer) r) on v (record v { client = c.count.new.self; owned = record v.owned { shell = c.on_commit.new.self } })
+    c.apply-applied.new.self
+    (objects-counted v.client c.count.new.self c.count.ensures.only) applied)
+
+pub returns-in-Err-clause-answers : goal.returns-in-Err-clause-answers
+returns-in-Err-clause-answers g c = rw c.of.ensures (λ named client r on is only.
+    let v = c.args.self.now in
+    let object = c.args.object in
+    let number = c.args.surface in
+    let error = c.in-Err.error in
+    let names = names_in v.client.objects in
+    let kept = kept_of v.owned.shell in
+    let xdg = c.xdg_surface_of-xdg_surface.result in
+    let base = kept_base (kept_of c.on_commit.new.self number) in
+    let will : c.is_some-has_buffer.result ≡ will_show r object = c.is_some-has_buffer.ensures
+    ∙ pending-read names v.owned.linked.surfaces v.owned.linked.family kept r is.owns object number c.pending_buffer.result named c.pending_buffer.ensures in
+    let same : kept_id (kept number) ≡ xdg = sym (c.xdg_surface_of-xdg_surface.ensures ∙ ap (λ b. kept_id (kept_of b number)) c.in-Err.ensures.err) in
+    let judged = told-err (commit_demand r object) (λ (a : ShellAct). CommitTree object) (shell_refusal base (kept_id (kept number)) xdg) (commit_answer (will_show r object) (kept number))
+    c.on_commit.result error
+    (committed-by names v.owned.linked.surfaces v.owned.linked.family kept r is.owns object number base xdg only.no_popups.roles named)
+    (c.on_commit.ensures.answer ∙ ap (λ (b : Bool). commit_answer b (kept number)) will) c.in-Err.is in
+    refused-as _ _ client r on (commit_demand r object) (shell_refusal base xdg xdg error) (judged ∙ ap (λ i. Err (shell_refusal base i xdg error)) same)
+    c.refuse_xdg_surface.ensures.ended
+    (c.refuse_xdg_surface.ensures.errs r.peer is.peer))
+
+pub returns-in-Ok-clause-stacks : goal.returns-in-Ok-clause-stacks
+returns-in-Ok-clause-stacks g c = λ named r is only.
+    let v = c.args.self.now in
+    let object = c.args.object in
+    let number = c.args.surface in
+    let names = names_in v.client.objects in
+    let kept = kept_of v.owned.shell in
+    let will : c.is_some-has_buffer.result ≡ will_show r object = c.is_some-has_buffer.ensures
+    ∙ pending-read names v.owned.linked.surfaces v.owned.linked.family kept r is.owns object number c.pending_buffer.result named c.pending_buffer.ensures in
+    let judged = committed-by names v.owned.linked.surfaces v.owned.linked.family kept r is.owns object number 0 0 only.no_popups.roles named
+    ∙ ap (λ (b : Bool). asks_by (λ (a : ShellAct). CommitTree object) (shell_refusal 0 (kept_id (kept number)) 0) (commit_answer b (kept number))) (sym will)
+    ∙ ap (asks_by (λ (a : ShellAct). CommitTree object) (shell_refusal 0 (kept_id (kept number)) 0)) (sym c.on_commit.ensures.answer ∙ c.in-Ok.is) in
+    let comes = accepted-effect names v.owned.linked.surfaces v.owned.linked.family kept r is.owns object number c.in-Ok.act only.no_popups.roles named
+    (ap (λ (b : Bool). commit_answer b (kept number)) (sym will)
+    ∙ sym c.on_commit.ensures.answer ∙ c.in-Ok.is) in
+    commit-stacks v r object number c.in-Ok.act (commit_demand r object) c.stacking_of.result named judged comes c.stacking_of.ensures
+
+pub returns-in-Ok-clause-rest : goal.returns-in-Ok-clause-rest
+returns-in-Ok-clause-rest g c = rw (← c.count.ensures.rest) c.apply-applied.ensures.rest
+
+pub returns-in-Err-clause-rest : goal.returns-in-Err-clause-rest
+returns-in-Err-clause-rest g c = c.refuse_xdg_surface.ensures.rest
+
+pub returns-in-Err-clause-stacks : goal.returns-in-Err-clause-stacks
+returns-in-Err-clause-stacks g c = λ named r is only.
+    let v = c.args.self.now in
+    let object = c.args.object in
+    let number = c.args.surface in
+    let error = c.in-Err.error in
+    let names = names_in v.client.objects in
+    let kept = kept_of v.owned.shell in
+    let xdg = c.xdg_surface_of-xdg_surface.result in
+    let base = kept_base (kept_of c.on_commit.new.self number) in
+    let will : c.is_some-has_buffer.result ≡ will_show r object = c.is_some-has_buffer.ensures
+    ∙ pending-read names v.owned.linked.surfaces v.owned.linked.family kept r is.owns object number c.pending_buffer.result named c.pending_buffer.ensures in
+    let same : kept_id (kept number) ≡ xdg = sym (c.xdg_surface_of-xdg_surface.ensures ∙ ap (λ b. kept_id (kept_of b number)) c.in-Err.ensures.err) in
+    let judged = told-err (commit_demand r object) (λ (a : ShellAct). CommitTree object) (shell_refusal base (kept_id (kept number)) xdg) (commit_answer (will_show r object) (kept number))
+    c.on_commit.result error
+    (committed-by names v.owned.linked.surfaces v.owned.linked.family kept r is.owns object number base xdg only.no_popups.roles named)
+    (c.on_commit.ensures.answer ∙ ap (λ (b : Bool). commit_answer b (kept number)) will) c.in-Err.is in
+    subst (λ (j : Result Demand Refusal). StacksSo v r j c.of.result.stacking) (sym judged) tt
+
+pub returns-in-Ok-clause-touched : goal.returns-in-Ok-clause-touched
+returns-in-Ok-clause-touched g c = c.apply-applied.ensures.touched
+
+pub returns-in-Err-clause-touched : goal.returns-in-Err-clause-touched
+returns-in-Err-clause-touched g c = rw c.of.ensures tt

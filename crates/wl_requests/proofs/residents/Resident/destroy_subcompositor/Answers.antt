@@ -1,0 +1,17 @@
+use Rattle.std.proofs.Common.{inr, refl}
+use Rattle.std.specs.Prelude.{Ok}
+use Rattle.wl_interface.specs.declared.interface.Interface.TheVariants.{WlSubcompositor}
+use Rattle.wl_plain.specs.Ask.{EndObject}
+use Rattle.wl_plain.specs.Desktop.{Resident}
+use Rattle.wl_requests.proofs.Shelling.{counted-does, object-held}
+use Rattle.wl_requests.proofs.Simply.{simply}
+use Rattle.wl_requests.proofs.residents.Resident.destroy_subcompositor.Goals as goal
+
+pub returns-clause-answers : goal.returns-clause-answers
+returns-clause-answers g c = λ here client r on is only.
+    simply _ _ client on r only (Ok (EndObject c.args.object)) (
+    let v = c.args.self.now in
+    counted-does v (record v { client = c.count.new.self }) c.end_object.new.self r (λ (q : Resident). EndObject c.args.object) is c.count.ensures.only refl refl
+    (c.count.ensures.counts r.peer is.peer)
+    refl
+    (c.end_object.ensures.does (inr (object-held WlSubcompositor v.client c.count.new.self c.args.object c.count.ensures.only here))))

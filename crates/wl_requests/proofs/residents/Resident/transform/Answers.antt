@@ -1,0 +1,40 @@
+use Rattle.std.proofs.Common.{Bool, ap, sym, refl, ◌∙◌, w32}
+use Rattle.std.specs.Prelude.{Ok, if◌then◌else◌, unsigned_abs}
+use Rattle.std.proofs.lemmas.Int.{to_z-of_z}
+use Rattle.wl_peer.specs.declared.refusals.ErrorCode.TheVariants.{InvalidTransform}
+use Rattle.wl_peer.specs.Peer.{counted}
+use Rattle.wl_state.specs.Request.{SetBufferTransform}
+use Rattle.wl_plain.specs.Ask.{AskSurface}
+use Rattle.wl_plain.specs.Desktop.{Resident}
+use Rattle.wl_owning.specs.Owning.{names_in}
+use Rattle.wl_plain.specs.Step.{with_peer}
+use Rattle.wl_plain.specs.WlSurface.{refuse, transform_set}
+use Rattle.wl_requests.proofs.Shelling.{accepted, asked-releases, counted-does, refused-so, surface-counted}
+use Rattle.wl_requests.proofs.Simply.{simply}
+use Rattle.wl_requests.proofs.residents.Resident.transform.Goals as goal
+
+pub returns-then-not-is_valid-clause-answers : goal.returns-then-not-is_valid-clause-answers
+returns-then-not-is_valid-clause-answers g c = λ named client r on is only.
+    simply _ _ client on r only (transform_set c.args.object c.args.transform) (
+    let id = c.args.object in
+    let z = c.args.transform in
+    let valid = sym (simp (to_z-of_z w32 z c.ranges.transform) at c.is_valid.ensures) ∙ c.if-not-is_valid.true in
+    let judged = ap (λ (b : Bool). if b then Ok (AskSurface id (SetBufferTransform (unsigned_abs z))) else refuse id InvalidTransform) valid in
+    refused-so _ _ r (transform_set id z) _ _ judged c.of-refusal.ensures c.refuse.ensures.ended (c.refuse.ensures.errs r.peer is.peer))
+
+pub returns-clause-answers : goal.returns-clause-answers
+returns-clause-answers g c = λ named client r on is only.
+    simply _ _ client on r only (transform_set c.args.object c.args.transform) (
+    let v = c.args.self.now in
+    let id = c.args.object in
+    let z = c.args.transform in
+    let ask = AskSurface id (SetBufferTransform (unsigned_abs z)) in
+    let valid = sym (simp (to_z-of_z w32 z c.ranges.transform) at c.is_valid.ensures) ∙ c.if-not-is_valid.false in
+    let judged = ap (λ (b : Bool). if b then Ok ask else refuse id InvalidTransform) valid in
+    let does = simp (to_z-of_z w32 z c.ranges.transform) at c.set_buffer_transform.ensures.does in
+    accepted _ r (transform_set id z) ask judged
+    (counted-does v (record v { client = c.count.new.self }) c.set_buffer_transform.new.self r (λ (q : Resident). ask) is c.count.ensures.only refl refl
+    (c.count.ensures.counts r.peer is.peer)
+    (asked-releases (names_in v.client.objects).surfaces v.owned.linked.surfaces v.owned.linked.family (with_peer (counted r.peer) r) id c.args.surface (SetBufferTransform (unsigned_abs z)) refl
+    is.owns.surfaces named)
+    (does valid (surface-counted v.client c.count.new.self id c.args.surface c.count.ensures.only named))))

@@ -1,0 +1,5 @@
+pub mod Freed
+pub mod Linking
+pub mod Messages
+pub mod Residents
+pub mod Touching

@@ -1,0 +1,20 @@
+//! The requests of one client, which are not its own alone: those of its surfaces, its subsurfaces, its xdg_surfaces and toplevels, and its seats,
+//! and the answers to its frame callbacks.
+#![tactic(auto)]
+
+mod frames;
+mod messages;
+mod releases;
+mod residents;
+mod surface_requests;
+mod wl_compositor;
+mod wl_seat;
+mod wl_subcompositor;
+mod wl_subsurface;
+mod xdg_surface;
+mod xdg_toplevel;
+mod xdg_wm_base;
+
+pub use messages::{Asked, Kind};
+pub use residents::{Outcome, Resident, Stacking};
+pub use xdg_toplevel::ToplevelAsked;

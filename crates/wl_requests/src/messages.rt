@@ -1,0 +1,200 @@
+//! The messages of one client, one after another.
+
+ghost use Rattle.std.specs.Prelude.{ℕ, List, ◌≡◌, ◌<◌, ◌≤◌, IfNone, IfSome, None, Some, is_some, false, length, true};
+ghost use Rattle.wl_table.specs.Objects.{entry_of};
+ghost use Rattle.wl_owning.specs.Subsurfaces.{AreOfSurfaces};
+ghost use Rattle.wl_peer.specs.Objects.{ById};
+ghost use Rattle.wl_plain.specs.Desktop.{Subsurface};
+ghost use Rattle.wl_proto.specs.Messages.{Message, request_message};
+ghost use Rattle.wl_peer.specs.Peer.{IsIdleAt};
+ghost use Rattle.wl_client.specs.Serving.{is_own};
+ghost use Rattle.wl_requests.specs.Messages.{IsAsked, IsKind, IsTouchOf, IsTouchOfAsked};
+ghost use Rattle.wl_requests.specs.Touching.{IsTouched, Touch};
+ghost use Rattle.wl_requests.specs.Residents.{AnswersDemand, AnswersDemandAs, NewIsFree, ObjectsFit, Stacks, TakesMessage, TakesMessageAs};
+ghost use Rattle.wl_without_popups.specs.ServedNext.{served_next};
+ghost use Rattle.wl_plain.specs.Demanding.{demand_of};
+
+use crate::residents::{Outcome, Resident, Stacking};
+use crate::xdg_toplevel::{ToplevelAsked, asked_of};
+use std::alloc::Allocator;
+use wl_client::{Action, First, Refusal};
+use wl_proto::{
+    Request, WlCompositorRequest, WlSeatRequest, WlSubcompositorRequest, WlSubsurfaceRequest,
+    WlSurfaceRequest, XdgSurfaceRequest, XdgWmBaseRequest,
+};
+
+/// A request that a client alone can't answer, by its interface.
+#[derive(Clone, Copy)]
+pub enum Kind {
+    Compositor(WlCompositorRequest),
+    Subcompositor(WlSubcompositorRequest),
+    Subsurface(WlSubsurfaceRequest),
+    Surface(WlSurfaceRequest),
+    Seat(WlSeatRequest),
+    Base(XdgWmBaseRequest),
+    XdgSurface(XdgSurfaceRequest),
+    Toplevel(ToplevelAsked),
+    /// It isn't served here.
+    Unserved,
+}
+
+/// What the first message of what came asks.
+#[derive(Drop)]
+pub enum Asked {
+    /// No whole message is there.
+    More,
+    /// It is refused before its own errors are looked at.
+    Refused(Refusal),
+    /// It is so many bytes long and of one of the client's own interfaces. It asks this, or is refused by its own errors.
+    Own {
+        size: usize,
+        judged: Result<Action, Refusal>,
+    },
+    /// It is to this object, which has this version and target, and is so many bytes long.
+    Request {
+        object: u32,
+        version: u32,
+        size: usize,
+        target: usize,
+        kind: Kind,
+    },
+}
+
+/// What a request is that isn't one of the client's own.
+fn kind_of(request: &Request) -> Kind
+    ensures { is_own (request_message request.now).interface ≡ false → IsKind result (request_message request.now) }
+{
+    match request {
+        Request::WlCompositor(request) => Kind::Compositor(*request),
+        Request::WlSubcompositor(request) => Kind::Subcompositor(*request),
+        Request::WlSubsurface(request) => Kind::Subsurface(*request),
+        Request::WlSurface(request) => Kind::Surface(*request),
+        Request::WlSeat(request) => Kind::Seat(*request),
+        Request::XdgWmBase(request) => Kind::Base(*request),
+        Request::XdgSurface(request) => Kind::XdgSurface(*request),
+        Request::XdgToplevel(request) => Kind::Toplevel(asked_of(request)),
+        Request::WlDisplay(_)
+        | Request::WlRegistry(_)
+        | Request::WlRegion(_)
+        | Request::WlShm(_)
+        | Request::WlShmPool(_)
+        | Request::WlBuffer(_)
+        | Request::WlPointer(_)
+        | Request::XdgPositioner(_)
+        | Request::XdgPopup(_) => Kind::Unserved,
+    }
+}
+
+impl<A: Allocator + Copy> Resident<A> {
+    /// What the first message of what came asks. It isn't taken.
+    pub fn asked(&self) -> Asked
+        ensures { IsAsked self.now.client result }
+    {
+        match self.client.first() {
+            First::More => Asked::More,
+            First::Refused(refusal) => Asked::Refused(refusal),
+            First::Request {
+                object,
+                version,
+                size,
+                target,
+                request,
+            } => match self.client.own_action(object, version, &request) {
+                Some(judged) => Asked::Own { size, judged },
+                None => Asked::Request {
+                    object,
+                    version,
+                    size,
+                    target,
+                    kind: kind_of(&request),
+                },
+            },
+        }
+    }
+
+    /// Answers a request to an object, which has this version and target.
+    fn answer(&mut self, object: u32, version: u32, target: usize, kind: Kind) -> Outcome<A>
+        ensures answers { (m : Message) → IsKind kind m → entry_of self.old.client.objects object ≡ Some (record { interface = m.interface; version = version; target = target })
+            → NewIsFree self.old m → ObjectsFit self.old m → AnswersDemand (λ r. demand_of served_next r object version m) self.old self.new }
+        ensures stacks { (m : Message) → IsKind kind m → entry_of self.old.client.objects object ≡ Some (record { interface = m.interface; version = version; target = target })
+            → Stacks (λ r. demand_of served_next r object version m) self.old result.stacking }
+        ensures decides { (touch : Touch) → IsTouchOf kind object target self.old touch
+            → (m : Message) → IsKind kind m → entry_of self.old.client.objects object ≡ Some (record { interface = m.interface; version = version; target = target })
+            → AnswersDemandAs (is_some result.applied) (λ r. demand_of served_next r object version m) self.old self.new }
+        ensures touched { (touch : Touch) → IsTouchOf kind object target self.old touch
+            → IsTouched touch self.old.owned.linked self.new.owned.linked result.applied }
+        ensures nothing { ((touch : Touch) → IsTouchOf kind object target self.old touch → ⊥) → (numbers : ById ℕ) (subsurfaces : List Subsurface) → AreOfSurfaces self.old.subsurfaces numbers subsurfaces → result.applied ≡ None }
+        ensures rest { length self.new.client.rest ≤ length self.old.client.rest }
+    {
+        match kind {
+            Kind::Surface(request) => self.wl_surface(object, version, target, &request),
+            Kind::Toplevel(asked) => Outcome::of(self.xdg_toplevel(object, target, asked)),
+            Kind::Compositor(request) => {
+                self.wl_compositor(object, version, &request);
+                Outcome::of(Stacking::Stays)
+            }
+            Kind::Subcompositor(request) => {
+                self.wl_subcompositor(object, version, &request);
+                Outcome::of(Stacking::Stays)
+            }
+            Kind::Subsurface(request) => self.wl_subsurface(object, version, &request),
+            Kind::Seat(request) => {
+                self.wl_seat(object, version, &request);
+                Outcome::of(Stacking::Stays)
+            }
+            Kind::Base(request) => {
+                self.xdg_wm_base(object, version, &request);
+                Outcome::of(Stacking::Stays)
+            }
+            Kind::XdgSurface(request) => {
+                self.xdg_surface(object, version, target, &request);
+                Outcome::of(Stacking::Stays)
+            }
+            Kind::Unserved => {
+                self.refuse_unserved();
+                Outcome::of(Stacking::Stays)
+            }
+        }
+    }
+
+    /// Takes the first whole message of a client that lives, which asks this, and answers what that did. None where there is no whole message;
+    /// then nothing is changed.
+    pub fn serve(&mut self, asked: Asked) -> Option<Outcome<A>>
+        requires { IsAsked self.old.client asked }
+        ensures lives { IfSome result (λ s. self.old.client.ended ≡ None) }
+        ensures takes { IfSome result (λ s. TakesMessage self.old self.new s.stacking) }
+        ensures decides { IfSome result (λ s. (touch : Touch) → IsTouchOfAsked asked self.old touch → TakesMessageAs (is_some s.applied) self.old self.new) }
+        ensures touched { IfSome result (λ s. (touch : Touch) → IsTouchOfAsked asked self.old touch
+            → IsTouched touch self.old.owned.linked self.new.owned.linked s.applied) }
+        ensures nothing { IfSome result (λ s. ((touch : Touch) → IsTouchOfAsked asked self.old touch → ⊥) → (numbers : ById ℕ) (subsurfaces : List Subsurface) → AreOfSurfaces self.old.subsurfaces numbers subsurfaces → s.applied ≡ None) }
+        ensures idle { IfNone result ((self.new ≡ self.old) × IsIdleAt self.old.client.ended self.old.client.rest) }
+        ensures less { IfSome result (λ s. length self.new.client.rest < length self.old.client.rest) }
+    {
+        if self.client.has_ended() {
+            return None;
+        }
+        match asked {
+            Asked::More => None,
+            Asked::Refused(refusal) => {
+                self.client.refuse(refusal);
+                Some(Outcome::of(Stacking::Stays))
+            }
+            Asked::Own { size, judged } => {
+                let _served = self
+                    .client
+                    .serve_own(size, judged, &self.owned.linked.surfaces);
+                Some(Outcome::of(Stacking::Stays))
+            }
+            Asked::Request {
+                object,
+                version,
+                size,
+                target,
+                kind,
+            } => {
+                self.client.take_first(size);
+                Some(self.answer(object, version, target, kind))
+            }
+        }
+    }
+}

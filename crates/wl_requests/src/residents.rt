@@ -1,0 +1,52 @@
+//! One client, with its surfaces and what it made of them.
+
+ghost use Rattle.std.specs.Prelude.{◌≡◌, None};
+
+use std::alloc::Allocator;
+use wl_client::Client;
+use wl_scene::Owned;
+use wl_subsurfaces::Subsurfaces;
+use wl_surface::{Applied, SurfaceNo};
+
+/// What a request does to the stack of mapped toplevels, by the number of its toplevel's surface.
+#[derive(Clone, Copy, Debug, PartialEq, Eq)]
+pub enum Stacking {
+    /// It leaves the stack as it was.
+    Stays,
+    /// The toplevel is mapped: it comes to the top.
+    ToTop(SurfaceNo),
+    /// The toplevel is unmapped, or goes.
+    Out(SurfaceNo),
+}
+
+/// What a request did: to the stack of toplevels, and what it applied, if it may change what surfaces show (wayland.xml, wl_surface.commit and
+/// destroy; wl_subsurface.set_desync and destroy).
+#[derive(Drop)]
+pub struct Outcome<A: Allocator> {
+    pub stacking: Stacking,
+    pub applied: Option<Applied<A>>,
+}
+
+impl<A: Allocator> Outcome<A> {
+    /// What a request did to the stack of toplevels that applied nothing.
+    pub(crate) fn of(stacking: Stacking) -> Self
+        ensures { result ≡ record { stacking = stacking; applied = None } }
+    {
+        Outcome {
+            stacking,
+            applied: None,
+        }
+    }
+}
+
+/// A client, and its surfaces and xdg_surfaces. The table of its objects gives for each wl_surface, xdg_surface and xdg_toplevel the number of
+/// its surface.
+#[derive(Drop)]
+pub struct Resident<A: Allocator> {
+    /// Its stream, its objects and its stores.
+    pub client: Client<A>,
+    /// Its surfaces and xdg_surfaces.
+    pub owned: Owned<A>,
+    /// Which wl_subsurface was made of which surface.
+    pub subsurfaces: Subsurfaces<A>,
+}

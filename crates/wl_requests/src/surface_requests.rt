@@ -1,0 +1,359 @@
+//! The requests of wl_surface.
+
+ghost use Rattle.std.specs.Prelude.{◌≡◌, ◌==◌, ◌≢◌, ◌≤◌, ◌+◌, length, ◌++◌, ◌||◌, ℕ, Bool, Ok, Option, None, Some, is_some, true, map, unsigned_abs};
+ghost use Rattle.std.specs.List.{list_any};
+ghost use Rattle.std.specs.Option.{option_map};
+ghost use Rattle.wl_client.specs.Agreement.{IsPeer};
+ghost use Rattle.wl_peer.specs.Peer.{Peer};
+ghost use Rattle.wl_state.specs.Kept.{buffer_of};
+ghost use Rattle.wl_surface.specs.Slots.{is_transform};
+ghost use Rattle.wl_state.specs.Request.{Attach, Damage as DamageAsked, SetBufferTransform, SetInputRegion, SetOpaqueRegion};
+ghost use Rattle.wl_proto.specs.Messages.{wl_surface_request};
+ghost use Rattle.wl_proto.specs.declared.wl_surface.WlSurfaceRequest.TheVariants.{Commit, Destroy, Frame as FrameAsked, SetBufferTransform as TransformAsked};
+ghost use Rattle.wl_shell.specs.Kept.{Kept as KeptXdg, changing, commit_answer, kept_after, kept_of};
+ghost use Rattle.wl_plain.specs.Ask.{AskSurface};
+ghost use Rattle.wl_plain.specs.Demand.{CommitTree, EndSurface};
+ghost use Rattle.wl_plain.specs.Desktop.{Desktop, Resident as Plain};
+ghost use Rattle.wl_orderly.specs.Orderly.{OwnsOrderly};
+ghost use Rattle.wl_owning.specs.Owning.{IsOwned, Names, by_number, effect_by, names_in};
+ghost use Rattle.wl_owning.specs.Subsurfaces.{AreOfSurfaces};
+ghost use Rattle.wl_plain.specs.Framing.{AreFramed};
+ghost use Rattle.wl_without_popups.specs.ServedNext.{served_next};
+ghost use Rattle.wl_requests.specs.Freed.{is_freed_in};
+ghost use Rattle.wl_requests.specs.Messages.{IsTouchOf};
+ghost use Rattle.wl_requests.specs.Touching.{IsTouched, Touch, Commits, Destroys};
+ghost use Rattle.wl_requests.specs.Residents.{AnswersDemand, AnswersDemandAs, Does, IsFree, IsSurface, MeetsAs, MeetsTold, NewIsFree, Stacks, stacking_by};
+ghost use Rattle.wl_plain.specs.Demanding.{demand_of, effect_of_commit};
+ghost use Rattle.wl_plain.specs.WlSurface.{buffer_named, region_named};
+
+use crate::messages::Kind;
+use crate::residents::{Outcome, Resident, Stacking};
+use std::alloc::Allocator;
+use wl_client::{ErrorCode, Refusal};
+use wl_geom::Rect;
+use wl_proto::{Interface, WlSurfaceRequest};
+use wl_shell::ShellAct;
+use wl_linked::Told;
+use wl_surface::{Applied, Attached, BufferNo, SurfaceNo};
+use wl_table::Entry;
+
+/// No toplevel is placed within bounds.
+const NO_BOUNDS: Rect = Rect {
+    x: 0,
+    y: 0,
+    w: 0,
+    h: 0,
+};
+
+/// Whether this is one of the eight transforms (wayland.xml, wl_output.transform).
+fn is_valid(transform: i32) -> bool
+    ensures { result ≡ is_transform transform }
+{
+    (0..=7).contains(&transform)
+}
+
+/// Whether a buffer is one of these that are freed.
+fn is_freed(buffer: Option<Attached>, freed: &[BufferNo]) -> bool
+    ensures { result ≡ is_freed_in freed.now (option_map buffer_of buffer) }
+{
+    match buffer {
+        Some(attached) => has_number(freed, attached.number),
+        None => false,
+    }
+}
+
+/// Whether a number is among these.
+fn has_number(numbers: &[BufferNo], number: BufferNo) -> bool
+    ensures { result ≡ list_any (λ n. n == number) numbers.now }
+{
+    numbers.iter().any(|other| *other == number)
+}
+
+/// What a commit does to the stack, which came to this for the surface's xdg_surface.
+fn stacking_of(act: ShellAct, surface: SurfaceNo) -> Stacking
+    ensures { result ≡ stacking_by act surface }
+{
+    match act {
+        ShellAct::Map => Stacking::ToTop(surface),
+        ShellAct::Unmap => Stacking::Out(surface),
+        ShellAct::Configure(_) | ShellAct::Nothing => Stacking::Stays,
+    }
+}
+
+impl<A: Allocator + Copy> Resident<A> {
+    /// The buffer of the wl_buffer with this id, or none for null.
+    fn attached(&self, id: u32) -> Option<Attached>
+        ensures { (r : Plain) → IsPeer self.now.client r.peer → option_map buffer_of result ≡ buffer_named r id }
+    {
+        let buffer = self.client.buffer(id)?;
+        Some(Attached {
+            number: buffer.number(),
+            object: id,
+            store: buffer.store(),
+            layout: buffer.layout(),
+        })
+    }
+
+    /// wl_surface.destroy of a surface that has no xdg_surface. Its frame callbacks go with it, and their ids are given back after its own; its
+    /// links end, and its wl_subsurface is inert. None without memory.
+    fn destroy_surface(&mut self, object: u32, surface: SurfaceNo) -> Option<Applied<A>>
+        ensures does { IsSurface self.old object surface → kept_of self.old.owned.shell surface ≡ None → MeetsTold (λ r. EndSurface object) result self.old self.new }
+        ensures touched { IsTouched (Destroys surface) self.old.owned.linked self.new.owned.linked result }
+        ensures rest { length self.new.client.rest ≤ length self.old.client.rest }
+    {
+        let [pending, _, _] = self.owned.linked.surfaces.buffers(surface);
+        let Ok(Told { applied, shown }) = self.owned.linked.destroy(surface) else {
+            self.client.lack_memory();
+            return None;
+        };
+        let Ok(released) = self.released(&applied.freed, &shown) else {
+            self.client.lack_memory();
+            return None;
+        };
+        self.subsurfaces.clear(surface);
+        self.let_go_of_freed(&applied.freed, &shown);
+        self.let_go_if_over(pending, is_freed(pending, &applied.freed));
+        self.client.remove_with(object, &applied.callbacks, None);
+        self.tell_releases(&released);
+        Some(applied)
+    }
+
+    /// wl_surface.attach of the buffer with this id, or of none for null, at this offset in pixels.
+    pub(crate) fn attach(&mut self, object: u32, surface: SurfaceNo, buffer: u32, x: i32, y: i32)
+        ensures does { IsSurface self.old object surface → Does (λ r. AskSurface object (Attach (buffer_named r buffer) x y)) self.old self.new }
+        ensures rest { length self.new.client.rest ≤ length self.old.client.rest }
+    {
+        let had = self.owned.linked.surfaces.buffers(surface);
+        let attached = self.attached(buffer);
+        self.owned.linked.surfaces.attach(surface, attached, x, y);
+        self.let_go_of(had);
+    }
+
+    /// wl_surface.damage of a rectangle in surface pixels.
+    pub(crate) fn damage(&mut self, object: u32, surface: SurfaceNo, rect: Rect)
+        ensures does { IsSurface self.old object surface → Does (λ r. AskSurface object (DamageAsked rect)) self.old self.new }
+        ensures rest { length self.new.client.rest ≤ length self.old.client.rest }
+    {
+        match self.owned.linked.surfaces.damage(surface, rect) {
+            Ok(()) => {}
+            Err(_) => self.client.lack_memory(),
+        }
+    }
+
+    /// wl_surface.set_opaque_region of a copy of the region with this id, or of none for null.
+    pub(crate) fn set_opaque_region(&mut self, object: u32, surface: SurfaceNo, region: u32)
+        ensures does { IsSurface self.old object surface → Does (λ r. AskSurface object (SetOpaqueRegion (region_named r region))) self.old self.new }
+        ensures rest { length self.new.client.rest ≤ length self.old.client.rest }
+    {
+        let region = self.client.region(region);
+        match self.owned.linked.surfaces.set_opaque(surface, region) {
+            Ok(()) => {}
+            Err(_) => self.client.lack_memory(),
+        }
+    }
+
+    /// wl_surface.set_input_region of a copy of the region with this id, or of none for null.
+    pub(crate) fn set_input_region(&mut self, object: u32, surface: SurfaceNo, region: u32)
+        ensures does { IsSurface self.old object surface → Does (λ r. AskSurface object (SetInputRegion (region_named r region))) self.old self.new }
+        ensures rest { length self.new.client.rest ≤ length self.old.client.rest }
+    {
+        let region = self.client.region(region);
+        match self.owned.linked.surfaces.set_input(surface, region) {
+            Ok(()) => {}
+            Err(_) => self.client.lack_memory(),
+        }
+    }
+
+    /// wl_surface.commit: what is pending counts, and the shell says what that comes to.
+    fn commit(&mut self, object: u32, version: u32, surface: SurfaceNo) -> Outcome<A>
+        ensures answers { IsSurface self.old object surface
+            → AnswersDemandAs (is_some result.applied) (λ r. demand_of served_next r object version (wl_surface_request Commit)) self.old self.new }
+        ensures stacks { IsSurface self.old object surface
+            → Stacks (λ r. demand_of served_next r object version (wl_surface_request Commit)) self.old result.stacking }
+        ensures touched { IsTouched (Commits surface) self.old.owned.linked self.new.owned.linked result.applied }
+        ensures rest { length self.new.client.rest ≤ length self.old.client.rest }
+    {
+        let has_buffer = self.owned.linked.surfaces.pending_buffer(surface).is_some();
+        let serial = self.client.serial();
+        match self
+            .owned
+            .shell
+            .on_commit(surface, has_buffer, NO_BOUNDS, (0, 0), serial)
+        {
+            Ok(act) => {
+                self.client.count();
+                let applied = self.apply(surface, act, serial);
+                Outcome {
+                    stacking: stacking_of(act, surface),
+                    applied,
+                }
+            }
+            Err(error) => {
+                let xdg_surface = self.xdg_surface_of(surface);
+                self.refuse_xdg_surface(xdg_surface, surface, error);
+                Outcome::of(Stacking::Stays)
+            }
+        }
+    }
+
+    /// What is pending of a surface counts, and what that came to for the shell is told. Answers what was applied; None without memory for it.
+    fn apply(&mut self, surface: SurfaceNo, act: ShellAct, serial: u32) -> Option<Applied<A>>
+        ensures applies { (c : ℕ) (r : Plain) (d : Desktop) (names : Names) (object : ℕ) (kept : ℕ → Option KeptXdg) (shows : Bool) → OwnsOrderly r
+            → effect_of_commit r object ≡ effect_by act → r.peer.status ≡ None → IsPeer self.old.client r.peer → IsOwned names self.old.owned.linked.surfaces self.old.owned.linked.family kept r.owned
+            → AreFramed self.old.owned.linked.surfaces.frames (by_number names.surfaces r.owned.surfaces) (r.peer.requests + 1) r.callbacks
+            → AreOfSurfaces self.old.subsurfaces names.surfaces r.subsurfaces
+            → names_in self.old.client.objects ≡ names → names.surfaces object ≡ Some surface → commit_answer shows (kept surface) ≡ Ok act → serial ≡ r.peer.serial
+            → kept_of self.old.owned.shell ≡ changing surface (kept_after r.peer.serial act) kept
+            → MeetsAs (is_some result) c (CommitTree object) r d self.old self.new }
+        ensures touched { IsTouched (Commits surface) self.old.owned.linked self.new.owned.linked result }
+        ensures rest { length self.new.client.rest ≤ length self.old.client.rest }
+    {
+        let Ok(Told { applied, shown }) = self.owned.linked.commit(surface) else {
+            self.client.lack_memory();
+            return None;
+        };
+        let Ok(released) = self.released(&applied.freed, &shown) else {
+            self.client.lack_memory();
+            return None;
+        };
+        self.let_go_of_freed(&applied.freed, &shown);
+        self.tell_act(surface, act, serial);
+        self.tell_releases(&released);
+        Some(applied)
+    }
+
+    /// wl_surface.set_buffer_transform to one of the eight.
+    pub(crate) fn set_buffer_transform(&mut self, object: u32, surface: SurfaceNo, transform: i32)
+        ensures does { is_transform transform ≡ true → IsSurface self.old object surface
+            → Does (λ r. AskSurface object (SetBufferTransform (unsigned_abs transform))) self.old self.new }
+        ensures rest { length self.new.client.rest ≤ length self.old.client.rest }
+    {
+        match self.owned.linked.surfaces.set_transform(surface, transform) {
+            Ok(()) => {}
+            Err(_) => self.client.lack_memory(),
+        }
+    }
+
+    /// Whether a surface has an xdg_surface.
+    fn has_xdg_surface(&self, surface: SurfaceNo) -> bool
+        ensures { result ≡ is_some (kept_of self.now.owned.shell surface) }
+    {
+        match self.owned.shell.get(surface) {
+            Some(_) => true,
+            None => false,
+        }
+    }
+
+    /// wl_surface.destroy: the xdg_surface of the surface must be gone.
+    fn destroy(&mut self, object: u32, version: u32, surface: SurfaceNo) -> Outcome<A>
+        ensures answers { IsSurface self.old object surface
+            → AnswersDemandAs (is_some result.applied) (λ r. demand_of served_next r object version (wl_surface_request Destroy)) self.old self.new }
+        ensures touched { IsTouched (Destroys surface) self.old.owned.linked self.new.owned.linked result.applied }
+        ensures stays { result.stacking ≡ Stacking.Stays }
+        ensures rest { length self.new.client.rest ≤ length self.old.client.rest }
+    {
+        if self.has_xdg_surface(surface) {
+            let refusal = Refusal::of(object, ErrorCode::SurfaceHasRoleObject);
+            self.client.refuse(refusal);
+            return Outcome::of(Stacking::Stays);
+        }
+        self.client.count();
+        Outcome {
+            stacking: Stacking::Stays,
+            applied: self.destroy_surface(object, surface),
+        }
+    }
+
+    /// wl_surface.set_buffer_transform, of one of the eight.
+    fn transform(&mut self, object: u32, version: u32, surface: SurfaceNo, transform: i32)
+        ensures answers { IsSurface self.old object surface
+            → AnswersDemand (λ r. demand_of served_next r object version (wl_surface_request (TransformAsked transform))) self.old self.new }
+        ensures rest { length self.new.client.rest ≤ length self.old.client.rest }
+    {
+        if !is_valid(transform) {
+            let refusal = Refusal::of(object, ErrorCode::InvalidTransform);
+            self.client.refuse(refusal);
+            return;
+        }
+        self.client.count();
+        self.set_buffer_transform(object, surface, transform);
+    }
+
+    /// wl_surface.frame: the callback with this id waits until a commit applies the request and a frame is shown.
+    fn frame(&mut self, object: u32, version: u32, surface: SurfaceNo, callback: u32)
+        ensures answers { IsSurface self.old object surface → IsFree self.old callback
+            → AnswersDemand (λ r. demand_of served_next r object version (wl_surface_request (FrameAsked callback))) self.old self.new }
+        ensures rest { length self.new.client.rest ≤ length self.old.client.rest }
+    {
+        self.client.count();
+        match self.owned.linked.surfaces.frame(surface, callback) {
+            Ok(()) => {
+                let entry = Entry {
+                    interface: Interface::WlCallback,
+                    version,
+                    target: 0,
+                };
+                self.client.add(callback, entry, &[]);
+            }
+            Err(_) => self.client.lack_memory(),
+        }
+    }
+
+    /// A request of a surface, whose new id is free, if it has one.
+    pub(crate) fn wl_surface(
+        &mut self,
+        object: u32,
+        version: u32,
+        surface: SurfaceNo,
+        request: &WlSurfaceRequest,
+    ) -> Outcome<A>
+        ensures answers { IsSurface self.old object surface → NewIsFree self.old (wl_surface_request request.now)
+            → AnswersDemand (λ r. demand_of served_next r object version (wl_surface_request request.now)) self.old self.new }
+        ensures stacks { IsSurface self.old object surface
+            → Stacks (λ r. demand_of served_next r object version (wl_surface_request request.now)) self.old result.stacking }
+        ensures decides { (touch : Touch) → IsTouchOf (Kind.Surface request.now) object surface self.old touch → IsSurface self.old object surface
+            → AnswersDemandAs (is_some result.applied) (λ r. demand_of served_next r object version (wl_surface_request request.now)) self.old self.new }
+        ensures touched { (touch : Touch) → IsTouchOf (Kind.Surface request.now) object surface self.old touch
+            → IsTouched touch self.old.owned.linked self.new.owned.linked result.applied }
+        ensures nothing { ((touch : Touch) → IsTouchOf (Kind.Surface request.now) object surface self.old touch → ⊥) → result.applied ≡ None }
+        ensures rest { length self.new.client.rest ≤ length self.old.client.rest }
+    {
+        match *request {
+            WlSurfaceRequest::Commit => self.commit(object, version, surface),
+            WlSurfaceRequest::Destroy => self.destroy(object, version, surface),
+            WlSurfaceRequest::Attach { buffer, x, y } => {
+                self.client.count();
+                self.attach(object, surface, buffer, x, y);
+                Outcome::of(Stacking::Stays)
+            }
+            WlSurfaceRequest::Damage {
+                x,
+                y,
+                width: w,
+                height: h,
+            } => {
+                self.client.count();
+                self.damage(object, surface, Rect { x, y, w, h });
+                Outcome::of(Stacking::Stays)
+            }
+            WlSurfaceRequest::Frame { callback } => {
+                self.frame(object, version, surface, callback);
+                Outcome::of(Stacking::Stays)
+            }
+            WlSurfaceRequest::SetOpaqueRegion { region } => {
+                self.client.count();
+                self.set_opaque_region(object, surface, region);
+                Outcome::of(Stacking::Stays)
+            }
+            WlSurfaceRequest::SetInputRegion { region } => {
+                self.client.count();
+                self.set_input_region(object, surface, region);
+                Outcome::of(Stacking::Stays)
+            }
+            WlSurfaceRequest::SetBufferTransform { transform } => {
+                self.transform(object, version, surface, transform);
+                Outcome::of(Stacking::Stays)
+            }
+        }
+    }
+}

@@ -1,0 +1,74 @@
+//! The requests of wl_compositor.
+
+ghost use Rattle.std.specs.Prelude.{◌≡◌, ◌≤◌, ◌↔◌, IsTrue, Ok, length};
+ghost use Rattle.wl_proto.specs.Messages.{wl_compositor_request};
+ghost use Rattle.wl_peer.specs.declared.actions.Action.TheVariants.{CreateRegion};
+ghost use Rattle.wl_plain.specs.Ask.{Own};
+ghost use Rattle.wl_plain.specs.Demand.{Asks};
+ghost use Rattle.wl_without_popups.specs.ServedNext.{served_next};
+ghost use Rattle.wl_plain.specs.Demanding.{demand_of, demands};
+ghost use Rattle.wl_requests.specs.Residents.{AnswersDemand, IsFree, NewIsFree};
+ghost use Rattle.wl_plain.specs.WlSurface.{surface_created};
+
+use crate::residents::Resident;
+use std::alloc::Allocator;
+use wl_proto::{Interface, WlCompositorRequest};
+use wl_surface::SurfaceError;
+use wl_table::Entry;
+
+/// Whether the client has all the surfaces that it may have.
+fn is_too_many(error: SurfaceError) -> bool
+    ensures { IsTrue result ↔ (error ≡ SurfaceError.TooMany) }
+{
+    error == SurfaceError::TooMany
+}
+
+impl<A: Allocator + Copy> Resident<A> {
+    /// wl_compositor.create_surface: a new surface under a free id. A client may have 256 surfaces.
+    fn create_surface(&mut self, version: u32, id: u32)
+        ensures answers { IsFree self.old id → AnswersDemand (λ r. demands (surface_created r id version)) self.old self.new }
+        ensures rest { length self.new.client.rest ≤ length self.old.client.rest }
+    {
+        match self.owned.linked.surfaces.create() {
+            Ok(surface) => {
+                let entry = Entry {
+                    interface: Interface::WlSurface,
+                    version,
+                    target: surface,
+                };
+                self.client.count();
+                self.client.add(id, entry, &[]);
+            }
+            Err(error) => {
+                if is_too_many(error) {
+                    self.refuse_unserved();
+                } else {
+                    self.client.count();
+                    self.client.lack_memory();
+                }
+            }
+        }
+    }
+
+    /// wl_compositor.create_region: a new region, which is empty, under a free id.
+    fn create_region(&mut self, version: u32, id: u32)
+        ensures answers { IsFree self.old id → AnswersDemand (λ r. Ok (Asks (Own (CreateRegion id version)))) self.old self.new }
+        ensures rest { length self.new.client.rest ≤ length self.old.client.rest }
+        ensures surfaces { self.new.owned.linked ≡ self.old.owned.linked }
+    {
+        self.client.count();
+        self.client.create_region(id, version);
+    }
+
+    /// A request of a wl_compositor whose new id is free.
+    pub(crate) fn wl_compositor(&mut self, object: u32, version: u32, request: &WlCompositorRequest)
+        ensures answers { NewIsFree self.old (wl_compositor_request request.now)
+            → AnswersDemand (λ r. demand_of served_next r object version (wl_compositor_request request.now)) self.old self.new }
+        ensures rest { length self.new.client.rest ≤ length self.old.client.rest }
+    {
+        match *request {
+            WlCompositorRequest::CreateSurface { id } => self.create_surface(version, id),
+            WlCompositorRequest::CreateRegion { id } => self.create_region(version, id),
+        }
+    }
+}

@@ -1,0 +1,223 @@
+//! The requests of wl_subsurface. One whose link has ended, or whose surface is gone, is inert: it does nothing but go.
+
+ghost use Rattle.std.specs.Prelude.{ℕ, List, ◌≡◌, ◌==◌, ◌≤◌, filter, is_some, length, not, true, None, Some};
+ghost use Rattle.wl_owning.specs.Subsurfaces.{AreOfSurfaces};
+ghost use Rattle.wl_peer.specs.Objects.{ById};
+ghost use Rattle.wl_plain.specs.Desktop.{Subsurface};
+ghost use Rattle.wl_client.specs.Agreement.{IsPeer};
+ghost use Rattle.wl_peer.specs.Peer.{Errs, LacksMemory, Peer, counted};
+ghost use Rattle.wl_proto.specs.Messages.{wl_subsurface_request};
+ghost use Rattle.wl_proto.specs.declared.wl_subsurface.WlSubsurfaceRequest.TheVariants.{Destroy, PlaceAbove, PlaceBelow, SetDesync, SetPosition, SetSync};
+ghost use Rattle.wl_plain.specs.Demanding.{demand_of};
+ghost use Rattle.wl_requests.specs.Messages.{IsTouchOf};
+ghost use Rattle.wl_requests.specs.Linking.{IsChildOf, IsOnlyChild};
+ghost use Rattle.wl_requests.specs.Residents.{AnswersDemand, AnswersDemandAs, IsSubsurface, IsSurface, ObjectsFit};
+ghost use Rattle.wl_requests.specs.Touching.{IsTouched, Parts, Releases, Touch};
+ghost use Rattle.wl_without_popups.specs.ServedNext.{served_next};
+
+use crate::messages::Kind;
+use crate::residents::{Outcome, Resident, Stacking};
+use std::alloc::Allocator;
+use wl_client::{ErrorCode, Refusal};
+use wl_linked::Told;
+use wl_proto::WlSubsurfaceRequest;
+use wl_surface::{Applied, SurfaceError, SurfaceNo};
+
+impl<A: Allocator + Copy> Resident<A> {
+    /// The child of a wl_subsurface, while its link lives.
+    fn child_of(&self, object: u32) -> Option<SurfaceNo>
+        ensures { IsChildOf self.now object result }
+    {
+        let child = self.subsurfaces.surface_of(object)?;
+        match self.owned.linked.family.link(child) {
+            Some(_) => Some(child),
+            None => None,
+        }
+    }
+
+    /// wl_subsurface.set_position of the child, relative to its parent, in pixels: once the parent is committed and applied.
+    fn set_position(&mut self, object: u32, version: u32, x: i32, y: i32)
+        ensures answers { IsSubsurface self.old object → AnswersDemand (λ r. demand_of served_next r object version (wl_subsurface_request (SetPosition x y))) self.old self.new }
+        ensures rest { length self.new.client.rest ≤ length self.old.client.rest }
+    {
+        self.client.count();
+        let Some(child) = self.child_of(object) else {
+            return;
+        };
+        match self.owned.linked.set_position(child, x, y) {
+            Ok(()) => {}
+            Err(_) => self.client.lack_memory(),
+        }
+    }
+
+    /// A child isn't placed beside a surface that is neither its parent nor another child of that, or for want of memory.
+    fn refuse_place(&mut self, object: u32, error: SurfaceError)
+        ensures ended { is_some self.new.client.ended ≡ true }
+        ensures errs { error ≡ SurfaceError.NotSibling → (p : Peer) → IsPeer self.old.client p
+            → (q : Peer) × Errs (record { object = object; code = ErrorCode.BadSurface }) p q × IsPeer self.new.client q }
+        ensures lacks { (error ≡ SurfaceError.NotSibling → ⊥) → (p : Peer) → IsPeer self.old.client p
+            → (q : Peer) × LacksMemory (counted p) q × IsPeer self.new.client q }
+        ensures rest { length self.new.client.rest ≤ length self.old.client.rest }
+    {
+        if error == SurfaceError::NotSibling {
+            self.client
+                .refuse(Refusal::of(object, ErrorCode::BadSurface));
+        } else {
+            self.client.count();
+            self.client.lack_memory();
+        }
+    }
+
+    /// wl_subsurface.place_above: the child stands right above a sibling, or above its parent, once the parent is committed and applied.
+    fn place_above(&mut self, object: u32, version: u32, sibling: u32, beside: SurfaceNo)
+        ensures answers { IsSubsurface self.old object → IsSurface self.old sibling beside
+            → AnswersDemand (λ r. demand_of served_next r object version (wl_subsurface_request (PlaceAbove sibling))) self.old self.new }
+        ensures rest { length self.new.client.rest ≤ length self.old.client.rest }
+    {
+        let Some(child) = self.child_of(object) else {
+            self.client.count();
+            return;
+        };
+        match self.owned.linked.place_above(child, beside) {
+            Ok(()) => self.client.count(),
+            Err(error) => self.refuse_place(object, error),
+        }
+    }
+
+    /// wl_subsurface.place_below: the child stands right below a sibling, or below its parent, once the parent is committed and applied.
+    fn place_below(&mut self, object: u32, version: u32, sibling: u32, beside: SurfaceNo)
+        ensures answers { IsSubsurface self.old object → IsSurface self.old sibling beside
+            → AnswersDemand (λ r. demand_of served_next r object version (wl_subsurface_request (PlaceBelow sibling))) self.old self.new }
+        ensures rest { length self.new.client.rest ≤ length self.old.client.rest }
+    {
+        let Some(child) = self.child_of(object) else {
+            self.client.count();
+            return;
+        };
+        match self.owned.linked.place_below(child, beside) {
+            Ok(()) => self.client.count(),
+            Err(error) => self.refuse_place(object, error),
+        }
+    }
+
+    /// wl_subsurface.set_sync: what the child commits is held until its parent is applied.
+    fn set_sync(&mut self, object: u32, version: u32)
+        ensures answers { IsSubsurface self.old object → AnswersDemand (λ r. demand_of served_next r object version (wl_subsurface_request SetSync)) self.old self.new }
+        ensures rest { length self.new.client.rest ≤ length self.old.client.rest }
+    {
+        self.client.count();
+        if let Some(child) = self.child_of(object) {
+            self.owned.linked.set_sync(child);
+        }
+    }
+
+    /// wl_subsurface.set_desync: what the child commits is applied at once, unless a surface above it is synchronised; and so is what was held,
+    /// where that changes how it behaves.
+    fn set_desync(&mut self, object: u32, version: u32) -> Option<Applied<A>>
+        ensures answers { IsSubsurface self.old object → AnswersDemand (λ r. demand_of served_next r object version (wl_subsurface_request SetDesync)) self.old self.new }
+        ensures decides { (child : ℕ) → IsOnlyChild self.old object child → IsSubsurface self.old object
+            → AnswersDemandAs (is_some result) (λ r. demand_of served_next r object version (wl_subsurface_request SetDesync)) self.old self.new }
+        ensures touched { (child : ℕ) → IsOnlyChild self.old object child
+            → IsTouched (Releases child) self.old.owned.linked self.new.owned.linked result }
+        ensures nothing { ((child : ℕ) → IsOnlyChild self.old object child → ⊥) → (numbers : ById ℕ) (subsurfaces : List Subsurface) → AreOfSurfaces self.old.subsurfaces numbers subsurfaces → result ≡ None }
+        ensures rest { length self.new.client.rest ≤ length self.old.client.rest }
+    {
+        self.client.count();
+        let child = self.child_of(object)?;
+        let Ok(Told { applied, shown }) = self.owned.linked.set_desync(child) else {
+            self.client.lack_memory();
+            return None;
+        };
+        let Ok(released) = self.released(&applied.freed, &shown) else {
+            self.client.lack_memory();
+            return None;
+        };
+        self.let_go_of_freed(&applied.freed, &shown);
+        self.tell_releases(&released);
+        Some(applied)
+    }
+
+    /// A wl_subsurface goes whose link has ended: its surface, if that is there, may have another.
+    fn forget(&mut self, object: u32)
+        ensures subsurfaces { (numbers : ById ℕ) (subsurfaces : List Subsurface) → AreOfSurfaces self.old.subsurfaces numbers subsurfaces
+            → ((a b number : ℕ) → numbers a ≡ Some number → numbers b ≡ Some number → a ≡ b)
+            → AreOfSurfaces self.new.subsurfaces numbers (filter (λ s. not (s.id == object)) subsurfaces) }
+        ensures client { self.new.client ≡ self.old.client }
+        ensures owned { self.new.owned ≡ self.old.owned }
+    {
+        if let Some(surface) = self.subsurfaces.surface_of(object) {
+            self.subsurfaces.clear(surface);
+        }
+    }
+
+    /// wl_subsurface.destroy: the child's link to its parent ends, and its id is given back.
+    fn destroy_subsurface(&mut self, object: u32, version: u32) -> Option<Applied<A>>
+        ensures answers { IsSubsurface self.old object → AnswersDemand (λ r. demand_of served_next r object version (wl_subsurface_request Destroy)) self.old self.new }
+        ensures decides { (child : ℕ) → IsOnlyChild self.old object child → IsSubsurface self.old object
+            → AnswersDemandAs (is_some result) (λ r. demand_of served_next r object version (wl_subsurface_request Destroy)) self.old self.new }
+        ensures touched { (child : ℕ) → IsOnlyChild self.old object child
+            → IsTouched (Parts child) self.old.owned.linked self.new.owned.linked result }
+        ensures nothing { ((child : ℕ) → IsOnlyChild self.old object child → ⊥) → (numbers : ById ℕ) (subsurfaces : List Subsurface) → AreOfSurfaces self.old.subsurfaces numbers subsurfaces → result ≡ None }
+        ensures rest { length self.new.client.rest ≤ length self.old.client.rest }
+    {
+        self.client.count();
+        let Some(child) = self.child_of(object) else {
+            self.forget(object);
+            self.client.remove(object);
+            return None;
+        };
+        let Ok(Told { applied, shown }) = self.owned.linked.remove_subsurface(child) else {
+            self.client.lack_memory();
+            return None;
+        };
+        let Ok(released) = self.released(&applied.freed, &shown) else {
+            self.client.lack_memory();
+            return None;
+        };
+        self.subsurfaces.clear(child);
+        self.let_go_of_freed(&applied.freed, &shown);
+        self.client.remove(object);
+        self.tell_releases(&released);
+        Some(applied)
+    }
+
+    /// A request of a wl_subsurface whose siblings are there.
+    pub(crate) fn wl_subsurface(
+        &mut self,
+        object: u32,
+        version: u32,
+        request: &WlSubsurfaceRequest,
+    ) -> Outcome<A>
+        ensures answers { IsSubsurface self.old object → ObjectsFit self.old (wl_subsurface_request request.now)
+            → AnswersDemand (λ r. demand_of served_next r object version (wl_subsurface_request request.now)) self.old self.new }
+        ensures decides { (target : ℕ) (touch : Touch) → IsTouchOf (Kind.Subsurface request.now) object target self.old touch → IsSubsurface self.old object
+            → AnswersDemandAs (is_some result.applied) (λ r. demand_of served_next r object version (wl_subsurface_request request.now)) self.old self.new }
+        ensures touched { (target : ℕ) (touch : Touch) → IsTouchOf (Kind.Subsurface request.now) object target self.old touch
+            → IsTouched touch self.old.owned.linked self.new.owned.linked result.applied }
+        ensures nothing { (target : ℕ) → ((touch : Touch) → IsTouchOf (Kind.Subsurface request.now) object target self.old touch → ⊥) → (numbers : ById ℕ) (subsurfaces : List Subsurface) → AreOfSurfaces self.old.subsurfaces numbers subsurfaces → result.applied ≡ None }
+        ensures stays { result.stacking ≡ Stacking.Stays }
+        ensures rest { length self.new.client.rest ≤ length self.old.client.rest }
+    {
+        let mut applied = None;
+        match *request {
+            WlSubsurfaceRequest::Destroy => applied = self.destroy_subsurface(object, version),
+            WlSubsurfaceRequest::SetPosition { x, y } => self.set_position(object, version, x, y),
+            WlSubsurfaceRequest::PlaceAbove { sibling } => {
+                if let Some(beside) = self.surface_of(sibling) {
+                    self.place_above(object, version, sibling, beside);
+                }
+            }
+            WlSubsurfaceRequest::PlaceBelow { sibling } => {
+                if let Some(beside) = self.surface_of(sibling) {
+                    self.place_below(object, version, sibling, beside);
+                }
+            }
+            WlSubsurfaceRequest::SetSync => self.set_sync(object, version),
+            WlSubsurfaceRequest::SetDesync => applied = self.set_desync(object, version),
+        }
+        Outcome {
+            stacking: Stacking::Stays,
+            applied,
+        }
+    }
+}

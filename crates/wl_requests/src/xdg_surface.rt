@@ -1,0 +1,195 @@
+//! The requests of xdg_surface.
+
+ghost use Rattle.std.specs.Prelude.{◌≡◌, is_some, true, ◌≤◌, length};
+ghost use Rattle.wl_client.specs.Agreement.{IsPeer};
+ghost use Rattle.wl_peer.specs.Peer.{Errs, Peer};
+ghost use Rattle.wl_proto.specs.Messages.{xdg_surface_request};
+ghost use Rattle.wl_proto.specs.declared.xdg_surface.XdgSurfaceRequest.TheVariants.{AckConfigure, Destroy, GetToplevel, SetWindowGeometry};
+ghost use Rattle.wl_shell.specs.Kept.{kept_of};
+ghost use Rattle.wl_owning.specs.Owning.{kept_base, kept_id, shell_refusal};
+ghost use Rattle.wl_requests.specs.Residents.{AnswersDemand, IsFree, IsXdgSurface, NewIsFree};
+ghost use Rattle.wl_without_popups.specs.ServedNext.{served_next};
+ghost use Rattle.wl_plain.specs.Demanding.{demand_of};
+ghost use Rattle.wl_plain.specs.XdgShell.{is_no_toplevel};
+
+use crate::residents::Resident;
+use std::alloc::Allocator;
+use wl_client::{ErrorCode, Refusal};
+use wl_geom::Rect;
+use wl_proto::{Interface, XdgSurfaceRequest};
+use wl_shell::ShellError;
+use wl_surface::{Role, SurfaceNo};
+use wl_table::Entry;
+
+/// An error of the shell's with its object: the xdg_wm_base, the xdg_surface, wl_display, or else the object that was asked.
+pub(crate) fn refusal_of(base: u32, xdg_surface: u32, object: u32, error: ShellError) -> Refusal
+    ensures { result ≡ shell_refusal base xdg_surface object error }
+{
+    match error {
+        ShellError::Role => Refusal::of(base, ErrorCode::Role),
+        ShellError::DefunctSurfaces => Refusal::of(base, ErrorCode::DefunctSurfaces),
+        ShellError::NotTheTopmostPopup => Refusal::of(base, ErrorCode::NotTheTopmostPopup),
+        ShellError::InvalidPopupParent => Refusal::of(base, ErrorCode::InvalidPopupParent),
+        ShellError::InvalidSurfaceState => Refusal::of(base, ErrorCode::InvalidSurfaceState),
+        ShellError::InvalidPositioner => Refusal::of(base, ErrorCode::InvalidPositioner),
+        ShellError::NotConstructed => Refusal::of(xdg_surface, ErrorCode::NotConstructed),
+        ShellError::AlreadyConstructed => Refusal::of(xdg_surface, ErrorCode::AlreadyConstructed),
+        ShellError::UnconfiguredBuffer => Refusal::of(xdg_surface, ErrorCode::UnconfiguredBuffer),
+        ShellError::InvalidSerial => Refusal::of(xdg_surface, ErrorCode::InvalidSerial),
+        ShellError::InvalidSize => Refusal::of(xdg_surface, ErrorCode::InvalidSize),
+        ShellError::DefunctRoleObject => Refusal::of(xdg_surface, ErrorCode::DefunctRoleObject),
+        ShellError::InvalidGrab => Refusal::of(object, ErrorCode::InvalidGrab),
+        ShellError::InvalidInput => Refusal::of(object, ErrorCode::InvalidInput),
+        ShellError::TooMany => Refusal::of_display(ErrorCode::Implementation),
+        ShellError::Memory => Refusal::of_display(ErrorCode::NoMemory),
+    }
+}
+
+/// Whether a role isn't that of a toplevel.
+fn is_other_role(role: Option<Role>) -> bool
+    ensures { result ≡ is_no_toplevel role }
+{
+    match role {
+        None | Some(Role::Toplevel) => false,
+        Some(Role::Popup) | Some(Role::Subsurface) | Some(Role::Cursor) => true,
+    }
+}
+
+impl<A: Allocator + Copy> Resident<A> {
+    /// The id of the xdg_surface of a surface; 0 where it has none.
+    pub(crate) fn xdg_surface_of(&self, surface: SurfaceNo) -> u32
+        ensures { result ≡ kept_id (kept_of self.now.owned.shell surface) }
+    {
+        match self.owned.shell.get(surface) {
+            Some(xdg_surface) => xdg_surface.id(),
+            None => 0,
+        }
+    }
+
+    /// The id of the xdg_wm_base that made the xdg_surface of a surface; 0 where it has none.
+    fn base_of(&self, surface: SurfaceNo) -> u32
+        ensures { result ≡ kept_base (kept_of self.now.owned.shell surface) }
+    {
+        match self.owned.shell.get(surface) {
+            Some(xdg_surface) => xdg_surface.base(),
+            None => 0,
+        }
+    }
+
+    /// Ends the client with an error of the shell's in a request of the xdg_surface of a surface.
+    pub(crate) fn refuse_xdg_surface(&mut self, object: u32, surface: SurfaceNo, error: ShellError)
+        ensures ended { is_some self.new.client.ended ≡ true }
+        ensures errs { (p : Peer) → IsPeer self.old.client p
+            → (q : Peer) × Errs (shell_refusal (kept_base (kept_of self.old.owned.shell surface)) object object error) p q × IsPeer self.new.client q }
+        ensures rest { length self.new.client.rest ≤ length self.old.client.rest }
+        ensures surfaces { self.new.owned.linked ≡ self.old.owned.linked }
+    {
+        let refusal = refusal_of(self.base_of(surface), object, object, error);
+        self.client.refuse(refusal);
+    }
+
+    /// xdg_surface.destroy: its id is given back.
+    fn destroy_xdg_surface(&mut self, object: u32, version: u32, surface: SurfaceNo)
+        ensures answers { IsXdgSurface self.old object surface → AnswersDemand (λ r. demand_of served_next r object version (xdg_surface_request Destroy)) self.old self.new }
+        ensures rest { length self.new.client.rest ≤ length self.old.client.rest }
+        ensures surfaces { self.new.owned.linked ≡ self.old.owned.linked }
+    {
+        match self.owned.shell.destroy_xdg_surface(surface) {
+            Ok(()) => {
+                self.client.count();
+                self.client.remove(object);
+            }
+            Err(error) => self.refuse_xdg_surface(object, surface, error),
+        }
+    }
+
+    /// xdg_surface.get_toplevel: a new toplevel under a free id. The surface has the role of one from then on.
+    fn get_toplevel(&mut self, object: u32, version: u32, surface: SurfaceNo, id: u32)
+        ensures answers { IsXdgSurface self.old object surface → IsFree self.old id
+            → AnswersDemand (λ r. demand_of served_next r object version (xdg_surface_request (GetToplevel id))) self.old self.new }
+        ensures rest { length self.new.client.rest ≤ length self.old.client.rest }
+    {
+        let has_other_role = is_other_role(self.owned.linked.surfaces.role(surface));
+        match self.owned.shell.get_toplevel(surface, id, has_other_role) {
+            Ok(()) => {
+                let _given = self
+                    .owned
+                    .linked
+                    .surfaces
+                    .give_role(surface, Role::Toplevel);
+                let entry = Entry {
+                    interface: Interface::XdgToplevel,
+                    version,
+                    target: surface,
+                };
+                self.client.count();
+                self.client.add(id, entry, &[]);
+            }
+            Err(error) => self.refuse_xdg_surface(object, surface, error),
+        }
+    }
+
+    /// xdg_surface.set_window_geometry of a rectangle in surface pixels.
+    fn set_window_geometry(&mut self, object: u32, version: u32, surface: SurfaceNo, rect: Rect)
+        ensures answers { IsXdgSurface self.old object surface
+            → AnswersDemand (λ r. demand_of served_next r object version (xdg_surface_request (SetWindowGeometry rect.x rect.y rect.w rect.h))) self.old self.new }
+        ensures rest { length self.new.client.rest ≤ length self.old.client.rest }
+        ensures surfaces { self.new.owned.linked ≡ self.old.owned.linked }
+    {
+        match self.owned.shell.geometry(surface, rect) {
+            Ok(()) => self.client.count(),
+            Err(error) => self.refuse_xdg_surface(object, surface, error),
+        }
+    }
+
+    /// xdg_surface.ack_configure of the configure with this serial.
+    fn ack_configure(&mut self, object: u32, version: u32, surface: SurfaceNo, serial: u32)
+        ensures answers { IsXdgSurface self.old object surface
+            → AnswersDemand (λ r. demand_of served_next r object version (xdg_surface_request (AckConfigure serial))) self.old self.new }
+        ensures rest { length self.new.client.rest ≤ length self.old.client.rest }
+        ensures surfaces { self.new.owned.linked ≡ self.old.owned.linked }
+    {
+        match self.owned.shell.ack(surface, serial) {
+            Ok(()) => self.client.count(),
+            Err(error) => self.refuse_xdg_surface(object, surface, error),
+        }
+    }
+
+    /// A request of the xdg_surface of a surface, whose new id is free.
+    pub(crate) fn xdg_surface(
+        &mut self,
+        object: u32,
+        version: u32,
+        surface: SurfaceNo,
+        request: &XdgSurfaceRequest,
+    )
+        ensures answers { IsXdgSurface self.old object surface → NewIsFree self.old (xdg_surface_request request.now)
+            → AnswersDemand (λ r. demand_of served_next r object version (xdg_surface_request request.now)) self.old self.new }
+        ensures rest { length self.new.client.rest ≤ length self.old.client.rest }
+    {
+        match *request {
+            XdgSurfaceRequest::Destroy => self.destroy_xdg_surface(object, version, surface),
+            XdgSurfaceRequest::GetToplevel { id } => self.get_toplevel(
+                object, version, surface, id,
+            ),
+            XdgSurfaceRequest::GetPopup { .. } => self.refuse_unserved(),
+            XdgSurfaceRequest::SetWindowGeometry {
+                x,
+                y,
+                width,
+                height,
+            } => {
+                let rect = Rect {
+                    x,
+                    y,
+                    w: width,
+                    h: height,
+                };
+                self.set_window_geometry(object, version, surface, rect);
+            }
+            XdgSurfaceRequest::AckConfigure { serial } => self.ack_configure(
+                object, version, surface, serial,
+            ),
+        }
+    }
+}

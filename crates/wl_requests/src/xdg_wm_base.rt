@@ -1,0 +1,158 @@
+//! The requests of xdg_wm_base.
+
+ghost use Rattle.std.specs.Prelude.{◌≡◌, ◌↔◌, IsTrue, Ok, ◌≤◌, length};
+ghost use Rattle.wl_proto.specs.Messages.{xdg_wm_base_request};
+ghost use Rattle.wl_interface.specs.declared.interface.Interface.TheVariants.{WlSurface};
+ghost use Rattle.wl_proto.specs.declared.xdg_wm_base.XdgWmBaseRequest.TheVariants.{Destroy, GetXdgSurface};
+ghost use Rattle.wl_plain.specs.Ask.{EndObject, Ignore};
+ghost use Rattle.wl_plain.specs.Demand.{Asks};
+ghost use Rattle.wl_owning.specs.Owning.{targets_in};
+ghost use Rattle.wl_requests.specs.Residents.{AnswersDemand, Does, GoesAlone, IsBase, IsFree, IsSurface, NewIsFree, ObjectsFit};
+ghost use Rattle.wl_without_popups.specs.ServedNext.{served_next};
+ghost use Rattle.wl_plain.specs.Demanding.{demand_of};
+ghost use Rattle.wl_plain.specs.WlSubsurface.{past_limit};
+ghost use Rattle.wl_plain.specs.XdgShell.{is_foreign};
+
+use crate::residents::Resident;
+use crate::xdg_surface::refusal_of;
+use std::alloc::Allocator;
+use wl_client::{ErrorCode, Refusal};
+use wl_proto::{Interface, XdgWmBaseRequest};
+use wl_shell::ShellError;
+use wl_surface::{Role, SurfaceNo};
+use wl_table::Entry;
+
+/// Whether a role isn't one of the shell's.
+fn is_foreign_role(role: Option<Role>) -> bool
+    ensures { result ≡ is_foreign role }
+{
+    match role {
+        None | Some(Role::Toplevel) | Some(Role::Popup) => false,
+        Some(Role::Subsurface) | Some(Role::Cursor) => true,
+    }
+}
+
+/// Whether there was no memory.
+fn is_memory(error: ShellError) -> bool
+    ensures { IsTrue result ↔ (error ≡ ShellError.Memory) }
+{
+    error == ShellError::Memory
+}
+
+impl<A: Allocator + Copy> Resident<A> {
+    /// A request that has no effect is counted.
+    pub(crate) fn ignore(&mut self)
+        ensures answers { AnswersDemand (λ r. Ok (Asks Ignore)) self.old self.new }
+        ensures rest { length self.new.client.rest ≤ length self.old.client.rest }
+        ensures surfaces { self.new.owned.linked ≡ self.old.owned.linked }
+    {
+        self.client.count();
+    }
+
+    /// A request that isn't served is refused as a limit would be.
+    pub(crate) fn refuse_unserved(&mut self)
+        ensures answers { AnswersDemand (λ r. past_limit) self.old self.new }
+        ensures rest { length self.new.client.rest ≤ length self.old.client.rest }
+        ensures surfaces { self.new.owned.linked ≡ self.old.owned.linked }
+    {
+        self.client
+            .refuse(Refusal::of_display(ErrorCode::Implementation));
+    }
+
+    /// The number of the surface of the wl_surface with this id.
+    pub(crate) fn surface_of(&self, id: u32) -> Option<SurfaceNo>
+        ensures { result ≡ targets_in WlSurface self.now.client.objects id }
+    {
+        let entry = self.client.object(id)?;
+        match entry.interface {
+            Interface::WlSurface => Some(entry.target),
+            _ => None,
+        }
+    }
+
+    /// An object goes with which nothing else of the client does: its id is given back.
+    pub(crate) fn end_object(&mut self, object: u32)
+        ensures does { GoesAlone self.old object → Does (λ r. EndObject object) self.old self.new }
+        ensures rest { length self.new.client.rest ≤ length self.old.client.rest }
+        ensures surfaces { self.new.owned.linked ≡ self.old.owned.linked }
+    {
+        self.client.remove(object);
+    }
+
+    /// xdg_wm_base.destroy: its id is given back.
+    fn destroy_base(&mut self, object: u32, version: u32)
+        ensures answers { IsBase self.old object → AnswersDemand (λ r. demand_of served_next r object version (xdg_wm_base_request Destroy)) self.old self.new }
+        ensures rest { length self.new.client.rest ≤ length self.old.client.rest }
+        ensures surfaces { self.new.owned.linked ≡ self.old.owned.linked }
+    {
+        match self.owned.shell.check_base(object) {
+            Ok(()) => {
+                self.client.count();
+                self.end_object(object);
+            }
+            Err(_) => self
+                .client
+                .refuse(Refusal::of(object, ErrorCode::DefunctSurfaces)),
+        }
+    }
+
+    /// xdg_wm_base.get_xdg_surface: a new xdg_surface, under a free id, of the wl_surface with this id, whose surface has this number.
+    fn get_xdg_surface(
+        &mut self,
+        object: u32,
+        version: u32,
+        id: u32,
+        surface: u32,
+        number: SurfaceNo,
+    )
+        ensures answers { IsFree self.old id → IsSurface self.old surface number
+            → AnswersDemand (λ r. demand_of served_next r object version (xdg_wm_base_request (GetXdgSurface id surface))) self.old self.new }
+        ensures rest { length self.new.client.rest ≤ length self.old.client.rest }
+        ensures surfaces { self.new.owned.linked ≡ self.old.owned.linked }
+    {
+        let has_other_role = is_foreign_role(self.owned.linked.surfaces.role(number));
+        let has_content = self.owned.linked.surfaces.has_content(number);
+        match self
+            .owned
+            .shell
+            .get_xdg_surface(number, id, object, has_other_role, has_content)
+        {
+            Ok(()) => {
+                let entry = Entry {
+                    interface: Interface::XdgSurface,
+                    version,
+                    target: number,
+                };
+                self.client.count();
+                self.client.add(id, entry, &[]);
+            }
+            Err(error) => {
+                if is_memory(error) {
+                    self.client.count();
+                    self.client.lack_memory();
+                } else {
+                    self.client.refuse(refusal_of(object, id, object, error));
+                }
+            }
+        }
+    }
+
+    /// A request of an xdg_wm_base whose new id is free and whose wl_surface is there.
+    pub(crate) fn xdg_wm_base(&mut self, object: u32, version: u32, request: &XdgWmBaseRequest)
+        ensures answers { IsBase self.old object → NewIsFree self.old (xdg_wm_base_request request.now) → ObjectsFit self.old (xdg_wm_base_request request.now)
+            → AnswersDemand (λ r. demand_of served_next r object version (xdg_wm_base_request request.now)) self.old self.new }
+        ensures rest { length self.new.client.rest ≤ length self.old.client.rest }
+        ensures surfaces { self.new.owned.linked ≡ self.old.owned.linked }
+    {
+        match *request {
+            XdgWmBaseRequest::Destroy => self.destroy_base(object, version),
+            XdgWmBaseRequest::CreatePositioner { .. } => self.refuse_unserved(),
+            XdgWmBaseRequest::GetXdgSurface { id, surface } => {
+                if let Some(number) = self.surface_of(surface) {
+                    self.get_xdg_surface(object, version, id, surface, number);
+                }
+            }
+            XdgWmBaseRequest::Pong { .. } => self.ignore(),
+        }
+    }
+}
