@@ -81,4 +81,4 @@ placed-kept v r object child sibling other its is named bad e =
     (sym same ∙ ap (λ n. is_bad_sibling n (number_in numbers sibling) (links_in v.owned.linked.family)) (number-of-name numbers its.link.child child its.named)
     ∙ ap (λ n. is_bad_sibling child n (links_in v.owned.linked.family)) (number-of-name numbers sibling other named) ∙ e)
     (placed-by r.owned.surfaces its.link sibling its.found (λ k f.
-        let found = finds-named (number_in numbers) v.owned.linked.surfaces v.owned.linked.family r.owned.surfaces sibling k by f in (found.0.of_child, found.1)))
+    let found = finds-named (number_in numbers) v.owned.linked.surfaces v.owned.linked.family r.owned.surfaces sibling k by f in (found.0.of_child, found.1)))

@@ -1,5 +1,5 @@
 -- The frame callbacks that are kept of a client, as it is asked for this and that.
-use Rattle.std.proofs.Common.{◌≡◌, ℕ, ◌+◌, ◌≤◌, List, [], ◌∷◌, ◌++◌, Bool, true, false, cond, Option, Some, None, refl, ap, subst, sym, ◌∙◌, arith, eq-eqb, inl, inr}
+use Rattle.std.proofs.Common.{◌≡◌, ℕ, ◌+◌, ◌≤◌, List, [], ◌∷◌, ◌++◌, Bool, true, false, cond, Some, None, refl, ap, subst, sym, ◌∙◌, arith, eq-eqb, inl, inr}
 use Rattle.std.specs.Prelude.{◌==◌, ◌&&◌, ◌||◌, filter, is_some, not}
 use Rattle.std.specs.List.{list_any}
 use Rattle.std.specs.Option.{option_map}
@@ -14,10 +14,10 @@ use Rattle.wl_family.specs.Family.{Tied}
 use Rattle.wl_surface.specs.declared.frames.Waiting.{Waiting}
 use Rattle.wl_state.specs.Frames.{frames_of}
 use Rattle.wl_surface.specs.Slots.{Numbered, Slots, StandForAll, changed_at, kept_at, with_at}
-use Rattle.wl_state.specs.Request.{Commit, Frame, Request}
+use Rattle.wl_state.specs.Request.{Frame, Request}
 use Rattle.wl_state.specs.State.{is_commit}
-use Rattle.wl_state.specs.Surface.{Surface, applying, asking, new_surface, with_role}
-use Rattle.wl_surface.specs.Surfaces.{with_change, with_new, without_surface}
+use Rattle.wl_state.specs.Surface.{Surface, asking, new_surface, with_role}
+use Rattle.wl_surface.specs.Surfaces.{with_change, with_new}
 use Rattle.wl_surface.specs.Waiting.{AreWaiting, Callback, IsNewNumber, counted_at, frames_at, is_in}
 use Rattle.wl_state.specs.declared.role.Role.{Role}
 use Rattle.wl_surface.proofs.Counting.{asked-in-role, asked-still, at-new, at-one, counts-in-role, counts-still}

@@ -12,7 +12,7 @@ use Rattle.wl_table.specs.declared.entry.Entry.{Entry}
 use Rattle.wl_peer.specs.Objects.{interface_number, is_of, object_of, objects_in}
 use Rattle.wl_peer.specs.Peer.{Peer, all_removed, removed}
 use Rattle.wl_client.specs.Serving.{HoldsWithout}
-use Rattle.wl_peer.specs.Told.{Said, id_deleted, released_told}
+use Rattle.wl_peer.specs.Told.{id_deleted, released_told}
 use Rattle.wl_state.specs.Frames.{frames_asked}
 use Rattle.wl_family.specs.Family.{Tied}
 use Rattle.wl_surface.specs.Slots.{Slots}

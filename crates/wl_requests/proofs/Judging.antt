@@ -227,7 +227,7 @@ module _ {A : Type 0} (v : Kept A) (names : Names) (r : Resident) (child below p
   made-so number id slots tied left none new free makes set = (
     owned-linked names v.owned.linked.surfaces v.owned.linked.family (kept_of v.owned.shell) r.owned two.owns number child below parent above slots tied two.child_named two.parent_named none makes,
     linked-subsurfaces v.subsurfaces left names.surfaces r.subsurfaces id number child below two.child_named two.owns.surfaces.once (nobody (slice_index_or v.subsurfaces below None) free) new set
-    two.subsurfaces,
+        two.subsurfaces,
   )
     where
       nobody : (o : Option ℕ) → is_some o ≡ false → o ≡ None

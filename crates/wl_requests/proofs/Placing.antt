@@ -110,10 +110,10 @@ module _ {A : Type 0} (old new : Kept A) (c : ℕ) (r : Resident) (d : Desktop) 
         counted r.peer,
         inr (subst (λ (es : List Said). Queues es (counted r.peer) (counted r.peer)) (sym none) refl),
         left-so after
-        (owned-synchronised names old.owned.linked.surfaces old.owned.linked.family (kept_of old.owned.shell) r.owned is.owns its.link.number child its.link its.here its.lives its.named
-        new.owned.linked.surfaces new.owned.linked.family makes)
-        (framed-left old.owned.linked.surfaces.frames old.client.objects old.client.objects r after refl (one-more r.peer.requests) is.frames (λ number. refl) (λ number. refl))
-        refl,
+            (owned-synchronised names old.owned.linked.surfaces old.owned.linked.family (kept_of old.owned.shell) r.owned is.owns its.link.number child its.link its.here its.lives its.named
+            new.owned.linked.surfaces new.owned.linked.family makes)
+            (framed-left old.owned.linked.surfaces.frames old.client.objects old.client.objects r after refl (one-more r.peer.requests) is.frames (λ number. refl) (λ number. refl))
+            refl,
       ))
 
   -- what is asked of the parent
@@ -136,8 +136,8 @@ module _ {A : Type 0} (old new : Kept A) (c : ℕ) (r : Resident) (d : Desktop) 
         counted r.peer,
         inr (subst (λ (es : List Said). Queues es (changed_by (AskSurface its.link.parent request) counted_of).peer (counted r.peer)) (sym untold) (sym (ap (λ (q : Resident). q.peer) none))),
         subst (λ (x : Resident). IsLeft old new x (counted r.peer)) (sym none)
-        (left-so after owned
-        (framed-asked kept.surfaces.frames old.client.objects old.client.objects r after refl (one-more r.peer.requests) is.frames kept.surfaces kept.family is.owns.surfaces its.link.parent its.above
-        request no_frames plain its.parent refl refl)
-        refl),
+            (left-so after owned
+            (framed-asked kept.surfaces.frames old.client.objects old.client.objects r after refl (one-more r.peer.requests) is.frames kept.surfaces kept.family is.owns.surfaces its.link.parent its.above
+            request no_frames plain its.parent refl refl)
+            refl),
       ))

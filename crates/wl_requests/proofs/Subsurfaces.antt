@@ -1,7 +1,7 @@
 -- What is kept of a client's wl_subsurfaces goes on standing for them.
-use Rattle.std.proofs.Common.{◌≡◌, ℕ, List, [], ◌∷◌, ◌++◌, Bool, true, false, Option, Some, None, cond, map, refl, ap, sym, subst, ◌∙◌, eq-eqb}
+use Rattle.std.proofs.Common.{◌≡◌, ℕ, List, [], ◌∷◌, ◌++◌, Bool, true, false, Option, Some, None, cond, map, refl, ap, sym, ◌∙◌, eq-eqb}
 use Rattle.std.specs.Prelude.{◌==◌, filter, find, not, slice_index_or}
-use Rattle.std.specs.Option.{option_and_then, option_map_or}
+use Rattle.std.specs.Option.{option_and_then}
 use Rattle.std.proofs.lemmas.Bool.{eqb-false, eqb-true, ne_eqb}
 use Rattle.wl_peer.specs.Objects.{ById, with_id}
 use Rattle.wl_plain.specs.Changing.{without_child}
@@ -9,7 +9,7 @@ use Rattle.wl_plain.specs.Desktop.{Subsurface}
 use Rattle.wl_subsurfaces.specs.Subsurfaces.{IsSetAt}
 use Rattle.wl_laws.proofs.Lists.Keys.{none-some, some-same}
 use Rattle.wl_owning.specs.Subsurfaces.{AreOfSurfaces, child_of}
-use Rattle.wl_owning.proofs.Keeping.OwningNames.{with_id-here, with_id-other}
+use Rattle.wl_owning.proofs.Keeping.OwningNames.{with_id-other}
 
 -- ---- a surface comes
 
@@ -64,9 +64,11 @@ gone-subsurfaces ids left numbers ss id number here once set are = record { name
     named : (other child : ℕ) → child_of other (map (without_child id) ss) ≡ Some child → (n : ℕ) × (with_id id None numbers child ≡ Some n) × (slice_index_or left n None ≡ Some other)
     named other child is =
         let was = still-child id child (child_of other ss) (sym (child-without id other ss) ∙ is) in
-        let it = are.named other child was.0 in
-        (it.0, with_id-other id child None numbers was.1 ∙ it.1,
-        set it.0 ∙ ap (λ b. cond b None (slice_index_or ids it.0 None)) (apart child it.0 it.1 was.1) ∙ it.2)
+        let it = are.named other child was.0 in (
+          it.0,
+          with_id-other id child None numbers was.1 ∙ it.1,
+          set it.0 ∙ ap (λ b. cond b None (slice_index_or ids it.0 None)) (apart child it.0 it.1 was.1) ∙ it.2,
+        )
 
     known : (n other : ℕ) → slice_index_or left n None ≡ Some other → (child : ℕ) × (with_id id None numbers child ≡ Some n) × (child_of other (map (without_child id) ss) ≡ Some child)
     known n other is = at (n == number) refl (sym (set n) ∙ is)
@@ -76,9 +78,11 @@ gone-subsurfaces ids left numbers ss id number here once set are = record { name
         at true same e = absurd (cc)
         at false same e =
             let it = are.known n other e in
-            let away : (it.0 == id) ≡ false = ne_eqb it.0 id (λ same_id. eqb-false n number same (let both : Option.Some n ≡ Some number = sym it.1 ∙ ap numbers same_id ∙ here in cc)) in
-            (it.0, with_id-other id it.0 None numbers away ∙ it.1,
-            child-without id other ss ∙ ap (option_and_then (λ child. cond (child == id) None (Some child))) it.2 ∙ ap (λ b. cond b None (Some it.0)) away)
+            let away : (it.0 == id) ≡ false = ne_eqb it.0 id (λ same_id. eqb-false n number same (let both : Option.Some n ≡ Some number = sym it.1 ∙ ap numbers same_id ∙ here in cc)) in (
+              it.0,
+              with_id-other id it.0 None numbers away ∙ it.1,
+              child-without id other ss ∙ ap (option_and_then (λ child. cond (child == id) None (Some child))) it.2 ∙ ap (λ b. cond b None (Some it.0)) away,
+            )
 
 -- ---- a wl_subsurface comes
 
@@ -147,9 +151,11 @@ linked-subsurfaces ids left numbers ss id link child number here once free new s
       where
         at : (b : Bool) → (n == number) ≡ b → cond b (Some id) (slice_index_or ids n None) ≡ Some other → (c : ℕ) × (numbers c ≡ Some n) × (child_of other (ss ++ made ∷ []) ≡ Some c)
         at true same e =
-            let other_is : id ≡ other = cc in
-            (child, here ∙ ap Some (sym (eqb-true n number same)),
-            older other (find (λ s. s.id == other) ss) refl ∙ ap (λ b. cond b (Some child) (child_of other ss)) (eq-eqb id other other_is))
+            let other_is : id ≡ other = cc in (
+              child,
+              here ∙ ap Some (sym (eqb-true n number same)),
+              older other (find (λ s. s.id == other) ss) refl ∙ ap (λ b. cond b (Some child) (child_of other ss)) (eq-eqb id other other_is),
+            )
         at false same e =
             let it = are.known n other e in
             (it.0, it.1, older other (find (λ s. s.id == other) ss) refl ∙ ap (λ b. cond b (Some child) (child_of other ss)) (apart it.0 it.2) ∙ it.2)
@@ -207,10 +213,10 @@ ended-subsurfaces ids left numbers ss id number here once set are = record { nam
             let it = are.known n other e in
             let mine = are.known number id here in
             let apart : (other == id) ≡ false = ne_eqb other id (λ same_id.
-                eqb-false n number same
-                (let one : Option.Some it.0 ≡ Some mine.0 = sym it.2 ∙ ap (λ i. child_of i ss) same_id ∙ mine.2 in
-                let child : it.0 ≡ mine.0 = cc in
-                let both : Option.Some n ≡ Some number = sym it.1 ∙ ap numbers child ∙ mine.1 in cc)) in
+            eqb-false n number same
+            (let one : Option.Some it.0 ≡ Some mine.0 = sym it.2 ∙ ap (λ i. child_of i ss) same_id ∙ mine.2 in
+            let child : it.0 ≡ mine.0 = cc in
+            let both : Option.Some n ≡ Some number = sym it.1 ∙ ap numbers child ∙ mine.1 in cc)) in
             (it.0, it.1, child-left id other ss ∙ ap (λ b. cond b None (child_of other ss)) apart ∙ it.2)
 
 -- one that has none any more

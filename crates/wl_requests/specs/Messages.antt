@@ -1,5 +1,5 @@
 -- What the first message of a client asks, for the desk.
-use Rattle.std.specs.Prelude.{ℕ, ◌≡◌, true, Some}
+use Rattle.std.specs.Prelude.{ℕ, ◌≡◌, true}
 use Rattle.wl_wire.specs.Wire.{split_of}
 use Rattle.wl_wire.specs.declared.header.Split.TheVariants.{More}
 use Rattle.wl_interface.specs.declared.interface.Interface.TheVariants.{XdgToplevel}

@@ -1,6 +1,6 @@
 -- What a request made of the surfaces of a client that may change what several of them show, and what is told of that (wayland.xml,
 -- wl_surface.commit and destroy; wl_subsurface.set_desync and destroy).
-use Rattle.std.specs.Prelude.{ℕ, ◌≡◌, Option, Some, None, List}
+use Rattle.std.specs.Prelude.{ℕ, Option, Some, None, List}
 use Rattle.wl_linked.specs.declared.linked.Linked.{Linked}
 use Rattle.wl_linked.specs.Linked.{IsLink, Stand}
 use Rattle.wl_linked.specs.Tree.{IsCommitTold, IsDesyncTold, IsEndTold, IsTold}

@@ -31,9 +31,9 @@ use crate::residents::{Outcome, Resident, Stacking};
 use std::alloc::Allocator;
 use wl_client::{ErrorCode, Refusal};
 use wl_geom::Rect;
+use wl_linked::Told;
 use wl_proto::{Interface, WlSurfaceRequest};
 use wl_shell::ShellAct;
-use wl_linked::Told;
 use wl_surface::{Applied, Attached, BufferNo, SurfaceNo};
 use wl_table::Entry;
 

@@ -108,7 +108,10 @@ impl<A: Allocator + Copy> Resident<A> {
                 surface,
                 parent,
             } => {
-                if let (Some(child), Some(parent)) = (self.surface_of(surface), self.surface_of(parent)) {
+                if let (Some(child), Some(parent)) = (
+                    self.surface_of(surface),
+                    self.surface_of(parent),
+                ) {
                     self.get_subsurface(object, version, id, child, parent);
                 }
             }

@@ -1,4 +1,4 @@
-use Rattle.std.proofs.Common.{◌≡◌, ℕ, List, [], ◌++◌, ◌+◌, Option, None, map, true, false, refl, ap, subst, sym, ◌∙◌}
+use Rattle.std.proofs.Common.{◌≡◌, ℕ, List, [], ◌++◌, Option, None, map, true, false, refl, ap, subst, sym, ◌∙◌}
 use Rattle.std.specs.Prelude.{◌==◌, ◌&&◌}
 use Rattle.std.specs.List.{list_any}
 use Rattle.std.specs.Option.{option_map}
@@ -111,8 +111,14 @@ returns-clause-applies g c = λ client r on names object kept shows only comes l
             only.once only.numbered only.roots named c.in-Ok.ensures.ok answer shell));
         frames = λ alive. rw (kept_owned, table alive, ap (λ (n : Names). n.surfaces) names_are, surfaces, effect-requests object (effect_by act) o after, effect-callbacks object (effect_by act) o after) (called.framed framed);
         subsurfaces = λ alive.
-            rw (c.tell_releases.ensures.subsurfaces, c.tell_act.ensures.subsurfaces, c.let_go_of_freed.ensures.subsurfaces, table alive, ap (λ (n : Names). n.surfaces) names_are,
-            effect-subsurfaces object (effect_by act) o after) subs;
+            rw (
+              c.tell_releases.ensures.subsurfaces,
+              c.tell_act.ensures.subsurfaces,
+              c.let_go_of_freed.ensures.subsurfaces,
+              table alive,
+              ap (λ (n : Names). n.surfaces) names_are,
+              effect-subsurfaces object (effect_by act) o after,
+            ) subs;
         numbers = λ alive. keeps-same v.client.objects c.tell_releases.new.self.client.objects (table alive);
       },
     ))

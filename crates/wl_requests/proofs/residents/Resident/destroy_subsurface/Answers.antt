@@ -1,4 +1,4 @@
-use Rattle.std.proofs.Common.{◌≡◌, ℕ, List, [], ◌∷◌, ◌++◌, ◌+◌, Option, None, Some, map, true, false, refl, ap, subst, sym, ◌∙◌, inl, inr}
+use Rattle.std.proofs.Common.{◌≡◌, ℕ, List, [], ◌∷◌, Option, None, Some, map, true, false, refl, ap, subst, sym, ◌∙◌, inr}
 use Rattle.std.specs.Prelude.{◌==◌, filter, not, Ok}
 use Rattle.std.specs.Option.{option_map}
 use Rattle.wl_client.specs.Agreement.{IsPeer}
@@ -6,7 +6,7 @@ use Rattle.wl_client.specs.View.{ClientView}
 use Rattle.wl_interface.specs.declared.interface.Interface.{Interface}
 use Rattle.wl_interface.specs.declared.interface.Interface.TheVariants.{WlBuffer, WlSubsurface, WlSurface, XdgSurface, XdgToplevel}
 use Rattle.wl_peer.specs.Objects.{interface_number, is_of, object_of, objects_in}
-use Rattle.wl_peer.specs.Peer.{Peer, Queues, counted, removed}
+use Rattle.wl_peer.specs.Peer.{Peer, Queues, counted}
 use Rattle.wl_peer.specs.Told.{Said, id_deleted, said}
 use Rattle.wl_proto.specs.Messages.{says}
 use Rattle.wl_scene.specs.declared.owned.Owned.{Owned as Lent}
@@ -17,7 +17,7 @@ use Rattle.wl_surface.specs.Trees.{unlinked}
 use Rattle.wl_table.specs.Objects.{Held, HoldsAt, entry_of}
 use Rattle.wl_table.specs.declared.entry.Entry.{Entry}
 use Rattle.wl_plain.specs.Changing.{after_all, link_with_id, unlinked_at}
-use Rattle.wl_plain.specs.Demand.{Demand, EndSubsurface}
+use Rattle.wl_plain.specs.Demand.{EndSubsurface}
 use Rattle.wl_plain.specs.Desktop.{Resident, Subsurface}
 use Rattle.wl_plain.specs.Replies.{releases}
 use Rattle.wl_plain.specs.Step.{removing, with_peer, with_surfaces}
@@ -29,7 +29,6 @@ use Rattle.wl_owning.proofs.Keeping.OwningNames.{names-other-gone}
 use Rattle.wl_owning.proofs.Keeping.Trees.{once-freed}
 use Rattle.wl_records.proofs.Toplevels.Releases.{still-released}
 use Rattle.wl_requests.specs.declared.residents.Resident.{Resident as Kept}
-use Rattle.wl_requests.specs.Linking.{IsChildOf}
 use Rattle.wl_requests.specs.Residents.{IsLeft}
 use Rattle.wl_requests.specs.Touching.{IsMade, IsTouched, Parts}
 use Rattle.wl_requests.proofs.Calls.{part-called}
@@ -37,7 +36,6 @@ use Rattle.wl_requests.proofs.Doing.{gone, lacked}
 use Rattle.wl_requests.proofs.Framing.{framed-names, one-more}
 use Rattle.wl_requests.proofs.Linking.{link-of-child, no-link-of}
 use Rattle.wl_requests.proofs.Numbers.{keeps-names}
-use Rattle.wl_requests.proofs.Shelling.{counted-on}
 use Rattle.wl_requests.proofs.Simply.{answered-so, counted-orderly, meets-as, meets-simply}
 use Rattle.wl_requests.proofs.Subsurfaces.{ended-subsurfaces, only-number}
 use Rattle.wl_requests.proofs.Trees.{are-one, lived, nothing-goes, told-all, tree-lets-go}

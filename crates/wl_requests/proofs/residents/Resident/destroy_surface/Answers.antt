@@ -1,4 +1,4 @@
-use Rattle.std.proofs.Common.{◌≡◌, ℕ, slice_index_or, List, [], ◌∷◌, ◌++◌, ◌+◌, Option, None, Some, map, true, false, refl, ap, subst, sym, ◌∙◌}
+use Rattle.std.proofs.Common.{◌≡◌, slice_index_or, List, [], ◌∷◌, ◌++◌, ◌+◌, Option, None, Some, map, true, false, refl, ap, subst, sym, ◌∙◌}
 use Rattle.std.specs.Prelude.{◌==◌, ◌&&◌, filter, not}
 use Rattle.std.specs.List.{list_any}
 use Rattle.std.specs.Option.{option_map}
@@ -17,7 +17,6 @@ use Rattle.wl_state.specs.Frames.{frames_asked}
 use Rattle.wl_state.specs.Kept.{buffer_of}
 use Rattle.wl_state.specs.Request.{Buffer}
 use Rattle.wl_state.specs.State.{pending}
-use Rattle.wl_state.specs.Surface.{Surface, listed}
 use Rattle.wl_store.specs.Stores.{Stock}
 use Rattle.wl_surface.specs.Surfaces.{history_in}
 use Rattle.wl_surface.specs.Trees.{destroyed_in, ended_in, links_with}
@@ -30,7 +29,7 @@ use Rattle.wl_plain.specs.Demand.{EndSurface}
 use Rattle.wl_plain.specs.Framing.{AreFramed}
 use Rattle.wl_plain.specs.Desktop.{Resident}
 use Rattle.wl_plain.specs.Releases.{let_if}
-use Rattle.wl_plain.specs.Replies.{is_same_buffer, releases}
+use Rattle.wl_plain.specs.Replies.{is_same_buffer}
 use Rattle.wl_plain.specs.Step.{is_over, letting_go, with_surfaces}
 use Rattle.wl_owning.specs.Freed.{freed_of}
 use Rattle.wl_owning.specs.Owning.{Names, by_number, names_in}

@@ -19,11 +19,11 @@ returns-then-is_some-clause-judged g c = λ names r child parent object version 
     let v = c.args.self.now in
     let shallow = deep-is v names r child c.args.child parent c.args.parent two c.is_too_deep.result c.is_too_deep.ensures.deep c.is_too_deep.ensures.stand ∙ c.if-is_too_deep.false in
     elim c.then-is_some.branch [
-      then-is_some-via-then-is_some w ↦
-        one-judged v names r child c.args.child parent c.args.parent two object version id shallow (sym (ap is_some c.get.ensures) ∙ sym c.is_some.ensures ∙ w.if-is_some.true)
-    | then-is_some-via-else-is_some+then-is_some-2 w ↦
-        xdg-judged v names r child c.args.child parent c.args.parent two object version id shallow
-        (sym (ap is_some w.get-else-is_some.ensures) ∙ copied-there w.get-else-is_some.result ∙ sym w.is_some-else-is_some.ensures ∙ w.if-is_some-2.true)
+      | then-is_some-via-then-is_some w ↦
+          one-judged v names r child c.args.child parent c.args.parent two object version id shallow (sym (ap is_some c.get.ensures) ∙ sym c.is_some.ensures ∙ w.if-is_some.true)
+      | then-is_some-via-else-is_some+then-is_some-2 w ↦
+          xdg-judged v names r child c.args.child parent c.args.parent two object version id shallow
+          (sym (ap is_some w.get-else-is_some.ensures) ∙ copied-there w.get-else-is_some.result ∙ sym w.is_some-else-is_some.ensures ∙ w.if-is_some-2.true)
     ]
 
 pub returns-in_err-subsurface-clause-judged : goal.returns-in_err-subsurface-clause-judged

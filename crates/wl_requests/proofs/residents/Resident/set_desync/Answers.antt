@@ -1,16 +1,12 @@
-use Rattle.std.proofs.Common.{◌≡◌, ℕ, List, ◌++◌, ◌+◌, Option, None, Some, map, true, false, refl, ap, subst, sym, ◌∙◌, []}
-use Rattle.std.specs.Prelude.{◌==◌, ◌&&◌, Ok, Result}
-use Rattle.std.specs.List.{list_any}
-use Rattle.std.specs.Option.{option_map}
+use Rattle.std.proofs.Common.{◌≡◌, ℕ, List, Option, None, Some, map, true, false, refl, ap, subst, sym, ◌∙◌, []}
+use Rattle.std.specs.Prelude.{Result}
 use Rattle.wl_client.specs.Agreement.{IsPeer}
 use Rattle.wl_client.specs.View.{ClientView}
 use Rattle.wl_interface.specs.declared.interface.Interface.TheVariants.{WlBuffer}
-use Rattle.wl_peer.specs.Buffers.{Buffer as Made}
-use Rattle.wl_peer.specs.Objects.{ById}
 use Rattle.wl_peer.specs.Peer.{Queues, counted}
 use Rattle.wl_peer.specs.Told.{Said, said}
 use Rattle.wl_peer.specs.declared.refusals.Refusal.{Refusal}
-use Rattle.wl_proto.specs.Messages.{says, wl_subsurface_request}
+use Rattle.wl_proto.specs.Messages.{says}
 use Rattle.wl_proto.specs.declared.wl_subsurface.WlSubsurfaceRequest.TheVariants.{SetDesync}
 use Rattle.wl_scene.specs.declared.owned.Owned.{Owned as Lent}
 use Rattle.wl_shell.specs.Kept.{kept_of}
@@ -18,21 +14,16 @@ use Rattle.wl_state.specs.Kept.{buffer_of}
 use Rattle.wl_surface.specs.Trees.{desynchronised_in}
 use Rattle.wl_plain.specs.Changing.{mode_set}
 use Rattle.wl_plain.specs.Demand.{Demand, SetMode}
-use Rattle.wl_plain.specs.Demanding.{demand_of}
-use Rattle.wl_plain.specs.Desktop.{Desktop, Resident}
-use Rattle.wl_plain.specs.Replies.{is_same_buffer}
+use Rattle.wl_plain.specs.Desktop.{Resident}
 use Rattle.wl_plain.specs.Step.{with_peer, with_surfaces}
 use Rattle.wl_plain.specs.WlSubsurface.{demand_by_link}
-use Rattle.wl_orderly.specs.Orderly.{OwnsOrderly}
-use Rattle.wl_without_popups.specs.ServedNext.{served_next}
-use Rattle.wl_owning.specs.Freed.{freed_of}
-use Rattle.wl_owning.specs.Owning.{Names, names_in}
+use Rattle.wl_owning.specs.Owning.{names_in}
 use Rattle.wl_owning.proofs.Keeping.Freeing.{releases-freed}
 use Rattle.wl_owning.proofs.Keeping.Ids.{waits-desynchronised}
 use Rattle.wl_owning.proofs.Keeping.OwningLinks.{owned-desynchronised}
 use Rattle.wl_owning.proofs.Keeping.Trees.{once-freed}
 use Rattle.wl_requests.specs.Linking.{IsChildOf}
-use Rattle.wl_requests.specs.Residents.{AnswersAs, IsResident}
+use Rattle.wl_requests.specs.Residents.{AnswersAs}
 use Rattle.wl_requests.specs.Touching.{IsMade, IsTouched, Releases}
 use Rattle.wl_requests.proofs.Calls.{desync-called}
 use Rattle.wl_requests.proofs.Doing.{gone, lacked}
@@ -41,9 +32,8 @@ use Rattle.wl_requests.proofs.Subsurfaces.{only-number}
 use Rattle.wl_requests.proofs.Linking.{link-of-child, no-link-of}
 use Rattle.wl_requests.proofs.Numbers.{keeps-same}
 use Rattle.wl_requests.proofs.Placing.{ignored-so}
-use Rattle.wl_requests.proofs.Shelling.{counted-on, names-counted, objects-counted}
 use Rattle.wl_requests.proofs.Simply.{answered-so, counted-orderly, meets-as}
-use Rattle.wl_requests.proofs.Trees.{are-one, lived, told-all, tree-lets-go}
+use Rattle.wl_requests.proofs.Trees.{are-one, told-all, tree-lets-go}
 use Rattle.wl_requests.proofs.residents.Resident.set_desync.Goals as goal
 
 pub returns-in_err-child-clause-answers : goal.returns-in_err-child-clause-answers

@@ -37,9 +37,12 @@ loop-buffer-preserved g c =
       table = λ alive. c.queue_all.ensures.table alive ∙ now.table lives;
       told = λ p is started.
           let so = now.told p is started in
-          let next = c.queue_all.ensures.queues so.0 so.1 in
-          (next.0, next.2, next-told told_of c.args.released.now c.loop-buffer.buffer-index (map told_of c.args.released.now) p so.0 next.0 _ c.loop-buffer-test.true c.release_event.ensures
-          (sym so.1.status ∙ lives) next.1 so.2);
+          let next = c.queue_all.ensures.queues so.0 so.1 in (
+            next.0,
+            next.2,
+            next-told told_of c.args.released.now c.loop-buffer.buffer-index (map told_of c.args.released.now) p so.0 next.0 _ c.loop-buffer-test.true c.release_event.ensures
+                (sym so.1.status ∙ lives) next.1 so.2,
+          );
       ended = λ over. absurd (gone c.loop-buffer.self.client.ended (ap (λ (v : ClientView). is_some v.ended) (now.ended over) ∙ over) lives);
       owned = now.owned;
       subsurfaces = now.subsurfaces;
