@@ -25,7 +25,8 @@ use Rattle.wl_laws.proofs.Lists.Keys.{none-some, some-same}
 use Rattle.wl_laws.proofs.Soundness.Moves.{found-left}
 use Rattle.wl_owning.specs.Freed.{AreFreedOf}
 use Rattle.wl_owning.specs.Owning.{AreKept, by_number, number_in}
-use Rattle.wl_owning.proofs.Keeping.Ids.{KeepsFraming, frames-committed, frames-desynchronised, frames-unlinked, frames-without-links, ids-committed, ids-desynchronised, ids-unlinked, ids-without-links}
+use Rattle.wl_owning.proofs.Keeping.Ids.{KeepsFraming, frames-committed, frames-desynchronised, frames-unlinked, frames-without-links, ids-committed, ids-desynchronised, ids-unlinked}
+use Rattle.wl_owning.proofs.Keeping.Ids.{ids-without-links}
 use Rattle.wl_owning.proofs.Keeping.Ids.{same-framing}
 use Rattle.wl_owning.proofs.Keeping.OwningNames.{with_id-other}
 use Rattle.wl_owning.proofs.Keeping.OwningSurfaces.{AreKept-left, AreKept-then}

@@ -112,7 +112,8 @@ pub one-let : (v w : ClientView) (r : Resident) (change : Stock → Stock) → I
     → IsPeer w (record r.peer { stores = change r.peer.stores })
 one-let v w r change is only stores = subst (λ (x : ClientView). IsPeer x (record r.peer { stores = change r.peer.stores })) (sym only) (IsPeer-stores v r.peer change w.stores stores is)
 
-pub kept-there : {A : Type 0} (v w : Lent A) (numbers : ById ℕ) (all : Surfaces) → w ≡ v → AreKept numbers v.linked.surfaces v.linked.family all → AreKept numbers w.linked.surfaces w.linked.family all
+pub kept-there : {A : Type 0} (v w : Lent A) (numbers : ById ℕ) (all : Surfaces) → w ≡ v → AreKept numbers v.linked.surfaces v.linked.family all
+    → AreKept numbers w.linked.surfaces w.linked.family all
 kept-there v w numbers all same kept = rw same kept
 
 -- The buffers that a surface had are let go of, once what was asked of it stands: so it was done.

@@ -155,11 +155,13 @@ own-requests (DestroyBuffer id store) left n le =
     (omega (arith, le))
 
 own-answered : {A : Type 0} (old new : Kept A) (r left : Resident) (judged : Result Action Refusal) (q : Peer) → IsResident old r → left.owned ≡ r.owned → left.callbacks ≡ r.callbacks
-    → left.subsurfaces ≡ r.subsurfaces → r.peer.requests ≤ left.peer.requests → new.owned ≡ old.owned → new.subsurfaces ≡ old.subsurfaces → (new.client.ended ≡ None → KeepsSurfaces old.client.objects new.client.objects)
+    → left.subsurfaces ≡ r.subsurfaces → r.peer.requests ≤ left.peer.requests → new.owned ≡ old.owned → new.subsurfaces ≡ old.subsurfaces → (new.client.ended ≡ None
+    → KeepsSurfaces old.client.objects new.client.objects)
     → AnswersWith (λ number. is_used number left.owned.surfaces) judged left.peer q → IsPeer new.client q → AnswersSo (owns judged) left old new
 own-answered old new r left (Ok action) q is owned callbacks subsurfaces more same kept keeps acts peer =
     (q, acts, own-left old new r (changed_by (Own action) (with_peer (counted left.peer) left)) q is owned callbacks subsurfaces (own-requests action left r.peer.requests more) same kept keeps peer)
-own-answered old new r left (Err refusal) q is owned callbacks subsurfaces more same kept keeps errs peer = (q, errs, own-left old new r left q is owned callbacks subsurfaces more same kept keeps peer)
+own-answered old new r left (Err refusal) q is owned callbacks subsurfaces more same kept keeps errs peer =
+    (q, errs, own-left old new r left q is owned callbacks subsurfaces more same kept keeps peer)
 
 -- the buffers that its surfaces use
 pub used-of : {A : Type 0} (old : Kept A) (r : Resident) → IsResident old r → AreUsed old.owned.linked.surfaces (λ number. is_used number r.owned.surfaces)
@@ -184,6 +186,7 @@ own-served old new r q is (object, version, size, target, m, passes, own) same k
     let answers : AnswersWith used action left.peer q = subst (λ (j : Result Action Refusal). AnswersWith used j left.peer q) judged_own taken in
     subst (λ (s : Split). TakesSo s c r d old new Stays) (sym whole) (
       subst (λ (j : Result Demand Refusal). AnswersWhole j c left d old new) (sym judged)
-          (simply old new c d left (only_peer_changes r left.peer refl refl (no-more r.peer.requests) only) (owns action) (own-answered old new r left action q is refl refl refl (no-more r.peer.requests) same kept keeps answers peer)),
+          (simply old new c d left (only_peer_changes r left.peer refl refl (no-more r.peer.requests) only) (owns action) (own-answered old new r left action q is refl refl refl
+          (no-more r.peer.requests) same kept keeps answers peer)),
       subst (λ (j : Result Demand Refusal). StacksWhole old r j Stays) (sym judged) (asks-stay old r (owns action)),
     )

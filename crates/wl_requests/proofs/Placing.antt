@@ -137,7 +137,8 @@ module _ {A : Type 0} (old new : Kept A) (c : ℕ) (r : Resident) (d : Desktop) 
         inr (subst (λ (es : List Said). Queues es (changed_by (AskSurface its.link.parent request) counted_of).peer (counted r.peer)) (sym untold) (sym (ap (λ (q : Resident). q.peer) none))),
         subst (λ (x : Resident). IsLeft old new x (counted r.peer)) (sym none)
             (left-so after owned
-            (framed-asked kept.surfaces.frames old.client.objects old.client.objects r after refl (one-more r.peer.requests) is.frames kept.surfaces kept.family is.owns.surfaces its.link.parent its.above
+            (framed-asked kept.surfaces.frames old.client.objects old.client.objects r after refl
+            (one-more r.peer.requests) is.frames kept.surfaces kept.family is.owns.surfaces its.link.parent its.above
             request no_frames plain its.parent refl refl)
             refl),
       ))

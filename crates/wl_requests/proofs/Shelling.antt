@@ -37,11 +37,10 @@ use Rattle.wl_requests.specs.declared.residents.Resident.{Resident as Kept}
 use Rattle.wl_plain.specs.Ask.{Ask, AskSurface, GetToplevel}
 use Rattle.wl_plain.specs.Demand.{Demand}
 use Rattle.wl_plain.specs.Desktop.{Desktop, Resident}
-use Rattle.wl_orderly.specs.Orderly.{OwnsOrderly}
-use Rattle.wl_owning.specs.Owning.{AreKept, IsOwned, IsXdg, Names, asks_by, by_number, configuring_if, kept_base, names_in, names_surface, shell_refusal, target_as, targets_in, with_surface}
+use Rattle.wl_owning.specs.Owning.{AreKept, IsOwned, IsXdg, Names, asks_by, by_number, configuring_if, kept_base, names_in, names_surface, shell_refusal, target_as, targets_in}
 use Rattle.wl_owning.specs.Owning.{with_toplevel, with_xdg}
 use Rattle.wl_owning.specs.Subsurfaces.{AreOfSurfaces}
-use Rattle.wl_requests.specs.Residents.{ActsFor, AnswersAs, AnswersSo as AnswersWhole, Does, IsFree, NewIsFree, IsResident, IsToplevel, IsXdgSurface, Meets, MeetsAs, MeetsSo}
+use Rattle.wl_requests.specs.Residents.{ActsFor, AnswersAs, AnswersSo as AnswersWhole, Does, IsFree, NewIsFree, IsResident, IsToplevel, IsXdgSurface, MeetsAs}
 use Rattle.wl_plain.specs.Step.{answers_to, changed_by, configures_told, role_configured, takes_memory, toplevel_configured, toplevel_given, with_peer, xdg_configured}
 use Rattle.wl_plain.specs.Demanding.{xdg_asked, xdg_demand}
 use Rattle.wl_plain.specs.XdgShell.{configured_again, is_no_toplevel, role_of}
@@ -49,12 +48,12 @@ use Rattle.wl_proto.specs.declared.xdg_surface.XdgSurfaceRequest.{XdgSurfaceRequ
 use Rattle.wl_requests.proofs.Doing.{cut-bounds}
 use Rattle.wl_owning.proofs.Keeping.Letting.{asked-keeps}
 use Rattle.wl_requests.proofs.Numbers.{left-from}
-use Rattle.wl_requests.proofs.Simply.{AnswersSimply, AnswersSo, counted-orderly}
+use Rattle.wl_requests.proofs.Simply.{AnswersSimply, AnswersSo}
 use Rattle.wl_requests.proofs.Framing.{IsFramed, framed-names, one-more}
 use Rattle.wl_records.proofs.Toplevels.Simply.{Asking, told_simply}
 use Rattle.wl_records.proofs.Toplevels.Releases.{requested-still}
 use Rattle.wl_owning.proofs.Keeping.OwningSurfaces.{surface-named, surface-read}
-use Rattle.wl_owning.proofs.Keeping.OwningNames.{names-other-gone, names-surface-gone, names-toplevel-gone, names-xdg-gone}
+use Rattle.wl_owning.proofs.Keeping.OwningNames.{names-other-gone, names-toplevel-gone, names-xdg-gone}
 use Rattle.wl_owning.proofs.Keeping.OwningReads.{role-fits, role-read}
 use Rattle.wl_owning.proofs.Keeping.OwningXdg.{toplevel-named, xdg-named}
 
@@ -199,7 +198,8 @@ pub told-err : {X Y : Type 0} (judged : Result Y Refusal) (ask : X → Y) (refus
 told-err judged ask refusal answer told error e same err = e ∙ ap (asks_by ask refusal) (sym same ∙ err)
 
 -- an error is told with the xdg_wm_base that made the xdg_surface
-pub xdg-refused : {A : Type 0} (old new : Kept A) (mid : ℕ → Option KeptXdg) (r : Resident) (object number : ℕ) (k : KeptXdg) (x : Xdg) (h : History) (error : ShellError) (judged : Result Ask Refusal)
+pub xdg-refused : {A : Type 0} (old new : Kept A) (mid : ℕ
+    → Option KeptXdg) (r : Resident) (object number : ℕ) (k : KeptXdg) (x : Xdg) (h : History) (error : ShellError) (judged : Result Ask Refusal)
     → IsXdg (names_in old.client.objects) (kept_of old.owned.shell) r.owned number k x h → x.id ≡ object → judged ≡ Err (shell_refusal x.base x.id object error) → mid ≡ kept_of old.owned.shell
     → is_some new.client.ended ≡ true
     → (q : Peer) × Errs (shell_refusal (kept_base (mid number)) object object error) r.peer q × IsPeer new.client q → AnswersSo judged r old new
@@ -277,7 +277,8 @@ pub making-ok : (m : Option ShellError) (told : Result (Unit {0}) ShellError) �
 making-ok None told refuses ok = refl
 making-ok (Some e) told refuses ok = absurd (cc)
 
-pub making-memory : (other content : Bool) (k : Option KeptXdg) (told : Result (Unit {0}) ShellError) → MatchOption (making_refused other content k) (IsOkUnless told failed.Memory) (λ e. told ≡ Err e)
+pub making-memory : (other content : Bool) (k : Option KeptXdg) (told : Result (Unit {0}) ShellError)
+    → MatchOption (making_refused other content k) (IsOkUnless told failed.Memory) (λ e. told ≡ Err e)
     → told ≡ Err failed.Memory → making_refused other content k ≡ None
 making-memory other content k told refuses memory = at (other || is_some k) content refuses
   where
@@ -393,11 +394,6 @@ number-surface : (interface : Interface) → (interface_number interface == inte
 number-surface WlSurface e = refl
 number-surface interface e = absurd (cc)
 
-pub surface-gone : (old new : Held) (id number : ℕ) → targets_in WlSurface old id ≡ Some number → HoldsAt old new id None → names_in new ≡ with_surface id None (names_in old)
-surface-gone old new id number named holds =
-    let entry = entry-named WlSurface old id number named in
-    names-surface-gone old new id entry.0 entry.1 (number-surface entry.0.interface entry.2) holds
-
 -- the same is told
 pub wants-told : (b : Bool) (told answers : List Said) (p after q : Peer) → told ≡ answers → WantsOr b (Queues answers after q) p q → WantsOr b (Queues told after q) p q
 wants-told b told answers p after q same h = subst (λ (es : List Said). WantsOr b (Queues es after q) p q) (sym same) h
@@ -421,13 +417,6 @@ counted-does old mid new r ask is only same kept peer told does =
     let one_more : Resident = with_peer (counted r.peer) r in
     let done = does one_more (counted-on old mid r is only same kept peer) in
     (done.0, wants-told (takes_memory (ask one_more)) _ _ one_more.peer _ done.0 told done.1, left-from old mid new _ done.0 (objects-counted old.client mid.client only) done.2)
-
-pub counted-meets : {A : Type 0} (old mid new : Kept A) (c : ℕ) (r : Resident) (d : Desktop) (demand : Resident → Demand) → IsResident old r → OwnsOrderly r
-    → mid.client ≡ record old.client { requests = mid.client.requests } → mid.owned ≡ old.owned → mid.subsurfaces ≡ old.subsurfaces
-    → IsPeer mid.client (counted r.peer) → Meets demand mid new → MeetsSo c (demand (with_peer (counted r.peer) r)) (with_peer (counted r.peer) r) d old new
-counted-meets old mid new c r d demand is has only same kept peer meets =
-    let done = meets c (with_peer (counted r.peer) r) d (counted-on old mid r is only same kept peer) (counted-orderly r has) in
-    (done.0, done.1, left-from old mid new _ done.0 (objects-counted old.client mid.client only) done.2)
 
 pub surface-counted : (old mid : ClientView) (id number : ℕ) → mid ≡ record old { requests = mid.requests } → targets_in WlSurface old.objects id ≡ Some number
     → targets_in WlSurface mid.objects id ≡ Some number

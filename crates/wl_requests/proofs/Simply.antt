@@ -85,22 +85,6 @@ module _ {A : Type 0} (old new : Kept A) (c : ℕ) (d : Desktop) where
         at true (inr told) = inr (queues-same h.0 told)
         at false told = queues-same h.0 told
 
-    -- and the other way round
-    pub simply-meets : MeetsSo c demand r d old new → ActsSo demand r old new
-    simply-meets h = (h.0, at (wants_memory demand) h.1, subst (λ (m : Resident). IsLeft old new m h.0) (changes_simply c demand r d owns served) h.2)
-      where
-        told : Queues (replies served_next c demand r (changed_for c demand r d) (all_windows d) d) (changed_for c demand r d).peer h.0
-            → Queues (told_simply demand r) (changed_simply demand r).peer h.0
-        told k =
-            subst (λ (events : List Said). Queues events (changed_simply demand r).peer h.0) events-same
-            (subst (λ (m : Resident). Queues (replies served_next c demand r (changed_for c demand r d) (all_windows d) d) m.peer h.0) (changes_simply c demand r d owns served) k)
-
-        at : (b : Bool) → WantsOr b (Queues (replies served_next c demand r (changed_for c demand r d) (all_windows d) d) (changed_for c demand r d).peer h.0) r.peer h.0
-            → WantsOr b (Queues (told_simply demand r) (changed_simply demand r).peer h.0) r.peer h.0
-        at true (inl lacks) = inl lacks
-        at true (inr k) = inr (told k)
-        at false k = told k
-
     pub meets-as : (done : Bool) → ActsAs done demand r old new → MeetsAs done c demand r d old new
     meets-as true h = (h.0, queues-same h.0 h.1, left-same h.0 h.2)
     meets-as false h = (h.0, h.1, h.2, left-same h.1 h.3)

@@ -16,8 +16,7 @@ use Rattle.wl_shell.specs.Kept.{kept_of}
 use Rattle.wl_shell.specs.Shell.{Effect, XdgSurface as Xdg, xdg_at, xdg_of, xdg_with}
 use Rattle.wl_shell.specs.declared.acts.ShellAct.{ShellAct}
 use Rattle.wl_shell.specs.declared.acts.ShellAct.TheVariants.{Configure, Map, Unmap, Nothing}
-use Rattle.wl_plain.specs.Ask.{Ignore}
-use Rattle.wl_plain.specs.Demand.{Demand, Asks, CommitTree}
+use Rattle.wl_plain.specs.Demand.{Demand, CommitTree}
 use Rattle.wl_plain.specs.Demanding.{demand_of, demands, effect_of_commit, moved_by_pointer, toplevel_asked, toplevel_demand, toplevel_destroyed, xdg_asked}
 use Rattle.wl_plain.specs.Desktop.{Resident}
 use Rattle.wl_without_popups.specs.ServedNext.{served_next, unserved_but_subsurfaces}
@@ -34,9 +33,9 @@ use Rattle.wl_owning.proofs.Keeping.OwningXdg.{toplevel-named}
 use Rattle.wl_requests.specs.declared.residents.Resident.{Resident as Kept}
 use Rattle.wl_requests.specs.declared.residents.Stacking.{Stacking}
 use Rattle.wl_requests.specs.declared.residents.Stacking.TheVariants.{Stays, Out}
-use Rattle.wl_requests.specs.declared.xdg_toplevel.ToplevelAsked.TheVariants.{Destruction, Configure as AskedConfigure, Nothing as AskedNothing}
+use Rattle.wl_requests.specs.declared.xdg_toplevel.ToplevelAsked.TheVariants.{Destruction, Configure as AskedConfigure}
 use Rattle.wl_requests.specs.Residents.{IsResident, IsSurface, IsToplevel, StacksBy, StacksSo, asked_by, stacking_by}
-use Rattle.wl_requests.proofs.Simply.{AnswersSimply, asks-stay}
+use Rattle.wl_requests.proofs.Simply.{asks-stay}
 
 -- a commit
 stacks-by-act : {A : Type 0} (old : Kept A) (id number : ℕ) (act : ShellAct) → IsSurface old id number → StacksBy old id (effect_by act) (stacking_by act number)
@@ -96,17 +95,6 @@ toplevel-state object o request is = absurd (cc)
 pub toplevel-of : (r : Resident) (object version : ℕ) (m : Message) → m.interface ≡ XdgToplevel
     → demand_of served_next r object version m ≡ toplevel_demand r object (toplevel_request m.opcode m.fields)
 toplevel-of r object version m is = rw is refl
-
--- one that isn't destroyed and asks for no other state is answered as one that is ignored: no pointer moves it yet
-pub toplevel-ignored : {A : Type 0} (old new : Kept A) (r : Resident) (object : ℕ) (x : Xdg) (request : ToplevelRequest) → asked_by request ≡ AskedNothing
-    → AnswersSimply (Ok (Asks Ignore)) r old new → AnswersSimply (toplevel_asked object (Some x) request) r old new
-toplevel-ignored old new r object x toplevel.Destroy is h = absurd (cc)
-toplevel-ignored old new r object x toplevel.SetMaximized is h = absurd (cc)
-toplevel-ignored old new r object x toplevel.UnsetMaximized is h = absurd (cc)
-toplevel-ignored old new r object x (toplevel.SetFullscreen output) is h = absurd (cc)
-toplevel-ignored old new r object x toplevel.UnsetFullscreen is h = absurd (cc)
-toplevel-ignored old new r object x (toplevel.Move seat serial) is h = h
-toplevel-ignored old new r object x request is h = h
 
 -- a request of an xdg_surface
 xdg-asked-stays : {A : Type 0} (old : Kept A) (r : Resident) (o : Option Xdg) (version : ℕ) (request : XdgSurfaceRequest) → unserved_but_subsurfaces (ToXdgSurface request) ≡ false

@@ -3,7 +3,8 @@ use Rattle.std.specs.Prelude.{ℕ, ◌≡◌, true}
 use Rattle.wl_wire.specs.Wire.{split_of}
 use Rattle.wl_wire.specs.declared.header.Split.TheVariants.{More}
 use Rattle.wl_interface.specs.declared.interface.Interface.TheVariants.{XdgToplevel}
-use Rattle.wl_proto.specs.Messages.{Message, wl_compositor_request, wl_seat_request, wl_subcompositor_request, wl_subsurface_request, wl_surface_request}
+use Rattle.wl_proto.specs.Messages.{Message, wl_compositor_request, wl_seat_request, wl_subcompositor_request, wl_subsurface_request}
+use Rattle.wl_proto.specs.Messages.{wl_surface_request}
 use Rattle.wl_proto.specs.Messages.{xdg_surface_request, xdg_wm_base_request}
 use Rattle.wl_client.specs.First.{IsRefused, Passes}
 use Rattle.wl_client.specs.Serving.{IsOwnMessage}
@@ -46,7 +47,8 @@ abbrev pub IsTouchOf : {A : Type 0} → Kind → ℕ → ℕ → Kept A → Touc
 IsTouchOf (kind.Surface surface.Commit) object target v touch = touch ≡ Commits target
 IsTouchOf (kind.Surface surface.Destroy) object target v touch = touch ≡ Destroys target
 IsTouchOf (kind.Subsurface subsurface.Destroy) object target v touch = (child : ℕ) × IsOnlyChild v object child × (touch ≡ Parts child)
-IsTouchOf (kind.Subsurface subsurface.SetDesync) object target v touch = (child : ℕ) × IsOnlyChild v object child × (touch ≡ Releases child)
+IsTouchOf (kind.Subsurface subsurface.SetDesync) object target v touch = (child : ℕ) × IsOnlyChild v object child
+    × (touch ≡ Releases child)
 IsTouchOf kind object target v touch = ⊥
 
 abbrev pub IsTouchOfAsked : {A : Type 0} → Asked → Kept A → Touch → Type 0

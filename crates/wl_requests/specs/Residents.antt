@@ -1,10 +1,12 @@
 -- What the desk keeps of a client agrees with a client of the plain desktop, and what a request makes of both.
 use Rattle.std.specs.List.{list_all}
-use Rattle.std.specs.Prelude.{ℕ, ◌≡◌, ◌⊎◌, ◌+◌, ◌-◌, IfSome, None, Some, is_some, Result, Ok, Err, Bool, true, false, Option, List, [], take, drop}
+use Rattle.std.specs.Prelude.{ℕ, ◌≡◌, ◌⊎◌, ◌+◌, ◌-◌, IfSome, None, Some, is_some, Result, Ok, Err, Bool, true, false, Option, List, []}
+use Rattle.std.specs.Prelude.{take, drop}
 use Rattle.wl_wire.specs.Wire.{split_of}
 use Rattle.wl_wire.specs.declared.header.Split.{Split}
 use Rattle.wl_wire.specs.declared.header.Split.TheVariants.{Message as Whole, More, Bad}
-use Rattle.wl_interface.specs.declared.interface.Interface.TheVariants.{WlSubcompositor, WlSubsurface, WlSurface, XdgSurface, XdgToplevel, XdgWmBase}
+use Rattle.wl_interface.specs.declared.interface.Interface.TheVariants.{WlSubcompositor, WlSubsurface, WlSurface, XdgSurface, XdgToplevel}
+use Rattle.wl_interface.specs.declared.interface.Interface.TheVariants.{XdgWmBase}
 use Rattle.wl_proto.specs.Messages.{Message}
 use Rattle.wl_proto.specs.Objects.{new_id_in, objects_in as objects_named}
 use Rattle.wl_table.specs.Objects.{Held, entry_of}
@@ -92,10 +94,6 @@ MeetsFor c demand r d q =
 
 abbrev pub MeetsSo : {A : Type 0} → ℕ → Demand → Resident → Desktop → Kept A → Kept A → Type 0
 MeetsSo c demand r d old new = (q : Peer) × MeetsFor c demand r d q × IsLeft old new (changed_for c demand r d) q
-
--- so it is done, whatever client is stood for, whose surfaces are in order, and whatever else the desktop has
-abbrev pub Meets : {A : Type 0} → (Resident → Demand) → Kept A → Kept A → Type 0
-Meets demand old new = (c : ℕ) (r : Resident) (d : Desktop) → IsResident old r → OwnsOrderly r → MeetsSo c (demand r) r d old new
 
 -- What is judged so is answered: what is demanded is done, with its request counted; a refusal ends the client.
 abbrev pub AnswersSo : {A : Type 0} → Result Demand Refusal → ℕ → Resident → Desktop → Kept A → Kept A → Type 0

@@ -32,7 +32,8 @@ module _ (names : Names) (slots : Slots) (tied : Tied) (r : Resident) (id versio
       by true e cause = e
       by false e cause = absurd (let both = sym many ∙ cause in cc)
 
-  pub created-short : (error : SurfaceError) → AreKept names.surfaces slots tied r.owned.surfaces → MatchBool (nat_le 256 (count_kept slots)) (error ≡ TooMany) (error ≡ Memory) → (error ≡ TooMany → ⊥)
+  pub created-short : (error : SurfaceError) → AreKept names.surfaces slots tied r.owned.surfaces → MatchBool (nat_le 256 (count_kept slots)) (error ≡ TooMany) (error ≡ Memory) → (error ≡ TooMany
+      → ⊥)
       → surface_created r id version ≡ Ok (CreateSurface id version)
   created-short error kept cause few = created-when false kept (by (nat_le 256 (count_kept slots)) refl cause)
     where

@@ -7,12 +7,12 @@ use Rattle.std.proofs.lemmas.Bool.{eqb-true}
 use Rattle.std.proofs.lemmas.Grind.{flat_map-append}
 use Rattle.std.proofs.lemmas.List.Folds.{list_any-append}
 use Rattle.wl_surface.specs.declared.frames.Waiting.{Waiting}
-use Rattle.wl_surface.specs.Slots.{Numbered, changed_at, with_at}
+use Rattle.wl_surface.specs.Slots.{Numbered, changed_at}
 use Rattle.wl_state.specs.Frames.{frames_of}
 use Rattle.wl_state.specs.Request.{Commit, Frame, Request}
 use Rattle.wl_state.specs.Surface.{Surface, applying, asking}
 use Rattle.wl_surface.specs.Waiting.{AreWaiting, Callback, IsNewNumber, counted_at, frames_at}
-use Rattle.wl_surface.proofs.Counting.{asked-still, at-one, waiting-same}
+use Rattle.wl_surface.proofs.Counting.{asked-still, waiting-same}
 use Rattle.wl_plain.specs.Framing.{AreFramed}
 use Rattle.wl_laws.proofs.Lists.Keys.{differ}
 
@@ -89,22 +89,6 @@ framed-more frames new all surface n bound cs more le f waits = record { waits =
 commit-asks : (at : Option Surface) → frames_at (option_map (λ s. applying (asking Commit s)) at) ≡ frames_at at
 commit-asks None = refl
 commit-asks (Some s) = asked-still Commit refl (Some s)
-
-pub framed-committed : (frames new : List Waiting) (all : Numbered) (surface bound : ℕ) (cs : List Callback) → AreFramed frames all bound cs
-    → AreWaiting new (changed_at surface (λ s. applying (asking Commit s)) all) cs → AreFramed new (changed_at surface (λ s. applying (asking Commit s)) all) bound cs
-framed-committed frames new all surface bound cs f waits =
-    record {
-      waits = waits;
-      early = λ other number any. f.early other number (sym (ap (λ ns. has number ns) (at-one frames_at surface (λ s. applying (asking Commit s)) all (commit-asks (all surface)) other)) ∙ any);
-    }
-
-pub framed-gone : (frames new : List Waiting) (all : Numbered) (surface bound : ℕ) (cs less : List Callback) → AreFramed frames all bound cs
-    → AreWaiting new (with_at surface None all) less → AreFramed new (with_at surface None all) bound less
-framed-gone frames new all surface bound cs less f waits = record { waits = waits; early = λ other number any. at other number (other == surface) any }
-  where
-    at : (other number : ℕ) (b : Bool) → has number (frames_at (cond b None (all other))) ≡ true → number < bound
-    at other number true any = absurd (differ (sym any))
-    at other number false any = f.early other number any
 
 pub framed-less : (frames new : List Waiting) (all : Numbered) (bound : ℕ) (cs less : List Callback) → AreFramed frames all bound cs → AreWaiting new all less → AreFramed new all bound less
 framed-less frames new all bound cs less f waits = record { waits = waits; early = f.early }

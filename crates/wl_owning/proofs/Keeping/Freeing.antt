@@ -235,7 +235,8 @@ module _ (old new : Resident) (numbers : List ℕ) (shown : List Buffer) (one : 
 
   -- Where each surface that had a pending buffer has it still, but one whose pending buffer is looked at too.
   pub lets-go-freed : (extra : Option Buffer) → ((b : Buffer) → extra ≡ Some b → Contains (had_in old.owned.surfaces) b)
-      → ((s : Surface) (b : Buffer) → Contains old.owned.surfaces.surfaces s → (pending s.history).buffer ≡ Some b → (is_used b.number new.owned.surfaces ≡ true) ⊎ (has_number b.number (listed extra) ≡ true))
+      → ((s : Surface) (b : Buffer) → Contains old.owned.surfaces.surfaces s → (pending s.history).buffer ≡ Some b
+      → (is_used b.number new.owned.surfaces ≡ true) ⊎ (has_number b.number (listed extra) ≡ true))
       → after_all old new ≡ letting_go (freed_of numbers shown ++ listed extra) new
   lets-go-freed extra extra_had waits =
       after-these old new (freed_of numbers shown ++ listed extra) one among covered

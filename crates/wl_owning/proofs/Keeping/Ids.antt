@@ -191,13 +191,6 @@ waits-unlinked link all = keys-unlinked waiting (λ s. refl) link all
 pub waits-without-links : (surface : ℕ) (all : Surfaces) → KeepsWaiting all (fold ended_in all (links_with surface all))
 waits-without-links surface all = keys-without-links waiting (λ s. refl) surface all
 
--- so the one of an id has the pending buffer that it had
-pub same-waiting : (all new : Surfaces) → KeepsWaiting all new → (id : ℕ) (s : Surface) → surface_at id all ≡ Some s
-    → (t : Surface) × (surface_at id new ≡ Some t) × ((pending t.history).buffer ≡ (pending s.history).buffer)
-same-waiting all new same id s found =
-    let it = found-key waiting (λ w. w.0) (λ s. refl) id all.surfaces new.surfaces same s found in
-    (it.0, it.1, ap (λ (w : ℕ × Option Buffer). w.1) it.2)
-
 -- ---- frames
 
 -- the id of a surface and the frames that were asked of it

@@ -188,7 +188,8 @@ module _ (names : Names) (slots : Slots) (tied : Tied) (kept : ℕ → Option Ke
       at : (other : ℕ) (b : Bool) → (other == id) ≡ b → IsKept (by_id names.surfaces kept other) (xdg_of other o.shell) (cond b (Some g) (history_in other o.surfaces))
       at other true here =
           moved (by_id names.surfaces kept other) (xdg_of other o.shell)
-          (subst (λ (x : Option History). IsKept (by_id names.surfaces kept other) (xdg_of other o.shell) x) (ap (λ i. history_in i o.surfaces) (eqb-true other id here) ∙ there) (is.shell.each other))
+          (subst (λ (x : Option History). IsKept (by_id names.surfaces kept other) (xdg_of other o.shell) x) (ap (λ i. history_in i o.surfaces) (eqb-true other id here)
+          ∙ there) (is.shell.each other))
       at other false here = is.shell.each other
 
   -- ---- an xdg_surface changes
@@ -257,7 +258,8 @@ module _ (names : Names) (slots : Slots) (tied : Tied) (kept : ℕ → Option Ke
     }
 
     -- it gets a toplevel
-    pub IsOwned-toplevel : (id : ℕ) (change : Kept → Kept) (step : XdgSurface → XdgSurface) (object : RoleObject) (g : History) (new : Slots) (all : Surfaces) → ((y : XdgSurface) → (step y).id ≡ y.id)
+    pub IsOwned-toplevel : (id : ℕ) (change : Kept → Kept) (step : XdgSurface → XdgSurface) (object : RoleObject) (g : History) (new : Slots) (all : Surfaces) → ((y : XdgSurface)
+        → (step y).id ≡ y.id)
         → ((y : XdgSurface) → (step y).surface ≡ y.surface)
         → x.role ≡ None → (step x).role ≡ Some object → object.id ≡ id → names.toplevels id ≡ None → AreKept names.surfaces new tied all
         → AgreeFor o.shell (with_history x.surface (Some g) (λ other. history_in other o.surfaces)) (λ other. history_in other all) → Stands (change k) (step x) g

@@ -24,7 +24,7 @@ use Rattle.wl_linked.specs.Linked.{IsLink, Stand}
 use Rattle.wl_renaming.specs.Renaming.{has_surface}
 use Rattle.wl_named.specs.Named.{MakesBy, StandBy}
 use Rattle.wl_named.proofs.Linking.{desynchronises-named, moves-named, places-named, synchronises-named, unlinks-named}
-use Rattle.wl_named.proofs.Named.{links-named, stays-named}
+use Rattle.wl_named.proofs.Named.{links-named}
 use Rattle.wl_shell.specs.Agreement.{with_history}
 use Rattle.wl_shell.specs.Kept.{Kept}
 use Rattle.wl_shell.specs.Laws.{one_more}
@@ -104,20 +104,6 @@ module _ (names : Names) (slots : Slots) (tied : Tied) (kept : ℕ → Option Ke
     where
       more : Surfaces
       more = record o.surfaces { links = (linked number child parent o.surfaces).links }
-
-  -- refused, or without memory, what is kept stands as it did
-  pub owned-unlinked : (child below parent above : ℕ) (new : Slots) (after : Tied) → names.surfaces child ≡ Some below → names.surfaces parent ≡ Some above
-      → ((those : Surfaces) → Stand slots tied those → has_surface below those ≡ true → has_surface above those ≡ true → Stand new after those)
-      → IsOwned names new after kept o
-  owned-unlinked child below parent above new after first second makes =
-      stays-owned new after o.surfaces
-      (AreKept-then names.surfaces slots tied o.surfaces is.surfaces new after o.surfaces refl
-      (stays-named (number_in names.surfaces) slots new tied after o.surfaces child parent (there-by child below first) (there-by parent above second) by-numbers
-      (subst (λ m. (those : Surfaces) → Stand slots tied those → has_surface m those ≡ true → has_surface (number_in names.surfaces parent) those ≡ true → Stand new after those)
-      (sym (number-of-name names.surfaces child below first))
-      (subst (λ n. (those : Surfaces) → Stand slots tied those → has_surface below those ≡ true → has_surface n those ≡ true → Stand new after those)
-      (sym (number-of-name names.surfaces parent above second)) makes))))
-      (λ surface has. refl)
 
   -- ---- of a link that lives, by the number of its child
 

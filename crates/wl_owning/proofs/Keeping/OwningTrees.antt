@@ -58,11 +58,6 @@ module _ (numbers : ById ℕ) (slots : Slots) (tied : Tied) (all : Surfaces) (is
       waiting-same (by_number numbers all) (numbered those) (λ n. ap frames_at (read n) ∙ frames-renamed (number_in numbers) (by_number numbers all n))
       (λ n. ap counted_at (read n) ∙ counted-renamed (number_in numbers) (by_number numbers all n)) frames cs waits
 
-  pub waits-back : (frames : List Waiting) (cs : List Callback) → AreWaiting frames (numbered those) cs → AreWaiting frames (by_number numbers all) cs
-  waits-back frames cs waits =
-      waiting-same (numbered those) (by_number numbers all) (λ n. sym (ap frames_at (read n) ∙ frames-renamed (number_in numbers) (by_number numbers all n)))
-      (λ n. sym (ap counted_at (read n) ∙ counted-renamed (number_in numbers) (by_number numbers all n))) frames cs waits
-
   pub frames-here : (number : ℕ) → frames_at (surface_at number those) ≡ frames_at (by_number numbers all number)
   frames-here number = ap frames_at (read number) ∙ frames-renamed (number_in numbers) (by_number numbers all number)
 
@@ -91,9 +86,6 @@ module _ (numbers : ById ℕ) (slots : Slots) (tied : Tied) (all : Surfaces) (is
     waits-then frames cs waits =
         waiting-same (numbered made) (by_number then_numbers then) (λ n. sym (ap frames_at (read-then n) ∙ frames-renamed (number_in then_numbers) (by_number then_numbers then n)))
         (λ n. sym (ap counted_at (read-then n) ∙ counted-renamed (number_in then_numbers) (by_number then_numbers then n))) frames cs waits
-
-    pub frames-then : (number : ℕ) → frames_at (surface_at number made) ≡ frames_at (by_number then_numbers then number)
-    frames-then number = ap frames_at (read-then number) ∙ frames-renamed (number_in then_numbers) (by_number then_numbers then number)
 
     -- which buffers are freed: those that were busy and aren't any more, each once
     pub freed-then : (freed : List ℕ) → AreFreed freed (numbered those) (numbered made) → (buffer : ℕ)

@@ -9,7 +9,7 @@ use Rattle.wl_family.specs.Family.{Tied}
 use Rattle.wl_surface.specs.Slots.{Slots}
 use Rattle.wl_state.specs.State.{History}
 use Rattle.wl_state.specs.Surface.{Surface, new_surface}
-use Rattle.wl_surface.specs.Surfaces.{Surfaces, history_in, surface_at, with_change, with_new, without_surface}
+use Rattle.wl_surface.specs.Surfaces.{Surfaces, history_in, surface_at, with_change, with_new}
 use Rattle.wl_shell.specs.Agreement.{AreApart, IsKept, with_history}
 use Rattle.wl_shell.specs.Kept.{Kept, Stands, changing, with_kept}
 use Rattle.wl_shell.specs.Shell.{Shell, XdgSurface, is_role, xdg_at, xdg_of, xdg_with}
@@ -17,7 +17,7 @@ use Rattle.wl_shell.proofs.Agreeing.{found-surface}
 use Rattle.wl_scene.specs.Stacking.{Owned}
 use Rattle.wl_owning.specs.Owning.{IsOwned, IsXdg, Names, by_id, number_of}
 use Rattle.wl_laws.specs.Apart.{AreApartBy}
-use Rattle.wl_laws.proofs.Lists.Keys.{found-by, found-map, found-none, found-passes, gone, left-elsewhere, new-elsewhere, new-here, none-some, some-same}
+use Rattle.wl_laws.proofs.Lists.Keys.{found-by, found-map, found-none, found-passes, new-elsewhere, new-here, none-some, some-same}
 use Rattle.wl_laws.proofs.Lists.Surfaces.{has_id}
 
 -- the tests by id, by surface and by role object
@@ -105,16 +105,6 @@ histories-made id all none = fun_ext (λ other. at other (other == id) refl)
         ap (option_map (λ (x : Surface). x.history)) (new-here (has_id other) all.surfaces (new_surface id) (ap (λ i. surface_at i all) same ∙ none) (eq-eqb id other (sym same)))
     at other false here =
         ap (option_map (λ (x : Surface). x.history)) (new-elsewhere (has_id other) all.surfaces (new_surface id) (ne_eqb id other (λ same. eqb-false other id here (sym same))))
-
-pub histories-left : (id : ℕ) (all : Surfaces) (s : Surface) → AreApartBy has_id all.surfaces → surface_at id all ≡ Some s → (λ other. history_in other (without_surface id all)) ≡ with_history id None
-    (λ other. history_in other all)
-histories-left id all s apart found = fun_ext (λ other. at other (other == id) refl)
-  where
-    at : (other : ℕ) (b : Bool) → (other == id) ≡ b → history_in other (without_surface id all) ≡ cond b None (history_in other all)
-    at other true here = ap (λ i. history_in i (without_surface id all)) (eqb-true other id here) ∙ ap (option_map (λ (x : Surface). x.history)) (gone (has_id id) all.surfaces)
-    at other false here =
-        ap (option_map (λ (x : Surface). x.history)) (left-elsewhere has_id id s (has_id other) all.surfaces apart found
-        (ne_eqb s.id other (λ same. eqb-false other id here (sym same ∙ eqb-true s.id id (found-passes (has_id id) all.surfaces s found)))))
 
 -- ---- an xdg_surface by what names it
 

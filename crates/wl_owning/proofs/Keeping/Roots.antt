@@ -68,7 +68,8 @@ module _ (all : Surfaces) (shell : Shell) (once : AreOnceLinked all.links) (numb
       apart true e = absurd (differ (sym has ∙ ap (λ i. is_some (xdg_of i shell)) (eqb-true surface id e) ∙ ap is_some none))
 
   -- so it is where the child of a link that lives is the one
-  pub agree-linked : (number : ℕ) (link : Link) (new : Surfaces) → IsLive number link all → KeepsOthers link.child all new → AgreeFor shell (λ other. history_in other all) (λ other. history_in other new)
+  pub agree-linked : (number : ℕ) (link : Link) (new : Surfaces) → IsLive number link all → KeepsOthers link.child all new
+      → AgreeFor shell (λ other. history_in other all) (λ other. history_in other new)
   agree-linked number link new live keeps =
       agree-child link.child new keeps (none (xdg_of link.child shell) refl)
     where

@@ -1,6 +1,6 @@
 -- What a call changes that applies several surfaces of a client, or ends a link or a surface: which frame callbacks wait after it, and which
 -- buffers it frees.
-use Rattle.std.proofs.Common.{◌≡◌, ℕ, ◌<◌, ◌≤◌, suc, List, [], ◌∷◌, ◌++◌, Bool, true, false, Option, Some, None, cond, length, map, refl, ap, sym, subst, ◌∙◌, eq-eqb, arith, inl, inr}
+use Rattle.std.proofs.Common.{◌≡◌, ℕ, ◌<◌, ◌≤◌, suc, List, [], ◌∷◌, ◌++◌, Bool, true, false, Option, Some, None, cond, length, refl, ap, sym, ◌∙◌, eq-eqb, arith, inl, inr}
 use Rattle.std.specs.Prelude.{◌==◌, ◌&&◌, ◌||◌, ◌⊎◌, count_by, filter, not}
 use Rattle.std.proofs.lemmas.List.Sums.{length-filter}
 use Rattle.std.specs.List.{Contains, list_any}
@@ -11,7 +11,6 @@ use Rattle.wl_state.specs.Request.{Buffer}
 use Rattle.wl_state.specs.State.{applied, held}
 use Rattle.wl_state.specs.Surface.{Surface, listed}
 use Rattle.wl_surface.specs.Applied.{AreFreed}
-use Rattle.wl_surface.specs.declared.frames.Waiting.{Waiting}
 use Rattle.wl_surface.specs.Slots.{Slots}
 use Rattle.wl_surface.specs.Surfaces.{Surfaces, is_busy, surface_at}
 use Rattle.wl_surface.specs.Waiting.{AreWaiting, Callback, frames_at}

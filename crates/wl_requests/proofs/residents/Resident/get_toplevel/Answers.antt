@@ -54,7 +54,8 @@ returns-in-Ok-clause-answers g c = λ named free client r on is only.
             let then = with_peer (counted r.peer) r in
             subst (λ o. IsFramed c.give_role-given.new.self.frames c.add.new.self.objects (making XdgToplevel id version (toplevel_given id x.id o then))) (sym one.at_id)
             (subst (λ (ws : List Waiting). IsFramed ws c.add.new.self.objects (making XdgToplevel id version (toplevel_given id x.id (Some x) then))) (sym c.give_role-given.ensures.frames)
-            (framed-role v.owned.linked.surfaces.frames v.client.objects c.add.new.self.objects r (making XdgToplevel id version (toplevel_given id x.id (Some x) then)) refl (one-more r.peer.requests)
+            (framed-role v.owned.linked.surfaces.frames v.client.objects c.add.new.self.objects r (making XdgToplevel id version (toplevel_given id x.id (Some x) then)) refl
+            (one-more r.peer.requests)
             is.frames
             v.owned.linked.surfaces v.owned.linked.family is.owns.surfaces x.surface number AsToplevel one.surface (ap (λ (n : Names). n.surfaces) now) refl));
         subsurfaces = λ alive.

@@ -55,7 +55,8 @@ returns-in_default-clause-decides g c = λ child of here client r d is orderly.
     let its = link-of-child c.args.self.now r is orderly object child of.0 in
     let then = with_peer (counted r.peer) r in
     subst (λ (j : Result Demand Refusal). AnswersAs false j client r d c.args.self.now
-    (record c.args.self.now { client = c.lack_memory.new.self; owned = record c.args.self.now.owned { linked = c.set_desync.new.self } })) (sym (ap (λ o. demand_by_link r object o SetDesync) its.of_object))
+    (record c.args.self.now { client = c.lack_memory.new.self; owned = record c.args.self.now.owned { linked = c.set_desync.new.self } })) (sym (ap
+    (λ o. demand_by_link r object o SetDesync) its.of_object))
     (meets-as c.args.self.now _ client d (SetMode its.link.number false) then (counted-orderly r orderly).no_popups tt false (
     let lacks = lacked c.args.self.now _ _ then (c.lack_memory.ensures.lacks (counted r.peer) (c.count.ensures.counts r.peer is.peer)) c.lack_memory.ensures.ended in
     (refl, lacks.0, lacks.1, lacks.2)))
@@ -72,7 +73,8 @@ returns-in_default-released-clause-decides g c = λ child of here client r d is 
     let its = link-of-child c.args.self.now r is orderly object child of.0 in
     let then = with_peer (counted r.peer) r in
     subst (λ (j : Result Demand Refusal). AnswersAs false j client r d c.args.self.now
-    (record c.args.self.now { client = c.lack_memory-in_default-released.new.self; owned = record c.args.self.now.owned { linked = c.set_desync.new.self } })) (sym (ap (λ o. demand_by_link r object o SetDesync) its.of_object))
+    (record c.args.self.now { client = c.lack_memory-in_default-released.new.self; owned = record c.args.self.now.owned { linked = c.set_desync.new.self } })) (sym (ap
+    (λ o. demand_by_link r object o SetDesync) its.of_object))
     (meets-as c.args.self.now _ client d (SetMode its.link.number false) then (counted-orderly r orderly).no_popups tt false (
     let lacks = lacked c.args.self.now _ _ then (c.lack_memory-in_default-released.ensures.lacks (counted r.peer) (c.count.ensures.counts r.peer is.peer))
     c.lack_memory-in_default-released.ensures.ended in
