@@ -119,7 +119,7 @@ module _ {A : Type 0} (v : Kept A) (r : Resident) (is : IsResident v r) (orderly
           let known = is.subsurfaces.named object l.child (ap (option_and_then (λ (s : Subsurface). s.surface)) found ∙ child) in
           let one = some-there (link_of l.child r.owned.surfaces) (live-some s.link l r.owned.surfaces.links here lives) in
           absurd (none-some (kept_by (number_in numbers) one.0) (sym (none _ _ is.subsurfaces known.0 known.2) ∙ kept-link l.child known.0 known.1
-              ∙ ap (option_map (kept_by (number_in numbers))) one.1))
+          ∙ ap (option_map (kept_by (number_in numbers))) one.1))
 
       ended : (s : Subsurface) (l : Link) (b : Bool) → subsurface_at object r ≡ Some s → link_at s.link r.owned.surfaces ≡ Some l → l.has_ended ≡ b → cond b None (Some l) ≡ None
       ended s l true found here e = refl

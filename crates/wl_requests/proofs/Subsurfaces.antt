@@ -202,7 +202,7 @@ ended-subsurfaces ids left numbers ss id number here once set are = record { nam
         let was = left-child id other c (other == id) (child_of other ss) refl (sym (child-left id other ss) ∙ is) in
         let it = are.named other c was.1 in
         let apart : (it.0 == number) ≡ false = ne_eqb it.0 number (λ same. eqb-false other id was.0 (let both : Option.Some other ≡ Some id = sym it.2 ∙ ap (λ n. slice_index_or ids n None) same
-            ∙ here in cc)) in
+        ∙ here in cc)) in
         (it.0, it.1, set it.0 ∙ ap (λ b. cond b None (slice_index_or ids it.0 None)) apart ∙ it.2)
 
     known : (n other : ℕ) → slice_index_or left n None ≡ Some other → (c : ℕ) × (numbers c ≡ Some n) × (child_of other (filter (λ s. not (s.id == id)) ss) ≡ Some c)

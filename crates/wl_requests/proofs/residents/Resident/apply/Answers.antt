@@ -109,8 +109,15 @@ returns-clause-applies g c = λ client r on names object kept shows only comes l
             (answered-effect names slots tied kept r owned object number shows act named answer)
             (owned-committed names slots tied kept r owned object number shows act c.commit.new.self.surfaces c.commit.new.self.family (kept_of v.owned.shell)
             only.once only.numbered only.roots named c.in-Ok.ensures.ok answer shell));
-        frames = λ alive. rw (kept_owned, table alive, ap (λ (n : Names). n.surfaces) names_are, surfaces, effect-requests object (effect_by act) o after, effect-callbacks object
-            (effect_by act) o after) (called.framed framed);
+        frames = λ alive. rw (
+          kept_owned,
+          table alive,
+          ap (λ (n : Names). n.surfaces) names_are,
+          surfaces,
+          effect-requests object (effect_by act) o after,
+          effect-callbacks object
+              (effect_by act) o after,
+        ) (called.framed framed);
         subsurfaces = λ alive.
             rw (
               c.tell_releases.ensures.subsurfaces,

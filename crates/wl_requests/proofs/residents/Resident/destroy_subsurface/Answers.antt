@@ -190,7 +190,7 @@ pub returns-clause-answers : goal.returns-clause-answers
 returns-clause-answers g c = λ here client r d is orderly.
     let only = λ (other : ℕ) (there : _). only-number _ _ _ c.args.object other c.in-Some.child is.subsurfaces there c.in-Some.ensures.0 in
     answered-so true (Ok (EndSubsurface c.args.object)) client r d c.args.self.now c.tell_releases.new.self (returns-clause-decides g c c.in-Some.child
-        (c.in-Some.ensures, only) here client r d is orderly)
+    (c.in-Some.ensures, only) here client r d is orderly)
 
 pub returns-clause-touched : goal.returns-clause-touched
 returns-clause-touched g c = λ child of.

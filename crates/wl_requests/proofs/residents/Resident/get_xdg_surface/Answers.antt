@@ -89,7 +89,7 @@ returns-then-is_memory-clause-answers g c = λ free named client r on is only.
     ∙ ap (λ (e : ShellError). Err e) (c.is_memory.ensures.0 c.if-is_memory.true)) in
     let then = with_peer (counted r.peer) r in
     let lacks = lacked c.args.self.now _ (changed_by ask then) then (c.lack_memory.ensures.lacks (counted r.peer)
-        (c.count-then-is_memory.ensures.counts r.peer is.peer)) c.lack_memory.ensures.ended in
+    (c.count-then-is_memory.ensures.counts r.peer is.peer)) c.lack_memory.ensures.ended in
     accepted _ r (xdg_surface_made r base version id surface) ask
     (made-by names v.owned.linked.surfaces v.owned.linked.family kept r is.owns base version id surface number id base named ∙ ap (asks_unless ask (shell_refusal base id base)) none)
     (lacks.0, inl lacks.1, lacks.2))
