@@ -6,8 +6,9 @@
 It writes recordings of clients with a window each, whose every tick is preceded by a commit of all of them, and plays them by the built
 program: one client with a window of the whole output that damages all of it, 8 by 8 points, or one; the same whole window in each format, in
 argb8888 opaque by its pixels, by its region, half through and letting all through; 8 such windows on each other of which the topmost commits; one
-client with a window of 8 by 8 points; 8 and 32 clients with such windows; ticks for which nobody committed; and ticks before each of which
-the last of 1, 8 or 32 clients with such windows went and came again. Each is played with few and with many ticks, one right after the other, and
+client with a window of 8 by 8 points; 8 and 32 clients with such windows; ticks for which nobody committed; ticks before each of which
+the last of 1, 8 or 32 clients with such windows went and came again; and a toplevel of 128 by 128 with 1, 16 and 255 subsurfaces of 8 by 8 points,
+beside each other or each the child of the one before, of which the last commits before each tick: at once, or held until its toplevel's commit. Each is played with few and with many ticks, one right after the other, and
 the difference is divided by the ticks between them, so that starting the program, making the image and mapping the windows aren't counted.
 
 Times are processor time, the program's own and the system's for it: the median of the rounds, with the least and the greatest. Pictures aren't
@@ -101,6 +102,37 @@ def ends(clients, size, ticks):
     return "\n".join(lines).encode() + b"\n"
 
 
+def tree(subsurfaces, chain, synchronised, ticks):
+    """So many ticks of a toplevel of 128 by 128 points with subsurfaces of 8 by 8, above each other or, as a chain, each the child of the one before.
+    Before each tick the last of them commits all of it: at once or, where all are synchronised, held until the toplevel commits after it."""
+    side, child = 128, 8
+    surfaces = [13 + 2 * number for number in range(subsurfaces)]
+    sent = [
+        mapped(side, side),
+        message(2, 0, 2, "wl_subcompositor", 1, 11),
+        message(9, 0, 12, 0, child, child, 4 * side, XRGB8888),
+    ]
+    for number, surface in enumerate(surfaces):
+        x, y = (1, 1) if chain else (child * (number % 16), child * (number // 16))
+        parent = surfaces[number - 1] if chain and number > 0 else 6
+        sent += [message(3, 0, surface), message(11, 1, surface + 1, surface, parent), message(surface + 1, 1, x, y)]
+        sent += [message(surface, 1, 12, 0, 0), message(surface, 2, 0, 0, child, child), message(surface, 6)]
+    # Where they are chained, the position of each is put in force by the commit of its parent, which is held: so all of them commit once more.
+    sent += [message(surface, 6) for surface in surfaces] + [message(6, 6)]
+    if not synchronised:
+        sent += [message(surface + 1, 5) for surface in surfaces]
+    commit = message(surfaces[-1], 1, 12, 0, 0) + message(surfaces[-1], 2, 0, 0, child, child) + message(surfaces[-1], 6)
+    if synchronised:
+        commit += message(6, 6)
+    lines = ["connect"]
+    first = b"".join(sent)
+    lines += [f"bytes 1 {first[at : at + 4096].hex()}" for at in range(0, len(first), 4096)]
+    lines.append("tick 0")
+    for tick in range(ticks):
+        lines += [f"bytes 1 {commit.hex()}", f"tick {tick + 1}"]
+    return "\n".join(lines).encode() + b"\n"
+
+
 def seconds(text, size, pictures=None):
     """The processor time of a run."""
     words = [PROGRAM, "replay", "--size", "x".join(map(str, size)), *(["--ppm", pictures] if pictures else [])]
@@ -155,6 +187,12 @@ class Bench:
         for clients in 1, 8, 32:
             self.measure(f"one of {clients} with 8 by 8 goes and comes again", self.small, lambda ticks, clients=clients: ends(clients, (8, 8), ticks))
 
+    def trees(self):
+        for subsurfaces, chain in (1, False), (16, False), (255, False), (16, True):
+            for synchronised in False, True:
+                how = f"{subsurfaces} {'chained ' * chain}subsurface{'s' * (subsurfaces > 1)}, the last commits, {'synchronised' if synchronised else 'desynchronised'}"
+                self.measure(how, self.small, lambda ticks: tree(subsurfaces, chain, synchronised, ticks))
+
     def pictures(self):
         """Frames as PPM, and the same bytes copied and written by one call a frame."""
         with tempfile.TemporaryDirectory(dir="/dev/shm") as room:
@@ -181,6 +219,7 @@ def main():
     bench = Bench(words)
     bench.whole_frames()
     bench.small_frames()
+    bench.trees()
     bench.pictures()
 
 

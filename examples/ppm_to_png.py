@@ -2,6 +2,7 @@
 """Writes each frame of a PPM file as a PNG image: FOLDER/0001.png, FOLDER/0002.png, and so on.
 
     examples/ppm_to_png.py FRAMES FOLDER
+    examples/ppm_to_png.py --row FRAMES IMAGE    all of them in one image, from left to right
 
 FRAMES is the file that `wlframe replay --ppm FRAMES` wrote. The folder is made where it isn't there.
 """
@@ -12,6 +13,7 @@ import sys
 import zlib
 
 HEADER = re.compile(rb"P6\n(\d+) (\d+)\n255\n")
+GAP = 4  # columns between two frames of a row
 
 
 def frames(content):
@@ -40,14 +42,30 @@ def png(width, height, pixels):
     return b"\x89PNG\r\n\x1a\n" + chunk(b"IHDR", header) + chunk(b"IDAT", zlib.compress(rows)) + chunk(b"IEND", b"")
 
 
+def row(images):
+    """The frames of one file, all of one size, as one image: from left to right, with white columns between them."""
+    images = list(images)
+    if not images:
+        raise ValueError("it holds no image")
+    width, height, _ = images[0]
+    lines = ((image[3 * y * width : 3 * (y + 1) * width] for _, _, image in images) for y in range(height))
+    return len(images) * (width + GAP) - GAP, height, b"".join((b"\xff" * 3 * GAP).join(line) for line in lines)
+
+
 def main():
-    if len(sys.argv) != 3:
+    in_row = sys.argv[1:2] == ["--row"]
+    words = sys.argv[1 + in_row :]
+    if len(words) != 2:
         sys.exit(__doc__)
-    source, folder = map(pathlib.Path, sys.argv[1:])
+    source, to = map(pathlib.Path, words)
     try:
-        folder.mkdir(parents=True, exist_ok=True)
-        for number, frame in enumerate(frames(source.read_bytes()), 1):
-            (folder / f"{number:04}.png").write_bytes(png(*frame))
+        images = frames(source.read_bytes())
+        if in_row:
+            to.write_bytes(png(*row(images)))
+            return
+        to.mkdir(parents=True, exist_ok=True)
+        for number, frame in enumerate(images, 1):
+            (to / f"{number:04}.png").write_bytes(png(*frame))
     except ValueError as mistake:
         sys.exit(f"{source}: {mistake}")
     except OSError as fault:

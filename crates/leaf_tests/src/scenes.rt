@@ -1,7 +1,7 @@
 use std::alloc::Allocator;
 use test_support::Refusing;
 use wl_linked::Linked;
-use wl_scene::{Owned, Scene, Surface, Window};
+use wl_scene::{Owned, Scene, Surface, Toplevel, Window};
 use wl_shell::Shell;
 use wl_store::{Format, Layout};
 use wl_surface::{Attached, Surfaces};
@@ -28,13 +28,17 @@ fn stands<A: Allocator>(scene: &Scene<A>, k: usize, surface: Surface, x: i32, y:
     }
 }
 
-fn maps<A: Allocator + Copy>(scene: &mut Scene<A>, surface: Surface) -> bool {
-    scene.map(surface).is_ok()
+fn maps<A: Allocator>(
+    scene: &mut Scene<A>,
+    spare: &mut Vec<Toplevel, A>,
+    surface: Surface,
+) -> bool {
+    scene.map(surface, spare).is_ok()
 }
 
-fn maps_nine<A: Allocator + Copy>(scene: &mut Scene<A>) -> bool {
+fn maps_nine<A: Allocator>(scene: &mut Scene<A>, spare: &mut Vec<Toplevel, A>) -> bool {
     for surface in 0..9_usize {
-        if !maps(scene, Surface { client: 1, surface }) {
+        if !maps(scene, spare, Surface { client: 1, surface }) {
             return false;
         }
     }
@@ -55,45 +59,47 @@ fn cascades<A: Allocator>(scene: &Scene<A>) -> bool {
 #[test]
 fn each_mapping_takes_the_next_place(rt: HostRuntime) {
     let mut scene = Scene::new(rt.alloc());
-    assert!(rt; maps_nine(&mut scene) && cascades(&scene));
+    let mut spare = Vec::new(rt.alloc());
+    assert!(rt; maps_nine(&mut scene, &mut spare) && cascades(&scene));
 }
 
-fn maps_three<A: Allocator + Copy>(scene: &mut Scene<A>) -> bool {
-    maps(scene, FIRST) && maps(scene, SECOND) && maps(scene, THIRD)
+fn maps_three<A: Allocator>(scene: &mut Scene<A>, spare: &mut Vec<Toplevel, A>) -> bool {
+    maps(scene, spare, FIRST) && maps(scene, spare, SECOND) && maps(scene, spare, THIRD)
 }
 
-fn raises_the_first<A: Allocator + Copy>(scene: &mut Scene<A>) -> bool {
+fn raises_the_first<A: Allocator>(scene: &mut Scene<A>) -> bool {
     scene.raise(FIRST);
     stands(scene, 0, SECOND, 32, 32)
         && stands(scene, 1, THIRD, 64, 64)
         && stands(scene, 2, FIRST, 0, 0)
 }
 
-fn moves_the_third<A: Allocator + Copy>(scene: &mut Scene<A>) -> bool {
+fn moves_the_third<A: Allocator>(scene: &mut Scene<A>) -> bool {
     scene.move_to(THIRD, -5, 7);
     stands(scene, 1, THIRD, -5, 7) && stands(scene, 2, FIRST, 0, 0)
 }
 
-fn unmaps_the_second<A: Allocator + Copy>(scene: &mut Scene<A>) -> bool {
+fn unmaps_the_second<A: Allocator>(scene: &mut Scene<A>, spare: &mut Vec<Toplevel, A>) -> bool {
     scene.unmap(SECOND);
     scene.unmap(SECOND);
     scene.toplevels().len() == 2
         && stands(scene, 0, THIRD, -5, 7)
-        && maps(scene, SECOND)
+        && maps(scene, spare, SECOND)
         && stands(scene, 2, SECOND, 96, 96)
 }
 
 #[test]
 fn a_toplevel_is_raised_moved_and_unmapped(rt: HostRuntime) {
     let mut scene = Scene::new(rt.alloc());
-    assert!(rt; maps_three(&mut scene) && raises_the_first(&mut scene));
-    assert!(rt; moves_the_third(&mut scene) && unmaps_the_second(&mut scene));
+    let mut spare = Vec::new(rt.alloc());
+    assert!(rt; maps_three(&mut scene, &mut spare) && raises_the_first(&mut scene));
+    assert!(rt; moves_the_third(&mut scene) && unmaps_the_second(&mut scene, &mut spare));
 }
 
 // Maps surfaces up to the first that is refused: how many were mapped.
-fn mapped<A: Allocator + Copy>(scene: &mut Scene<A>) -> usize {
+fn mapped<A: Allocator>(scene: &mut Scene<A>, spare: &mut Vec<Toplevel, A>) -> usize {
     for surface in 0..1000_usize {
-        if !maps(scene, Surface { client: 1, surface }) {
+        if !maps(scene, spare, Surface { client: 1, surface }) {
             return surface;
         }
     }
@@ -101,19 +107,50 @@ fn mapped<A: Allocator + Copy>(scene: &mut Scene<A>) -> usize {
 }
 
 // Whether nothing more is mapped, and as many as before stay.
-fn maps_no_more<A: Allocator + Copy>(scene: &mut Scene<A>, mapped: usize) -> bool {
-    !maps(scene, SECOND) && scene.toplevels().len() == mapped
+fn maps_no_more<A: Allocator>(
+    scene: &mut Scene<A>,
+    spare: &mut Vec<Toplevel, A>,
+    mapped: usize,
+) -> bool {
+    !maps(scene, spare, SECOND) && scene.toplevels().len() == mapped
 }
 
 #[test]
 fn a_mapping_without_memory_changes_nothing(rt: HostRuntime) {
     let heap = Refusing::new(rt.alloc(), 1);
     let mut scene = Scene::new(&heap);
-    let served = mapped(&mut scene);
-    assert!(rt; 0 < served && served < 1000 && maps_no_more(&mut scene, served));
+    let mut spare = Vec::new(&heap);
+    let served = mapped(&mut scene, &mut spare);
+    assert!(rt; 0 < served && served < 1000 && maps_no_more(&mut scene, &mut spare, served));
     let nothing = Refusing::new(rt.alloc(), 0);
     let mut empty = Scene::new(&nothing);
-    assert!(rt; maps_no_more(&mut empty, 0));
+    let mut no_room = Vec::new(&nothing);
+    assert!(rt; maps_no_more(&mut empty, &mut no_room, 0));
+}
+
+// Whether a spare place with room for three toplevels takes one, and another such place the next two.
+fn maps_into_room<A: Allocator + Copy>(scene: &mut Scene<A>, alloc: A) -> bool {
+    let mut spare = Vec::new(alloc);
+    let mut other = Vec::new(alloc);
+    spare.try_reserve(3).is_ok()
+        && other.try_reserve(3).is_ok()
+        && Scene::new(alloc).map(FIRST, &mut Vec::new(alloc)).is_err()
+        && maps(scene, &mut spare, FIRST)
+        && maps(scene, &mut other, SECOND)
+        && maps(scene, &mut other, THIRD)
+}
+
+// A spare place with room for one more than stand takes them all, although no memory is left.
+#[test]
+fn a_mapping_into_room_needs_no_memory(rt: HostRuntime) {
+    let heap = Refusing::new(rt.alloc(), 2);
+    let mut scene = Scene::new(&heap);
+    assert!(rt; maps_into_room(&mut scene, &heap) && scene.toplevels().len() == 3);
+    assert!(rt;
+        stands(&scene, 0, FIRST, 0, 0)
+            && stands(&scene, 1, SECOND, 32, 32)
+            && stands(&scene, 2, THIRD, 64, 64)
+    );
 }
 
 const LARGE: Layout = Layout {
@@ -189,8 +226,8 @@ fn is_window<A: Allocator>(
 }
 
 // Maps surfaces 0 of clients 1, 3 and 2, of which 2 lends nothing.
-fn maps_clients<A: Allocator + Copy>(scene: &mut Scene<A>) -> bool {
-    maps(scene, of(1)) && maps(scene, of(3)) && maps(scene, of(2))
+fn maps_clients<A: Allocator>(scene: &mut Scene<A>, spare: &mut Vec<Toplevel, A>) -> bool {
+    maps(scene, spare, of(1)) && maps(scene, spare, of(3)) && maps(scene, spare, of(2))
 }
 
 fn of(client: u32) -> Surface {
@@ -231,5 +268,6 @@ fn the_windows_of_two_clients(rt: HostRuntime) {
     let mut lent = Vec::new(alloc);
     assert!(rt; lends_two(&mut lent, alloc));
     let mut scene = Scene::new(alloc);
-    assert!(rt; maps_clients(&mut scene) && has_windows(&scene, &lent));
+    let mut spare = Vec::new(alloc);
+    assert!(rt; maps_clients(&mut scene, &mut spare) && has_windows(&scene, &lent));
 }

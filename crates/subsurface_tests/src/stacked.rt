@@ -114,3 +114,13 @@ fn other_windows_need_memory(rt: HostRuntime) {
     }
     assert!(rt; refused > 0);
 }
+
+// Where there is room for the windows of a tree, they want no memory.
+#[test]
+fn windows_come_into_room(rt: HostRuntime) {
+    let heap = Refusing::new(rt.alloc(), 1);
+    let mut all = StackedWindows::new(&heap);
+    assert!(rt; all.reserve(3).is_ok() && all.reserve(100).is_err());
+    assert!(rt; !all.has_tree(1, 3) && all.push(1, 3, &[window(3), window(4), window(5)]).is_ok());
+    assert!(rt; has(&all, &[(1, 3, 3), (1, 3, 4), (1, 3, 5)]));
+}

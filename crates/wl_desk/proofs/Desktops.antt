@@ -5,14 +5,19 @@ use Rattle.std.specs.Prelude.{if◌then◌else◌, is_some, ◌==◌}
 use Rattle.std.proofs.lemmas.Bool.{eqb-false, eqb-true}
 use Rattle.std.proofs.lemmas.List.{get_or-set_other, get_or-set_same, length-set}
 use Rattle.wl_client.specs.View.{ClientView}
+use Rattle.wl_peer.specs.Objects.{ById}
 use Rattle.wl_scene.specs.Stacking.{Stack}
+use Rattle.wl_scene.specs.Windows.{Window}
+use Rattle.wl_stacked.specs.declared.stacked.Stacked.{Stacked}
+use Rattle.wl_lending.specs.Stacked.{AreStacked}
 use Rattle.wl_resident.specs.Agreement.{Matches, IsPlace, IsScene, IsSeat, numbers_in, numbers_of, with_numbers}
 use Rattle.wl_plain.specs.Desktop.{Desktop, Resident, client_at, place, with_number, with_place}
 use Rattle.wl_resident.specs.Seats.{IsSeated}
 use Rattle.wl_records.specs.Standing.{MappedStand}
 use Rattle.wl_plain.specs.Act.{lowest, next_of}
-use Rattle.wl_resident.specs.View.{DeskView, OwnedView, owned_view}
-use Rattle.wl_resident.specs.declared.residents.Resident.{Resident as Kept}
+use Rattle.wl_plain.specs.Stacked.{all_windows}
+use Rattle.wl_resident.specs.View.{DeskView, OwnedView, Pile, owned_view}
+use Rattle.wl_requests.specs.declared.residents.Resident.{Resident as Kept}
 use Rattle.wl_laws.proofs.Runs.Places.{number-kept}
 use Rattle.wl_resident.proofs.Scenes.{stack-by}
 
@@ -112,18 +117,45 @@ scene-out k x us stack d here scene =
       next = scene.next;
     }
 
--- one place and the toplevels become others
-pub agrees-put : (w : DeskView) (k : ℕ) (x : Option ClientView) (o : Option OwnedView) (r : Option Resident) (us : List (Option ClientView)) (os : List (Option OwnedView)) (stack : Stack)
+-- what stands for windows by their numbers does by others that are the same where there are those
+pub stacked-by : (numbers others : ℕ → ById ℕ) (ss : List Stacked) (ws : List Window) → ((c surface n : ℕ) → numbers c surface ≡ Some n → others c surface ≡ Some n) → AreStacked numbers ss ws
+    → AreStacked others ss ws
+stacked-by numbers others [] [] same are = tt
+stacked-by numbers others [] (w ∷ ws) same are = absurd are
+stacked-by numbers others (s ∷ ss) [] same are = absurd are
+stacked-by numbers others (s ∷ ss) (w ∷ ws) same are = (
+  record {
+    client = are.0.client;
+    root = same s.client w.owner.root s.root are.0.root;
+    surface = same s.client w.surface s.window.surface are.0.surface;
+    told = are.0.told;
+  },
+  stacked-by numbers others ss ws same are.1,
+)
+
+pub windows-put : (k : ℕ) (x : Option ClientView) (us vs : List (Option ClientView)) (ss : List Stacked) (ws : List Window) → IsPut k x us vs
+    → AreStacked (with_numbers (suc k) (numbers_of x) (numbers_in us)) ss ws → AreStacked (numbers_in vs) ss ws
+windows-put k x us vs ss ws put are = stacked-by _ (numbers_in vs) ss ws (λ a surface n is. numbers-put k x us vs a surface put ∙ is) are
+
+pub windows-out : (k : ℕ) (x : Option ClientView) (us : List (Option ClientView)) (ss : List Stacked) (ws : List Window) → at us k ≡ x → AreStacked (numbers_in us) ss ws
+    → AreStacked (with_numbers (suc k) (numbers_of x) (numbers_in us)) ss ws
+windows-out k x us ss ws here are =
+    stacked-by (numbers_in us) _ ss ws (λ a surface n is. sym (numbers-put k x us us a surface (record { here = here; others = λ j differ. refl; count = refl })) ∙ is) are
+
+-- one place, the toplevels and their windows become others
+pub agrees-put : (w : DeskView) (k : ℕ) (x : Option ClientView) (o : Option OwnedView) (r : Option Resident) (us : List (Option ClientView)) (os : List (Option OwnedView)) (pile : Pile)
     (d e : Desktop) → Matches w d → k < length w.clients
     → IsPut k x w.clients us → IsPut k o w.owned os → e.output ≡ d.output → e.clients ≡ with_number (suc k) r d.clients → IsPlace x o r
-    → IsScene (with_numbers (suc k) (numbers_of x) (numbers_in w.clients)) stack e → MappedStand e
-    → Matches (record { output = w.output; clients = us; owned = os; scene = stack }) e
-agrees-put w k x o r us os stack d e a within puts owns output clients is scene mapped =
+    → IsScene (with_numbers (suc k) (numbers_of x) (numbers_in w.clients)) pile.scene e
+    → AreStacked (with_numbers (suc k) (numbers_of x) (numbers_in w.clients)) pile.windows (all_windows e) → MappedStand e
+    → Matches (record { output = w.output; clients = us; owned = os; pile = pile }) e
+agrees-put w k x o r us os pile d e a within puts owns output clients is scene windows mapped =
     record {
       output = a.output ∙ sym output;
       count = puts.count ∙ (a.count ∙ (sym (place-count d.clients k r) ∙ ap (λ (rs : List (Option Resident)). length rs) (sym clients)));
       clients = λ j. rw clients (each j (j == k) refl);
-      scene = scene-put k x w.clients us stack e puts scene;
+      scene = scene-put k x w.clients us pile.scene e puts scene;
+      windows = windows-put k x w.clients us pile.windows (all_windows e) puts windows;
       mapped = mapped;
     }
   where
@@ -141,14 +173,14 @@ agrees-put w k x o r us os stack d e a within puts owns output clients is scene 
 pub place-at : (w : DeskView) (d : Desktop) (k : ℕ) → Matches w d → IsPlace (at w.clients k) (at w.owned k) (client_at (suc k) d)
 place-at w d k a = a.clients k
 
-seat-of : {A : Type 0} (x : Option ClientView) (o : Option OwnedView) (r : Option Resident) (v : Kept A) → x ≡ Some v.client → o ≡ Some (owned_view v.owned) → IsPlace x o r → (s : Resident)
-    × (r ≡ Some s) × IsSeat v.client (owned_view v.owned) s
+seat-of : {A : Type 0} (x : Option ClientView) (o : Option OwnedView) (r : Option Resident) (v : Kept A) → x ≡ Some v.client → o ≡ Some (owned_view v) → IsPlace x o r → (s : Resident)
+    × (r ≡ Some s) × IsSeat v.client (owned_view v) s
 seat-of x o None v e f is = absurd (rw (e, f) at is)
 seat-of x o (Some s) v e f is = (s, refl, rw (e, f) at is)
 
 -- the one who is taken out, with the others' numbers
-pub seated-out : {A : Type 0} (w : DeskView) (d : Desktop) (k : ℕ) (v : Kept A) → at w.clients k ≡ Some v.client → at w.owned k ≡ Some (owned_view v.owned) → Matches w d
-    → (s : Resident) × (client_at (suc k) d ≡ Some s) × IsSeated (suc k) (numbers_in w.clients) d v w.scene d s
+pub seated-out : {A : Type 0} (w : DeskView) (d : Desktop) (k : ℕ) (v : Kept A) → at w.clients k ≡ Some v.client → at w.owned k ≡ Some (owned_view v) → Matches w d
+    → (s : Resident) × (client_at (suc k) d ≡ Some s) × IsSeated (suc k) (numbers_in w.clients) d v w.pile d s
 seated-out w d k v x o a =
     let seat = seat-of (at w.clients k) (at w.owned k) (client_at (suc k) d) v x o (place-at w d k a) in (
       seat.0,
@@ -156,18 +188,19 @@ seated-out w d k v x o a =
       record {
         based = record { there = seat.1; output = refl; clients = sym (ap (λ (r : Option Resident). with_number (suc k) r d.clients) (sym seat.1) ∙ number-kept d.clients (suc k)) };
         seat = seat.2;
-        scene = scene-out k (Some v.client) w.clients w.scene d x a.scene;
+        scene = scene-out k (Some v.client) w.clients w.pile.scene d x a.scene;
+        windows = windows-out k (Some v.client) w.clients w.pile.windows (all_windows d) x a.windows;
         mapped = a.mapped;
       },
     )
 
 -- put back as it is now
-pub seated-back : {A : Type 0} (w : DeskView) (k : ℕ) (v : Kept A) (s : Resident) (us : List (Option ClientView)) (os : List (Option OwnedView)) (stack : Stack) (d e : Desktop) → Matches w d
+pub seated-back : {A : Type 0} (w : DeskView) (k : ℕ) (v : Kept A) (s : Resident) (us : List (Option ClientView)) (os : List (Option OwnedView)) (pile : Pile) (d e : Desktop) → Matches w d
     → k < length w.clients
-    → IsPut k (Some v.client) w.clients us → IsPut k (Some (owned_view v.owned)) w.owned os → IsSeated (suc k) (numbers_in w.clients) d v stack e s
-    → Matches (record { output = w.output; clients = us; owned = os; scene = stack }) e
-seated-back w k v s us os stack d e a within puts owns is =
-    agrees-put w k (Some v.client) (Some (owned_view v.owned)) (Some s) us os stack d e a within puts owns is.based.output is.based.clients is.seat is.scene is.mapped
+    → IsPut k (Some v.client) w.clients us → IsPut k (Some (owned_view v)) w.owned os → IsSeated (suc k) (numbers_in w.clients) d v pile e s
+    → Matches (record { output = w.output; clients = us; owned = os; pile = pile }) e
+seated-back w k v s us os pile d e a within puts owns is =
+    agrees-put w k (Some v.client) (Some (owned_view v)) (Some s) us os pile d e a within puts owns is.based.output is.based.clients is.seat is.scene is.windows is.mapped
 
 -- ---- free numbers
 

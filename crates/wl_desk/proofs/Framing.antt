@@ -1,49 +1,41 @@
 -- A frame is told to the clients one after another.
 use Rattle.std.proofs.Common.{◌≡◌, ◌≢◌, ℕ, suc, ◌+◌, ◌<◌, List, Bool, true, false, Option, Some, None, set, refl, ap, subst, sym, ◌∙◌, arith, ◌⊎◌, inl, inr}
+use Rattle.std.proofs.lemmas.Bool.{or_left}
 use Rattle.std.specs.Prelude.{pos, ◌==◌, ◌&&◌, ◌||◌, is_some}
 use Rattle.wl_peer.specs.declared.cause.Cause.{Cause}
 use Rattle.wl_peer.specs.Told.{Output as Sides}
 use Rattle.wl_client.specs.declared.outputs.Output.{Output}
-use Rattle.wl_peer.specs.Peer.{Peer}
 use Rattle.wl_paint.specs.Damage.{Damaged, has}
-use Rattle.std.proofs.lemmas.Bool.{or_left, or_right}
-use Rattle.wl_plain.specs.Desktop.{Desktop, Resident, become, become_by, client_at, status_in, status_of}
-use Rattle.wl_plain.specs.Framing.{FramesTold, FramesToldAt, FramesToldBy, done_due}
-use Rattle.wl_plain.specs.Moments.{marks_at_most}
-use Rattle.wl_records.specs.NoMore.{NoMore}
-use Rattle.wl_records.specs.Touching.{has_window_at}
 use Rattle.wl_scene.specs.Windows.{contains}
-use Rattle.wl_records.proofs.Marks.Framing.{told-more}
-use Rattle.wl_records.proofs.Marks.FramingKeeps.{IsAsOwned, frames-have, frames-same}
+use Rattle.wl_plain.specs.Desktop.{Desktop, Resident, client_at, status_in, status_of}
+use Rattle.wl_plain.specs.Framing.{FramesTold, FramesToldAt}
+use Rattle.wl_plain.specs.Moments.{marks_at_most}
+use Rattle.wl_laws.proofs.Marks.Stacks.{differ}
 use Rattle.wl_laws.proofs.Marks.Through.{unmarked-on}
 use Rattle.wl_laws.proofs.Runs.Fates.{same-or}
-use Rattle.wl_laws.proofs.Lists.Keys.{differ}
-use Rattle.wl_laws.proofs.Runs.Places.{other-become, status-become}
-use Rattle.wl_records.proofs.Marks.TouchingSteps.{told-marks-nothing}
-use Rattle.wl_scene.specs.Stacking.{Stack}
-use Rattle.wl_resident.specs.Agreement.{Matches, numbers_in}
+use Rattle.wl_records.specs.Touching.{has_window_at}
+use Rattle.wl_records.proofs.Marks.Framing.{told-more}
+use Rattle.wl_orderly.specs.Orderly.{Orderly}
+use Rattle.wl_orderly.proofs.Clients.{frames_keep_order}
+use Rattle.wl_ways.specs.Ways.{IsGone}
+use Rattle.wl_ways.proofs.Ends.{untold_is_gone}
 use Rattle.wl_marking.specs.Marking.{IsAsLarge}
+use Rattle.wl_requests.specs.declared.residents.Resident.{Resident as Kept}
+use Rattle.wl_resident.specs.Agreement.{Matches, numbers_in}
 use Rattle.wl_resident.specs.Marking.{MarksAtLeast, MarksMost, MarksOwnIf}
 use Rattle.wl_resident.specs.Seats.{IsSeated}
-use Rattle.wl_resident.specs.View.{DeskView, MarkedDesk}
-use Rattle.wl_resident.specs.declared.residents.Resident.{Resident as Kept}
-use Rattle.wl_resident.proofs.Toplevels.{MarksToplevels, marks-all}
-use Rattle.wl_resident.proofs.Within.{within-output}
+use Rattle.wl_resident.specs.View.{DeskView, MarkedDesk, Pile}
 use Rattle.wl_desk.specs.Agreeing.{Agrees}
 use Rattle.wl_desk.specs.Framing.{MarksIfEnds, WasTold}
-use Rattle.wl_desk.proofs.Agreed.{agrees-apart, still-unmarked}
 use Rattle.wl_desk.specs.Residents.{client_views}
+use Rattle.wl_desk.proofs.Agreed.{agrees-apart}
 use Rattle.wl_desk.proofs.Calls.{back, out}
+use Rattle.wl_desk.proofs.Marks.{IsSized, away-most, fate-marks, or-none, sized as sized-by, still-marks}
 use Rattle.wl_desk.proofs.Seats.{IsHere, IsMissing, marked, view_of}
-use Rattle.wl_records.proofs.Marks.Ending.{gone-most}
-use Rattle.wl_desk.proofs.Most.{HasNoNew, sized as sized-by, told-over, told-windows}
-use Rattle.wl_desk.proofs.MarkedCalls.{or-none, own-marks, unlinked}
+use Rattle.wl_desk.proofs.Still.{IsStill, same-still}
+use Rattle.wl_desk.proofs.Telling.{HasNoNew, fate-output, fate-owns, fate-windows, over-told, told-fate, told-others, told-over, told-still}
 
 -- ---- nobody is told
-
--- what is to be painted is of an output of the desktop's sides
-abbrev pub IsSized : MarkedDesk → Desktop → Type 0
-IsSized v d = (v.damage.width ≡ d.output.width) × (v.damage.height ≡ d.output.height)
 
 -- nothing changes, and the same is to be painted
 pub nothing-told : (time c : ℕ) (old new : MarkedDesk) (d : Desktop) → FramesToldAt time c (client_at c d) d d → Agrees old.desk d → Agrees new.desk d → new.damage ≡ old.damage → IsSized old d
@@ -53,7 +45,7 @@ nothing-told time c old new d told a b same sized =
       told = told;
       sized = sized;
       agrees = b;
-      marks = λ x y wide high clean. (ap (λ (w : Damaged). has w x y) (sym same) ∙ clean, still-unmarked old.desk d a x y);
+      marks = subst (λ (w : Damaged). MarksAtLeast d d old.damage w) (sym same) (still-marks old.desk d d old.damage a (same-still d d refl));
       within = λ x y wide high marked. inl (ap (λ (w : Damaged). has w x y) (sym same) ∙ marked);
       quiet = λ stays x y wide high. ap (λ (w : Damaged). has w x y) same;
     }
@@ -64,50 +56,41 @@ nobody-told time c old new d nobody a b same sized = nothing-told time c old new
 
 -- ---- one client is told
 
--- an end leaves nothing, whatever was answered before it
-same-end : (c : ℕ) (made r : Resident) (q : Peer) (cause : Cause) (d : Desktop) → q.status ≡ Some cause → become c made q d ≡ become c r q d
-same-end c made r q cause d status = ap (λ s. become_by s c made q d) status ∙ sym (ap (λ s. become_by s c r q d) status)
-
 -- its windows are to be painted where it ended, and nothing more else
-abbrev AddsOwn : Option Cause → ℕ → Desktop → Damaged → Damaged → Type 0
-AddsOwn ended c d old new = (x y : ℕ) → x < old.width → y < old.height → has new x y ≡ (has old x y || (is_some ended && has_window_at c (pos x) (pos y) d))
+abbrev AddsIf : Option Cause → ℕ → Desktop → Damaged → Damaged → Type 0
+AddsIf ended c d old new = (x y : ℕ) → x < old.width → y < old.height → has new x y ≡ (has old x y || (is_some ended && has_window_at c (pos x) (pos y) d))
 
-marks-told : (c : ℕ) (r : Resident) (v : DeskView) (d : Desktop) (q : Peer) (ended : Option Cause) (old new : Damaged) → client_at c d ≡ Some r → Matches v d → q.status ≡ ended
-    → AddsOwn ended c d old new
-    → MarksToplevels d (become c (done_due r) q d) old new
-marks-told c r v d q (Some cause) old new there a status adds =
-    subst (λ (e : Desktop). MarksToplevels d e old new) (sym (same-end c (done_due r) r q cause d status)) (own-marks c r v d q old new there a adds)
-marks-told c r v d q None old new there a status adds = λ x y wide high clean. (
-  or-none (has old x y) ∙ sym (adds x y wide high) ∙ clean,
-  told-marks-nothing c r d there (unlinked v d a) a.mapped.apart (done_due r) q refl status (pos x) (pos y),
-)
+marks-told : (time c : ℕ) (v : DeskView) (d e : Desktop) (ended : Option Cause) (old new : Damaged) → Agrees v d → Orderly e → FramesToldAt time c (client_at c d) d e → status_in c e ≡ ended
+    → AddsIf ended c d old new → MarksAtLeast d e old new
+marks-told time c v d e (Some cause) old new a later told status adds =
+    let gone : IsGone c d e = untold_is_gone time c d e a.orderly told (ap (λ (s : Option Cause). is_some s) status) in
+    fate-marks c v d e old new a later (inr gone) adds
+marks-told time c v d e None old new a later told status adds = λ x y wide high clean.
+    (still-marks v d e old a (told-still time c d e told status)) x y wide high (or-none (has old x y) ∙ sym (adds x y wide high) ∙ clean)
 
 -- a client that lives is told
 pub one-told : (time c : ℕ) (r : Resident) (old new : MarkedDesk) (d e : Desktop) (ended : Option Cause) → client_at c d ≡ Some r → r.peer.status ≡ None → Agrees old.desk d → Matches new.desk e
     → FramesToldAt time c (Some r) d e → status_in c e ≡ ended
-    → AddsOwn ended c d old.damage new.damage → IsSized old d → WasTold time c old new d e
+    → AddsIf ended c d old.damage new.damage → IsSized old d → WasTold time c old new d e
 one-told time c r old new d e ended there alive a b told status marks sized =
     let at : FramesToldAt time c (client_at c d) d e = subst (λ (o : Option Resident). FramesToldAt time c o d e) (sym there) told in
-    let later : NoMore e = frames-have time 1 c d e a.no_more (e, at, refl) in
-    let so : FramesToldBy None time c r d e = subst (λ s. FramesToldBy s time c r d e) alive told in
-    let is : so.0.status ≡ ended = sym (ap (λ (x : Desktop). status_in c x) so.2 ∙ status-become c (done_due r) so.0 d r there) ∙ status in
+    let later : Orderly e = frames_keep_order time c d e a.orderly at in
     record {
       told = at;
       sized = sized;
-      agrees = record { matches = b; no_more = later };
-      marks = marks-all d e old.damage new.damage a.no_more later
-          (subst (λ (x : Desktop). MarksToplevels d x old.damage new.damage) (sym so.2) (marks-told c r old.desk d so.0 ended old.damage new.damage there a.matches is marks));
+      agrees = record { matches = b; orderly = later };
+      marks = marks-told time c old.desk d e ended old.damage new.damage a later at status marks;
       within = λ x y wide high marked. own-or (has old.damage x y) (is_some ended) (has_window_at c (pos x) (pos y) d) (ap (λ (o : Option Cause). is_some o) status) (sym (marks x y wide high)
           ∙ marked);
       quiet = λ stays x y wide high.
           let lives : ended ≡ None = sym status ∙ stays ∙ ap status_of there ∙ alive in
-          subst (λ s. AddsOwn s c d old.damage new.damage) lives marks x y wide high ∙ sym (or-none (has old.damage x y));
+          subst (λ s. AddsIf s c d old.damage new.damage) lives marks x y wide high ∙ sym (or-none (has old.damage x y));
     }
   where
     own-or : (a b f : Bool) → is_some (status_in c e) ≡ b → (a || (b && f)) ≡ true → (a ≡ true) ⊎ ((is_some (status_in c e) ≡ true) × (f ≡ true))
     own-or true b f over h = inl refl
     own-or false true f over h = inr (over, h)
-    own-or false false f over h = absurd (differ (sym h))
+    own-or false false f over h = absurd (differ h)
 
 -- ---- several are told
 
@@ -121,6 +104,7 @@ WithinEnds d e old new =
 pub record HasTold (time n : ℕ) (old new : MarkedDesk) (d mid : Desktop) : Type 0 where
   pub told : FramesTold time n 1 d mid
   pub sized : (n ≡ 0) ⊎ IsSized old d
+  pub output : mid.output ≡ d.output
   pub agrees : Agrees new.desk mid
   pub marks : MarksAtLeast d mid old.damage new.damage
   pub within : WithinEnds d mid old.damage new.damage
@@ -133,42 +117,33 @@ none-told time old d a =
     record {
       told = refl;
       sized = inl refl;
+      output = refl;
       agrees = a;
-      marks = λ x y wide high clean. (clean, still-unmarked old.desk d a x y);
+      marks = still-marks old.desk d d old.damage a (same-still d d refl);
       within = λ x y wide high marked. inl marked;
       windows = λ p there. there;
       quiet = λ stays x y wide high. refl;
       others = λ k past. refl;
     }
 
-told-others : (time c : ℕ) (o : Option Resident) (d e : Desktop) → FramesToldAt time c o d e → (k : ℕ) → c ≢ k → client_at k e ≡ client_at k d
-told-others time c None d e h k apart = ap (λ (x : Desktop). client_at k x) h
-told-others time c (Some r) d e h k apart = by r.peer.status h
-  where
-    by : (s : Option Cause) → FramesToldBy s time c r d e → client_at k e ≡ client_at k d
-    by (Some cause) h = ap (λ (x : Desktop). client_at k x) h
-    by None h = ap (λ (x : Desktop). client_at k x) h.2 ∙ other-become c k (done_due r) h.0 d apart
-
 pub more-told : (time n : ℕ) (old mid new : MarkedDesk) (d m e : Desktop) → IsAsLarge old.damage mid.damage → Agrees old.desk d → HasTold time n old mid d m → WasTold time (n + 1) mid new m e
     → HasTold time (n + 1) old new d e
 more-told time n old mid new d m e large a before here =
     let next : suc n ≡ n + 1 = omega arith in
     let number : n + 1 ≡ 1 + n = omega arith in
-    let owned : IsAsOwned d m = frames-same time n 1 d m before.told in
-    let owns : IsAsOwned m e = frames-same time 1 (n + 1) m e (e, here.told, refl) in
+    let fate : IsStill m e ⊎ IsGone (n + 1) m e = told-fate time (n + 1) m e before.agrees.orderly here.told in
     let others = told-others time (n + 1) (client_at (n + 1) m) m e here.told in
     record {
       told = subst (λ k. FramesTold time k 1 d e) next (told-more time n 1 d m e before.told (subst (λ k. FramesToldAt time k (client_at k m) m e) number here.told));
-      sized = inr (sym large.width ∙ here.sized.0 ∙ ap (λ (o : Sides). o.width) owned.output, sym large.height ∙ here.sized.1 ∙ ap (λ (o : Sides). o.height) owned.output);
+      sized = inr (sym large.width ∙ here.sized.0 ∙ ap (λ (o : Sides). o.width) before.output, sym large.height ∙ here.sized.1 ∙ ap (λ (o : Sides). o.height) before.output);
+      output = fate-output (n + 1) m e fate ∙ before.output;
       agrees = here.agrees;
       marks = λ x y wide high clean.
           let second = here.marks x y (rw large.width wide) (rw large.height high) clean in
           let first = before.marks x y wide high second.0 in
-          (first.0, unmarked-on d m e (pos x) (pos y) (agrees-apart old.desk d a) owned.output owns.owns first.1 second.1);
+          (first.0, unmarked-on d m e (pos x) (pos y) (agrees-apart old.desk d a) before.output (fate-owns (n + 1) m e fate) first.1 second.1);
       within = λ x y wide high marked. within-on x y wide high (here.within x y (rw large.width wide) (rw large.height high) marked);
-      windows = λ p there. before.windows p (told-windows time (n + 1) (client_at (n + 1) m) m e refl (unlinked mid.desk m before.agrees.matches)
-          (unlinked new.desk e here.agrees.matches) here.told p
-          there);
+      windows = λ p there. before.windows p (fate-windows (n + 1) m e before.agrees.orderly here.agrees.orderly fate p there);
       quiet = λ stays x y wide high.
           let was : (c : ℕ) → status_in c m ≡ status_in c d = λ c. at c (same-or (n + 1) c) stays others in
           let one : status_in (n + 1) e ≡ status_in (n + 1) m = stays (n + 1) ∙ sym (was (n + 1)) in
@@ -186,7 +161,7 @@ more-told time n old mid new d m e large a before here =
         earlier : (has old.damage x y ≡ true) ⊎ ((c : ℕ) × (is_some (status_in c m) ≡ true) × (has_window_at c (pos x) (pos y) d ≡ true))
             → (has old.damage x y ≡ true) ⊎ ((c : ℕ) × (is_some (status_in c e) ≡ true) × (has_window_at c (pos x) (pos y) d ≡ true))
         earlier (inl marked) = inl marked
-        earlier (inr (c, over, there)) = inr (c, told-over time (n + 1) c (client_at (n + 1) m) m e refl here.told over, there)
+        earlier (inr (c, over, there)) = inr (c, told-over time (n + 1) c m e here.told over, there)
 
     at : (c : ℕ) → ((n + 1) ≡ c) ⊎ ((n + 1) ≢ c) → ((c : ℕ) → status_in c e ≡ status_in c d) → ((k : ℕ) → (n + 1) ≢ k → client_at k e ≡ client_at k m) → status_in c m ≡ status_in c d
     at c (inl same) stays others = ap status_of (before.others c (omega (arith, same)))
@@ -199,10 +174,7 @@ told-most time n old new d e a told x y wide high marked = sized told.sized
     by : IsSized old d → (has old.damage x y ≡ true) ⊎ ((c : ℕ) × (is_some (status_in c e) ≡ true) × (has_window_at c (pos x) (pos y) d ≡ true))
         → (has old.damage x y || marks_at_most d e None (pos x) (pos y)) ≡ true
     by sides (inl was) = or_left (has old.damage x y) _ was
-    by sides (inr (c, over, there)) =
-        or_right (has old.damage x y) _
-        (gone-most c d e (pos x) (pos y) a.no_more told.agrees.no_more over
-        (within-output d.output.width d.output.height x y (subst (λ w. x < w) sides.0 wide) (subst (λ h. y < h) sides.1 high)) there)
+    by sides (inr (c, over, there)) = away-most c old d e a.orderly told.agrees.orderly sides (inr over) x y wide high there
 
     sized : (suc n ≡ 0) ⊎ IsSized old d → (has old.damage x y || marks_at_most d e None (pos x) (pos y)) ≡ true
     sized (inl none) = absurd (cc)
@@ -217,38 +189,31 @@ tells-nobody time c v new old miss view same sides d a =
     (d, subst (λ (w : MarkedDesk). WasTold time c old w d d) (sym same) (nobody-told time c old old d (miss d a.matches) a a refl (sized-by v old d view sides a)))
 
 -- a client is told, and its windows are marked where it ends by that
-module _ {A : Type 0} (time : ℕ) (output : Output) (rs : List (Option (Kept A))) (stack : Stack) (c k : ℕ) (v : Kept A) (is : IsHere rs c k v) (d : Desktop) (damage : Damaged)
-    (sides : (damage.width ≡ output.width) × (damage.height ≡ output.height)) (a : Agrees (view_of output rs stack) d) where
-  sized : IsSized (record { desk = view_of output rs stack; damage = damage }) d
+module _ {A : Type 0} (time : ℕ) (output : Output) (rs : List (Option (Kept A))) (pile : Pile) (c k : ℕ) (v : Kept A) (is : IsHere rs c k v) (d : Desktop) (damage : Damaged)
+    (sides : (damage.width ≡ output.width) × (damage.height ≡ output.height)) (a : Agrees (view_of output rs pile) d) where
+  sized : IsSized (record { desk = view_of output rs pile; damage = damage }) d
   sized = (sides.0 ∙ ap (λ (o : Sides). o.width) a.matches.output, sides.1 ∙ ap (λ (o : Sides). o.height) a.matches.output)
 
-  pub here-told : (new : Kept A) (now : Stack) (after : Damaged)
-      → ((r : Resident) → IsSeated c (numbers_in (client_views rs)) d v stack d r → NoMore d
+  pub here-told : (new : Kept A) (now : Pile) (after : Damaged)
+      → ((r : Resident) → IsSeated c (numbers_in (client_views rs)) d v pile d r → Orderly d
       → (e : Desktop) × (s : Resident) × FramesToldAt time c (Some r) d e × IsSeated c (numbers_in (client_views rs)) d new now e s)
-      → (v.client.ended ≡ None → MarksOwnIf (is_some new.client.ended) c v stack damage after) → (is_some v.client.ended ≡ true → (new ≡ v) × (now ≡ stack) × (after ≡ damage))
-      → (e : Desktop) × WasTold time c (marked (view_of output rs stack) damage) (marked (view_of output (set rs k (Some new)) now) after) d e
+      → (v.client.ended ≡ None → MarksOwnIf (is_some new.client.ended) c v pile damage after) → (is_some v.client.ended ≡ true → (new ≡ v) × (now ≡ pile) × (after ≡ damage))
+      → (e : Desktop) × WasTold time c (marked (view_of output rs pile) damage) (marked (view_of output (set rs k (Some new)) now) after) d e
   here-told new now after tells marks idle =
-      let s = out output rs stack c k v is d a.matches in
-      let n = tells s.0 s.2 a.no_more in
-      let matches = back output rs stack c k v is d a.matches new now n.0 n.1 n.3 in
+      let s = out output rs pile c k v is d a.matches in
+      let n = tells s.0 s.2 a.orderly in
+      let matches = back output rs pile c k v is d a.matches new now n.0 n.1 n.3 in
       (n.0, at s.0 n.0 n.1 (view_of output (set rs k (Some new)) now) s.1 s.2 n.2 n.3 matches v.client.ended refl)
     where
-      over-told : (r : Resident) (x : Desktop) → FramesToldAt time c (Some r) d x → is_some r.peer.status ≡ true → x ≡ d
-      over-told r x h over = by r.peer.status h over
-        where
-          by : (s : Option Cause) → FramesToldBy s time c r d x → is_some s ≡ true → x ≡ d
-          by None h over = absurd (differ (sym over))
-          by (Some cause) h over = h
-
-      at : (r : Resident) (x : Desktop) (q : Resident) (later : DeskView) → client_at c d ≡ Some r → IsSeated c (numbers_in (client_views rs)) d v stack d r → FramesToldAt time c (Some r) d x
+      at : (r : Resident) (x : Desktop) (q : Resident) (later : DeskView) → client_at c d ≡ Some r → IsSeated c (numbers_in (client_views rs)) d v pile d r → FramesToldAt time c (Some r) d x
           → IsSeated c (numbers_in (client_views rs)) d new now x q → Matches later x
-          → (o : Option Cause) → v.client.ended ≡ o → WasTold time c (marked (view_of output rs stack) damage) (marked later after) d x
+          → (o : Option Cause) → v.client.ended ≡ o → WasTold time c (marked (view_of output rs pile) damage) (marked later after) d x
       at r x q later there seated told seated_after matches None ended =
-          one-told time c r (marked (view_of output rs stack) damage) (marked later after) d x new.client.ended there (sym seated.seat.peer.status ∙ ended) a matches told
-          (ap status_of seated_after.based.there ∙ sym seated_after.seat.peer.status) ((marks ended).1 (numbers_in (client_views rs)) d d r seated) sized
+          one-told time c r (marked (view_of output rs pile) damage) (marked later after) d x new.client.ended there (sym seated.seat.peer.status ∙ ended) a matches told
+          (ap status_of seated_after.based.there ∙ sym seated_after.seat.peer.status) ((marks ended).1 (numbers_in (client_views rs)) d d r seated a.orderly) sized
       at r x q later there seated told seated_after matches (Some cause) ended =
-          let same = over-told r x told (ap (λ (o : Option Cause). is_some o) (sym seated.seat.peer.status ∙ ended)) in
+          let same = over-told time c r d x told (ap (λ (o : Option Cause). is_some o) (sym seated.seat.peer.status ∙ ended)) in
           let here : FramesToldAt time c (Some r) d d = subst (λ (y : Desktop). FramesToldAt time c (Some r) d y) same told in
-          subst (λ (y : Desktop). WasTold time c (marked (view_of output rs stack) damage) (marked later after) d y) (sym same)
-          (nothing-told time c (marked (view_of output rs stack) damage) (marked later after) d (subst (λ (o : Option Resident). FramesToldAt time c o d d) (sym there) here) a
-          (record { matches = subst (λ (y : Desktop). Matches later y) same matches; no_more = a.no_more }) (idle (ap (λ (o : Option Cause). is_some o) ended)).2 sized)
+          subst (λ (y : Desktop). WasTold time c (marked (view_of output rs pile) damage) (marked later after) d y) (sym same)
+          (nothing-told time c (marked (view_of output rs pile) damage) (marked later after) d (subst (λ (o : Option Resident). FramesToldAt time c o d d) (sym there) here) a
+          (record { matches = subst (λ (y : Desktop). Matches later y) same matches; orderly = a.orderly }) (idle (ap (λ (o : Option Cause). is_some o) ended)).2 sized)

@@ -1,25 +1,20 @@
--- What is kept of a client, and the window of a toplevel, where they are lent.
-use Rattle.std.proofs.Common.{◌≡◌, ℕ, zero, suc, ◌<◌, ◌≤◌, ◌-◌, ℤ, List, Option, Some, None, true, false, refl, ap, sym, ◌∙◌, map, length, get_or, arith}
-use Rattle.std.specs.Prelude.{◌+ℤ◌, nat_lt, slice_get}
+-- What is kept of a client, and the window that is lent of one of the output.
+use Rattle.std.proofs.Common.{◌≡◌, ℕ, zero, suc, ◌<◌, ◌≤◌, ◌-◌, List, Option, Some, None, true, false, refl, ap, sym, ◌∙◌, map, length, get_or, arith}
+use Rattle.std.specs.Prelude.{nat_lt, slice_get}
 use Rattle.std.specs.Option.{option_map}
 use Rattle.std.proofs.lemmas.Bool.Decides.{nat_tests}
 use Rattle.std.proofs.lemmas.List.{length-map}
 use Rattle.std.proofs.lemmas.Option.{slice_get-get_or, slice_get-map}
 use Rattle.wl_geom.specs.Region.{Area}
-use Rattle.wl_store.specs.Picture.{Shown}
-use Rattle.wl_state.specs.Kept.{Counting, counting_in, counting_of}
-use Rattle.wl_surface.specs.Slots.{kept_at}
-use Rattle.wl_state.specs.State.{within_bounds}
-use Rattle.wl_state.specs.declared.state.Current.{Current}
-use Rattle.wl_client.specs.View.{ClientView}
+use Rattle.wl_state.specs.Kept.{counting_of}
+use Rattle.wl_surface.specs.Slots.{Slots, kept_at}
 use Rattle.wl_paint.specs.Window.{Window}
-use Rattle.wl_scene.specs.Stacking.{Standing, standing_of}
-use Rattle.wl_scene.specs.Windows.{Place}
-use Rattle.wl_scene.specs.declared.scene.Toplevel.{Toplevel}
-use Rattle.wl_resident.specs.declared.residents.Resident.{Resident as Kept}
-use Rattle.wl_scene.specs.Lent.{slots_lent, slots_of}
-use Rattle.wl_desk.specs.Lent.{client_lent, or_transparent, picture_shown, window_kept, window_lent}
-use Rattle.wl_desk.specs.Residents.{client_views, owned_lent, resident_at}
+use Rattle.wl_stacked.specs.declared.stacked.Stacked.{Stacked}
+use Rattle.wl_lending.specs.Lent.{slots_or_none, window_kept, window_lent}
+use Rattle.wl_requests.specs.declared.residents.Resident.{Resident as Kept}
+use Rattle.wl_resident.specs.View.{OwnedView, owned_view}
+use Rattle.wl_desk.specs.Lent.{client_lent, slots_lent}
+use Rattle.wl_desk.specs.Residents.{client_views, owned_views, resident_at}
 use Rattle.wl_desk.proofs.Desktops.{at, at-map, at-past, at-within}
 
 -- there is no client 0
@@ -49,36 +44,29 @@ lends-client : {A : Type 0} (rs : List (Option (Kept A))) (c : ℕ) → client_l
 lends-client rs zero = refl
 lends-client {A} rs (suc n) = at-map (λ (r : Kept A). r.client) rs n
 
-lends-owned : {A : Type 0} (rs : List (Option (Kept A))) (c : ℕ) → slots_lent (owned_lent rs) c ≡ slots_of (option_map (λ (r : Kept A). r.owned) (resident_at rs c))
-lends-owned rs zero = refl
-lends-owned {A} rs (suc n) = ap slots_of (at-map (λ (r : Kept A). r.owned) rs n)
+-- and of its surfaces
+abbrev surfaces_of : {A : Type 0} → Option (Kept A) → Option Slots
+surfaces_of {A} o = option_map (λ (r : Kept A). r.owned.linked.surfaces) o
 
--- the window of a toplevel, by its client
-pub window-of : {A : Type 0} (rs : List (Option (Kept A))) (nowhere : Area) (s : Standing) (o : Option (Kept A)) → o ≡ resident_at rs s.client
-    → window_kept (option_map (λ (r : Kept A). r.client) o) nowhere s.place (option_map counting_of (kept_at (slots_of (option_map (λ (r : Kept A). r.owned) o)) s.surface))
-    ≡ window_lent (client_lent (client_views rs)) (slots_lent (owned_lent rs)) nowhere s
+seen-surfaces : {A : Type 0} (o : Option (Kept A)) → option_map (λ (v : OwnedView). v.surfaces) (option_map (λ (r : Kept A). owned_view r) o) ≡ surfaces_of o
+seen-surfaces None = refl
+seen-surfaces (Some r) = refl
+
+lends-owned : {A : Type 0} (rs : List (Option (Kept A))) (c : ℕ) → slots_lent (owned_views rs) c ≡ slots_or_none (surfaces_of (resident_at rs c))
+lends-owned rs zero = refl
+lends-owned {A} rs (suc n) =
+    ap (λ (o : Option OwnedView). slots_or_none (option_map (λ (v : OwnedView). v.surfaces) o)) (at-map (λ (r : Kept A). owned_view r) rs n)
+    ∙ ap slots_or_none (seen-surfaces (at rs n))
+
+-- the window of one of the output, by its client
+pub window-of : {A : Type 0} (rs : List (Option (Kept A))) (nowhere : Area) (s : Stacked) (o : Option (Kept A)) → o ≡ resident_at rs s.client
+    → window_kept (option_map (λ (r : Kept A). r.client) o) nowhere s.window (option_map counting_of (kept_at (slots_or_none (surfaces_of o)) s.window.surface))
+    ≡ window_lent (client_lent (client_views rs)) (slots_lent (owned_views rs)) nowhere s
 window-of rs nowhere s o is = rw (lends-client, lends-owned, ← is) refl
 
--- the window of a toplevel whose surface isn't there
-pub window-absent : (client : Option ClientView) (nowhere : Area) (place : Place) (kept : Option Counting) → None ≡ kept
-    → window_kept None nowhere place None ≡ window_kept client nowhere place kept
-window-absent client nowhere place None is = refl
-window-absent client nowhere place (Some k) is = absurd (cc)
-
--- the window of one whose surface is, by what is told of it
-pub window-there : {A : Type 0} (client : Option ClientView) (nowhere : Area) (place : Place) (kept : Option Counting) (current : Current A) (x y : ℤ) (picture : Shown)
-    → Some (counting_in current) ≡ kept
-    → x ≡ within_bounds (place.x +ℤ current.offset.x) → y ≡ within_bounds (place.y +ℤ current.offset.y) → picture ≡ or_transparent (picture_shown client current.transform current.buffer)
-    → record { x = x; y = y; picture = picture; opaque = current.opaque.now } ≡ window_kept client nowhere place kept
-window-there client nowhere place kept current x y picture is at-x at-y shown = rw (at-x, at-y, shown, ← is) refl
-
--- the window of a toplevel, by a look at its place
-pub lent-at : (lent : Standing → Window) (toplevels : List Toplevel) (standing : List Standing) (k : ℕ) (toplevel : Toplevel) (window : Window) → map standing_of toplevels ≡ standing
-    → k < length (map lent standing)
-    → window ≡ lent (standing_of (get_or toplevels k toplevel)) → slice_get (map lent standing) k ≡ Some window
-lent-at lent toplevels standing k toplevel window same within e =
-    let less : k < length toplevels = rw (← same, length-map, length-map) at within in
-    rw (← same)
-    (slice_get-map lent (map standing_of toplevels) k
-    ∙ ap (λ (o : Option Standing). option_map lent o) (slice_get-map standing_of toplevels k ∙ ap (λ (o : Option Toplevel). option_map standing_of o) (slice_get-get_or toplevels k toplevel less))
-    ∙ ap Some (sym e))
+-- the window of one, by a look at its place
+pub lent-at : (lent : Stacked → Window) (all : List Stacked) (k : ℕ) (stacked : Stacked) (window : Window) → k < length (map lent all) → window ≡ lent (get_or all k stacked)
+    → slice_get (map lent all) k ≡ Some window
+lent-at lent all k stacked window within e =
+    let less : k < length all = rw length-map at within in
+    slice_get-map lent all k ∙ ap (λ (o : Option Stacked). option_map lent o) (slice_get-get_or all k stacked less) ∙ ap Some (sym e)

@@ -6,11 +6,10 @@ use Rattle.std.proofs.lemmas.List.{set-get_or}
 use Rattle.wl_client.specs.View.{ClientView}
 use Rattle.wl_client.specs.declared.outputs.Output.{Output}
 use Rattle.wl_paint.specs.Damage.{Damaged, has}
-use Rattle.wl_scene.specs.Stacking.{Stack}
 use Rattle.wl_resident.specs.Agreement.{IsPlace, Matches}
 use Rattle.wl_marking.specs.Marking.{IsAsLarge}
-use Rattle.wl_resident.specs.View.{DeskView, MarkedDesk, OwnedView, owned_view}
-use Rattle.wl_resident.specs.declared.residents.Resident.{Resident as Kept}
+use Rattle.wl_resident.specs.View.{DeskView, MarkedDesk, OwnedView, Pile, owned_view}
+use Rattle.wl_requests.specs.declared.residents.Resident.{Resident as Kept}
 use Rattle.wl_plain.specs.Act.{lowest, next_of}
 use Rattle.wl_plain.specs.Desktop.{Desktop, Resident, client_at}
 use Rattle.wl_desk.specs.Agreeing.{MarksNothing}
@@ -18,8 +17,8 @@ use Rattle.wl_desk.specs.Residents.{client_views, owned_views, resident_at}
 use Rattle.wl_desk.proofs.Desktops.{IsPut, at, at-map, at-past, at-within, map-length, place-at, put-map, put-set}
 
 -- what the desk is seen as
-abbrev pub view_of : {A : Type 0} → Output → List (Option (Kept A)) → Stack → DeskView
-view_of output rs stack = record { output = output; clients = client_views rs; owned = owned_views rs; scene = stack }
+abbrev pub view_of : {A : Type 0} → Output → List (Option (Kept A)) → Pile → DeskView
+view_of output rs pile = record { output = output; clients = client_views rs; owned = owned_views rs; pile = pile }
 
 -- client c is here, at the place k
 pub record IsHere {A : Type 0} (rs : List (Option (Kept A))) (c k : ℕ) (v : Kept A) : Type 0 where
@@ -59,11 +58,11 @@ place-none None None (Some s) here none = absurd here
 place-none None (Some o) None here none = absurd here
 place-none None (Some o) (Some s) here none = absurd here
 
-pub nobody : {A : Type 0} (output : Output) (rs : List (Option (Kept A))) (stack : Stack) (c : ℕ) (d : Desktop) → resident_at rs c ≡ None
-    → Matches (view_of output rs stack) d → client_at c d ≡ None
-nobody output rs stack zero d none a = refl
-nobody {A} output rs stack (suc k) d none a =
-    let w = view_of output rs stack in
+pub nobody : {A : Type 0} (output : Output) (rs : List (Option (Kept A))) (pile : Pile) (c : ℕ) (d : Desktop) → resident_at rs c ≡ None
+    → Matches (view_of output rs pile) d → client_at c d ≡ None
+nobody output rs pile zero d none a = refl
+nobody {A} output rs pile (suc k) d none a =
+    let w = view_of output rs pile in
     place-none (at w.clients k) (at w.owned k) (client_at (suc k) d) (place-at w d k a)
     (at-map (λ (r : Kept A). r.client) rs k ∙ ap (λ (o : Option (Kept A)). option_map (λ (r : Kept A). r.client) o) none)
 
@@ -90,15 +89,15 @@ IsMissing c v = (d : Desktop) → Matches v.desk d → client_at c d ≡ None
 abbrev pub marked : DeskView → Damaged → MarkedDesk
 marked v damage = record { desk = v; damage = damage }
 
-pub missing : {A : Type 0} (output : Output) (rs : List (Option (Kept A))) (stack : Stack) (damage : Damaged) (ws : List (Option (Kept A))) (v : MarkedDesk) (c : ℕ) → ws ≡ rs
-    → resident_at ws c ≡ None → marked (view_of output rs stack) damage ≡ v → IsMissing c v
-missing {A} output rs stack damage ws v c same none view d a =
-    nobody output rs stack c d (subst (λ (xs : List (Option (Kept A))). resident_at xs c ≡ None) same none) (subst (λ (m : MarkedDesk). Matches m.desk d) (sym view) a)
+pub missing : {A : Type 0} (output : Output) (rs : List (Option (Kept A))) (pile : Pile) (damage : Damaged) (ws : List (Option (Kept A))) (v : MarkedDesk) (c : ℕ) → ws ≡ rs
+    → resident_at ws c ≡ None → marked (view_of output rs pile) damage ≡ v → IsMissing c v
+missing {A} output rs pile damage ws v c same none view d a =
+    nobody output rs pile c d (subst (λ (xs : List (Option (Kept A))). resident_at xs c ≡ None) same none) (subst (λ (m : MarkedDesk). Matches m.desk d) (sym view) a)
 
 -- the view stays where the places do
-pub still : {A : Type 0} (output : Output) (rs : List (Option (Kept A))) (stack : Stack) (damage : Damaged) (vs : List (Option (Kept A))) (v : MarkedDesk) → vs ≡ rs
-    → marked (view_of output rs stack) damage ≡ v → marked (view_of output vs stack) damage ≡ v
-still {A} output rs stack damage vs v same view = ap (λ (xs : List (Option (Kept A))). marked (view_of output xs stack) damage) same ∙ view
+pub still : {A : Type 0} (output : Output) (rs : List (Option (Kept A))) (pile : Pile) (damage : Damaged) (vs : List (Option (Kept A))) (v : MarkedDesk) → vs ≡ rs
+    → marked (view_of output rs pile) damage ≡ v → marked (view_of output vs pile) damage ≡ v
+still {A} output rs pile damage vs v same view = ap (λ (xs : List (Option (Kept A))). marked (view_of output xs pile) damage) same ∙ view
 
 -- ---- what is to be painted stays
 
@@ -117,9 +116,9 @@ module _ {A : Type 0} (rs : List (Option (Kept A))) (k : ℕ) where
   pub client-here : (v : Kept A) → at rs k ≡ Some v → at (client_views rs) k ≡ Some v.client
   client-here v e = at-map (λ (r : Kept A). r.client) rs k ∙ ap (λ (o : Option (Kept A)). option_map (λ (r : Kept A). r.client) o) e
 
-  pub owned-here : (v : Kept A) → at rs k ≡ Some v → at (owned_views rs) k ≡ Some (owned_view v.owned)
+  pub owned-here : (v : Kept A) → at rs k ≡ Some v → at (owned_views rs) k ≡ Some (owned_view v)
   owned-here v e =
-      at-map (λ (r : Kept A). owned_view r.owned) rs k ∙ ap (λ (o : Option (Kept A)). option_map (λ (r : Kept A). owned_view r.owned) o) e
+      at-map (λ (r : Kept A). owned_view r) rs k ∙ ap (λ (o : Option (Kept A)). option_map (λ (r : Kept A). owned_view r) o) e
 
   pub clients-within : k < length rs → k < length (client_views rs)
   clients-within h = rw (map-length (option_map (λ (r : Kept A). r.client)) rs) h
@@ -129,8 +128,8 @@ module _ {A : Type 0} (rs : List (Option (Kept A))) (k : ℕ) where
   client-put x h = put-map (λ (r : Kept A). r.client) k x rs (set rs k x) (put-set k x rs h)
 
   pub owned-put : (x : Option (Kept A)) → k < length rs
-      → IsPut k (option_map (λ (r : Kept A). owned_view r.owned) x) (owned_views rs) (owned_views (set rs k x))
-  owned-put x h = put-map (λ (r : Kept A). owned_view r.owned) k x rs (set rs k x) (put-set k x rs h)
+      → IsPut k (option_map (λ (r : Kept A). owned_view r) x) (owned_views rs) (owned_views (set rs k x))
+  owned-put x h = put-map (λ (r : Kept A). owned_view r) k x rs (set rs k x) (put-set k x rs h)
 
 -- ---- free places
 

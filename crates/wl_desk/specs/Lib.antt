@@ -2,5 +2,4 @@ pub mod Agreeing
 pub mod Feeding
 pub mod Framing
 pub mod Lent
-pub mod Painting
 pub mod Residents

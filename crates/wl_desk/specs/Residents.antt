@@ -2,9 +2,8 @@
 use Rattle.std.specs.Prelude.{ℕ, zero, suc, List, Option, None, map, slice_index_or}
 use Rattle.std.specs.Option.{option_map}
 use Rattle.wl_client.specs.View.{ClientView}
-use Rattle.wl_scene.specs.declared.owned.Owned.{Owned}
+use Rattle.wl_requests.specs.declared.residents.Resident.{Resident}
 use Rattle.wl_resident.specs.View.{OwnedView, owned_view}
-use Rattle.wl_resident.specs.declared.residents.Resident.{Resident}
 
 -- what is kept of each client
 abbrev pub client_views : {A : Type 0} → List (Option (Resident A)) → List (Option ClientView)
@@ -12,11 +11,7 @@ client_views {A} residents = map (option_map (λ (r : Resident A). r.client)) re
 
 -- what is kept of what each owns
 abbrev pub owned_views : {A : Type 0} → List (Option (Resident A)) → List (Option OwnedView)
-owned_views {A} residents = map (option_map (λ (r : Resident A). owned_view r.owned)) residents
-
--- what each owns, as it is lent
-abbrev pub owned_lent : {A : Type 0} → List (Option (Resident A)) → List (Option (Owned A))
-owned_lent {A} residents = map (option_map (λ (r : Resident A). r.owned)) residents
+owned_views {A} residents = map (option_map (λ (r : Resident A). owned_view r)) residents
 
 -- the one with this number, if it is there; there is no client 0
 abbrev pub resident_at : {A : Type 0} → List (Option (Resident A)) → ℕ → Option (Resident A)

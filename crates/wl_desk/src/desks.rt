@@ -1,4 +1,4 @@
-//! The desk: all clients, by number, and their toplevels.
+//! The desk: all clients, by number, with their toplevels and the windows of these.
 
 ghost use Rattle.std.specs.Prelude.{◌≡◌, ◌≢◌, ◌↔◌, ◌&&◌, ◌||◌, ℕ, ◌+◌, ◌<◌, ◌≤◌, List, Option, length, pos, IfOk, IfSome, IfNone, IsErrOf, OnOk, OnErr, ◌⊎◌, false, true, Result, Ok, Err, None, Some};
 ghost use Rattle.std.specs.Option.{option_copied};
@@ -13,7 +13,7 @@ ghost use Rattle.wl_desk.specs.Feeding.{Ends, IsIdleIn, kept_at, kept_while, res
 ghost use Rattle.wl_marking.specs.Marking.{IsAsLarge};
 ghost use Rattle.wl_desk.specs.Framing.{MarksIfEnds, WasTold};
 ghost use Rattle.wl_desk.specs.Residents.{resident_at};
-ghost use Rattle.wl_desk.specs.Painting.{IsOpaqueAsSaid};
+ghost use Rattle.wl_lending.specs.Painting.{IsOpaqueAsSaid};
 ghost use Rattle.wl_plain.specs.Scratch.{scratch};
 ghost use Rattle.wl_plain.specs.LeftOut.{served_now};
 ghost use Rattle.wl_plain.specs.Happens.{Happens, Serves};
@@ -27,36 +27,37 @@ use wl_client::{Cause, Client, Output, Served, StoreNo};
 use wl_geom::Region;
 use wl_paint::{Damage, FrameError, Framebuffer, MAX_SIDE};
 use wl_plain::{ClientNo, ConnectError, Done, Fed, Stored};
-use wl_resident::{Resident, bare};
-use wl_scene::Scene;
+use wl_requests::Resident;
+use wl_resident::{Screen, bare};
+use wl_subsurfaces::Subsurfaces;
 
 /// How many clients there may be at once.
 const CLIENT_LIMIT: usize = 32;
 
-/// All clients with what each owns, the mapped toplevels, and which points of the output are to be painted again. It is seen as the output, what
-/// is kept of each client and of what it owns, by number from 1, and the stack of toplevels; and that damage.
+/// All clients with what each owns, the mapped toplevels with the windows of their trees, and which points of the output are to be painted again.
+/// It is seen as the output, what is kept of each client and of what it owns, by number from 1, and the pile of toplevels and windows; and that
+/// damage.
 #[derive(Drop)]
 pub struct Desk<A: Allocator> {
     output: Output,
     residents: Vec<Option<Resident<A>>, A>,
-    scene: Scene<A>,
-    damage: Damage<A>,
+    screen: Screen<A>,
     nowhere: Region<A>,
 }
 
 impl<A: Allocator> Model for Desk<A> {
     ghost use Rattle.std.specs.Prelude.{◌≡◌, length};
-    ghost use Rattle.wl_resident.specs.View.{MarkedDesk};
+    ghost use Rattle.wl_resident.specs.View.{MarkedDesk, pile_of};
     ghost use Rattle.wl_desk.specs.Residents.{client_views, owned_views};
 
     ghost Value = { MarkedDesk };
 
     ghost view = { λ d. record {
-      desk = record { output = d.output; clients = client_views d.residents.items; owned = owned_views d.residents.items; scene = d.scene };
-      damage = d.damage;
+      desk = record { output = d.output; clients = client_views d.residents.items; owned = owned_views d.residents.items; pile = pile_of d.screen };
+      damage = d.screen.damage;
     } };
 
-    ghost invariant = { λ d. (length d.residents.items ≡ 32) × ((d.damage.width ≡ d.output.width) × (d.damage.height ≡ d.output.height)) };
+    ghost invariant = { λ d. (length d.residents.items ≡ 32) × ((d.screen.damage.width ≡ d.output.width) × (d.screen.damage.height ≡ d.output.height)) };
 }
 
 impl<A: Allocator + Copy> Desk<A> {
@@ -94,8 +95,7 @@ impl<A: Allocator + Copy> Desk<A> {
         Ok(Desk {
             output,
             residents,
-            scene: Scene::new(alloc),
-            damage,
+            screen: Screen::new(alloc, damage),
             nowhere: Region::new(alloc),
         })
     }
@@ -119,6 +119,8 @@ impl<A: Allocator + Copy> Desk<A> {
         self.residents[k] = Some(Resident {
             client,
             owned: bare(alloc),
+            subsurfaces: Subsurfaces::new(alloc),
+            has_room: false,
         });
         Ok(k as u32 + 1)
     }
@@ -164,7 +166,7 @@ impl<A: Allocator + Copy> Desk<A> {
         let Some(resident) = &mut self.residents[k] else {
             return Served::More;
         };
-        let taken = resident.serve_on(&mut self.scene, &mut self.damage, client, alloc);
+        let taken = self.screen.serve(resident, client, alloc);
         served_of(taken, resident.client.ended())
     }
 
@@ -185,7 +187,7 @@ impl<A: Allocator + Copy> Desk<A> {
         let Some(resident) = &mut self.residents[k] else {
             return;
         };
-        resident.end(&mut self.scene, &mut self.damage, client, cause, alloc);
+        self.screen.end(resident, client, cause, alloc);
     }
 
     /// A frame was shown at this time, in milliseconds: the clients in rising number are told that their frame callbacks that are due are done
@@ -216,7 +218,7 @@ impl<A: Allocator + Copy> Desk<A> {
         let Some(resident) = &mut self.residents[k] else {
             return;
         };
-        resident.tell_frames(&mut self.scene, &mut self.damage, client, time, alloc);
+        self.screen.tell_frames(resident, client, time, alloc);
     }
 
     /// Puts bytes into a client's store.
@@ -233,7 +235,7 @@ impl<A: Allocator + Copy> Desk<A> {
         let Some(resident) = &mut self.residents[k] else {
             return Stored::NoClient;
         };
-        resident.store(store, at, bytes)
+        wl_resident::store(resident, store, at, bytes)
     }
 
     /// How many bytes a client's store has.
@@ -264,7 +266,7 @@ impl<A: Allocator + Copy> Desk<A> {
         let Some(resident) = &mut self.residents[k] else {
             return false;
         };
-        resident.gone(&mut self.scene, &mut self.damage, client, alloc)
+        self.screen.gone(resident, client, alloc)
     }
 
     /// So many of a client's unsent bytes were sent. False and unchanged where there are fewer.
@@ -281,7 +283,7 @@ impl<A: Allocator + Copy> Desk<A> {
         let Some(resident) = &mut self.residents[k] else {
             return false;
         };
-        resident.sent(count)
+        wl_resident::sent(resident, count)
     }
 
     /// Frees the number of a client that ended. True where it had.
@@ -302,7 +304,8 @@ impl<A: Allocator + Copy> Desk<A> {
             return false;
         }
         self.residents[k] = None;
-        self.scene.unmap_all(client);
+        self.screen.scene.unmap_all(client);
+        self.screen.stacked.remove_client(client);
         true
     }
 
@@ -332,7 +335,7 @@ impl<A: Allocator + Copy> Desk<A> {
         ensures wide { result.now.width ≡ self.now.desk.output.width }
         ensures high { result.now.height ≡ self.now.desk.output.height }
     {
-        &self.damage
+        &self.screen.damage
     }
 
     /// Hands over which points of the output are to be painted again, and begins with none. What is handed in has the output's sides.
@@ -347,7 +350,7 @@ impl<A: Allocator + Copy> Desk<A> {
         ensures height { painted.new.height ≡ self.old.desk.output.height }
     {
         painted.clear();
-        std::mem::swap(painted, &mut self.damage);
+        std::mem::swap(painted, &mut self.screen.damage);
     }
 
     /// Paints what is to be painted again: each of those points from nothing, the background and over it the windows from bottom to top. The
@@ -367,11 +370,11 @@ impl<A: Allocator + Copy> Desk<A> {
         ensures background { framebuffer.new.background ≡ framebuffer.old.background }
     {
         let lent = Lent {
-            scene: &self.scene,
+            stacked: self.screen.stacked.windows(),
             residents: &self.residents,
             nowhere: &self.nowhere,
         };
-        framebuffer.paint(&self.damage, &lent);
+        framebuffer.paint(&self.screen.damage, &lent);
     }
 }
 

@@ -20,7 +20,7 @@ use Rattle.wl_plain.specs.Demanding.{judge_all}
 use Rattle.wl_plain.specs.Desktop.{Desktop, Resident, become, client_at, client_in, owned_in, owned_of, resident_of, toplevels_of, with_client, with_number}
 use Rattle.wl_plain.specs.Framing.{FramesTold, FramesToldAt, FramesToldBy, done_due}
 use Rattle.wl_plain.specs.Happens.{FeedsAt, IsFedAt, Reaches, Serves, StopsAt, done_for, wants_memory}
-use Rattle.wl_plain.specs.LeftOut.{LeftOut}
+use Rattle.wl_plain.specs.LeftOut.{LeftOut, served_now}
 use Rattle.wl_plain.specs.Replies.{replies}
 use Rattle.wl_plain.specs.Settling.{EndsAndSettles, becomes, unstruck}
 use Rattle.wl_plain.specs.Stacked.{all_windows}
@@ -38,7 +38,6 @@ use Rattle.wl_records.proofs.Keeping.StandingSteps.{connects-stand, empty-stand}
 use Rattle.wl_records.proofs.Marks.Framing.{told-shows}
 use Rattle.wl_records.proofs.Toplevels.Back.{settled-back, told-back}
 use Rattle.wl_records.proofs.Toplevels.Serves.{IsDone, after-same, becomes-same, by-pointer, ended_why}
-use Rattle.wl_without_popups.specs.ServedNext.{served_next}
 use Rattle.wl_without_popups.specs.Simple.{Becomes, changed_simply, stacked_simply}
 use Rattle.wl_without_popups.proofs.Simple.{does_no_more, stacked-pointer}
 use Rattle.wl_orderly.specs.Orderly.{LeavesOut, Orderly, OrderlyBy, OwnsOrderly}
@@ -179,7 +178,7 @@ is-rooted r rest owns = record {
 
 -- ---- a message
 
-module _ (left : LeftOut) (leaves : LeavesOut served_next left) where
+module _ (left : LeftOut) (leaves : LeavesOut served_now left) where
   module _ (c : ℕ) (r : Resident) (d new : Desktop) (is : client_at c d ≡ Some r) (alive : r.peer.status ≡ None) (orderly : Orderly d) (stand : MappedStand d) where
     -- its client ends
     over : (Q : Peer → Type 0) (p : Peer) → StepBecomes Q c (with_peer p r) d new → MappedStand new
@@ -218,7 +217,7 @@ module _ (left : LeftOut) (leaves : LeavesOut served_next left) where
       stands : AreMapped c Made.owned On.standing × AreApart On.standing
       stands =
           demand-stands c demand Now d (is-rooted r rest lives.0) (allowed-counted r rest demand (allowed left r object opcode body demand judged))
-          (well-counted r rest demand (well r object opcode body demand (judged-less demand served_next left leaves r object opcode body judged)))
+          (well-counted r rest demand (well r object opcode body demand (judged-less demand served_now left leaves r object opcode body judged)))
           (subst (λ o. AreMapped c o d.standing) (ap owned_of is) (stand.each c)) stand.apart
 
       others : (other : ℕ) → c ≢ other → AreMapped other (owned_in On other) On.standing
@@ -226,13 +225,17 @@ module _ (left : LeftOut) (leaves : LeavesOut served_next left) where
           subst (λ (rs : List (Option Resident)). AreMapped other (owned_of (client_in rs other)) On.standing) (sym (stacked-clients c demand Now d))
           (mapped-same other (owned_in d other) d.standing On.standing (λ surface. stacked-other c other surface demand Now d differ) (stand.each other))
 
+      -- whatever is told to it
+      pub made-stand : (q : Peer) → MappedStand (become c Made q On)
+      made-stand q = told-stand c Made r q On found stands.1 stands.0 others
+
       does : Does left c demand Now d new → MappedStand new
       does h =
           let second : IsDone Events c Made (done_for c demand Now d) new = subst (λ (m : Resident). IsDone Events c m (done_for c demand Now d) new) changed h in
           let first : IsDone Events c Made On new = subst (λ (e : Desktop). IsDone Events c Made e new) stacks second in
           let living : Made.peer.status ≡ None = ap (λ (q : Resident). q.peer.status) (sym changed) ∙ (changed-steady c demand d Now).0 ∙ alive in
           let k = done-back Events c Made r On new found (stacked-pointer c demand Now d ∙ orderly.pointer) living first in
-          subst MappedStand (sym k.2) (told-stand c Made r k.0 On found stands.1 stands.0 others)
+          subst MappedStand (sym k.2) (made-stand k.0)
 
       wants : (b : Bool) → WantsOr b (Does left c demand Now d new) c Now d new → MappedStand new
       wants false h = does h

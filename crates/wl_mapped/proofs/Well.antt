@@ -43,7 +43,8 @@ use Rattle.wl_plain.specs.WlSurface.{transform_set, will_show}
 use Rattle.wl_plain.specs.Step.{with_peer}
 use Rattle.wl_plain.specs.XdgShell.{has_any, is_foreign, is_no_toplevel, role_of, state_asked}
 use Rattle.wl_records.specs.Standing.{turns_well}
-use Rattle.wl_without_popups.specs.ServedNext.{served_next, unserved_but_subsurfaces}
+use Rattle.wl_plain.specs.LeftOut.{served_now}
+use Rattle.wl_plain.specs.Served.{unserved_now}
 
 abbrev pub IsWell : Resident → Demand → Type 0
 IsWell r (Asks (AskSurface id request)) = turns_well request ≡ true
@@ -121,14 +122,14 @@ module _ (r : Resident) where
 
   -- ---- the shell
 
-  base-well : (object version : ℕ) (request : XdgWmBaseRequest) → unserved_but_subsurfaces (ToBase request) ≡ false → IsWellSo r (base_demand r object version request)
+  base-well : (object version : ℕ) (request : XdgWmBaseRequest) → unserved_now (ToBase request) ≡ false → IsWellSo r (base_demand r object version request)
   base-well object version base.Destroy served = ask-well (list_any (λ x. x.base == object) r.owned.shell) _ _ (λ used. tt) (λ unused. tt)
   base-well object version (base.CreatePositioner id) served = absurd (cc)
   base-well object version (base.GetXdgSurface id surface) served =
       ask-well (is_foreign (role_of r surface) || is_some (xdg_of surface r.owned.shell)) _ _ (λ other. tt) (λ free. ask-well (has_any r surface) _ _ (λ full. tt) (λ none. tt))
   base-well object version (base.Pong serial) served = tt
 
-  xdg-well : (x : Option Xdg) (version : ℕ) (request : XdgSurfaceRequest) → unserved_but_subsurfaces (ToXdgSurface request) ≡ false → IsWellSo r (xdg_asked r x version request)
+  xdg-well : (x : Option Xdg) (version : ℕ) (request : XdgSurfaceRequest) → unserved_now (ToXdgSurface request) ≡ false → IsWellSo r (xdg_asked r x version request)
   xdg-well None version request served = tt
   xdg-well (Some x) version xdg.Destroy served = ask-well (is_some x.role) _ _ (λ there. tt) (λ none. tt)
   xdg-well (Some x) version (xdg.GetToplevel id) served =
@@ -171,7 +172,7 @@ module _ (r : Resident) where
   own-well : (object version : ℕ) (request : Request) → IsWellSo r (own_demand r object version request)
   own-well object version request = owned-well (action_of (known_of r.peer) object version request)
 
-  interface-well : (request : Request) (object version : ℕ) → unserved_but_subsurfaces request ≡ false → IsWellSo r (demand_by request r object version)
+  interface-well : (request : Request) (object version : ℕ) → unserved_now request ≡ false → IsWellSo r (demand_by request r object version)
   interface-well (ToCompositor (compositor.CreateSurface id)) object version served = ask-well (nat_le 256 (length r.owned.surfaces.surfaces)) _ _ (λ full. tt) (λ room. tt)
   interface-well (ToCompositor (compositor.CreateRegion id)) object version served = own-well object version (ToCompositor (compositor.CreateRegion id))
   interface-well (ToSurface request) object version served = surface-well object version request
@@ -189,9 +190,9 @@ module _ (r : Resident) where
   interface-well (ToPopup request) object version served = absurd (cc)
   interface-well request object version served = own-well object version request
 
-  demand-well : (object version : ℕ) (m : Message) → IsWellSo r (demand_of served_next r object version m)
+  demand-well : (object version : ℕ) (m : Message) → IsWellSo r (demand_of served_now r object version m)
   demand-well object version m =
-      if-well (unserved_but_subsurfaces (request_of m)) _ _ (λ left. tt) (λ served. interface-well (request_of m) object version served)
+      if-well (unserved_now (request_of m)) _ _ (λ left. tt) (λ served. interface-well (request_of m) object version served)
 
   -- ---- the judgement
 
@@ -207,13 +208,13 @@ module _ (r : Resident) where
       if-well (list_all (fits objects) (objects_named m)) _ _ (λ fit. new_id-well objects held (new_id_in m) (demand m) (well m)) (λ unfit. tt)
 
   judged_at-well : (object opcode : ℕ) (body : List ℕ) (o : Option Object)
-      → IsWellSo r (judged_at r.peer.objects r.peer.held (λ version m. demand_of served_next r object version m) opcode body o)
+      → IsWellSo r (judged_at r.peer.objects r.peer.held (λ version m. demand_of served_now r object version m) opcode body o)
   judged_at-well object opcode body None = tt
   judged_at-well object opcode body (Some o) =
-      judged-well r.peer.objects r.peer.held (λ m. demand_of served_next r object o.version m) (decoded o.interface o.version opcode body) (λ m. demand-well object o.version m)
+      judged-well r.peer.objects r.peer.held (λ m. demand_of served_now r object o.version m) (decoded o.interface o.version opcode body) (λ m. demand-well object o.version m)
 
   -- a message that is accepted is so
-  pub well : (object opcode : ℕ) (body : List ℕ) (demand : Demand) → judge_all served_next r object opcode body ≡ Ok demand → IsWell r demand
+  pub well : (object opcode : ℕ) (body : List ℕ) (demand : Demand) → judge_all served_now r object opcode body ≡ Ok demand → IsWell r demand
   well object opcode body demand e = subst (IsWellSo r) e (judged_at-well object opcode body (r.peer.objects object))
 
 -- with its request counted and its bytes taken too

@@ -1,14 +1,15 @@
-mod Demands
-mod Empty
-mod Fresh
-mod Kept
-mod Links
-mod Marks
-mod Messages
-mod Named
-mod Naming
+pub mod Demands
+pub mod Empty
+pub mod Fits
+pub mod Fresh
+pub mod Kept
+pub mod Links
+pub mod Marks
+pub mod Messages
+pub mod Named
+pub mod Naming
 mod Rows
-mod Shown
-mod Stacks
-mod There
-mod Tree
+pub mod Shown
+pub mod Stacks
+pub mod There
+pub mod Tree

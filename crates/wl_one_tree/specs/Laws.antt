@@ -1,5 +1,5 @@
 -- Laws of what a message of a client changes of the windows where subsurfaces are served and popups are not, and of what is marked of that.
-use Rattle.std.specs.Prelude.{ℕ, ℤ, ◌≡◌, ◌&&◌, true, false, Option, Some, None, List, map}
+use Rattle.std.specs.Prelude.{ℕ, ℤ, ◌≡◌, ◌≤◌, ◌&&◌, true, false, Option, Some, None, List, length, map}
 use Rattle.std.specs.List.{All}
 use Rattle.wl_peer.specs.Peer.{Peer}
 use Rattle.wl_surface.specs.declared.applied.Change.{Change}
@@ -13,7 +13,7 @@ use Rattle.wl_renaming.specs.Renaming.{IsRenaming, has_surface}
 use Rattle.wl_repaint.specs.Repaint.{marks}
 use Rattle.wl_renamed_windows.specs.Marks.{AreNamedApart, IsAppliedByName}
 use Rattle.wl_renamed_windows.specs.Windows.{told_by}
-use Rattle.wl_without_popups.specs.ServedNext.{served_next}
+use Rattle.wl_plain.specs.LeftOut.{served_now}
 use Rattle.wl_one_tree.specs.Changes.{ChangesAt, ChangesTree, IsDone, MessageChanges, StaysPainted}
 use Rattle.wl_one_tree.specs.Trees.{HasTrees, touched_by}
 
@@ -27,7 +27,7 @@ OneTreeChanges =
 -- So does a message of a client that lives on: by what it demands, the windows of one tree change, or none.
 abbrev pub MessagesChangeOneTree : Type 0
 MessagesChangeOneTree =
-    (c : ℕ) (r : Resident) (d e : Desktop) → HasTrees d → HasTrees e → client_at c d ≡ Some r → Serves served_next c d e
+    (c : ℕ) (r : Resident) (d e : Desktop) → HasTrees d → HasTrees e → client_at c d ≡ Some r → Serves served_now c d e
     → status_in c e ≡ None → MessageChanges c r d e
 
 -- A demand that touches a surface makes no new one.
@@ -43,6 +43,10 @@ NamesAreApart =
     (c root : ℕ) (d e : Desktop) (tree : ChangesTree c root d e) (f : ℕ → ℕ) → IsRenaming f (owned_in d c).surfaces
     → ((surface : ℕ) → has_surface surface (owned_in e c).surfaces ≡ true → has_surface surface (owned_in d c).surfaces ≡ true)
     → AreNamedApart f tree.was tree.is
+
+-- A tree has no more windows than its client has surfaces.
+abbrev pub TreesFit : Type 0
+TreesFit = (c root : ℕ) (d e : Desktop) (tree : ChangesTree c root d e) → length tree.is ≤ length (owned_in e c).surfaces.surfaces
 
 -- What is marked of the windows of the tree that changes, told by name, is all that the step has to mark, and in the output nothing that it
 -- may not mark.

@@ -1,7 +1,7 @@
 //! Which windows a message changes, and what is marked of them.
 
 ghost use Rattle.wl_one_tree.specs.Laws.{MarksAreBetween, MessagesChangeOneTree, NamesAreApart};
-ghost use Rattle.wl_one_tree.specs.Laws.{NoSurfaceComes, NothingIsMarked, OneTreeChanges};
+ghost use Rattle.wl_one_tree.specs.Laws.{NoSurfaceComes, NothingIsMarked, OneTreeChanges, TreesFit};
 ghost use Rattle.wl_one_tree.specs.Trees.{EmptyHasTrees};
 
 use std::alloc::Allocator;
@@ -64,6 +64,11 @@ pub fn names_are_apart()
 {
     shows_those_there();
 }
+
+/// The tree that changes has no more windows than its client has surfaces: each is of a surface that is there, and no surface has two.
+pub fn trees_fit()
+    ensures { TreesFit }
+{}
 
 /// What is marked of the tree that changes, its windows told by name, is all that the message has to mark, and nothing of the output that
 /// it may not mark (wayland.xml, wl_surface.damage).

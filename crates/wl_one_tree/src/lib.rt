@@ -7,7 +7,7 @@ mod telling;
 
 pub use changes::{
     empty_has_trees, marks_are_between, messages_change_one_tree, names_are_apart,
-    no_surface_comes, nothing_is_marked, one_tree_changes,
+    no_surface_comes, nothing_is_marked, one_tree_changes, trees_fit,
 };
 pub use telling::{
     commit_told_by_name, desync_told_by_name, end_told_by_name, nothing_told_by_name, tree_is_told,

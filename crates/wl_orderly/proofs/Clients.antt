@@ -10,7 +10,6 @@ use Rattle.wl_peer.specs.Requests.{ToSeat, ToPointer, ToBase, ToPositioner, ToXd
 use Rattle.wl_shell.specs.Shell.{XdgSurface as Xdg, xdg_of}
 use Rattle.wl_scene.specs.Stacking.{Standing}
 use Rattle.wl_plain.specs.Desktop.{Resident, client_at, empty, owned_of, toplevels_of}
-use Rattle.wl_plain.specs.LeftOut.{served_now}
 use Rattle.wl_laws.specs.Laws.{AreApart}
 use Rattle.wl_laws.specs.Soundness.{IsNoChild}
 use Rattle.wl_laws.proofs.Isolation.Own.{any-kept}
@@ -19,10 +18,10 @@ use Rattle.wl_laws.proofs.Soundness.First.{no-trees}
 use Rattle.wl_laws.proofs.Soundness.Sound.{all-apart}
 use Rattle.wl_xdg_roots.proofs.Tied.{tied-first}
 use Rattle.wl_without_popups.specs.NoPopups.{OwnsNoPopupsAt, OwnsNoPopupsBy}
-use Rattle.wl_without_popups.specs.ServedNext.{served_next}
+use Rattle.wl_plain.specs.LeftOut.{served_now}
 use Rattle.wl_orderly.specs.Orderly.{AreMappedOnce, HangOrderly, HasMappedToplevel, LeavesOut, OrderlyAt, OrderlyBy}
-use Rattle.wl_orderly.specs.OrderlyLaws.{ClientsAreOrderly, DemandsKeepOrder, EmptyIsOrderly, EndedOwnNothing, EndsKeepOrder, FramesKeepOrder, MessagesKeepOrder, MessagesKeepOrderNow}
-use Rattle.wl_orderly.specs.OrderlyLaws.{MessagesKeepOrderWhere, OnlyPeerChanges, OrderlyHasNoPopups, OrderlyStays, OrderlyStaysNow, OrderlyStaysWhere, PiecesKeepOrder, SurfacesHangOrderly}
+use Rattle.wl_orderly.specs.OrderlyLaws.{ClientsAreOrderly, DemandsKeepOrder, EmptyIsOrderly, EndedOwnNothing, EndsKeepOrder, FramesKeepOrder, MessagesKeepOrder}
+use Rattle.wl_orderly.specs.OrderlyLaws.{MessagesKeepOrderWhere, OnlyPeerChanges, OrderlyHasNoPopups, OrderlyStays, OrderlyStaysWhere, PiecesKeepOrder, SurfacesHangOrderly}
 use Rattle.wl_orderly.specs.OrderlyLaws.{ToplevelsAreApart, ToplevelsAreRoots}
 use Rattle.wl_orderly.proofs.Desktops.{empty-orderly, known-by, lives-there, settled-orderly}
 use Rattle.wl_orderly.proofs.Kept.{demand-lives, peer-lives}
@@ -104,36 +103,21 @@ surfaces_hang_orderly d c orderly = hang-at (client_at c d) (toplevels_of c d) (
 pub empty_is_orderly : EmptyIsOrderly
 empty_is_orderly output = empty-orderly output
 
--- what is next leaves itself out, and what is now leaves it out too
-next-next : LeavesOut served_next served_next
-next-next request e = e
-
-next-now : LeavesOut served_next served_now
-next-now (ToSeat (seat.GetPointer id)) e = refl
-next-now (ToPointer request) e = refl
-next-now (ToBase (base.CreatePositioner id)) e = refl
-next-now (ToPositioner request) e = refl
-next-now (ToXdgSurface (xdg.GetPopup id parent positioner)) e = refl
-next-now (ToPopup request) e = refl
-next-now request e = absurd (differ (sym e))
+-- what is left out leaves itself out
+now-now : LeavesOut served_now served_now
+now-now request e = e
 
 pub orderly_stays_where : OrderlyStaysWhere
 orderly_stays_where left leaves act done d e alone orderly h = happens-orderly left leaves act done d e alone orderly h
 
 pub orderly_stays : OrderlyStays
-orderly_stays act done d e alone orderly h = happens-orderly served_next next-next act done d e alone orderly h
-
-pub orderly_stays_now : OrderlyStaysNow
-orderly_stays_now act done d e alone orderly h = happens-orderly served_now next-now act done d e alone orderly h
+orderly_stays act done d e alone orderly h = happens-orderly served_now now-now act done d e alone orderly h
 
 pub messages_keep_order_where : MessagesKeepOrderWhere
 messages_keep_order_where left leaves c d e orderly h = serves-orderly left leaves c d e orderly h
 
 pub messages_keep_order : MessagesKeepOrder
-messages_keep_order c d e orderly h = serves-orderly served_next next-next c d e orderly h
-
-pub messages_keep_order_now : MessagesKeepOrderNow
-messages_keep_order_now c d e orderly h = serves-orderly served_now next-now c d e orderly h
+messages_keep_order c d e orderly h = serves-orderly served_now now-now c d e orderly h
 
 pub pieces_keep_order : PiecesKeepOrder
 pieces_keep_order c r bytes d orderly is alive = kept-orderly c r bytes d orderly is alive

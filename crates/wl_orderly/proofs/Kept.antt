@@ -17,7 +17,7 @@ use Rattle.wl_plain.specs.Demanding.{judge_all}
 use Rattle.wl_plain.specs.Desktop.{Desktop, Resident, Subsurface, arrival, toplevels_of}
 use Rattle.wl_plain.specs.Framing.{done_due}
 use Rattle.wl_plain.specs.Happens.{callbacks_due, is_counting}
-use Rattle.wl_plain.specs.LeftOut.{LeftOut}
+use Rattle.wl_plain.specs.LeftOut.{LeftOut, served_now}
 use Rattle.wl_plain.specs.Stacked.{all_windows}
 use Rattle.wl_plain.specs.Step.{with_peer}
 use Rattle.wl_laws.proofs.Soundness.Allowed.{allowed}
@@ -38,7 +38,6 @@ use Rattle.wl_xdg_roots.proofs.Subsurfaces.{AreOwn, own-first, own-keeps}
 use Rattle.wl_xdg_roots.proofs.Tied.{HangTogether, tied-first, tied-keeps}
 use Rattle.wl_tree_laws.specs.Hanging.{AreTied}
 use Rattle.wl_without_popups.specs.NoPopups.{OwnsNoPopups}
-use Rattle.wl_without_popups.specs.ServedNext.{served_next}
 use Rattle.wl_without_popups.specs.Simple.{IsServed, changed_simply, stacked_simply}
 use Rattle.wl_without_popups.proofs.Messages.{only-peer}
 use Rattle.wl_without_popups.proofs.Owns.{demanded-owns, without-owns}
@@ -154,7 +153,7 @@ framed-lives r tops lives =
 
 -- ---- a message is accepted
 
-module _ (left : LeftOut) (leaves : LeavesOut served_next left) (c : ℕ) (r : Resident) (rest : List ℕ) (object opcode : ℕ) (body : List ℕ) (demand : Demand) (d : Desktop)
+module _ (left : LeftOut) (leaves : LeavesOut served_now left) (c : ℕ) (r : Resident) (rest : List ℕ) (object opcode : ℕ) (body : List ℕ) (demand : Demand) (d : Desktop)
     (judged : judge_all left r object opcode body ≡ Ok demand) (still : d.pointer ≡ first_pointer) (lives : Lives r (toplevels_of c d)) where
   abbrev pub Counted : Resident
   Counted = with_peer (counted (with_rest rest r.peer)) r
@@ -169,7 +168,7 @@ module _ (left : LeftOut) (leaves : LeavesOut served_next left) (c : ℕ) (r : R
   whole = to-whole r (toplevels_of c d) lives
 
   pub demand-served : IsServed demand
-  demand-served = demands_are_served r object opcode body demand (judged-less demand served_next left leaves r object opcode body judged)
+  demand-served = demands_are_served r object opcode body demand (judged-less demand served_now left leaves r object opcode body judged)
 
   allows : IsAllowed Counted demand
   allows = allowed-counted r rest demand (allowed left r object opcode body demand judged)

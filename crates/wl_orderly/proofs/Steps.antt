@@ -20,10 +20,10 @@ use Rattle.wl_plain.specs.Act.{Act, IsClosed, IsSent, IsStored, Connect, Feed, S
 use Rattle.wl_plain.specs.Changing.{changed_for}
 use Rattle.wl_plain.specs.Demand.{Demand, CommitTree, EndToplevel}
 use Rattle.wl_plain.specs.Demanding.{judge_all}
-use Rattle.wl_plain.specs.Desktop.{Desktop, Resident, arrival, client_at, client_in, toplevels_of, with_client}
+use Rattle.wl_plain.specs.Desktop.{Desktop, Resident, arrival, become, client_at, client_in, toplevels_of, with_client}
 use Rattle.wl_plain.specs.Framing.{FramesTold, FramesToldAt, FramesToldBy, done_due}
 use Rattle.wl_plain.specs.Happens.{FeedsAt, Happens, IsFedAt, Reaches, Serves, StopsAt, done_for, frames_told, wants_memory}
-use Rattle.wl_plain.specs.LeftOut.{LeftOut}
+use Rattle.wl_plain.specs.LeftOut.{LeftOut, served_now}
 use Rattle.wl_plain.specs.Replies.{replies}
 use Rattle.wl_plain.specs.Settling.{EndsAndSettles, becomes, unstruck}
 use Rattle.wl_plain.specs.Stacked.{all_windows}
@@ -39,7 +39,6 @@ use Rattle.wl_records.specs.NoMoreLaws.{LeavesPointer}
 use Rattle.wl_records.proofs.Marks.Framing.{told-shows}
 use Rattle.wl_records.proofs.Toplevels.Back.{erred, lacking, settled-back, told-back}
 use Rattle.wl_records.proofs.Toplevels.Serves.{IsDone, after-same, becomes-same, by-pointer, ended_why}
-use Rattle.wl_without_popups.specs.ServedNext.{served_next}
 use Rattle.wl_without_popups.specs.Simple.{Becomes, changed_simply, stacked_on, stacked_simply}
 use Rattle.wl_without_popups.proofs.Simple.{does_no_more, stacked-pointer}
 use Rattle.wl_orderly.specs.Orderly.{LeavesOut, Orderly, OrderlyAt, OrderlyBy}
@@ -224,7 +223,7 @@ done-back events c made there d new is still alive h =
 
 -- ---- a message
 
-module _ (left : LeftOut) (leaves : LeavesOut served_next left) where
+module _ (left : LeftOut) (leaves : LeavesOut served_now left) where
   module _ (c : ℕ) (r : Resident) (d new : Desktop) (is : client_at c d ≡ Some r) (alive : r.peer.status ≡ None) (orderly : Orderly d) where
     -- its client ends
     over : (Q : Peer → Type 0) → ((q : Peer) → Q q → q.status ≡ None → ⊥) → (s : Resident) → StepBecomes Q c s d new → Orderly new
@@ -273,17 +272,21 @@ module _ (left : LeftOut) (leaves : LeavesOut served_next left) where
           subst (λ tops. OrderlyAt (client_at other On) tops) (sym (stacked-others c other demand Now d differ))
           (subst (λ (rs : List (Option Resident)). OrderlyAt (client_in rs other) (toplevels_of other d)) (sym clients) (orderly.each other)))
 
+      -- whatever is told to it, even if not all of that is queued
+      pub made-orderly : (q : Peer) → (q.status ≡ None → IsPeerOf Made q) → Orderly (become c Made q On)
+      made-orderly q same =
+          become-orderly c Made r q On found still others
+          (λ lived.
+          peer-lives Made q (toplevels_of c On) (same lived)
+          (demand-lives left leaves c r rest object opcode body demand d judged orderly.pointer lives))
+
       does : Does left c demand Now d new → Orderly new
       does h =
           let second : IsDone Events c Made (done_for c demand Now d) new = subst (λ (m : Resident). IsDone Events c m (done_for c demand Now d) new) changed h in
           let first : IsDone Events c Made On new = subst (λ (e : Desktop). IsDone Events c Made e new) stacks second in
           let living : Made.peer.status ≡ None = ap (λ (q : Resident). q.peer.status) (sym changed) ∙ (changed-steady c demand d Now).0 ∙ alive in
           let k = done-back Events c Made r On new found still living first in
-          subst Orderly (sym k.2)
-          (become-orderly c Made r k.0 On found still others
-          (λ lived.
-          peer-lives Made k.0 (toplevels_of c On) (told-is Events Made k.0 k.1 lived)
-          (demand-lives left leaves c r rest object opcode body demand d judged orderly.pointer lives)))
+          subst Orderly (sym k.2) (made-orderly k.0 (told-is Events Made k.0 k.1))
 
       wants : (b : Bool) → WantsOr b (Does left c demand Now d new) c Now d new → Orderly new
       wants false h = does h

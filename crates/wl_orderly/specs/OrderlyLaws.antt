@@ -22,7 +22,6 @@ use Rattle.wl_laws.specs.Laws.{AreApart}
 use Rattle.wl_laws.specs.Soundness.{IsLive, IsNoChild}
 use Rattle.wl_records.specs.NoMoreLaws.{LeavesPointer}
 use Rattle.wl_without_popups.specs.NoPopups.{NoPopups}
-use Rattle.wl_without_popups.specs.ServedNext.{served_next}
 use Rattle.wl_without_popups.specs.Simple.{changed_simply}
 use Rattle.wl_orderly.specs.Orderly.{HangOrderly, IsSubsurface, LeavesOut, Orderly, OwnsOrderly}
 
@@ -74,28 +73,22 @@ SubsurfacesNameChildren =
 
 -- ---- what keeps a desktop orderly
 
--- Whatever happens that leaves the pointer alone, where at least that is left out which is next.
+-- Whatever happens that leaves the pointer alone, where at least that is left out which is now.
 abbrev pub OrderlyStaysWhere : Type 0
 OrderlyStaysWhere =
-    (left : LeftOut) → LeavesOut served_next left → (act : Act) (done : Done) (d e : Desktop) → LeavesPointer act → Orderly d
+    (left : LeftOut) → LeavesOut served_now left → (act : Act) (done : Done) (d e : Desktop) → LeavesPointer act → Orderly d
     → Happens left act done d e → Orderly e
 
 abbrev pub OrderlyStays : Type 0
-OrderlyStays = (act : Act) (done : Done) (d e : Desktop) → LeavesPointer act → Orderly d → Happens served_next act done d e → Orderly e
-
-abbrev pub OrderlyStaysNow : Type 0
-OrderlyStaysNow = (act : Act) (done : Done) (d e : Desktop) → LeavesPointer act → Orderly d → Happens served_now act done d e → Orderly e
+OrderlyStays = (act : Act) (done : Done) (d e : Desktop) → LeavesPointer act → Orderly d → Happens served_now act done d e → Orderly e
 
 -- One message of a client.
 abbrev pub MessagesKeepOrderWhere : Type 0
 MessagesKeepOrderWhere =
-    (left : LeftOut) → LeavesOut served_next left → (c : ℕ) (d e : Desktop) → Orderly d → Serves left c d e → Orderly e
+    (left : LeftOut) → LeavesOut served_now left → (c : ℕ) (d e : Desktop) → Orderly d → Serves left c d e → Orderly e
 
 abbrev pub MessagesKeepOrder : Type 0
-MessagesKeepOrder = (c : ℕ) (d e : Desktop) → Orderly d → Serves served_next c d e → Orderly e
-
-abbrev pub MessagesKeepOrderNow : Type 0
-MessagesKeepOrderNow = (c : ℕ) (d e : Desktop) → Orderly d → Serves served_now c d e → Orderly e
+MessagesKeepOrder = (c : ℕ) (d e : Desktop) → Orderly d → Serves served_now c d e → Orderly e
 
 -- What is kept of the stream of a client that lives, before its messages are taken.
 abbrev pub PiecesKeepOrder : Type 0
@@ -124,7 +117,7 @@ OnlyPeerChanges =
 -- What an accepted message demands, done once its request is counted and its bytes are taken.
 abbrev pub DemandsKeepOrder : Type 0
 DemandsKeepOrder =
-    (left : LeftOut) → LeavesOut served_next left
+    (left : LeftOut) → LeavesOut served_now left
     → (r : Resident) (rest : List ℕ) (object opcode : ℕ) (body : List ℕ) (demand : Demand) → OwnsOrderly r
     → judge_all left r object opcode body ≡ Ok demand
     → OwnsOrderly (changed_simply demand (with_peer (counted (with_rest rest r.peer)) r))

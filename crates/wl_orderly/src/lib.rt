@@ -4,8 +4,8 @@
 
 ghost use Rattle.wl_orderly.specs.OrderlyLaws.{ChildrenAreSubsurfaces, ClientsAreOrderly, DemandsKeepOrder, EmptyIsOrderly};
 ghost use Rattle.wl_orderly.specs.OrderlyLaws.{EndedOwnNothing, EndsKeepOrder, FramesKeepOrder, MessagesKeepOrder};
-ghost use Rattle.wl_orderly.specs.OrderlyLaws.{MessagesKeepOrderNow, MessagesKeepOrderWhere, OnlyPeerChanges, OrderlyHasNoPopups};
-ghost use Rattle.wl_orderly.specs.OrderlyLaws.{OrderlyStays, OrderlyStaysNow, OrderlyStaysWhere, PiecesKeepOrder};
+ghost use Rattle.wl_orderly.specs.OrderlyLaws.{MessagesKeepOrderWhere, OnlyPeerChanges, OrderlyHasNoPopups};
+ghost use Rattle.wl_orderly.specs.OrderlyLaws.{OrderlyStays, OrderlyStaysWhere, PiecesKeepOrder};
 ghost use Rattle.wl_orderly.specs.OrderlyLaws.{SubsurfacesNameChildren, SurfacesHangOrderly, ToplevelsAreApart, ToplevelsAreRoots};
 
 /// A desktop without clients is orderly.
@@ -63,11 +63,6 @@ pub fn orderly_stays()
     ensures { OrderlyStays }
 {}
 
-/// So it does where subsurfaces are left out as well.
-pub fn orderly_stays_now()
-    ensures { OrderlyStaysNow }
-{}
-
 /// One message of a client leaves an orderly desktop orderly, where popups, positioners and pointers are left out.
 pub fn messages_keep_order_where()
     ensures { MessagesKeepOrderWhere }
@@ -76,11 +71,6 @@ pub fn messages_keep_order_where()
 /// So it does where no more than these is left out.
 pub fn messages_keep_order()
     ensures { MessagesKeepOrder }
-{}
-
-/// So it does where subsurfaces are left out as well.
-pub fn messages_keep_order_now()
-    ensures { MessagesKeepOrderNow }
 {}
 
 /// So does what is kept of a client's stream before its messages are taken.

@@ -12,10 +12,8 @@ use Rattle.wl_peer.specs.Requests.{ToSubsurface, ToSeat, ToPointer, ToBase, ToPo
 abbrev pub Unserved : Type 0
 Unserved = Request → Bool
 
--- which aren't served now: those of subsurfaces, popups and pointers
+-- which aren't served now: those of popups, positioners and pointers
 abbrev pub unserved_now : Unserved
-unserved_now (ToSubcompositor (subcompositor.GetSubsurface id surface parent)) = true
-unserved_now (ToSubsurface request) = true
 unserved_now (ToSeat (seat.GetPointer id)) = true
 unserved_now (ToPointer request) = true
 unserved_now (ToBase (base.CreatePositioner id)) = true
@@ -23,6 +21,18 @@ unserved_now (ToPositioner request) = true
 unserved_now (ToXdgSurface (xdg.GetPopup id parent positioner)) = true
 unserved_now (ToPopup request) = true
 unserved_now request = false
+
+-- which are left out where toplevels alone are served: those of subsurfaces too
+abbrev pub beyond_toplevels : Unserved
+beyond_toplevels (ToSubcompositor (subcompositor.GetSubsurface id surface parent)) = true
+beyond_toplevels (ToSubsurface request) = true
+beyond_toplevels (ToSeat (seat.GetPointer id)) = true
+beyond_toplevels (ToPointer request) = true
+beyond_toplevels (ToBase (base.CreatePositioner id)) = true
+beyond_toplevels (ToPositioner request) = true
+beyond_toplevels (ToXdgSurface (xdg.GetPopup id parent positioner)) = true
+beyond_toplevels (ToPopup request) = true
+beyond_toplevels request = false
 
 -- which are left out where a client's own interfaces are served, and no surfaces, shell and pointers
 abbrev pub beyond_clients : Unserved

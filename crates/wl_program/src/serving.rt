@@ -21,7 +21,7 @@ use std::rt::Files;
 use wl_hub::{Hub, SocketHub};
 use wl_options::{Fault, Folder, Serve, Size};
 use wl_recording::SideFiles;
-use wl_server::{Service, TurnError, turn};
+use wl_server::{Connections, Service, TurnError, turn};
 use wl_session::{Config, Session};
 
 /// Serves the clients that connect to a socket, which is made at its path and stays there.
@@ -41,7 +41,8 @@ pub(crate) fn serve<'a, F: Files + Net + AllocGlobal, A: Allocator + Copy, W: Wr
     let mut side = Folder::new(files, serve.dir);
     let session = session_of(heap, serve.size)?;
     let mut service = Service::new(session, lines, &mut *output, ppm.as_mut());
-    take_turns(&mut hub, &mut service, &mut side, serve.turns)
+    let mut connections = Connections::new();
+    take_turns(&mut hub, &mut service, &mut connections, &mut side, serve.turns)
 }
 
 fn bind_failed(error: io::Error) -> Fault
@@ -74,14 +75,15 @@ fn session_of<A: Allocator + Copy>(alloc: A, size: Size) -> Result<Session<A>, F
 /// Takes a turn, and writes what it reports, so that whoever reads along sees it before the next one.
 fn take_turn<A: Allocator + Copy, H: Hub, W: Write + Drop, P: Write + Drop, S: SideFiles>(
     hub: &mut H,
-    service: &mut Service<A, H::Conn, W, P>,
+    service: &mut Service<A, W, P>,
+    connections: &mut Connections<H::Conn>,
     side: &mut S,
     number: u32,
 ) -> Result<(), Fault>
     ensures taken { OnOk result (Reports (IsTurn number) service.old.session service.new.session (W.contents service.old.report) (W.contents service.new.report)) }
     ensures failed { IfErr result (λ fault. fault ≡ Fault.Write) }
 {
-    let taken = turn(hub, service, side, number);
+    let taken = turn(hub, service, connections, side, number);
     let flushed = flush(&mut service.report, &mut service.ppm);
     match taken {
         Ok(()) => flushed,
@@ -92,7 +94,8 @@ fn take_turn<A: Allocator + Copy, H: Hub, W: Write + Drop, P: Write + Drop, S: S
 /// Takes the turns 1 to this many, one after another.
 fn take_turns<A: Allocator + Copy, H: Hub, W: Write + Drop, P: Write + Drop, S: SideFiles>(
     hub: &mut H,
-    service: &mut Service<A, H::Conn, W, P>,
+    service: &mut Service<A, W, P>,
+    connections: &mut Connections<H::Conn>,
     side: &mut S,
     turns: u32,
 ) -> Result<(), Fault>
@@ -100,7 +103,7 @@ fn take_turns<A: Allocator + Copy, H: Hub, W: Write + Drop, P: Write + Drop, S: 
     ensures failed { IfErr result (λ fault. fault ≡ Fault.Write) }
 {
     for before in 0..turns {
-        take_turn(hub, service, side, before + 1)?;
+        take_turn(hub, service, connections, side, before + 1)?;
     }
     Ok(())
 }

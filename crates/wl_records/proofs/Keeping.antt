@@ -1,16 +1,8 @@
--- What is kept of a client stands for what it owns, and those toplevels stand that are mapped.
-pub mod Creating
-pub mod FramingWaits
+-- Those toplevels stand that are mapped, by what their clients own.
 pub mod Letting
-pub mod OwningAlone
-pub mod OwningAsks
-pub mod OwningChanges
 pub mod OwningNames
-pub mod OwningReads
-pub mod OwningSurfaces
 pub mod OwningTies
 pub mod OwningXdg
-pub mod Releases
 pub mod StandingAsks
 pub mod StandingBare
 pub mod StandingClients

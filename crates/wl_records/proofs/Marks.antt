@@ -1,20 +1,3 @@
--- What what is asked marks at least and at most, where no client has more than toplevels.
-pub mod CommitDamage
-pub mod Ending
-pub mod EndingStruck
-pub mod EndingThrough
+-- What is told of frames.
 pub mod Framing
 pub mod FramingEnds
-pub mod FramingKeeps
-pub mod Most
-pub mod SameStacks
-pub mod Touching
-pub mod TouchingAsks
-pub mod TouchingChanges
-pub mod TouchingCommits
-pub mod TouchingDamage
-pub mod TouchingKeeps
-pub mod TouchingMarks
-pub mod TouchingMessages
-pub mod TouchingSteps
-pub mod TouchingWindows

@@ -1,7 +1,7 @@
-mod Between
-mod Lists
-mod Names
+pub mod Between
+pub mod Lists
+pub mod Names
 mod Rows
-mod Shown
-mod Told
-mod Trees
+pub mod Shown
+pub mod Told
+pub mod Trees

@@ -1,6 +1,6 @@
-mod Between
-mod Law
-mod Lists
-mod Marked
+pub mod Between
+pub mod Law
+pub mod Lists
+pub mod Marked
 mod Rows
-mod Same
+pub mod Same

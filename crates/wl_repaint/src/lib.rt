@@ -5,4 +5,4 @@ mod laws;
 mod marking;
 
 pub use laws::{marks_as_applied, marks_between, same_as_records};
-pub use marking::mark_tree;
+pub use marking::{mark_tree, mark_windows};

@@ -33,7 +33,7 @@ fn are_same(was: &[TreeWindow], is: &[TreeWindow]) -> bool
 }
 
 /// All points of these windows are marked.
-fn mark_windows<A: Allocator>(damage: &mut Damage<A>, windows: &[TreeWindow])
+pub fn mark_windows<A: Allocator>(damage: &mut Damage<A>, windows: &[TreeWindow])
     ensures points { (x y : ℕ) → x < damage.old.width → y < damage.old.height
         → has damage.new x y ≡ (has damage.old x y || list_any (window_has (pos x) (pos y)) windows.now) }
     ensures sides { IsAsLarge damage.old damage.new }

@@ -35,7 +35,7 @@ use Rattle.wl_plain.specs.Changing.{changed_for}
 use Rattle.wl_plain.specs.Demand.{Demand, CommitTree, EndToplevel}
 use Rattle.wl_plain.specs.Demanding.{demand_of, effect_of_commit, judge_all}
 use Rattle.wl_plain.specs.Desktop.{Desktop, Resident}
-use Rattle.wl_without_popups.specs.ServedNext.{served_next}
+use Rattle.wl_plain.specs.LeftOut.{served_now}
 use Rattle.wl_orderly.specs.Orderly.{OwnsOrderly}
 use Rattle.wl_requests.specs.Residents.{AnswersAs, AnswersDemand, AnswersDemandAs, AnswersSo, IsResident, NewIsFree, ObjectsFit, Stacks, StacksBy, StacksFor, StacksSo, StacksTo, TakesAs, TakesSo}
 use Rattle.wl_plain.specs.Step.{with_peer}
@@ -47,7 +47,7 @@ use Rattle.wl_requests.proofs.Shelling.{meets-from, new-free, refused-whole}
 
 -- a seat has no keyboard and no touch
 pub seat-refused : (r : Resident) (object version : ℕ) (request : WlSeatRequest) → ((id : ℕ) × (request ≡ GetKeyboard id)) ⊎ ((id : ℕ) × (request ≡ GetTouch id))
-    → demand_of served_next r object version (wl_seat_request request) ≡ Err (record { object = object; code = MissingCapability })
+    → demand_of served_now r object version (wl_seat_request request) ≡ Err (record { object = object; code = MissingCapability })
 seat-refused r object version request (inl is) = rw is.1 refl
 seat-refused r object version request (inr is) = rw is.1 refl
 
@@ -78,10 +78,10 @@ first-refused-by : {A : Type 0} (old new : Kept A) (c : ℕ) (r : Resident) (d :
     → (q : Peer) × Errs refusal r.peer q × IsPeer new.client q → TakesSo s c r d old new Stays
 first-refused-by old new c r d refusal (Whole object opcode size) why is ended errs =
     let body = take (size - 8) (drop 8 r.peer.rest) in
-    let judged : judge_all served_next r object opcode body ≡ Err refusal =
-    judged-refused r.peer.objects r.peer.held (λ version m. demand_of served_next r object version m) opcode body (r.peer.objects object) refusal
+    let judged : judge_all served_now r object opcode body ≡ Err refusal =
+    judged-refused r.peer.objects r.peer.held (λ version m. demand_of served_now r object version m) opcode body (r.peer.objects object) refusal
     (passing-peer old.client r.peer object opcode size (Err refusal) is.peer why) in (
-      refused-whole old new c (with_peer (with_rest (drop size r.peer.rest) r.peer) r) d (judge_all served_next r object opcode body) refusal judged ended
+      refused-whole old new c (with_peer (with_rest (drop size r.peer.rest) r.peer) r) d (judge_all served_now r object opcode body) refusal judged ended
           (errs.0, errs-dropped refusal r.peer errs.0 (drop size r.peer.rest) errs.1, errs.2),
       subst (λ (j : Result Demand Refusal). StacksSo old r j Stays) (sym judged) tt,
     )
@@ -170,36 +170,36 @@ module _ {A : Type 0} (old : Kept A) (r : Resident) (object version size target 
       ∙ judged-passing r.peer.objects r.peer.held asks m.opcode body (record { interface = m.interface; version = version }) m
       (ap (λ (o : Option Object). passing r.peer.objects r.peer.held m.opcode body o) (sym object-there) ∙ passed)
 
-  pub demanded-first : judge_all served_next r object m.opcode body ≡ demand_of served_next left object version m
-  demanded-first = sym (judged-behind served_next r object m.opcode body (drop size r.peer.rest)) ∙ judged-by (λ version m. demand_of served_next left object version m)
+  pub demanded-first : judge_all served_now r object m.opcode body ≡ demand_of served_now left object version m
+  demanded-first = sym (judged-behind served_now r object m.opcode body (drop size r.peer.rest)) ∙ judged-by (λ version m. demand_of served_now left object version m)
 
   pub whole-first : split_of r.peer.rest ≡ Whole object m.opcode size
   whole-first = ap split_of (sym is.peer.rest) ∙ passes.first
 
   pub first-taken : (mid new : Kept A) (stacking : Stacking) → mid ≡ record old { client = record old.client { rest = drop size old.client.rest } }
-      → AnswersDemand (λ r. demand_of served_next r object version m) mid new
-      → Stacks (λ r. demand_of served_next r object version m) mid stacking → (c : ℕ) (d : Desktop) → OwnsOrderly r → TakesSo (split_of r.peer.rest) c r d old new stacking
+      → AnswersDemand (λ r. demand_of served_now r object version m) mid new
+      → Stacks (λ r. demand_of served_now r object version m) mid stacking → (c : ℕ) (d : Desktop) → OwnsOrderly r → TakesSo (split_of r.peer.rest) c r d old new stacking
   first-taken mid new stacking same answers stacks c d only =
       let there = dropped old mid r size same is in
       let objects : mid.client.objects ≡ old.client.objects = ap (λ (k : Kept A). k.client.objects) same in
       let has : OwnsOrderly left = only_peer_changes r left.peer refl refl (no-more r.peer.requests) only in
       subst (λ (s : Split). TakesSo s c r d old new stacking) (sym whole-first) (
-        subst (λ (j : Result Demand Refusal). AnswersSo j c left d old new) (sym demanded-first) (answers-from old mid new c left d (demand_of served_next left object version m) objects
+        subst (λ (j : Result Demand Refusal). AnswersSo j c left d old new) (sym demanded-first) (answers-from old mid new c left d (demand_of served_now left object version m) objects
             (answers c left d there has)),
-        subst (λ (j : Result Demand Refusal). StacksSo old r j stacking) (sym demanded-first) (stacks-from old mid r (drop size r.peer.rest) (demand_of served_next left object version m) stacking
+        subst (λ (j : Result Demand Refusal). StacksSo old r j stacking) (sym demanded-first) (stacks-from old mid r (drop size r.peer.rest) (demand_of served_now left object version m) stacking
             objects (stacks left there has)),
       )
 
   -- the same where it is known whether it was done
   pub first-decided : (mid new : Kept A) (done : Bool) → mid ≡ record old { client = record old.client { rest = drop size old.client.rest } }
-      → AnswersDemandAs done (λ r. demand_of served_next r object version m) mid new
+      → AnswersDemandAs done (λ r. demand_of served_now r object version m) mid new
       → (c : ℕ) (d : Desktop) → OwnsOrderly r → TakesAs done (split_of r.peer.rest) c r d old new
   first-decided mid new done same answers c d only =
       let there = dropped old mid r size same is in
       let objects : mid.client.objects ≡ old.client.objects = ap (λ (k : Kept A). k.client.objects) same in
       let has : OwnsOrderly left = only_peer_changes r left.peer refl refl (no-more r.peer.requests) only in
       subst (λ (s : Split). TakesAs done s c r d old new) (sym whole-first)
-      (subst (λ (j : Result Demand Refusal). AnswersAs done j c left d old new) (sym demanded-first) (decided-from done old mid new c left d (demand_of served_next left object version m) objects
+      (subst (λ (j : Result Demand Refusal). AnswersAs done j c left d old new) (sym demanded-first) (decided-from done old mid new c left d (demand_of served_now left object version m) objects
       (answers c left d there has)))
 
 -- ---- where there is no whole message

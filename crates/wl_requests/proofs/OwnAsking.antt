@@ -32,7 +32,7 @@ use Rattle.wl_plain.specs.Ask.{owns, Own}
 use Rattle.wl_plain.specs.Demand.{Demand}
 use Rattle.wl_plain.specs.Demanding.{demand_of, demands, judge_all}
 use Rattle.wl_plain.specs.Desktop.{Desktop, Resident}
-use Rattle.wl_without_popups.specs.ServedNext.{served_next}
+use Rattle.wl_plain.specs.LeftOut.{served_now}
 use Rattle.wl_orderly.specs.Orderly.{OwnsOrderly}
 use Rattle.wl_owning.specs.Owning.{Names, by_number, names_in, target_as, targets_in}
 use Rattle.wl_requests.specs.Residents.{AnswersSo as AnswersWhole, IsLeft, IsResident, StacksSo as StacksWhole, TakesSo}
@@ -104,7 +104,7 @@ names-kept old new keeps =
 
 -- one of the client's own interfaces
 own-asked : (interface : Interface) (r : Resident) (object version : ℕ) (m : Message) → is_own interface ≡ true
-    → m.interface ≡ interface → demand_of served_next r object version m ≡ demands (owns (action_of (known_of r.peer) object version (request_of m)))
+    → m.interface ≡ interface → demand_of served_now r object version m ≡ demands (owns (action_of (known_of r.peer) object version (request_of m)))
 own-asked WlDisplay r object version m own is = rw is refl
 own-asked WlRegistry r object version m own is = rw is refl
 own-asked WlRegion r object version m own is = rw is refl
@@ -114,7 +114,7 @@ own-asked WlBuffer r object version m own is = rw is refl
 own-asked interface r object version m own is = absurd (cc)
 
 own-demand-of : (r : Resident) (object version : ℕ) (m : Message) → is_own m.interface ≡ true
-    → demand_of served_next r object version m ≡ demands (owns (action_of (known_of r.peer) object version (request_of m)))
+    → demand_of served_now r object version m ≡ demands (owns (action_of (known_of r.peer) object version (request_of m)))
 own-demand-of r object version m own = own-asked m.interface r object version m own refl
 
 -- what it leaves
@@ -179,7 +179,7 @@ own-served old new r q is (object, version, size, target, m, passes, own) same k
     let left : Resident = with_peer (with_rest (drop size r.peer.rest) r.peer) r in
     let action : Result Action Refusal = action_of (known_of r.peer) object version (request_of m) in
     let used : ℕ → Bool = λ number. is_used number r.owned.surfaces in
-    let judged : judge_all served_next r object m.opcode body ≡ demands (owns action) = demanded-first old r object version size target m passes is ∙ own-demand-of left object version m own in
+    let judged : judge_all served_now r object m.opcode body ≡ demands (owns action) = demanded-first old r object version size target m passes is ∙ own-demand-of left object version m own in
     let judged_own : judge_own (known_of r.peer) object m.opcode body ≡ action =
     judged-by old r object version size target m passes is (λ version m. action_of (known_of r.peer) object version (request_of m)) in
     let taken : TakesWith used (Whole object m.opcode size) r.peer q = subst (λ (s : Split). TakesWith used s r.peer q) whole serves.1 in

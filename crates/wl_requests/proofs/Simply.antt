@@ -18,7 +18,7 @@ use Rattle.wl_plain.specs.Step.{changed_by, takes_memory, with_peer}
 use Rattle.wl_records.proofs.Toplevels.Releases.{asked-told}
 use Rattle.wl_records.proofs.Toplevels.Simply.{Asking, told_simply as told_alone}
 use Rattle.wl_without_popups.specs.NoPopups.{OwnsNoPopups}
-use Rattle.wl_without_popups.specs.ServedNext.{served_next}
+use Rattle.wl_plain.specs.LeftOut.{served_now}
 use Rattle.wl_without_popups.specs.Simple.{IsServed, answers_simply, changed_simply, told_simply}
 use Rattle.wl_without_popups.proofs.Served.{IsServedSo}
 use Rattle.wl_without_popups.proofs.Simple.{changes_simply, replies_simply}
@@ -62,15 +62,15 @@ counted-orderly r orderly = only_peer_changes r (counted r.peer) refl refl (one-
 module _ {A : Type 0} (old new : Kept A) (c : ℕ) (d : Desktop) where
   module _ (demand : Demand) (r : Resident) (owns : OwnsNoPopups r) (served : IsServed demand) where
     -- what is told, and what becomes of it
-    events-same : replies served_next c demand r (changed_for c demand r d) (all_windows d) d ≡ told_simply demand r
+    events-same : replies served_now c demand r (changed_for c demand r d) (all_windows d) d ≡ told_simply demand r
     events-same =
         replies_simply c demand r (all_windows d) d owns served
         ∙ ap (λ (made : Resident). answers_simply demand r ++ releases r made) (changes_simply c demand r d owns served)
 
     queues-same : (q : Peer) → Queues (told_simply demand r) (changed_simply demand r).peer q
-        → Queues (replies served_next c demand r (changed_for c demand r d) (all_windows d) d) (changed_for c demand r d).peer q
+        → Queues (replies served_now c demand r (changed_for c demand r d) (all_windows d) d) (changed_for c demand r d).peer q
     queues-same q h =
-        subst (λ (m : Resident). Queues (replies served_next c demand r (changed_for c demand r d) (all_windows d) d) m.peer q) (sym (changes_simply c demand r d owns served))
+        subst (λ (m : Resident). Queues (replies served_now c demand r (changed_for c demand r d) (all_windows d) d) m.peer q) (sym (changes_simply c demand r d owns served))
         (subst (λ (events : List Said). Queues events (changed_simply demand r).peer q) (sym events-same) h)
 
     left-same : (q : Peer) → IsLeft old new (changed_simply demand r) q → IsLeft old new (changed_for c demand r d) q
@@ -80,7 +80,7 @@ module _ {A : Type 0} (old new : Kept A) (c : ℕ) (d : Desktop) where
     meets-simply h = (h.0, at (wants_memory demand) h.1, left-same h.0 h.2)
       where
         at : (b : Bool) → WantsOr b (Queues (told_simply demand r) (changed_simply demand r).peer h.0) r.peer h.0
-            → WantsOr b (Queues (replies served_next c demand r (changed_for c demand r d) (all_windows d) d) (changed_for c demand r d).peer h.0) r.peer h.0
+            → WantsOr b (Queues (replies served_now c demand r (changed_for c demand r d) (all_windows d) d) (changed_for c demand r d).peer h.0) r.peer h.0
         at true (inl lacks) = inl lacks
         at true (inr told) = inr (queues-same h.0 told)
         at false told = queues-same h.0 told

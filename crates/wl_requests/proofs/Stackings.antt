@@ -19,7 +19,8 @@ use Rattle.wl_shell.specs.declared.acts.ShellAct.TheVariants.{Configure, Map, Un
 use Rattle.wl_plain.specs.Demand.{Demand, CommitTree}
 use Rattle.wl_plain.specs.Demanding.{demand_of, demands, effect_of_commit, moved_by_pointer, toplevel_asked, toplevel_demand, toplevel_destroyed, xdg_asked}
 use Rattle.wl_plain.specs.Desktop.{Resident}
-use Rattle.wl_without_popups.specs.ServedNext.{served_next, unserved_but_subsurfaces}
+use Rattle.wl_plain.specs.LeftOut.{served_now}
+use Rattle.wl_plain.specs.Served.{unserved_now}
 use Rattle.wl_owning.specs.Owning.{effect_by, names_in}
 use Rattle.wl_peer.specs.Requests.{ToXdgSurface, toplevel_request, rect}
 use Rattle.wl_peer.specs.ToplevelRequest.{ToplevelRequest}
@@ -93,11 +94,11 @@ toplevel-state object o request is = absurd (cc)
 
 -- what is demanded of a toplevel
 pub toplevel-of : (r : Resident) (object version : ℕ) (m : Message) → m.interface ≡ XdgToplevel
-    → demand_of served_next r object version m ≡ toplevel_demand r object (toplevel_request m.opcode m.fields)
+    → demand_of served_now r object version m ≡ toplevel_demand r object (toplevel_request m.opcode m.fields)
 toplevel-of r object version m is = rw is refl
 
 -- a request of an xdg_surface
-xdg-asked-stays : {A : Type 0} (old : Kept A) (r : Resident) (o : Option Xdg) (version : ℕ) (request : XdgSurfaceRequest) → unserved_but_subsurfaces (ToXdgSurface request) ≡ false
+xdg-asked-stays : {A : Type 0} (old : Kept A) (r : Resident) (o : Option Xdg) (version : ℕ) (request : XdgSurfaceRequest) → unserved_now (ToXdgSurface request) ≡ false
     → StacksSo old r (xdg_asked r o version request) Stays
 xdg-asked-stays old r None version request served = tt
 xdg-asked-stays old r (Some x) version requests.Destroy served = asks-stay old r (xdg_surface_destroyed x)
@@ -107,7 +108,7 @@ xdg-asked-stays old r (Some x) version (requests.SetWindowGeometry a b width hei
 xdg-asked-stays old r (Some x) version (requests.AckConfigure serial) served = asks-stay old r (acknowledged_by x serial)
 
 pub xdg-stays : {A : Type 0} (old : Kept A) (r : Resident) (object version : ℕ) (request : XdgSurfaceRequest)
-    → StacksSo old r (demand_of served_next r object version (xdg_surface_request request)) Stays
+    → StacksSo old r (demand_of served_now r object version (xdg_surface_request request)) Stays
 xdg-stays old r object version (requests.GetPopup id parent positioner) = tt
 xdg-stays old r object version requests.Destroy = xdg-asked-stays old r (xdg_at object r.owned.shell) version requests.Destroy refl
 xdg-stays old r object version (requests.GetToplevel id) = xdg-asked-stays old r (xdg_at object r.owned.shell) version (requests.GetToplevel id) refl
@@ -134,7 +135,7 @@ linked-stays old r object (Some l) subsurface.SetSync = refl
 linked-stays old r object (Some l) subsurface.SetDesync = refl
 
 pub subsurface-stays : {A : Type 0} (old : Kept A) (r : Resident) (object version : ℕ) (request : WlSubsurfaceRequest)
-    → StacksSo old r (demand_of served_next r object version (wl_subsurface_request request)) Stays
+    → StacksSo old r (demand_of served_now r object version (wl_subsurface_request request)) Stays
 subsurface-stays old r object version subsurface.Destroy = linked-stays old r object (link_of_subsurface object r) subsurface.Destroy
 subsurface-stays old r object version (subsurface.SetPosition x y) = linked-stays old r object (link_of_subsurface object r) (subsurface.SetPosition x y)
 subsurface-stays old r object version (subsurface.PlaceAbove sibling) = linked-stays old r object (link_of_subsurface object r) (subsurface.PlaceAbove sibling)
@@ -144,7 +145,7 @@ subsurface-stays old r object version subsurface.SetDesync = linked-stays old r 
 
 -- a request of a wl_subcompositor
 pub subcompositor-stays : {A : Type 0} (old : Kept A) (r : Resident) (object version : ℕ) (request : WlSubcompositorRequest)
-    → StacksSo old r (demand_of served_next r object version (wl_subcompositor_request request)) Stays
+    → StacksSo old r (demand_of served_now r object version (wl_subcompositor_request request)) Stays
 subcompositor-stays old r object version subcompositor.Destroy = refl
 subcompositor-stays old r object version (subcompositor.GetSubsurface id child parent) =
     if-stays old r (is_too_deep r.owned.surfaces child parent) past_limit _ tt
@@ -153,7 +154,7 @@ subcompositor-stays old r object version (subcompositor.GetSubsurface id child p
 
 -- a request of an xdg_wm_base
 pub base-stays : {A : Type 0} (old : Kept A) (r : Resident) (object version : ℕ) (request : XdgWmBaseRequest)
-    → StacksSo old r (demand_of served_next r object version (xdg_wm_base_request request)) Stays
+    → StacksSo old r (demand_of served_now r object version (xdg_wm_base_request request)) Stays
 base-stays old r object version base.Destroy = asks-stay old r _
 base-stays old r object version (base.CreatePositioner id) = tt
 base-stays old r object version (base.GetXdgSurface id surface) = asks-stay old r _

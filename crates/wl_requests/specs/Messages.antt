@@ -19,7 +19,7 @@ use Rattle.wl_requests.specs.declared.residents.Resident.{Resident as Kept}
 use Rattle.wl_requests.specs.Linking.{IsOnlyChild}
 use Rattle.wl_requests.specs.Residents.{asked_by}
 use Rattle.wl_requests.specs.Touching.{Touch, Commits, Destroys, Parts, Releases}
-use Rattle.wl_without_popups.specs.ServedNext.{served_next}
+use Rattle.wl_plain.specs.LeftOut.{served_now}
 use Rattle.wl_peer.specs.Requests.{request_of, toplevel_request}
 
 -- the message is this request
@@ -32,7 +32,7 @@ IsKind (kind.Base request) m = m ≡ xdg_wm_base_request request
 IsKind (kind.XdgSurface request) m = m ≡ xdg_surface_request request
 IsKind (kind.Toplevel toplevel) m = (m.interface ≡ XdgToplevel) × (toplevel ≡ asked_by (toplevel_request m.opcode m.fields))
 IsKind (kind.Subsurface request) m = m ≡ wl_subsurface_request request
-IsKind kind.Unserved m = served_next.requests (request_of m) ≡ true
+IsKind kind.Unserved m = served_now.requests (request_of m) ≡ true
 
 abbrev pub IsAsked : ClientView → Asked → Type 0
 IsAsked v asked.More = split_of v.rest ≡ More

@@ -33,7 +33,7 @@ use Rattle.wl_plain.specs.Demanding.{effect_of_commit, judge_all}
 use Rattle.wl_peer.specs.ToplevelRequest.{ToplevelRequest}
 use Rattle.wl_peer.specs.ToplevelRequest as toplevel
 use Rattle.wl_plain.specs.Desktop.{Desktop, Resident}
-use Rattle.wl_without_popups.specs.ServedNext.{served_next}
+use Rattle.wl_plain.specs.LeftOut.{served_now}
 use Rattle.wl_orderly.specs.Orderly.{OwnsOrderly}
 use Rattle.wl_owning.specs.Owning.{IsOwned, by_number, names_in, targets_in}
 use Rattle.wl_owning.specs.Subsurfaces.{AreOfSurfaces}
@@ -89,7 +89,7 @@ Does ask old new = (r : Resident) → IsResident old r → (q : Peer) × ActsFor
 abbrev pub MeetsFor : ℕ → Demand → Resident → Desktop → Peer → Type 0
 MeetsFor c demand r d q =
     WantsOr (wants_memory demand)
-    (Queues (replies served_next c demand r (changed_for c demand r d) (all_windows d) d) (changed_for c demand r d).peer q)
+    (Queues (replies served_now c demand r (changed_for c demand r d) (all_windows d) d) (changed_for c demand r d).peer q)
     r.peer q
 
 abbrev pub MeetsSo : {A : Type 0} → ℕ → Demand → Resident → Desktop → Kept A → Kept A → Type 0
@@ -108,7 +108,7 @@ AnswersDemand judged old new = (c : ℕ) (r : Resident) (d : Desktop) → IsResi
 -- memory.
 abbrev pub MeetsAs : {A : Type 0} → Bool → ℕ → Demand → Resident → Desktop → Kept A → Kept A → Type 0
 MeetsAs true c demand r d old new =
-    (q : Peer) × Queues (replies served_next c demand r (changed_for c demand r d) (all_windows d) d) (changed_for c demand r d).peer q
+    (q : Peer) × Queues (replies served_now c demand r (changed_for c demand r d) (all_windows d) d) (changed_for c demand r d).peer q
     × IsLeft old new (changed_for c demand r d) q
 MeetsAs false c demand r d old new = (wants_memory demand ≡ true) × (q : Peer) × LacksMemory r.peer q
     × IsLeft old new (changed_for c demand r d) q
@@ -214,16 +214,16 @@ Stacks judged old stacking = (r : Resident) → IsResident old r → OwnsOrderly
 -- The first message of what has come is taken and answered.
 abbrev pub TakesSo : {A : Type 0} → Split → ℕ → Resident → Desktop → Kept A → Kept A → Stacking → Type 0
 TakesSo (Whole object opcode size) c r d old new stacking =
-    AnswersSo (judge_all served_next r object opcode (take (size - 8) (drop 8 r.peer.rest))) c
+    AnswersSo (judge_all served_now r object opcode (take (size - 8) (drop 8 r.peer.rest))) c
     (with_peer (with_rest (drop size r.peer.rest) r.peer) r) d old new
-    × StacksSo old r (judge_all served_next r object opcode (take (size - 8) (drop 8 r.peer.rest))) stacking
+    × StacksSo old r (judge_all served_now r object opcode (take (size - 8) (drop 8 r.peer.rest))) stacking
 TakesSo Bad c r d old new stacking = AnswersSo (Err (display_error InvalidMethod)) c r d old new
 TakesSo More c r d old new stacking = ⊥
 
 -- The same where it is known whether it was done.
 abbrev pub TakesAs : {A : Type 0} → Bool → Split → ℕ → Resident → Desktop → Kept A → Kept A → Type 0
 TakesAs done (Whole object opcode size) c r d old new =
-    AnswersAs done (judge_all served_next r object opcode (take (size - 8) (drop 8 r.peer.rest))) c
+    AnswersAs done (judge_all served_now r object opcode (take (size - 8) (drop 8 r.peer.rest))) c
     (with_peer (with_rest (drop size r.peer.rest) r.peer) r) d old new
 TakesAs done Bad c r d old new = AnswersAs done (Err (display_error InvalidMethod)) c r d old new
 TakesAs done More c r d old new = ⊥

@@ -11,7 +11,7 @@ ghost use Rattle.wl_client.specs.Serving.{is_own};
 ghost use Rattle.wl_requests.specs.Messages.{IsAsked, IsKind, IsTouchOf, IsTouchOfAsked};
 ghost use Rattle.wl_requests.specs.Touching.{IsTouched, Touch};
 ghost use Rattle.wl_requests.specs.Residents.{AnswersDemand, AnswersDemandAs, NewIsFree, ObjectsFit, Stacks, TakesMessage, TakesMessageAs};
-ghost use Rattle.wl_without_popups.specs.ServedNext.{served_next};
+ghost use Rattle.wl_plain.specs.LeftOut.{served_now};
 ghost use Rattle.wl_plain.specs.Demanding.{demand_of};
 
 use crate::residents::{Outcome, Resident, Stacking};
@@ -115,16 +115,17 @@ impl<A: Allocator + Copy> Resident<A> {
     /// Answers a request to an object, which has this version and target.
     fn answer(&mut self, object: u32, version: u32, target: usize, kind: Kind) -> Outcome<A>
         ensures answers { (m : Message) → IsKind kind m → entry_of self.old.client.objects object ≡ Some (record { interface = m.interface; version = version; target = target })
-            → NewIsFree self.old m → ObjectsFit self.old m → AnswersDemand (λ r. demand_of served_next r object version m) self.old self.new }
+            → NewIsFree self.old m → ObjectsFit self.old m → AnswersDemand (λ r. demand_of served_now r object version m) self.old self.new }
         ensures stacks { (m : Message) → IsKind kind m → entry_of self.old.client.objects object ≡ Some (record { interface = m.interface; version = version; target = target })
-            → Stacks (λ r. demand_of served_next r object version m) self.old result.stacking }
+            → Stacks (λ r. demand_of served_now r object version m) self.old result.stacking }
         ensures decides { (touch : Touch) → IsTouchOf kind object target self.old touch
             → (m : Message) → IsKind kind m → entry_of self.old.client.objects object ≡ Some (record { interface = m.interface; version = version; target = target })
-            → AnswersDemandAs (is_some result.applied) (λ r. demand_of served_next r object version m) self.old self.new }
+            → AnswersDemandAs (is_some result.applied) (λ r. demand_of served_now r object version m) self.old self.new }
         ensures touched { (touch : Touch) → IsTouchOf kind object target self.old touch
             → IsTouched touch self.old.owned.linked self.new.owned.linked result.applied }
         ensures nothing { ((touch : Touch) → IsTouchOf kind object target self.old touch → ⊥) → (numbers : ById ℕ) (subsurfaces : List Subsurface) → AreOfSurfaces self.old.subsurfaces numbers subsurfaces → result.applied ≡ None }
         ensures rest { length self.new.client.rest ≤ length self.old.client.rest }
+        ensures room { is_some result.applied ≡ true → self.old.has_room ≡ true }
     {
         match kind {
             Kind::Surface(request) => self.wl_surface(object, version, target, &request),
@@ -158,7 +159,7 @@ impl<A: Allocator + Copy> Resident<A> {
     }
 
     /// Takes the first whole message of a client that lives, which asks this, and answers what that did. None where there is no whole message;
-    /// then nothing is changed.
+    /// then nothing is changed. Where there is no room for windows nothing is applied.
     pub fn serve(&mut self, asked: Asked) -> Option<Outcome<A>>
         requires { IsAsked self.old.client asked }
         ensures lives { IfSome result (λ s. self.old.client.ended ≡ None) }
@@ -169,6 +170,7 @@ impl<A: Allocator + Copy> Resident<A> {
         ensures nothing { IfSome result (λ s. ((touch : Touch) → IsTouchOfAsked asked self.old touch → ⊥) → (numbers : ById ℕ) (subsurfaces : List Subsurface) → AreOfSurfaces self.old.subsurfaces numbers subsurfaces → s.applied ≡ None) }
         ensures idle { IfNone result ((self.new ≡ self.old) × IsIdleAt self.old.client.ended self.old.client.rest) }
         ensures less { IfSome result (λ s. length self.new.client.rest < length self.old.client.rest) }
+        ensures room { IfSome result (λ s. is_some s.applied ≡ true → self.old.has_room ≡ true) }
     {
         if self.client.has_ended() {
             return None;

@@ -18,7 +18,7 @@ ghost use Rattle.wl_orderly.specs.Orderly.{OwnsOrderly};
 ghost use Rattle.wl_owning.specs.Owning.{IsOwned, Names, by_number, effect_by, names_in};
 ghost use Rattle.wl_owning.specs.Subsurfaces.{AreOfSurfaces};
 ghost use Rattle.wl_plain.specs.Framing.{AreFramed};
-ghost use Rattle.wl_without_popups.specs.ServedNext.{served_next};
+ghost use Rattle.wl_plain.specs.LeftOut.{served_now};
 ghost use Rattle.wl_requests.specs.Freed.{is_freed_in};
 ghost use Rattle.wl_requests.specs.Messages.{IsTouchOf};
 ghost use Rattle.wl_requests.specs.Touching.{IsTouched, Touch, Commits, Destroys};
@@ -100,7 +100,12 @@ impl<A: Allocator + Copy> Resident<A> {
         ensures does { IsSurface self.old object surface → kept_of self.old.owned.shell surface ≡ None → MeetsTold (λ r. EndSurface object) result self.old self.new }
         ensures touched { IsTouched (Destroys surface) self.old.owned.linked self.new.owned.linked result }
         ensures rest { length self.new.client.rest ≤ length self.old.client.rest }
+        ensures room { is_some result ≡ true → self.old.has_room ≡ true }
     {
+        if !self.has_room {
+            self.client.lack_memory();
+            return None;
+        }
         let [pending, _, _] = self.owned.linked.surfaces.buffers(surface);
         let Ok(Told { applied, shown }) = self.owned.linked.destroy(surface) else {
             self.client.lack_memory();
@@ -167,11 +172,12 @@ impl<A: Allocator + Copy> Resident<A> {
     /// wl_surface.commit: what is pending counts, and the shell says what that comes to.
     fn commit(&mut self, object: u32, version: u32, surface: SurfaceNo) -> Outcome<A>
         ensures answers { IsSurface self.old object surface
-            → AnswersDemandAs (is_some result.applied) (λ r. demand_of served_next r object version (wl_surface_request Commit)) self.old self.new }
+            → AnswersDemandAs (is_some result.applied) (λ r. demand_of served_now r object version (wl_surface_request Commit)) self.old self.new }
         ensures stacks { IsSurface self.old object surface
-            → Stacks (λ r. demand_of served_next r object version (wl_surface_request Commit)) self.old result.stacking }
+            → Stacks (λ r. demand_of served_now r object version (wl_surface_request Commit)) self.old result.stacking }
         ensures touched { IsTouched (Commits surface) self.old.owned.linked self.new.owned.linked result.applied }
         ensures rest { length self.new.client.rest ≤ length self.old.client.rest }
+        ensures room { is_some result.applied ≡ true → self.old.has_room ≡ true }
     {
         let has_buffer = self.owned.linked.surfaces.pending_buffer(surface).is_some();
         let serial = self.client.serial();
@@ -207,7 +213,12 @@ impl<A: Allocator + Copy> Resident<A> {
             → MeetsAs (is_some result) c (CommitTree object) r d self.old self.new }
         ensures touched { IsTouched (Commits surface) self.old.owned.linked self.new.owned.linked result }
         ensures rest { length self.new.client.rest ≤ length self.old.client.rest }
+        ensures room { is_some result ≡ true → self.old.has_room ≡ true }
     {
+        if !self.has_room {
+            self.client.lack_memory();
+            return None;
+        }
         let Ok(Told { applied, shown }) = self.owned.linked.commit(surface) else {
             self.client.lack_memory();
             return None;
@@ -247,10 +258,11 @@ impl<A: Allocator + Copy> Resident<A> {
     /// wl_surface.destroy: the xdg_surface of the surface must be gone.
     fn destroy(&mut self, object: u32, version: u32, surface: SurfaceNo) -> Outcome<A>
         ensures answers { IsSurface self.old object surface
-            → AnswersDemandAs (is_some result.applied) (λ r. demand_of served_next r object version (wl_surface_request Destroy)) self.old self.new }
+            → AnswersDemandAs (is_some result.applied) (λ r. demand_of served_now r object version (wl_surface_request Destroy)) self.old self.new }
         ensures touched { IsTouched (Destroys surface) self.old.owned.linked self.new.owned.linked result.applied }
         ensures stays { result.stacking ≡ Stacking.Stays }
         ensures rest { length self.new.client.rest ≤ length self.old.client.rest }
+        ensures room { is_some result.applied ≡ true → self.old.has_room ≡ true }
     {
         if self.has_xdg_surface(surface) {
             let refusal = Refusal::of(object, ErrorCode::SurfaceHasRoleObject);
@@ -267,7 +279,7 @@ impl<A: Allocator + Copy> Resident<A> {
     /// wl_surface.set_buffer_transform, of one of the eight.
     fn transform(&mut self, object: u32, version: u32, surface: SurfaceNo, transform: i32)
         ensures answers { IsSurface self.old object surface
-            → AnswersDemand (λ r. demand_of served_next r object version (wl_surface_request (TransformAsked transform))) self.old self.new }
+            → AnswersDemand (λ r. demand_of served_now r object version (wl_surface_request (TransformAsked transform))) self.old self.new }
         ensures rest { length self.new.client.rest ≤ length self.old.client.rest }
     {
         if !is_valid(transform) {
@@ -282,7 +294,7 @@ impl<A: Allocator + Copy> Resident<A> {
     /// wl_surface.frame: the callback with this id waits until a commit applies the request and a frame is shown.
     fn frame(&mut self, object: u32, version: u32, surface: SurfaceNo, callback: u32)
         ensures answers { IsSurface self.old object surface → IsFree self.old callback
-            → AnswersDemand (λ r. demand_of served_next r object version (wl_surface_request (FrameAsked callback))) self.old self.new }
+            → AnswersDemand (λ r. demand_of served_now r object version (wl_surface_request (FrameAsked callback))) self.old self.new }
         ensures rest { length self.new.client.rest ≤ length self.old.client.rest }
     {
         self.client.count();
@@ -308,15 +320,16 @@ impl<A: Allocator + Copy> Resident<A> {
         request: &WlSurfaceRequest,
     ) -> Outcome<A>
         ensures answers { IsSurface self.old object surface → NewIsFree self.old (wl_surface_request request.now)
-            → AnswersDemand (λ r. demand_of served_next r object version (wl_surface_request request.now)) self.old self.new }
+            → AnswersDemand (λ r. demand_of served_now r object version (wl_surface_request request.now)) self.old self.new }
         ensures stacks { IsSurface self.old object surface
-            → Stacks (λ r. demand_of served_next r object version (wl_surface_request request.now)) self.old result.stacking }
+            → Stacks (λ r. demand_of served_now r object version (wl_surface_request request.now)) self.old result.stacking }
         ensures decides { (touch : Touch) → IsTouchOf (Kind.Surface request.now) object surface self.old touch → IsSurface self.old object surface
-            → AnswersDemandAs (is_some result.applied) (λ r. demand_of served_next r object version (wl_surface_request request.now)) self.old self.new }
+            → AnswersDemandAs (is_some result.applied) (λ r. demand_of served_now r object version (wl_surface_request request.now)) self.old self.new }
         ensures touched { (touch : Touch) → IsTouchOf (Kind.Surface request.now) object surface self.old touch
             → IsTouched touch self.old.owned.linked self.new.owned.linked result.applied }
         ensures nothing { ((touch : Touch) → IsTouchOf (Kind.Surface request.now) object surface self.old touch → ⊥) → result.applied ≡ None }
         ensures rest { length self.new.client.rest ≤ length self.old.client.rest }
+        ensures room { is_some result.applied ≡ true → self.old.has_room ≡ true }
     {
         match *request {
             WlSurfaceRequest::Commit => self.commit(object, version, surface),

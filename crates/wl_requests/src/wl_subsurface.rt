@@ -13,7 +13,7 @@ ghost use Rattle.wl_requests.specs.Messages.{IsTouchOf};
 ghost use Rattle.wl_requests.specs.Linking.{IsChildOf, IsOnlyChild};
 ghost use Rattle.wl_requests.specs.Residents.{AnswersDemand, AnswersDemandAs, IsSubsurface, IsSurface, ObjectsFit};
 ghost use Rattle.wl_requests.specs.Touching.{IsTouched, Parts, Releases, Touch};
-ghost use Rattle.wl_without_popups.specs.ServedNext.{served_next};
+ghost use Rattle.wl_plain.specs.LeftOut.{served_now};
 
 use crate::messages::Kind;
 use crate::residents::{Outcome, Resident, Stacking};
@@ -25,7 +25,7 @@ use wl_surface::{Applied, SurfaceError, SurfaceNo};
 
 impl<A: Allocator + Copy> Resident<A> {
     /// The child of a wl_subsurface, while its link lives.
-    fn child_of(&self, object: u32) -> Option<SurfaceNo>
+    pub fn child_of(&self, object: u32) -> Option<SurfaceNo>
         ensures { IsChildOf self.now object result }
     {
         let child = self.subsurfaces.surface_of(object)?;
@@ -37,7 +37,7 @@ impl<A: Allocator + Copy> Resident<A> {
 
     /// wl_subsurface.set_position of the child, relative to its parent, in pixels: once the parent is committed and applied.
     fn set_position(&mut self, object: u32, version: u32, x: i32, y: i32)
-        ensures answers { IsSubsurface self.old object → AnswersDemand (λ r. demand_of served_next r object version (wl_subsurface_request (SetPosition x y))) self.old self.new }
+        ensures answers { IsSubsurface self.old object → AnswersDemand (λ r. demand_of served_now r object version (wl_subsurface_request (SetPosition x y))) self.old self.new }
         ensures rest { length self.new.client.rest ≤ length self.old.client.rest }
     {
         self.client.count();
@@ -71,7 +71,7 @@ impl<A: Allocator + Copy> Resident<A> {
     /// wl_subsurface.place_above: the child stands right above a sibling, or above its parent, once the parent is committed and applied.
     fn place_above(&mut self, object: u32, version: u32, sibling: u32, beside: SurfaceNo)
         ensures answers { IsSubsurface self.old object → IsSurface self.old sibling beside
-            → AnswersDemand (λ r. demand_of served_next r object version (wl_subsurface_request (PlaceAbove sibling))) self.old self.new }
+            → AnswersDemand (λ r. demand_of served_now r object version (wl_subsurface_request (PlaceAbove sibling))) self.old self.new }
         ensures rest { length self.new.client.rest ≤ length self.old.client.rest }
     {
         let Some(child) = self.child_of(object) else {
@@ -87,7 +87,7 @@ impl<A: Allocator + Copy> Resident<A> {
     /// wl_subsurface.place_below: the child stands right below a sibling, or below its parent, once the parent is committed and applied.
     fn place_below(&mut self, object: u32, version: u32, sibling: u32, beside: SurfaceNo)
         ensures answers { IsSubsurface self.old object → IsSurface self.old sibling beside
-            → AnswersDemand (λ r. demand_of served_next r object version (wl_subsurface_request (PlaceBelow sibling))) self.old self.new }
+            → AnswersDemand (λ r. demand_of served_now r object version (wl_subsurface_request (PlaceBelow sibling))) self.old self.new }
         ensures rest { length self.new.client.rest ≤ length self.old.client.rest }
     {
         let Some(child) = self.child_of(object) else {
@@ -102,7 +102,7 @@ impl<A: Allocator + Copy> Resident<A> {
 
     /// wl_subsurface.set_sync: what the child commits is held until its parent is applied.
     fn set_sync(&mut self, object: u32, version: u32)
-        ensures answers { IsSubsurface self.old object → AnswersDemand (λ r. demand_of served_next r object version (wl_subsurface_request SetSync)) self.old self.new }
+        ensures answers { IsSubsurface self.old object → AnswersDemand (λ r. demand_of served_now r object version (wl_subsurface_request SetSync)) self.old self.new }
         ensures rest { length self.new.client.rest ≤ length self.old.client.rest }
     {
         self.client.count();
@@ -114,16 +114,21 @@ impl<A: Allocator + Copy> Resident<A> {
     /// wl_subsurface.set_desync: what the child commits is applied at once, unless a surface above it is synchronised; and so is what was held,
     /// where that changes how it behaves.
     fn set_desync(&mut self, object: u32, version: u32) -> Option<Applied<A>>
-        ensures answers { IsSubsurface self.old object → AnswersDemand (λ r. demand_of served_next r object version (wl_subsurface_request SetDesync)) self.old self.new }
+        ensures answers { IsSubsurface self.old object → AnswersDemand (λ r. demand_of served_now r object version (wl_subsurface_request SetDesync)) self.old self.new }
         ensures decides { (child : ℕ) → IsOnlyChild self.old object child → IsSubsurface self.old object
-            → AnswersDemandAs (is_some result) (λ r. demand_of served_next r object version (wl_subsurface_request SetDesync)) self.old self.new }
+            → AnswersDemandAs (is_some result) (λ r. demand_of served_now r object version (wl_subsurface_request SetDesync)) self.old self.new }
         ensures touched { (child : ℕ) → IsOnlyChild self.old object child
             → IsTouched (Releases child) self.old.owned.linked self.new.owned.linked result }
         ensures nothing { ((child : ℕ) → IsOnlyChild self.old object child → ⊥) → (numbers : ById ℕ) (subsurfaces : List Subsurface) → AreOfSurfaces self.old.subsurfaces numbers subsurfaces → result ≡ None }
         ensures rest { length self.new.client.rest ≤ length self.old.client.rest }
+        ensures room { is_some result ≡ true → self.old.has_room ≡ true }
     {
         self.client.count();
         let child = self.child_of(object)?;
+        if !self.has_room {
+            self.client.lack_memory();
+            return None;
+        }
         let Ok(Told { applied, shown }) = self.owned.linked.set_desync(child) else {
             self.client.lack_memory();
             return None;
@@ -152,13 +157,14 @@ impl<A: Allocator + Copy> Resident<A> {
 
     /// wl_subsurface.destroy: the child's link to its parent ends, and its id is given back.
     fn destroy_subsurface(&mut self, object: u32, version: u32) -> Option<Applied<A>>
-        ensures answers { IsSubsurface self.old object → AnswersDemand (λ r. demand_of served_next r object version (wl_subsurface_request Destroy)) self.old self.new }
+        ensures answers { IsSubsurface self.old object → AnswersDemand (λ r. demand_of served_now r object version (wl_subsurface_request Destroy)) self.old self.new }
         ensures decides { (child : ℕ) → IsOnlyChild self.old object child → IsSubsurface self.old object
-            → AnswersDemandAs (is_some result) (λ r. demand_of served_next r object version (wl_subsurface_request Destroy)) self.old self.new }
+            → AnswersDemandAs (is_some result) (λ r. demand_of served_now r object version (wl_subsurface_request Destroy)) self.old self.new }
         ensures touched { (child : ℕ) → IsOnlyChild self.old object child
             → IsTouched (Parts child) self.old.owned.linked self.new.owned.linked result }
         ensures nothing { ((child : ℕ) → IsOnlyChild self.old object child → ⊥) → (numbers : ById ℕ) (subsurfaces : List Subsurface) → AreOfSurfaces self.old.subsurfaces numbers subsurfaces → result ≡ None }
         ensures rest { length self.new.client.rest ≤ length self.old.client.rest }
+        ensures room { is_some result ≡ true → self.old.has_room ≡ true }
     {
         self.client.count();
         let Some(child) = self.child_of(object) else {
@@ -166,6 +172,10 @@ impl<A: Allocator + Copy> Resident<A> {
             self.client.remove(object);
             return None;
         };
+        if !self.has_room {
+            self.client.lack_memory();
+            return None;
+        }
         let Ok(Told { applied, shown }) = self.owned.linked.remove_subsurface(child) else {
             self.client.lack_memory();
             return None;
@@ -189,14 +199,15 @@ impl<A: Allocator + Copy> Resident<A> {
         request: &WlSubsurfaceRequest,
     ) -> Outcome<A>
         ensures answers { IsSubsurface self.old object → ObjectsFit self.old (wl_subsurface_request request.now)
-            → AnswersDemand (λ r. demand_of served_next r object version (wl_subsurface_request request.now)) self.old self.new }
+            → AnswersDemand (λ r. demand_of served_now r object version (wl_subsurface_request request.now)) self.old self.new }
         ensures decides { (target : ℕ) (touch : Touch) → IsTouchOf (Kind.Subsurface request.now) object target self.old touch → IsSubsurface self.old object
-            → AnswersDemandAs (is_some result.applied) (λ r. demand_of served_next r object version (wl_subsurface_request request.now)) self.old self.new }
+            → AnswersDemandAs (is_some result.applied) (λ r. demand_of served_now r object version (wl_subsurface_request request.now)) self.old self.new }
         ensures touched { (target : ℕ) (touch : Touch) → IsTouchOf (Kind.Subsurface request.now) object target self.old touch
             → IsTouched touch self.old.owned.linked self.new.owned.linked result.applied }
         ensures nothing { (target : ℕ) → ((touch : Touch) → IsTouchOf (Kind.Subsurface request.now) object target self.old touch → ⊥) → (numbers : ById ℕ) (subsurfaces : List Subsurface) → AreOfSurfaces self.old.subsurfaces numbers subsurfaces → result.applied ≡ None }
         ensures stays { result.stacking ≡ Stacking.Stays }
         ensures rest { length self.new.client.rest ≤ length self.old.client.rest }
+        ensures room { is_some result.applied ≡ true → self.old.has_room ≡ true }
     {
         let mut applied = None;
         match *request {

@@ -8,7 +8,7 @@ ghost use Rattle.wl_proto.specs.declared.xdg_surface.XdgSurfaceRequest.TheVarian
 ghost use Rattle.wl_shell.specs.Kept.{kept_of};
 ghost use Rattle.wl_owning.specs.Owning.{kept_base, kept_id, shell_refusal};
 ghost use Rattle.wl_requests.specs.Residents.{AnswersDemand, IsFree, IsXdgSurface, NewIsFree};
-ghost use Rattle.wl_without_popups.specs.ServedNext.{served_next};
+ghost use Rattle.wl_plain.specs.LeftOut.{served_now};
 ghost use Rattle.wl_plain.specs.Demanding.{demand_of};
 ghost use Rattle.wl_plain.specs.XdgShell.{is_no_toplevel};
 
@@ -90,7 +90,7 @@ impl<A: Allocator + Copy> Resident<A> {
 
     /// xdg_surface.destroy: its id is given back.
     fn destroy_xdg_surface(&mut self, object: u32, version: u32, surface: SurfaceNo)
-        ensures answers { IsXdgSurface self.old object surface → AnswersDemand (λ r. demand_of served_next r object version (xdg_surface_request Destroy)) self.old self.new }
+        ensures answers { IsXdgSurface self.old object surface → AnswersDemand (λ r. demand_of served_now r object version (xdg_surface_request Destroy)) self.old self.new }
         ensures rest { length self.new.client.rest ≤ length self.old.client.rest }
         ensures surfaces { self.new.owned.linked ≡ self.old.owned.linked }
     {
@@ -106,7 +106,7 @@ impl<A: Allocator + Copy> Resident<A> {
     /// xdg_surface.get_toplevel: a new toplevel under a free id. The surface has the role of one from then on.
     fn get_toplevel(&mut self, object: u32, version: u32, surface: SurfaceNo, id: u32)
         ensures answers { IsXdgSurface self.old object surface → IsFree self.old id
-            → AnswersDemand (λ r. demand_of served_next r object version (xdg_surface_request (GetToplevel id))) self.old self.new }
+            → AnswersDemand (λ r. demand_of served_now r object version (xdg_surface_request (GetToplevel id))) self.old self.new }
         ensures rest { length self.new.client.rest ≤ length self.old.client.rest }
     {
         let has_other_role = is_other_role(self.owned.linked.surfaces.role(surface));
@@ -132,7 +132,7 @@ impl<A: Allocator + Copy> Resident<A> {
     /// xdg_surface.set_window_geometry of a rectangle in surface pixels.
     fn set_window_geometry(&mut self, object: u32, version: u32, surface: SurfaceNo, rect: Rect)
         ensures answers { IsXdgSurface self.old object surface
-            → AnswersDemand (λ r. demand_of served_next r object version (xdg_surface_request (SetWindowGeometry rect.x rect.y rect.w rect.h))) self.old self.new }
+            → AnswersDemand (λ r. demand_of served_now r object version (xdg_surface_request (SetWindowGeometry rect.x rect.y rect.w rect.h))) self.old self.new }
         ensures rest { length self.new.client.rest ≤ length self.old.client.rest }
         ensures surfaces { self.new.owned.linked ≡ self.old.owned.linked }
     {
@@ -145,7 +145,7 @@ impl<A: Allocator + Copy> Resident<A> {
     /// xdg_surface.ack_configure of the configure with this serial.
     fn ack_configure(&mut self, object: u32, version: u32, surface: SurfaceNo, serial: u32)
         ensures answers { IsXdgSurface self.old object surface
-            → AnswersDemand (λ r. demand_of served_next r object version (xdg_surface_request (AckConfigure serial))) self.old self.new }
+            → AnswersDemand (λ r. demand_of served_now r object version (xdg_surface_request (AckConfigure serial))) self.old self.new }
         ensures rest { length self.new.client.rest ≤ length self.old.client.rest }
         ensures surfaces { self.new.owned.linked ≡ self.old.owned.linked }
     {
@@ -164,7 +164,7 @@ impl<A: Allocator + Copy> Resident<A> {
         request: &XdgSurfaceRequest,
     )
         ensures answers { IsXdgSurface self.old object surface → NewIsFree self.old (xdg_surface_request request.now)
-            → AnswersDemand (λ r. demand_of served_next r object version (xdg_surface_request request.now)) self.old self.new }
+            → AnswersDemand (λ r. demand_of served_now r object version (xdg_surface_request request.now)) self.old self.new }
         ensures rest { length self.new.client.rest ≤ length self.old.client.rest }
     {
         match *request {

@@ -10,7 +10,7 @@ ghost use Rattle.wl_proto.specs.Messages.{Message, xdg_toplevel_request};
 ghost use Rattle.wl_shell.specs.Kept.{kept_of};
 ghost use Rattle.wl_shell.specs.Shell.{xdg_with};
 ghost use Rattle.wl_plain.specs.Demanding.{demand_of, demands, toplevel_destroyed};
-ghost use Rattle.wl_without_popups.specs.ServedNext.{served_next};
+ghost use Rattle.wl_plain.specs.LeftOut.{served_now};
 ghost use Rattle.wl_plain.specs.Releases.{release_told};
 ghost use Rattle.wl_requests.specs.Residents.{AnswersDemand, IsToplevel, Stacks, asked_by, drawn_by, told_by};
 ghost use Rattle.wl_plain.specs.Step.{toplevel_configured, xdg_configured};
@@ -164,9 +164,9 @@ impl<A: Allocator + Copy> Resident<A> {
         asked: ToplevelAsked,
     ) -> Stacking
         ensures answers { IsToplevel self.old object surface → (version : ℕ) (m : Message) → m.interface ≡ XdgToplevel → asked ≡ asked_by (toplevel_request m.opcode m.fields)
-            → AnswersDemand (λ r. demand_of served_next r object version m) self.old self.new }
+            → AnswersDemand (λ r. demand_of served_now r object version m) self.old self.new }
         ensures stacks { IsToplevel self.old object surface → (version : ℕ) (m : Message) → m.interface ≡ XdgToplevel → asked ≡ asked_by (toplevel_request m.opcode m.fields)
-            → Stacks (λ r. demand_of served_next r object version m) self.old result }
+            → Stacks (λ r. demand_of served_now r object version m) self.old result }
         ensures rest { length self.new.client.rest ≤ length self.old.client.rest }
         ensures surfaces { self.new.owned.linked ≡ self.old.owned.linked }
     {

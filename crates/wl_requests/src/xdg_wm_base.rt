@@ -8,7 +8,7 @@ ghost use Rattle.wl_plain.specs.Ask.{EndObject, Ignore};
 ghost use Rattle.wl_plain.specs.Demand.{Asks};
 ghost use Rattle.wl_owning.specs.Owning.{targets_in};
 ghost use Rattle.wl_requests.specs.Residents.{AnswersDemand, Does, GoesAlone, IsBase, IsFree, IsSurface, NewIsFree, ObjectsFit};
-ghost use Rattle.wl_without_popups.specs.ServedNext.{served_next};
+ghost use Rattle.wl_plain.specs.LeftOut.{served_now};
 ghost use Rattle.wl_plain.specs.Demanding.{demand_of};
 ghost use Rattle.wl_plain.specs.WlSubsurface.{past_limit};
 ghost use Rattle.wl_plain.specs.XdgShell.{is_foreign};
@@ -81,7 +81,7 @@ impl<A: Allocator + Copy> Resident<A> {
 
     /// xdg_wm_base.destroy: its id is given back.
     fn destroy_base(&mut self, object: u32, version: u32)
-        ensures answers { IsBase self.old object → AnswersDemand (λ r. demand_of served_next r object version (xdg_wm_base_request Destroy)) self.old self.new }
+        ensures answers { IsBase self.old object → AnswersDemand (λ r. demand_of served_now r object version (xdg_wm_base_request Destroy)) self.old self.new }
         ensures rest { length self.new.client.rest ≤ length self.old.client.rest }
         ensures surfaces { self.new.owned.linked ≡ self.old.owned.linked }
     {
@@ -106,7 +106,7 @@ impl<A: Allocator + Copy> Resident<A> {
         number: SurfaceNo,
     )
         ensures answers { IsFree self.old id → IsSurface self.old surface number
-            → AnswersDemand (λ r. demand_of served_next r object version (xdg_wm_base_request (GetXdgSurface id surface))) self.old self.new }
+            → AnswersDemand (λ r. demand_of served_now r object version (xdg_wm_base_request (GetXdgSurface id surface))) self.old self.new }
         ensures rest { length self.new.client.rest ≤ length self.old.client.rest }
         ensures surfaces { self.new.owned.linked ≡ self.old.owned.linked }
     {
@@ -140,7 +140,7 @@ impl<A: Allocator + Copy> Resident<A> {
     /// A request of an xdg_wm_base whose new id is free and whose wl_surface is there.
     pub(crate) fn xdg_wm_base(&mut self, object: u32, version: u32, request: &XdgWmBaseRequest)
         ensures answers { IsBase self.old object → NewIsFree self.old (xdg_wm_base_request request.now) → ObjectsFit self.old (xdg_wm_base_request request.now)
-            → AnswersDemand (λ r. demand_of served_next r object version (xdg_wm_base_request request.now)) self.old self.new }
+            → AnswersDemand (λ r. demand_of served_now r object version (xdg_wm_base_request request.now)) self.old self.new }
         ensures rest { length self.new.client.rest ≤ length self.old.client.rest }
         ensures surfaces { self.new.owned.linked ≡ self.old.owned.linked }
     {

@@ -7,7 +7,7 @@ use Rattle.wl_interface.specs.declared.interface.Interface.TheVariants.{WlDispla
 use Rattle.wl_table.specs.Objects.{Held, entry_of}
 use Rattle.wl_table.specs.declared.entry.Entry.{Entry}
 use Rattle.wl_client.specs.Agreement.{IsPeer}
-use Rattle.wl_peer.specs.Objects.{Object, Objects, interface_number, with_id, nothing, object_of, objects_in}
+use Rattle.wl_peer.specs.Objects.{ById, Object, Objects, interface_number, with_id, nothing, object_of, objects_in}
 use Rattle.wl_peer.specs.Peer.{Errs, LacksMemory, Peer, Queues, QueuesOr, ended, newcomer, object_at_version, has_room, queued}
 use Rattle.wl_peer.specs.Told.{Output, Said, code_number, display_error, error_told}
 use Rattle.wl_client.specs.View.{ClientView}
@@ -16,18 +16,22 @@ use Rattle.wl_peer.specs.declared.cause.Cause.TheVariants.{Memory, Protocol, Slo
 use Rattle.wl_peer.specs.declared.refusals.ErrorCode.TheVariants.{NoMemory}
 use Rattle.wl_peer.specs.declared.refusals.Refusal.{Refusal}
 use Rattle.wl_shell.specs.Kept.{Book, kept_of}
+use Rattle.std.proofs.lemmas.List.Elements.{All-from_recursion}
+use Rattle.wl_renaming.specs.Renaming.{HasEnds}
+use Rattle.wl_requests.specs.declared.residents.Resident.{Resident as Kept}
 use Rattle.wl_scene.specs.Stacking.{nothing_owned}
 use Rattle.wl_scene.specs.declared.owned.Owned.{Owned}
 use Rattle.wl_resident.specs.Agreement.{IsSeat}
 use Rattle.wl_plain.specs.Desktop.{Resident, resident_of}
-use Rattle.wl_records.specs.Owning.{IsOwned, names_in, target_as, targets_in, by_number}
+use Rattle.wl_owning.specs.Owning.{IsOwned, names_in, target_as, targets_in, by_number}
+use Rattle.wl_owning.specs.Subsurfaces.{AreOfSurfaces}
 use Rattle.wl_plain.specs.Framing.{AreFramed}
 use Rattle.wl_surface.specs.Slots.{Slots, StandForAll, kept_at, nobody, count as count_kept}
-use Rattle.wl_records.proofs.Keeping.OwningTies.{count-same, is-kept, nothing-at}
+use Rattle.wl_owning.proofs.Keeping.OwningTies.{count-same, is-kept, nothing-at}
 use Rattle.wl_resident.specs.Seats.{IsBare}
 use Rattle.wl_resident.specs.View.{OwnedView, owned_view}
-use Rattle.wl_laws.proofs.Lists.Keys.{differ}
-use Rattle.wl_records.proofs.Keeping.FramingWaits.{framed-none}
+use Rattle.wl_laws.proofs.Lists.Keys.{differ, none-some}
+use Rattle.wl_owning.proofs.Keeping.FramingWaits.{framed-none}
 use Rattle.wl_surface.specs.declared.frames.Waiting.{Waiting}
 use Rattle.wl_surface.specs.Surfaces.{no_surfaces}
 
@@ -101,11 +105,10 @@ pub owns-nothing : {A : Type 0} (held : Held) (owned : Owned A) → AreNameless 
 owns-nothing held owned none bare =
     record {
       surfaces = record {
-        links = refl;
+        ends = All-from_recursion (HasEnds no_surfaces) [] tt;
         numbered = λ id. rw (none.surfaces id) refl;
         once = λ a b number e f. absurd (no-some number (sym (none.surfaces a) ∙ e));
         apart = tt;
-        counts = λ id h e. absurd (cc);
         stand = bare.surfaces.surfaces;
         count = none-counted owned.linked.surfaces bare.surfaces.surfaces;
         hang = bare.surfaces.hang;
@@ -121,14 +124,19 @@ owns-nothing held owned none bare =
     no-some : (n : ℕ) → None ≡ Some n → ⊥
     no-some n e = absurd (cc)
 
+-- nor is anything kept of wl_subsurfaces
+subsurfaces-nothing : (numbers : ById ℕ) → AreOfSurfaces [] numbers []
+subsurfaces-nothing numbers = record { named = λ id child e. absurd (none-some child e); known = λ number id e. absurd (none-some id e) }
+
 -- an ended client of which nothing is left
-pub seat-bare : {A : Type 0} (v : ClientView) (owned : Owned A) (q : Peer) → IsPeer v q → AreNameless v.objects → IsBare owned → IsSeat v (owned_view owned) (resident_of q)
-seat-bare v owned q is none bare =
+pub seat-bare : {A : Type 0} (v : Kept A) (q : Peer) → IsPeer v.client q → AreNameless v.client.objects → IsBare v.owned → v.subsurfaces ≡ [] → IsSeat v.client (owned_view v) (resident_of q)
+seat-bare v q is none bare subsurfaces =
     record {
       peer = is;
-      owns = owns-nothing v.objects owned none bare;
-      frames = subst (λ (ws : List Waiting). AreFramed ws (by_number (targets_in WlSurface v.objects) no_surfaces) (q.requests + 1) []) (sym bare.frames)
-          (framed-none (by_number (targets_in WlSurface v.objects) no_surfaces) (q.requests + 1) (λ number. refl));
+      owns = owns-nothing v.client.objects v.owned none bare;
+      frames = subst (λ (ws : List Waiting). AreFramed ws (by_number (targets_in WlSurface v.client.objects) no_surfaces) (q.requests + 1) []) (sym bare.frames)
+          (framed-none (by_number (targets_in WlSurface v.client.objects) no_surfaces) (q.requests + 1) (λ number. refl));
+      subsurfaces = subst (λ (ids : List (Option ℕ)). AreOfSurfaces ids (targets_in WlSurface v.client.objects) []) (sym subsurfaces) (subsurfaces-nothing (targets_in WlSurface v.client.objects));
       ended = λ e. refl;
     }
 

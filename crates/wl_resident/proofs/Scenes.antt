@@ -68,7 +68,7 @@ AreOnce numbers = (a b n : ℕ) → numbers a ≡ Some n → numbers b ≡ Some 
 some-same : (a b : ℕ) → Some a ≡ Some b → a ≡ b
 some-same a b e = grind (arith)
 
-number-is : (numbers : ℕ → ById ℕ) (c surface n : ℕ) (k s : Standing) → AreOnce (numbers c) → numbers c surface ≡ Some n → IsStanding numbers k s → is_of c n k ≡ is_of c surface s
+pub number-is : (numbers : ℕ → ById ℕ) (c surface n : ℕ) (k s : Standing) → AreOnce (numbers c) → numbers c surface ≡ Some n → IsStanding numbers k s → is_of c n k ≡ is_of c surface s
 number-is numbers c surface n k s once is one = at (s.client == c) refl
   where
     named : s.client ≡ c → numbers c s.surface ≡ Some k.surface

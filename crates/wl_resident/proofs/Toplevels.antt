@@ -1,18 +1,16 @@
--- What is marked of toplevels alone is what is marked of all windows, where what isn't served has left no trace.
-use Rattle.std.proofs.Common.{◌≡◌, ◌<◌, ◌∙◌, ℕ, false, pos}
-use Rattle.wl_paint.specs.Damage.{Damaged, has}
-use Rattle.wl_plain.specs.Desktop.{Desktop}
-use Rattle.wl_records.specs.NoMore.{NoMore}
-use Rattle.wl_records.proofs.Toplevels.Windows.{marks-same}
-use Rattle.wl_resident.specs.Marking.{MarksAtLeast}
-use Rattle.wl_records.proofs.Toplevels.WithoutPopups.{marks_of_toplevels}
+-- The toplevels that stand, as they are kept.
+use Rattle.std.proofs.Common.{◌≡◌, Bool, true, false, cond, List, [], ◌∷◌, Some, map, refl}
+use Rattle.std.specs.List.{find}
+use Rattle.std.specs.Option.{option_map}
+use Rattle.wl_scene.specs.Stacking.{Standing, standing_of}
+use Rattle.wl_scene.specs.declared.scene.Toplevel.{Toplevel}
 
--- what is to be painted stays so, and what a step marks at least of the toplevels is to be painted too
-abbrev pub MarksToplevels : Desktop → Desktop → Damaged → Damaged → Type 0
-MarksToplevels d e old new =
-    (x y : ℕ) → x < old.width → y < old.height → has new x y ≡ false → (has old x y ≡ false) × (marks_of_toplevels d e (pos x) (pos y) ≡ false)
-
-pub marks-all : (d e : Desktop) (old new : Damaged) → NoMore d → NoMore e → MarksToplevels d e old new → MarksAtLeast d e old new
-marks-all d e old new more later marks = λ x y wide high clean.
-    let both = marks x y wide high clean in
-    (both.0, marks-same d e (pos x) (pos y) more later ∙ both.1)
+-- the toplevel of a scene that passes
+pub find-standing : (p : Standing → Bool) (ts : List Toplevel) → option_map standing_of (find (λ t. p (standing_of t)) ts) ≡ find p (map standing_of ts)
+find-standing p [] = refl
+find-standing p (t ∷ ts) = at (p (standing_of t)) (find-standing p ts)
+  where
+    at : (b : Bool) → option_map standing_of (find (λ t. p (standing_of t)) ts) ≡ find p (map standing_of ts)
+        → option_map standing_of (cond b (Some t) (find (λ t. p (standing_of t)) ts)) ≡ cond b (Some (standing_of t)) (find p (map standing_of ts))
+    at true later = refl
+    at false later = later

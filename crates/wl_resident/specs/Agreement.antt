@@ -10,9 +10,12 @@ use Rattle.wl_shell.specs.Kept.{kept_of}
 use Rattle.wl_scene.specs.Stacking.{Stack, Standing}
 use Rattle.wl_plain.specs.Desktop.{Desktop, Resident, place}
 use Rattle.wl_laws.specs.Laws.{OwnsNothing}
-use Rattle.wl_records.specs.Owning.{IsOwned, by_number, names_in, targets_in}
+use Rattle.wl_owning.specs.Owning.{IsOwned, by_number, names_in, targets_in}
+use Rattle.wl_owning.specs.Subsurfaces.{AreOfSurfaces}
 use Rattle.wl_records.specs.Standing.{MappedStand}
 use Rattle.wl_plain.specs.Framing.{AreFramed}
+use Rattle.wl_plain.specs.Stacked.{all_windows}
+use Rattle.wl_lending.specs.Stacked.{AreStacked}
 use Rattle.wl_resident.specs.View.{DeskView, OwnedView}
 
 -- ---- the clients
@@ -23,6 +26,7 @@ pub record IsSeat (v : ClientView) (o : OwnedView) (r : Resident) : Type 0 where
   pub peer : IsPeer v r.peer
   pub owns : IsOwned (names_in v.objects) o.surfaces o.family (kept_of o.shell) r.owned
   pub frames : AreFramed o.surfaces.frames (by_number (targets_in WlSurface v.objects) r.owned.surfaces) (r.peer.requests + 1) r.callbacks
+  pub subsurfaces : AreOfSurfaces o.subsurfaces (targets_in WlSurface v.objects) r.subsurfaces
   pub ended : is_some r.peer.status ≡ true → OwnsNothing r
 
 -- The place of a number, 1 to 32: its client is there in all three, or in none.
@@ -73,10 +77,11 @@ pub record IsScene (numbers : ℕ → ById ℕ) (stack : Stack) (d : Desktop) : 
 
 -- ---- the desk
 
--- The output, the clients and the toplevels are those of the desktop; and those stand there that are mapped.
+-- The output, the clients, the toplevels and their windows are those of the desktop; and those stand there that are mapped.
 pub record Matches (v : DeskView) (d : Desktop) : Type 0 where
   pub output : output_of v.output ≡ d.output
   pub count : length v.clients ≡ length d.clients
   pub clients : (k : ℕ) → IsPlace (slice_index_or v.clients k None) (slice_index_or v.owned k None) (place d.clients k)
-  pub scene : IsScene (numbers_in v.clients) v.scene d
+  pub scene : IsScene (numbers_in v.clients) v.pile.scene d
+  pub windows : AreStacked (numbers_in v.clients) v.pile.windows (all_windows d)
   pub mapped : MappedStand d

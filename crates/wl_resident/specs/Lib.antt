@@ -1,7 +1,5 @@
 pub mod Agreement
-pub mod Freed
 pub mod Marking
-pub mod Messages
-pub mod Residents
+pub mod Screens
 pub mod Seats
 pub mod View

@@ -1,24 +1,25 @@
--- One client of the desk, apart from the others, with the stack of toplevels.
-use Rattle.std.specs.Prelude.{ℕ, ◌≡◌, [], Option, Some, None, ◌⊎◌}
+-- One client of the desk, apart from the others, with the toplevels and their windows.
+use Rattle.std.specs.Prelude.{ℕ, ◌≡◌, [], Option, Some, None}
 use Rattle.wl_interface.specs.declared.interface.Interface.TheVariants.{WlSurface}
-use Rattle.wl_client.specs.Agreement.{IsPeer}
 use Rattle.wl_peer.specs.Objects.{ById}
-use Rattle.wl_peer.specs.Peer.{LacksMemory, Peer, ended}
-use Rattle.wl_client.specs.View.{ClientView}
+use Rattle.wl_peer.specs.Peer.{Peer, ended}
 use Rattle.wl_peer.specs.declared.cause.Cause.{Cause}
 use Rattle.wl_linked.specs.Linked.{Stand}
 use Rattle.wl_surface.specs.Surfaces.{no_surfaces}
 use Rattle.wl_scene.specs.Stacking.{Stack, mapped_on, without_client, without_surface_of}
 use Rattle.wl_scene.specs.declared.owned.Owned.{Owned}
+use Rattle.wl_stacked.specs.Stacked.{without_client as without_client_of}
+use Rattle.wl_lending.specs.Stacked.{AreStacked}
 use Rattle.wl_resident.specs.Agreement.{IsScene, IsSeat, with_numbers}
 use Rattle.wl_plain.specs.Desktop.{Desktop, Resident, become, client_at, with_number}
-use Rattle.wl_records.specs.Owning.{targets_in}
+use Rattle.wl_plain.specs.Stacked.{all_windows}
+use Rattle.wl_owning.specs.Owning.{targets_in}
 use Rattle.wl_records.specs.Standing.{MappedStand}
-use Rattle.wl_resident.specs.View.{owned_view}
+use Rattle.wl_resident.specs.View.{Pile, owned_view}
 use Rattle.wl_plain.specs.declared.answers.Done.{Done}
-use Rattle.wl_resident.specs.declared.residents.Resident.{Resident as Kept}
-use Rattle.wl_resident.specs.declared.residents.Stacking.{Stacking}
-use Rattle.wl_resident.specs.declared.residents.Stacking.TheVariants.{Stays, ToTop, Out}
+use Rattle.wl_requests.specs.declared.residents.Resident.{Resident as Kept}
+use Rattle.wl_requests.specs.declared.residents.Stacking.{Stacking}
+use Rattle.wl_requests.specs.declared.residents.Stacking.TheVariants.{Stays, ToTop, Out}
 
 -- The desktop is the base but for the client c, which is this one, and the toplevels.
 pub record IsBased (c : ℕ) (base d : Desktop) (r : Resident) : Type 0 where
@@ -26,16 +27,18 @@ pub record IsBased (c : ℕ) (base d : Desktop) (r : Resident) : Type 0 where
   pub output : d.output ≡ base.output
   pub clients : d.clients ≡ with_number c (Some r) base.clients
 
--- What is kept of client c and of the toplevels agrees with such a desktop. The others' numbers are those of the other clients' surfaces.
-pub record IsSeated {A : Type 0} (c : ℕ) (others : ℕ → ById ℕ) (base : Desktop) (v : Kept A) (stack : Stack) (d : Desktop)
+-- What is kept of client c, of the toplevels and of their windows agrees with such a desktop. The others' numbers are those of the other
+-- clients' surfaces.
+pub record IsSeated {A : Type 0} (c : ℕ) (others : ℕ → ById ℕ) (base : Desktop) (v : Kept A) (pile : Pile) (d : Desktop)
     (r : Resident) : Type 0 where
   pub based : IsBased c base d r
-  pub seat : IsSeat v.client (owned_view v.owned) r
-  pub scene : IsScene (with_numbers c (targets_in WlSurface v.client.objects) others) stack d
+  pub seat : IsSeat v.client (owned_view v) r
+  pub scene : IsScene (with_numbers c (targets_in WlSurface v.client.objects) others) pile.scene d
+  pub windows : AreStacked (with_numbers c (targets_in WlSurface v.client.objects) others) pile.windows (all_windows d)
   pub mapped : MappedStand d
 
 -- Told what makes it another peer, or ended by that, the client agrees with what becomes of the desktop's.
-abbrev pub IsChangedSo : {A : Type 0} → ℕ → (Peer → Done → Option Peer → Type 0) → Done → Kept A → Kept A → Stack → Stack → Type 0
+abbrev pub IsChangedSo : {A : Type 0} → ℕ → (Peer → Done → Option Peer → Type 0) → Done → Kept A → Kept A → Pile → Pile → Type 0
 IsChangedSo c R done old new was is =
     (others : ℕ → ById ℕ) (base d : Desktop) (r : Resident) → IsSeated c others base old was d r
     → (q : Peer) × (s : Resident) × R r.peer done (Some q) × IsSeated c others base new is (become c r q d) s
@@ -45,30 +48,22 @@ abbrev pub ended_by : Option Cause → Cause → Peer → Peer
 ended_by None cause p = ended cause p
 ended_by (Some was) cause p = p
 
--- a client lacks memory
-abbrev pub Lacks : ClientView → ClientView → Type 0
-Lacks old new = (p : Peer) → IsPeer old p → (q : Peer) × LacksMemory p q × IsPeer new q
+-- What a request asks of the stack is done: a toplevel comes to the top, or is taken out.
+abbrev pub IsRestacked : ℕ → Stacking → Stack → Stack → Type 0
+IsRestacked c Stays was is = is ≡ was
+IsRestacked c (ToTop number) was is = is ≡ mapped_on c number was
+IsRestacked c (Out number) was is = (is.standing ≡ without_surface_of c number was.standing) × (is.next ≡ was.next)
 
--- What a request asks of the stack is done: a toplevel comes to the top, for which there may be no memory, or is taken out.
-abbrev pub IsRestacked : {A : Type 0} → ℕ → Stacking → Kept A → Kept A → Stack → Stack → Type 0
-IsRestacked c Stays old new was is = (new ≡ old) × (is ≡ was)
-IsRestacked c (ToTop number) old new was is = ((new ≡ old) × (is ≡ mapped_on c number was)) ⊎ (Lacks old.client new.client × (is ≡ was))
-IsRestacked c (Out number) old new was is =
-    (new ≡ old) × (is.standing ≡ without_surface_of c number was.standing) × (is.next ≡ was.next)
-
--- so it is where the client lives; else nothing is done
-abbrev pub IsRestackedBy : {A : Type 0} → Option Cause → ℕ → Stacking → Kept A → Kept A → Stack → Stack → Type 0
-IsRestackedBy None c stacking old new was is = IsRestacked c stacking old new was is
-IsRestackedBy (Some cause) c stacking old new was is = (new ≡ old) × (is ≡ was)
-
--- nothing is kept of surfaces, of links and of the shell
+-- nothing is kept of surfaces, of links and of the shell, and of wl_subsurfaces
 pub record IsBare {A : Type 0} (owned : Owned A) : Type 0 where
   pub surfaces : Stand owned.linked.surfaces owned.linked.family no_surfaces
   pub frames : owned.linked.surfaces.frames ≡ []
   pub shell : owned.shell ≡ []
 
 -- Where the client ended, nothing is left of what it owned, and none of its toplevels stands.
-abbrev pub IsClearedBy : {A : Type 0} → Option Cause → ℕ → Kept A → Kept A → Stack → Stack → Type 0
+abbrev pub IsClearedBy : {A : Type 0} → Option Cause → ℕ → Kept A → Kept A → Pile → Pile → Type 0
 IsClearedBy None c old new was is = (new ≡ old) × (is ≡ was)
 IsClearedBy (Some cause) c old new was is =
-    (new.client ≡ old.client) × IsBare new.owned × (is.standing ≡ without_client c was.standing) × (is.next ≡ was.next)
+    (new.client ≡ old.client) × IsBare new.owned × (new.subsurfaces ≡ [])
+    × (is.scene.standing ≡ without_client c was.scene.standing) × (is.scene.next ≡ was.scene.next)
+    × (is.windows ≡ without_client_of c was.windows)

@@ -1,5 +1,5 @@
 -- What a desk keeps, as plain values.
-use Rattle.std.specs.Prelude.{List, Option}
+use Rattle.std.specs.Prelude.{ℕ, List, Option}
 use Rattle.wl_client.specs.View.{ClientView}
 use Rattle.wl_client.specs.declared.outputs.Output.{Output}
 use Rattle.wl_paint.specs.Damage.{Damaged}
@@ -7,23 +7,41 @@ use Rattle.wl_family.specs.Family.{Tied}
 use Rattle.wl_surface.specs.Slots.{Slots}
 use Rattle.wl_shell.specs.Kept.{Book}
 use Rattle.wl_scene.specs.Stacking.{Stack}
-use Rattle.wl_scene.specs.declared.owned.Owned.{Owned}
+use Rattle.wl_stacked.specs.declared.stacked.Stacked.{Stacked}
+use Rattle.wl_requests.specs.declared.residents.Resident.{Resident}
+use Rattle.wl_resident.specs.declared.screens.Screen.{Screen}
 
--- what is kept of a client's surfaces by their numbers, of how they hang together, and of its xdg_surfaces by the numbers of their surfaces
+-- what is kept of a client's surfaces by their numbers, of how they hang together, of its xdg_surfaces by the numbers of their surfaces, and
+-- under each of these the id of its wl_subsurface
 pub record OwnedView : Type 0 where
   pub surfaces : Slots
   pub family : Tied
   pub shell : Book
+  pub subsurfaces : List (Option ℕ)
 
-abbrev pub owned_view : {A : Type 0} → Owned A → OwnedView
-owned_view owned = record { surfaces = owned.linked.surfaces; family = owned.linked.family; shell = owned.shell }
+abbrev pub owned_view : {A : Type 0} → Resident A → OwnedView
+owned_view r =
+    record {
+      surfaces = r.owned.linked.surfaces;
+      family = r.owned.linked.family;
+      shell = r.owned.shell;
+      subsurfaces = r.subsurfaces;
+    }
 
--- the output; what is kept of each client, and of what it owns, by number from 1; and the stack of toplevels
+-- the toplevels that stand, and the windows of their trees, from the bottom
+pub record Pile : Type 0 where
+  pub scene : Stack
+  pub windows : List Stacked
+
+abbrev pub pile_of : {A : Type 0} → Screen A → Pile
+pile_of screen = record { scene = screen.scene; windows = screen.stacked.windows }
+
+-- the output; what is kept of each client, and of what it owns, by number from 1; and what is kept of the toplevels and their windows
 pub record DeskView : Type 0 where
   pub output : Output
   pub clients : List (Option ClientView)
   pub owned : List (Option OwnedView)
-  pub scene : Stack
+  pub pile : Pile
 
 -- what a desk keeps, and what is to be painted again of the output
 pub record MarkedDesk : Type 0 where

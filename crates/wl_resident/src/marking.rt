@@ -1,158 +1,135 @@
-//! What of the output a message marks to be painted again.
+//! What of the output is marked to be painted again.
 
-ghost use Rattle.std.specs.Prelude.{ℕ, ℤ, ◌≡◌, ◌↔◌, ◌<◌, ◌+ℤ◌, ◌-ℤ◌, ◌&&◌, ◌||◌, IfNone, IfSome, None, Some, find, int_le, int_lt, is_some, pos, true};
+ghost use Rattle.std.specs.Prelude.{ℕ, ◌≡◌, ◌<◌, ◌||◌, map, pos};
 ghost use Rattle.std.specs.List.{list_any};
-ghost use Rattle.std.specs.Option.{option_map};
-ghost use Rattle.wl_interface.specs.declared.interface.Interface.TheVariants.{WlSurface};
-ghost use Rattle.wl_peer.specs.Objects.{ById};
-ghost use Rattle.wl_geom.specs.Rect.{in_rect, in_span};
-ghost use Rattle.wl_state.specs.State.{within_bounds};
-ghost use Rattle.wl_paint.specs.Damage.{has};
-ghost use Rattle.wl_scene.specs.Stacking.{is_of, standing_of};
-ghost use Rattle.wl_plain.specs.Desktop.{Desktop, Resident as Plain};
 ghost use Rattle.wl_marking.specs.Marking.{IsAsLarge};
-ghost use Rattle.wl_resident.specs.Marking.{IsRecordOf, is_shown_by, marked_by, record_showing, rects_applied, was_shown};
-ghost use Rattle.wl_records.specs.Owning.{targets_in};
-ghost use Rattle.wl_resident.specs.Seats.{IsSeated};
-ghost use Rattle.wl_records.specs.Touching.{has_window_at, window_at};
-ghost use Rattle.wl_surface.specs.Slots.{Numbered, StandForAll};
+ghost use Rattle.wl_paint.specs.Damage.{has};
+ghost use Rattle.wl_repaint.specs.Repaint.{marks, window_has};
+ghost use Rattle.wl_resident.specs.Screens.{changes_in, has_own, is_own_at, tree_kept, turned_has};
 
-use crate::messages::{Asked, Kind};
-use crate::residents::Resident;
-use crate::xdg_toplevel::ToplevelAsked;
+use crate::screens::Screen;
 use std::alloc::Allocator;
-use wl_geom::Rect;
-use wl_marking::{WindowRecord, mark_window};
 use wl_paint::Damage;
 use wl_plain::ClientNo;
-use wl_proto::WlSurfaceRequest;
-use wl_scene::{Scene, Surface, Toplevel};
-use wl_surface::{Applied, Current, Offset, SurfaceNo, bounded_sum};
+use wl_repaint::{mark_tree, mark_windows};
+use wl_requests::Stacking;
+use wl_stacked::Stacked;
+use wl_surface::{Applied, Change, SurfaceNo};
 
-/// The surface whose window a message may change: that of a commit, or of a toplevel that goes (wayland.xml, wl_surface.commit;
-/// xdg-shell.xml, xdg_toplevel.destroy).
-pub(crate) fn touched_by(asked: &Asked) -> Option<SurfaceNo>
-    ensures { result ≡ marked_by asked.now }
+/// What was applied to surfaces, if something was.
+fn changes_of<A: Allocator>(applied: &Option<Applied<A>>) -> &[Change<A>]
+    ensures { result.now ≡ changes_in applied.now }
 {
-    let Asked::Request { target, kind, .. } = asked else {
-        return None;
-    };
-    match kind {
-        Kind::Surface(WlSurfaceRequest::Commit) => Some(*target),
-        Kind::Toplevel(ToplevelAsked::Destruction) => Some(*target),
-        _ => None,
+    match applied {
+        Some(applied) => &applied.changes,
+        None => &[],
     }
 }
 
-/// Where the corner of a toplevel's surface is that has moved so far.
-pub fn corner_of(toplevel: &Toplevel, by: Offset) -> (i32, i32)
-    ensures x { result.0 ≡ within_bounds (toplevel.now.x +ℤ by.x) }
-    ensures y { result.1 ≡ within_bounds (toplevel.now.y +ℤ by.y) }
+/// All points of a window are marked, if it is this client's.
+fn mark_one<A: Allocator>(damage: &mut Damage<A>, stacked: &Stacked, client: ClientNo)
+    ensures points { (x y : ℕ) → x < damage.old.width → y < damage.old.height
+        → has damage.new x y ≡ (has damage.old x y || is_own_at client (pos x) (pos y) stacked.now) }
+    ensures sides { IsAsLarge damage.old damage.new }
 {
-    (bounded_sum(toplevel.x, by.x), bounded_sum(toplevel.y, by.y))
-}
-
-/// The record of the window of a toplevel whose surface shows this.
-fn record_of<A: Allocator>(toplevel: &Toplevel, current: &Current<'_, A>) -> WindowRecord
-    ensures { result ≡ record_showing current.now (standing_of toplevel.now) }
-{
-    let (x, y) = corner_of(toplevel, current.offset);
-    WindowRecord {
-        x,
-        y,
-        w: current.w,
-        h: current.h,
-        transform: current.transform,
+    if stacked.client == client {
+        mark_windows(damage, &[stacked.window]);
     }
 }
 
-/// The damage that a commit applied, in surface pixels: none, if there was no commit.
-pub(crate) fn rects_of<A: Allocator>(applied: &Option<Applied<A>>) -> &[Rect]
-    ensures { result.now ≡ rects_applied applied.now }
+/// All points of those of these windows are marked that are this client's.
+fn mark_own<A: Allocator>(damage: &mut Damage<A>, windows: &[Stacked], client: ClientNo)
+    ensures points { (x y : ℕ) → x < damage.old.width → y < damage.old.height
+        → has damage.new x y ≡ (has damage.old x y || has_own client (pos x) (pos y) windows.now) }
+    ensures sides { IsAsLarge damage.old damage.new }
 {
-    let Some(applied) = applied else {
-        return &[];
-    };
-    let Some(change) = applied.changes.first() else {
-        return &[];
-    };
-    &change.rects
+    for stacked in windows {
+        mark_one(damage, stacked, client);
+    }
 }
 
-/// The toplevel of this surface, if one stands.
-fn toplevel_of<A: Allocator>(scene: &Scene<A>, surface: Surface) -> Option<Toplevel>
-    ensures { option_map standing_of result ≡ find (is_of surface.client surface.surface) scene.now.standing }
+/// All points of these windows are marked.
+fn mark_kept<A: Allocator>(damage: &mut Damage<A>, windows: &[Stacked])
+    ensures points { (x y : ℕ) → x < damage.old.width → y < damage.old.height
+        → has damage.new x y ≡ (has damage.old x y || list_any (window_has (pos x) (pos y)) (map (λ s. s.window) windows.now)) }
+    ensures sides { IsAsLarge damage.old damage.new }
 {
-    let toplevel = scene
-        .toplevels()
-        .iter()
-        .find(|toplevel| toplevel.surface == surface)?;
-    Some(*toplevel)
+    for stacked in windows {
+        mark_windows(damage, &[stacked.window]);
+    }
 }
 
-impl<A: Allocator + Copy> Resident<A> {
-    /// The record of the window of this surface of the client's, if it has one.
-    pub(crate) fn window(
-        &self,
-        scene: &Scene<A>,
-        client: ClientNo,
-        surface: Option<SurfaceNo>,
-    ) -> Option<WindowRecord>
-        ensures none { surface ≡ None → result ≡ None }
-        ensures window { (others : ℕ → ById ℕ) (base d : Desktop) (r : Plain) → IsSeated client others base self.now scene.now d r
-            → (id number : ℕ) → surface ≡ Some number → targets_in WlSurface self.now.client.objects id ≡ Some number
-            → IsRecordOf result (window_at client id d) }
+impl<A: Allocator + Copy> Screen<A> {
+    /// All points of the windows of a client are marked.
+    pub(crate) fn mark_client(&mut self, client: ClientNo)
+        ensures points { (x y : ℕ) → x < self.old.damage.width → y < self.old.damage.height
+            → has self.new.damage x y ≡ (has self.old.damage x y || has_own client (pos x) (pos y) self.old.stacked.windows) }
+        ensures sides { IsAsLarge self.old.damage self.new.damage }
+        ensures scene { self.new.scene ≡ self.old.scene }
+        ensures stacked { self.new.stacked ≡ self.old.stacked }
+        ensures spare { self.new.spare ≡ self.old.spare }
     {
-        let surface = surface?;
-        let current = self.owned.linked.surfaces.current(surface)?;
-        let toplevel = toplevel_of(scene, Surface { client, surface })?;
-        Some(record_of(&toplevel, &current))
+        mark_own(&mut self.damage, self.stacked.windows(), client);
     }
 
-    /// The window of a toplevel is marked, if it is the client's.
-    fn mark_toplevel(&self, damage: &mut Damage<A>, client: ClientNo, toplevel: &Toplevel)
-        ensures points { (all : Numbered) → StandForAll self.now.owned.linked.surfaces all → (x y : ℕ) → x < damage.old.width → y < damage.old.height
-            → has damage.new x y ≡ (has damage.old x y || is_shown_by client all (pos x) (pos y) (standing_of toplevel.now)) }
-        ensures sides { IsAsLarge damage.old damage.new }
+    /// All points of the windows are marked that the tree has after a message.
+    pub(crate) fn mark_new(&mut self)
+        ensures points { (x y : ℕ) → x < self.old.damage.width → y < self.old.damage.height
+            → has self.new.damage x y ≡ (has self.old.damage x y || list_any (window_has (pos x) (pos y)) self.old.spare.is.items) }
+        ensures sides { IsAsLarge self.old.damage self.new.damage }
+        ensures scene { self.new.scene ≡ self.old.scene }
+        ensures stacked { self.new.stacked ≡ self.old.stacked }
     {
-        if toplevel.surface.client == client {
-            if let Some(current) = self.owned.linked.surfaces.current(toplevel.surface.surface) {
-                mark_window(damage, Some(record_of(toplevel, &current)));
-            }
+        mark_windows(&mut self.damage, &self.spare.is);
+    }
+
+    /// What a message changed of the windows of a tree is marked, by those before and after it and by what it applied to surfaces (wayland.xml,
+    /// wl_surface.damage and wl_subsurface).
+    fn mark_changed(&mut self, applied: &Option<Applied<A>>)
+        ensures points { (x y : ℕ) → x < self.old.damage.width → y < self.old.damage.height
+            → has self.new.damage x y ≡ (has self.old.damage x y || marks self.old.spare.was.items self.old.spare.is.items (changes_in applied.now) (pos x) (pos y)) }
+        ensures sides { IsAsLarge self.old.damage self.new.damage }
+        ensures scene { self.new.scene ≡ self.old.scene }
+        ensures stacked { self.new.stacked ≡ self.old.stacked }
+        ensures spare { self.new.spare ≡ self.old.spare }
+    {
+        let changes = changes_of(applied);
+        mark_tree(&mut self.damage, &self.spare.was, &self.spare.is, changes);
+    }
+
+    /// All points of the windows are marked that are kept of the tree of this root.
+    fn mark_gone(&mut self, client: ClientNo, root: Option<SurfaceNo>)
+        ensures points { (x y : ℕ) → x < self.old.damage.width → y < self.old.damage.height
+            → has self.new.damage x y ≡ (has self.old.damage x y || list_any (window_has (pos x) (pos y)) (tree_kept client root self.old.stacked.windows)) }
+        ensures sides { IsAsLarge self.old.damage self.new.damage }
+        ensures scene { self.new.scene ≡ self.old.scene }
+        ensures stacked { self.new.stacked ≡ self.old.stacked }
+        ensures spare { self.new.spare ≡ self.old.spare }
+    {
+        if let Some(root) = root {
+            mark_kept(&mut self.damage, self.stacked.tree(client, root));
         }
     }
 
-    /// The windows of the client's toplevels are marked.
-    pub(crate) fn mark_windows(&self, scene: &Scene<A>, damage: &mut Damage<A>, client: ClientNo)
-        ensures marks { (others : ℕ → ById ℕ) (base d : Desktop) (r : Plain) → IsSeated client others base self.now scene.now d r
-            → (x y : ℕ) → x < damage.old.width → y < damage.old.height
-            → has damage.new x y ≡ (has damage.old x y || has_window_at client (pos x) (pos y) d) }
-        ensures shown { (all : Numbered) → StandForAll self.now.owned.linked.surfaces all → (x y : ℕ) → x < damage.old.width → y < damage.old.height
-            → has damage.new x y ≡ (has damage.old x y || list_any (is_shown_by client all (pos x) (pos y)) scene.now.standing) }
-        ensures sides { IsAsLarge damage.old damage.new }
-    {
-        for toplevel in scene.toplevels() {
-            self.mark_toplevel(damage, client, toplevel);
-        }
-    }
-
-    /// What a client had on the output that ended by a message is marked: its windows by what is kept now and, where the message was a commit that
-    /// was applied, the window of its surface as it was before.
-    pub(crate) fn mark_end(
-        &self,
-        scene: &Scene<A>,
-        damage: &mut Damage<A>,
+    /// What a message changes of the windows of a tree is marked: all of those that are kept of it, where its toplevel goes.
+    pub(crate) fn mark_turned(
+        &mut self,
         client: ClientNo,
-        was: Option<WindowRecord>,
+        root: Option<SurfaceNo>,
+        stacking: Stacking,
         applied: &Option<Applied<A>>,
     )
-        ensures points { (all : Numbered) → StandForAll self.now.owned.linked.surfaces all → (x y : ℕ) → x < damage.old.width → y < damage.old.height
-            → has damage.new x y ≡ (has damage.old x y || (was_shown (is_some applied.now) was (pos x) (pos y) || list_any (is_shown_by client all (pos x) (pos y)) scene.now.standing)) }
-        ensures sides { IsAsLarge damage.old damage.new }
+        ensures points { (x y : ℕ) → x < self.old.damage.width → y < self.old.damage.height
+            → has self.new.damage x y ≡ (has self.old.damage x y
+            || turned_has stacking (tree_kept client root self.old.stacked.windows) self.old.spare.was.items self.old.spare.is.items (changes_in applied.now) (pos x) (pos y)) }
+        ensures sides { IsAsLarge self.old.damage self.new.damage }
+        ensures scene { self.new.scene ≡ self.old.scene }
+        ensures stacked { self.new.stacked ≡ self.old.stacked }
+        ensures spare { self.new.spare ≡ self.old.spare }
     {
-        if applied.is_some() {
-            mark_window(damage, was);
+        match stacking {
+            Stacking::Out(_) => self.mark_gone(client, root),
+            Stacking::Stays | Stacking::ToTop(_) => self.mark_changed(applied),
         }
-        self.mark_windows(scene, damage, client);
     }
 }

@@ -1,18 +1,16 @@
 -- What is lent, and what is told of it.
 use Rattle.std.proofs.Common.{◌≡◌, ℕ, zero, suc, ◌<◌, ◌≤◌, ◌-◌, List, Option, Some, None, true, false, refl, ap, sym, ◌∙◌, map, length, get_or, arith}
-use Rattle.std.specs.Prelude.{◌+ℤ◌, nat_lt, slice_get}
+use Rattle.std.specs.Prelude.{nat_lt, slice_get}
 use Rattle.std.specs.Option.{option_map}
 use Rattle.std.proofs.lemmas.Bool.Decides.{nat_tests}
 use Rattle.std.proofs.lemmas.List.{get_or_past}
 use Rattle.std.proofs.lemmas.Option.{get_or_from_slice_get, slice_get-map, slice_get_read}
-use Rattle.wl_state.specs.Surface.{Surface}
-use Rattle.wl_state.specs.declared.state.Current.{Current}
 use Rattle.wl_surface.specs.Slots.{no_slots}
 use Rattle.wl_scene.specs.declared.owned.Owned.{Owned as Lent}
 use Rattle.wl_scene.specs.declared.scene.Toplevel.{Toplevel}
 use Rattle.wl_scene.specs.declared.window.Window.{Window as Told}
-use Rattle.wl_scene.specs.Lent.{shown_by, shown_with, slots_lent, slots_of}
-use Rattle.wl_scene.specs.Stacking.{Owned, Standing, standing_of}
+use Rattle.wl_scene.specs.Lent.{shown_by, slots_lent, slots_of}
+use Rattle.wl_scene.specs.Stacking.{Owned, standing_of}
 
 -- what is lent of a client, by a look at its place
 pub slots-at : {A : Type 0} (lent : List (Option (Lent A))) (c index : ℕ) (slot : Option (Lent A)) → 1 ≤ c → index ≡ c - 1 → true ≡ nat_lt index (length lent) → slot ≡ get_or lent index slot

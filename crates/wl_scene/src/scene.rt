@@ -1,6 +1,6 @@
 //! Which toplevels are mapped, and where they stand.
 
-ghost use Rattle.std.specs.Prelude.{ℕ, ◌≡◌, ◌==◌, ◌<◌, ◌++◌, ◌∷◌, [], OnOk, OnErr, Some, length, map, position, remove, slice_get, slice_index_or};
+ghost use Rattle.std.specs.Prelude.{ℕ, ◌≡◌, ◌==◌, ◌<◌, ◌++◌, ◌∷◌, [], IsOk, OnOk, OnErr, vec_capacity, Some, length, map, position, remove, slice_get, slice_index_or};
 ghost use Rattle.wl_scene.specs.Lent.{AllShow, Stands, shown_by, told};
 ghost use Rattle.wl_scene.specs.Stacking.{Owned as Asked, is_of, mapped_on, moved_to, raised, standing_of, windows_on, without_client, without_surface_of};
 
@@ -8,6 +8,7 @@ use crate::owned::Owned;
 use crate::window::{Window, window_of};
 use std::alloc::{AllocError, Allocator};
 use std::marker::Model;
+use std::mem;
 use wl_surface::SurfaceNo;
 
 /// How many places there are for toplevels that are mapped, one after another.
@@ -116,19 +117,27 @@ impl<A: Allocator> Scene<A> {
     }
 
     /// A toplevel is mapped: it stands on top, in the next place (xdg-shell.xml, xdg_surface: mapping). That it isn't mapped yet is the
-    /// caller's condition. Without memory nothing changes.
-    pub fn map(&mut self, surface: Surface) -> Result<(), AllocError>
+    /// caller's condition. The toplevels are kept in `spare` from then on, and what they were kept in is the spare one: mapping wants no
+    /// memory where that has room for one more than stand. What it held before is lost.
+    ///
+    /// # Errors
+    ///
+    /// An `Err` is for want of memory, and changes nothing of the scene.
+    pub fn map(&mut self, surface: Surface, spare: &mut Vec<Toplevel, A>) -> Result<(), AllocError>
         ensures ok { OnOk result (self.new ≡ mapped_on surface.client surface.surface self.old) }
         ensures err { OnErr result (self.new ≡ self.old) }
+        ensures succeeds { length self.old.standing < vec_capacity spare.old → IsOk result }
     {
         let at = i32::from(self.next) * STEP;
-        self.standing.try_reserve(1)?;
         let toplevel = Toplevel {
             surface,
             x: at,
             y: at,
         };
-        self.standing.push(toplevel)?;
+        spare.clear();
+        spare.extend_from_slice(&self.standing)?;
+        spare.push(toplevel)?;
+        mem::swap(&mut self.standing, spare);
         self.next = (self.next + 1) % PLACES;
         Ok(())
     }

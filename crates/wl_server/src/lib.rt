@@ -1,6 +1,6 @@
 //! The server: turns of a session whose clients are connections of a hub.
 //!
-//! [`Service`] keeps what lasts from turn to turn, and [`turn`] takes one turn.
+//! [`Service`] keeps what lasts from turn to turn, [`Connections`] among it, and [`turn`] takes one turn.
 #![tactic(auto)]
 
 mod accepting;
@@ -16,4 +16,5 @@ mod waiting;
 mod writing;
 
 pub use error::TurnError;
+pub use seat::Connections;
 pub use service::{Service, turn};

@@ -38,16 +38,14 @@ const CLIENTS: usize = 32;
 
 /// The connections of all clients, by number from 1, and how many were accepted so far.
 #[derive(Drop)]
-pub(crate) struct Connections<C: Drop> {
+pub struct Connections<C: Drop> {
     pub(crate) seats: [Option<Seat<C>>; CLIENTS],
     pub(crate) accepted: u32,
 }
 
 impl<C: Drop> Connections<C> {
-    /// None was accepted.
-    pub(crate) fn new() -> Connections<C>
-        ensures { result.accepted ≡ 0 }
-    {
+    /// None was accepted. It takes no memory.
+    pub fn new() -> Connections<C> {
         Connections {
             seats: [const { None }; CLIENTS],
             accepted: 0,

@@ -10,7 +10,7 @@ use crate::closing::close_all;
 use crate::error::TurnError;
 use crate::filling::fill_all;
 use crate::reading::read_all;
-use crate::seat::{Connections, Seat};
+use crate::seat::Connections;
 use crate::showing::show;
 use crate::waiting::Waiting;
 use crate::writing::write_all;
@@ -20,27 +20,26 @@ use wl_hub::Hub;
 use wl_recording::{PointerLine, SideFiles};
 use wl_session::Session;
 
-/// A session that is served, with its clients' connections, the pointer lines that weren't taken yet, and what it is told to.
+/// A session that is served, with the pointer lines that weren't taken yet, and what it is told to.
 #[derive(Drop)]
-pub struct Service<A: Allocator, C: Drop, W: Drop, P: Drop> {
+pub struct Service<A: Allocator, W: Drop, P: Drop> {
     /// The clients, and the frame.
     pub session: Session<A>,
     /// What the lines of the report are written to.
     pub report: W,
     /// What the images are written to, if there is to be any.
     pub ppm: Option<P>,
-    connections: Connections<C>,
     waiting: Waiting<A>,
 }
 
-impl<A: Allocator, C: Drop, W: Drop, P: Drop> Service<A, C, W, P> {
-    /// No connection was accepted. It takes no memory. Of the pointer lines those that are skipped or bad are passed over.
+impl<A: Allocator, W: Drop, P: Drop> Service<A, W, P> {
+    /// A session before its first turn. It takes no memory. Of the pointer lines those that are skipped or bad are passed over.
     pub fn new(
         session: Session<A>,
         lines: Vec<PointerLine, A>,
         report: W,
         ppm: Option<P>,
-    ) -> Service<A, C, W, P>
+    ) -> Service<A, W, P>
         ensures session { result.session ≡ session }
         ensures report { result.report ≡ report }
         ensures ppm { result.ppm ≡ ppm }
@@ -49,13 +48,12 @@ impl<A: Allocator, C: Drop, W: Drop, P: Drop> Service<A, C, W, P> {
             session,
             report,
             ppm,
-            connections: Connections::new(),
             waiting: Waiting::new(lines),
         }
     }
 }
 
-/// Takes one turn at this time, which is its number, from 1: pointer lines that are due are taken, which have no effect yet; connections
+/// Takes one turn of a session with its clients' connections at this time, which is its number, from 1: pointer lines that are due are taken, which have no effect yet; connections
 /// that wait are accepted; clients are read, one after another; those that sent bytes get their side files; a frame is shown; clients are
 /// written to, one after another; and those that ended are closed.
 ///
@@ -67,7 +65,8 @@ impl<A: Allocator, C: Drop, W: Drop, P: Drop> Service<A, C, W, P> {
 /// written; the steps that were taken stand, and are those that a turn begins with.
 pub fn turn<A: Allocator + Copy, H: Hub, W: Write + Drop, P: Write + Drop, S: SideFiles>(
     hub: &mut H,
-    service: &mut Service<A, H::Conn, W, P>,
+    service: &mut Service<A, W, P>,
+    connections: &mut Connections<H::Conn>,
     side: &mut S,
     time: u32,
 ) -> Result<(), TurnError>
@@ -76,13 +75,14 @@ pub fn turn<A: Allocator + Copy, H: Hub, W: Write + Drop, P: Write + Drop, S: Si
     ensures begun { IsServed (StartsTurn time) (λ events. ⊤) service.old.session service.new.session }
 {
     service.waiting.take(time);
-    take_phases(hub, service, side, time)
+    take_phases(hub, service, connections, side, time)
 }
 
 /// The phases of a turn, but that of the pointer lines.
 fn take_phases<A: Allocator + Copy, H: Hub, W: Write + Drop, P: Write + Drop, S: SideFiles>(
     hub: &mut H,
-    service: &mut Service<A, H::Conn, W, P>,
+    service: &mut Service<A, W, P>,
+    connections: &mut Connections<H::Conn>,
     side: &mut S,
     time: u32,
 ) -> Result<(), TurnError>
@@ -91,12 +91,12 @@ fn take_phases<A: Allocator + Copy, H: Hub, W: Write + Drop, P: Write + Drop, S:
     ensures begun { Takes (StartsTurn time) service.old.session service.new.session }
 {
     let session = &mut service.session;
-    let seats = &mut service.connections.seats;
+    let seats = &mut connections.seats;
     accept_all(
         hub,
         session,
         seats,
-        &mut service.connections.accepted,
+        &mut connections.accepted,
         &mut service.report,
     )?;
     read_all(hub, session, seats);

@@ -6,7 +6,7 @@ use crate::memory::{Client, MemoryHub};
 use crate::serving::{ANSWER, CONFIG, SYNC};
 use std::alloc::Global;
 use wl_recording::{SideFault, SideFiles};
-use wl_server::{Service, turn};
+use wl_server::{Connections, Service, turn};
 use wl_session::Session;
 
 /// wl_display.sync with the new callback 3.
@@ -62,8 +62,9 @@ fn served<'a>(
     let mut hub = MemoryHub::new(clients, 4096);
     let session = Session::new(alloc, CONFIG).ok()?;
     let mut service = Service::new(session, Vec::new(alloc), Vec::new(alloc), None::<Vec<u8>>);
+    let mut connections = Connections::new();
     for time in 1..4_u32 {
-        turn(&mut hub, &mut service, side, time).ok()?;
+        turn(&mut hub, &mut service, &mut connections, side, time).ok()?;
     }
     Some(hub)
 }

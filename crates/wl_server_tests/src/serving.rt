@@ -2,7 +2,7 @@
 
 use crate::memory::{Client, MemoryHub, OneFile};
 use std::alloc::Global;
-use wl_server::{Service, turn};
+use wl_server::{Connections, Service, turn};
 use wl_session::{Config, Rgb, Session};
 
 pub(crate) const CONFIG: Config = Config {
@@ -29,8 +29,9 @@ fn reports(
         return false;
     };
     let mut service = Service::new(session, Vec::new(alloc), Vec::new(alloc), None::<Vec<u8>>);
+    let mut connections = Connections::new();
     for before in 0..turns {
-        if turn(hub, &mut service, side, before.saturating_add(1)).is_err() {
+        if turn(hub, &mut service, &mut connections, side, before.saturating_add(1)).is_err() {
             return false;
         }
     }

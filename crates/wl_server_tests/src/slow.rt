@@ -6,7 +6,7 @@ use crate::memory::OneFile;
 use crate::serving::{ANSWER, CONFIG, SYNC};
 use std::alloc::Global;
 use wl_hub::{Hub, HubFault};
-use wl_server::{Service, turn};
+use wl_server::{Connections, Service, turn};
 use wl_session::{Cause, Fed, Session};
 
 /// A client's end.
@@ -127,16 +127,22 @@ impl Hub for SlowHub {
 }
 
 /// A session that is served, whose report is kept.
-type Served = Service<Global, Way, Vec<u8>, Vec<u8>>;
+type Served = Service<Global, Vec<u8>, Vec<u8>>;
 
 /// Whether these turns were taken, from the one up to the other.
-fn takes(hub: &mut SlowHub, service: &mut Served, from: u32, to: u32) -> bool {
+fn takes(
+    hub: &mut SlowHub,
+    service: &mut Served,
+    connections: &mut Connections<Way>,
+    from: u32,
+    to: u32,
+) -> bool {
     let mut side = OneFile {
         name: "none",
         opened: 0,
     };
     for time in from..to.saturating_add(1) {
-        if turn(hub, service, &mut side, time).is_err() {
+        if turn(hub, service, connections, &mut side, time).is_err() {
             return false;
         }
     }
@@ -161,15 +167,16 @@ fn serves_the_slow(alloc: Global, hub: &mut SlowHub) -> bool {
         return false;
     };
     let mut service = Service::new(session, Vec::new(alloc), Vec::new(alloc), None::<Vec<u8>>);
-    takes(hub, &mut service, 1, 1)
+    let mut connections = Connections::new();
+    takes(hub, &mut service, &mut connections, 1, 1)
         && service.report.is_empty()
-        && takes(hub, &mut service, 2, 9)
+        && takes(hub, &mut service, &mut connections, 2, 9)
         && stands(&service, Fed::Alive)
-        && takes(hub, &mut service, 10, 10)
+        && takes(hub, &mut service, &mut connections, 10, 10)
         && stands(&service, Fed::Ended(Cause::Slow))
-        && takes(hub, &mut service, 11, 12)
+        && takes(hub, &mut service, &mut connections, 11, 12)
         && hub.taken.is_empty()
-        && takes(hub, &mut service, 13, 13)
+        && takes(hub, &mut service, &mut connections, 13, 13)
         && hub.taken.as_slice() == ANSWER
         && service.report.as_slice() == BOTH
 }

@@ -7,7 +7,7 @@ use std::alloc::Global;
 use std::io::{Read, Write};
 use std::{env, fs, process};
 use wl_hub::SocketHub;
-use wl_server::{Service, turn};
+use wl_server::{Connections, Service, turn};
 use wl_session::Session;
 
 /// A path for a socket of this process, in the folder of the system for files that don't last.
@@ -33,12 +33,13 @@ fn answers(alloc: Global, hub: &mut SocketHub, near: &mut UnixStream) -> bool {
         return false;
     };
     let mut service = Service::new(session, Vec::new(alloc), Vec::new(alloc), None::<Vec<u8>>);
+    let mut connections = Connections::new();
     let mut side = OneFile {
         name: "1.1",
         opened: 0,
     };
     for time in 1..51_u32 {
-        if turn(hub, &mut service, &mut side, time).is_err() {
+        if turn(hub, &mut service, &mut connections, &mut side, time).is_err() {
             return false;
         }
         if is_answered(near) {

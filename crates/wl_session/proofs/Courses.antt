@@ -22,7 +22,6 @@ use Rattle.wl_laws.specs.Through.{IsSingle}
 use Rattle.wl_plain.specs.Stacked.{all_windows}
 use Rattle.wl_plain.specs.Moments.{marks_at_least, marks_at_most, marks_at_most_through}
 use Rattle.wl_laws.proofs.Marks.Through.{marked_through}
-use Rattle.wl_records.proofs.Marks.Most.{most-through}
 use Rattle.wl_laws.proofs.Lists.Keys.{differ}
 use Rattle.wl_laws.proofs.Runs.Through.{happens_leads_through, messages_lead_through, settling-with}
 use Rattle.wl_marking.specs.Marking.{IsAsLarge as HasItsSides}
@@ -36,6 +35,7 @@ use Rattle.wl_session.specs.Events.{AreApart, AreEvents, Event, IsMarked, MarksF
 use Rattle.wl_session.specs.Liars.{AreLiars, IsRightBut}
 use Rattle.wl_session.specs.Run.{IsNextFrame}
 use Rattle.wl_session.specs.View.{SessionView}
+use Rattle.wl_session.proofs.Most.{most-through}
 use Rattle.wl_session.proofs.Stays.{stays_right}
 
 -- what of a session its desk has
@@ -87,7 +87,7 @@ few-through h old new d e path raised a b leads most = λ x y wide high again. a
         → (has old.damage x y || marks_at_most_through all_windows raised d path (pos x) (pos y)) ≡ true
     at x y true was either = or_left (has old.damage x y) _ was
     at x y false was either =
-        or_right (has old.damage x y) _ (most-through served_now h d path e raised (pos x) (pos y) a.no_more b.no_more a.matches.mapped.apart b.matches.mapped.apart leads either)
+        or_right (has old.damage x y) _ (most-through (pos x) (pos y) served_now h d path e raised (agrees-apart old.desk d a) leads either)
 
 -- what shows no frame
 pub marked-course : (act : Act) (done : Done) (old new : SessionView) → is_tick act ≡ false → IsSingle act → AreParts act done (Single act done ∷ []) → new.frame ≡ old.frame
@@ -123,7 +123,7 @@ tick-course time done old new sides shows next = λ d a.
       none = s.5;
       marks = s.3;
       most = λ x y wide high again.
-          most-through served_now (Single (Tick time) done) d path s.0 None (pos x) (pos y) a.no_more s.2.no_more a.matches.mapped.apart s.2.matches.mapped.apart leads (s.4 x y wide high again);
+          most-through (pos x) (pos y) served_now (Single (Tick time) done) d path s.0 None (agrees-apart old.desk d a) leads (s.4 x y wide high again);
     })
 
 -- ---- events one after another

@@ -13,7 +13,8 @@ use Rattle.wl_desk.specs.Agreeing.{Agrees}
 use Rattle.wl_plain.specs.Desktop.{Desktop, Resident, become, become_by, client_at, client_in, owned_in, owned_of, resident_of, with_client, with_number, status_in, status_of as ended_in}
 use Rattle.wl_desk.specs.Feeding.{Ends, IsIdleIn, IsIdleOf, kept_at, kept_by, kept_of}
 use Rattle.wl_desk.proofs.Calls.{ended_at, ended_of}
-use Rattle.wl_desk.proofs.NoMore.{ended-once, kept-has}
+use Rattle.wl_desk.proofs.Else.{serves-else}
+use Rattle.wl_desk.proofs.Steps.{ended-once, kept-has}
 use Rattle.wl_resident.specs.Seats.{ended_by}
 use Rattle.wl_plain.specs.Settling.{becomes}
 use Rattle.wl_plain.specs.Step.{with_peer}
@@ -22,16 +23,13 @@ use Rattle.wl_resident.specs.View.{DeskView, OwnedView}
 use Rattle.wl_plain.specs.declared.answers.Done.TheVariants as gave
 use Rattle.wl_plain.specs.declared.answers.Fed.{Fed}
 use Rattle.wl_plain.specs.LeftOut.{served_now}
-use Rattle.wl_records.specs.NoMore.{NoMore}
+use Rattle.wl_orderly.specs.Orderly.{Orderly}
+use Rattle.wl_orderly.proofs.Clients.{messages_keep_order}
 use Rattle.wl_plain.specs.Happens.{FeedsAt, IsFedAt, Reaches, Serves, StopsAt}
 use Rattle.wl_laws.proofs.Runs.Forms.{ServesAt as StepServesAt}
-use Rattle.wl_records.proofs.Toplevels.Back.{message-by}
-use Rattle.wl_records.proofs.Toplevels.Lasts.{reaches-has}
 use Rattle.wl_records.proofs.Toplevels.Serves.{becomes-same, settles-to}
 use Rattle.wl_laws.proofs.Runs.Places.{client-become, number-kept, number-same, number-twice}
-use Rattle.wl_records.proofs.Toplevels.Stacks.{stacked-clients}
 use Rattle.wl_laws.proofs.Marks.Stacks.{and-both, differ, or-left, or-right, same-number}
-use Rattle.wl_records.proofs.Toplevels.Simply.{Simple, changed_simply, stacked_simply}
 
 -- ---- a client stays there
 
@@ -39,24 +37,22 @@ use Rattle.wl_records.proofs.Toplevels.Simply.{Simple, changed_simply, stacked_s
 abbrev pub IsThere : ℕ → Desktop → Type 0
 IsThere c d = (r : Resident) × (client_at c d ≡ Some r)
 
-stacked-there : (c : ℕ) (ask : Simple) (r : Resident) (d : Desktop) → IsThere c d → IsThere c (stacked_simply c ask r d)
-stacked-there c ask r d there = (there.0, ap (λ (clients : List (Option Resident)). client_in clients c) (stacked-clients c ask r d) ∙ there.1)
-
-serves-there : (c : ℕ) (d new : Desktop) → NoMore d → Serves served_now c d new → IsThere c new
-serves-there c d new more h = at (client_at c d) refl h
+serves-there : (c : ℕ) (d new : Desktop) → Orderly d → Serves served_now c d new → IsThere c new
+serves-there c d new orderly h = at (client_at c d) refl h
   where
     at : (o : Option Resident) → client_at c d ≡ o → StepServesAt served_now c o d new → IsThere c new
     at None is served = absurd served
     at (Some r) is served =
-        message-by c r d new is more (λ e. IsThere c e) (λ p q never. (_, client-become q.status c (with_peer p r) q d r is))
-        (λ ask asks p q objects told.
-        let there = stacked-there c ask (with_peer p r) d (r, is) in
-        (_, client-become q.status c (changed_simply ask (with_peer p r)) q (stacked_simply c ask (with_peer p r) d) there.0 there.1)) h
+        let else = serves-else c r d new is orderly h in
+        (else.0, ap (λ (clients : List (Option Resident)). client_in clients c) else.1 ∙ number-same d.clients c (Some else.0) r is)
 
-pub reaches-there : (c n : ℕ) (d new : Desktop) → NoMore d → IsThere c d → Reaches served_now c n d new → IsThere c new
-reaches-there c zero d new more there h = (there.0, ap (λ (x : Desktop). client_at c x) h ∙ there.1)
-reaches-there c (suc n) d new more there h =
-    serves-there c h.0 new (reaches-has n c d h.0 more h.1) h.2
+reaches-orderly : (c n : ℕ) (d new : Desktop) → Orderly d → Reaches served_now c n d new → Orderly new
+reaches-orderly c zero d new orderly h = subst Orderly (sym h) orderly
+reaches-orderly c (suc n) d new orderly h = messages_keep_order c h.0 new (reaches-orderly c n d h.0 orderly h.1) h.2
+
+pub reaches-there : (c n : ℕ) (d new : Desktop) → Orderly d → IsThere c d → Reaches served_now c n d new → IsThere c new
+reaches-there c zero d new orderly there h = (there.0, ap (λ (x : Desktop). client_at c x) h ∙ there.1)
+reaches-there c (suc n) d new orderly there h = serves-there c h.0 new (reaches-orderly c n d h.0 orderly h.1) h.2
 
 -- ---- nothing is taken
 
@@ -116,19 +112,19 @@ fed-as : (c : ℕ) (d : Desktop) → IsThere c d → gave.Feed (status_of (peer_
 fed-as c d there = ap (λ (o : Option Resident). gave.Feed (status_of (peer_of o))) there.1 ∙ sym (ap (λ (o : Option Resident). gave.Feed (fed_of (ended_in o))) there.1)
 
 -- it was kept, and each message was taken
-pub fed-served : (c n : ℕ) (piece : List ℕ) (d mid : Desktop) (answer : Fed) → NoMore d → Reaches served_now c n (kept_at c piece d) mid → IsIdleIn c mid → answer ≡ status_of (peer_at c mid)
+pub fed-served : (c n : ℕ) (piece : List ℕ) (d mid : Desktop) (answer : Fed) → Orderly d → Reaches served_now c n (kept_at c piece d) mid → IsIdleIn c mid → answer ≡ status_of (peer_at c mid)
     → IsFedAt served_now c piece (client_at c d) d (gave.Feed answer) mid
 fed-served c n piece d mid answer more reaches idle told =
     subst (λ (f : Fed). IsFedAt served_now c piece (client_at c d) d (gave.Feed f) mid) (sym told) (at (client_at c d) refl (kept-has c piece d more) reaches)
   where
-    at : (o : Option Resident) → client_at c d ≡ o → NoMore (kept_of c piece o d) → Reaches served_now c n (kept_of c piece o d) mid
+    at : (o : Option Resident) → client_at c d ≡ o → Orderly (kept_of c piece o d) → Reaches served_now c n (kept_of c piece o d) mid
         → IsFedAt served_now c piece o d (gave.Feed (status_of (peer_at c mid))) mid
     at None is begun reaches =
         let same = reaches-none c n d mid is reaches in
         (ap (λ (x : Desktop). gave.Feed (status_of (peer_at c x))) same ∙ ap (λ (o : Option Resident). gave.Feed (status_of (peer_of o))) is, same)
     at (Some r) is begun reaches = by r.peer.status refl begun reaches
       where
-        by : (s : Option Cause) → r.peer.status ≡ s → NoMore (kept_by c piece s r d) → Reaches served_now c n (kept_by c piece s r d) mid
+        by : (s : Option Cause) → r.peer.status ≡ s → Orderly (kept_by c piece s r d) → Reaches served_now c n (kept_by c piece s r d) mid
             → FeedsAt served_now c piece s r d mid × (gave.Feed (status_of (peer_at c mid)) ≡ gave.Feed (fed_of (status_in c mid)))
         by (Some s) e begun reaches =
             let same = reaches-ended c n s r d mid is e reaches in
@@ -164,7 +160,7 @@ fed-ended v c piece d answer a told =
             ap (λ (clients : List (Option Resident)). record d { clients = clients; standing = without_client c d.standing })
             (sym (number-twice d.clients c (Some (resident_of (ended Memory r.peer))) (Some come))) in
             let stops : StopsAt c (Some come) held (become c r (ended Memory r.peer) d) =
-            inr (e, settles-to (becomes c come over held) (become c come over held) (become c r (ended Memory r.peer) d) (becomes-same c come over held a.no_more.pointer) last a.no_more.pointer) in (
+            inr (e, settles-to (becomes c come over held) (become c come over held) (become c r (ended Memory r.peer) d) (becomes-same c come over held a.orderly.pointer) last a.orderly.pointer) in (
               (zero, held, refl, subst (λ (o : Option Resident). StopsAt c o held (become c r (ended Memory r.peer) d)) (sym (number-same d.clients c (Some come) r is)) stops),
               fed-as c (become c r (ended Memory r.peer) d) (resident_of (ended Memory r.peer), client-become (ended Memory r.peer).status c r (ended Memory r.peer) d r is),
             )
@@ -172,6 +168,6 @@ fed-ended v c piece d answer a told =
 pub fed-lacking : (v : DeskView) (c : ℕ) (piece : List ℕ) (d e : Desktop) (answer : Fed) → Agrees v d → Ends c Memory d e → answer ≡ status_of (peer_at c e)
     → IsFedAt served_now c piece (client_at c d) d (gave.Feed answer) e
 fed-lacking v c piece d e answer a ends told =
-    let same : e ≡ ended_at c Memory d = ended-once c Memory d a.no_more e ends in
+    let same : e ≡ ended_at c Memory d = ended-once c Memory d a.orderly e ends in
     subst (λ x. IsFedAt served_now c piece (client_at c d) d (gave.Feed answer) x) (sym same)
     (fed-ended v c piece d answer a (told ∙ ap (λ x. status_of (peer_at c x)) same))

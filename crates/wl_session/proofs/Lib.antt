@@ -6,4 +6,5 @@ pub mod StoreWrites
 pub mod Seen
 pub mod Promised
 pub mod Courses
+pub mod Most
 pub mod Stays

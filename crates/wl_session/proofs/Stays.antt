@@ -13,7 +13,7 @@ use Rattle.wl_paint.specs.Frame.{Image, color_at}
 use Rattle.wl_scene.specs.Windows.{Window, contains}
 use Rattle.wl_state.specs.State.{History}
 use Rattle.wl_surface.specs.Surfaces.{history_in}
-use Rattle.wl_desk.specs.Painting.{IsOpaqueAsSaid}
+use Rattle.wl_lending.specs.Painting.{IsOpaqueAsSaid}
 use Rattle.wl_plain.specs.Act.{Act, Connect, Feed, Store, Leave, Tick, Send, Close, Motion, Button, IsClosed, closed_by}
 use Rattle.wl_plain.specs.declared.answers.Done.{Done}
 use Rattle.wl_plain.specs.declared.answers.Done.TheVariants as gave
@@ -31,7 +31,7 @@ use Rattle.wl_laws.proofs.Lists.Keys.{none-some}
 use Rattle.wl_laws.proofs.Runs.Places.{number-same}
 use Rattle.wl_laws.proofs.Marks.ShownWindows.{IsShown as ShowsBuffer, all-shown}
 use Rattle.wl_laws.proofs.Marks.Stacks.{and-left, and-right, differ, each-map, or-left, or-right, same-number, unless}
-use Rattle.wl_resident.proofs.Within.{within-output}
+use Rattle.wl_desk.proofs.Away.{within-output}
 use Rattle.wl_session.specs.Events.{Event, IsEvent, IsMarked, IsShown, Moment, PaintsIf, is_frame}
 use Rattle.wl_session.specs.Liars.{HoldsLiars, IsRightBut, closes, gives_back, was_closed}
 use Rattle.wl_session.specs.Promises.{KeepsIn, KeepsOpaque, is_clear_in}

@@ -2,17 +2,17 @@
 use Rattle.std.specs.Prelude.{ℕ, ◌≡◌, ◌≢◌, false, Some}
 use Rattle.wl_plain.specs.Desktop.{Desktop, client_at, toplevels_of}
 use Rattle.wl_plain.specs.LeftOut.{LeftOut, served_now}
-use Rattle.wl_records.specs.NoMore.{NoMore}
 use Rattle.wl_plain.specs.declared.answers.Done.{Done}
 use Rattle.wl_plain.specs.Act.{Act, is_tick}
 use Rattle.wl_plain.specs.Happens.{Happens}
 use Rattle.wl_laws.specs.Others.{client_of}
+use Rattle.wl_without_popups.specs.NoPopups.{NoPopups}
 
 -- Whatever happens but a frame leaves each client that it isn't a step of as it was: its status, requests, objects, serials, unsent bytes
--- and rest, what it owns, and the places and the order of its toplevels; where what isn't served has left no trace.
+-- and rest, what it owns, and the places and the order of its toplevels; where no client has a popup, and nobody points.
 abbrev pub OthersStay : Type 0
 OthersStay =
-    (act : Act) (old new : Desktop) (done : Done) (other : ℕ) → is_tick act ≡ false → NoMore old → Happens served_now act done old new
+    (act : Act) (old new : Desktop) (done : Done) (other : ℕ) → is_tick act ≡ false → NoPopups old → Happens served_now act done old new
     → client_of act done ≢ Some other
     → (client_at other new ≡ client_at other old) × (toplevels_of other new ≡ toplevels_of other old)
 

@@ -4,7 +4,7 @@ use Rattle.std.specs.Prelude.{ℕ, ◌≡◌, ◌+◌, ◌<◌, ◌≤◌, ◌�
 use Rattle.std.specs.Prelude.{IsTrue, IsSomeAnd}
 use Rattle.wl_paint.specs.Frame.{Image, color_at}
 use Rattle.wl_plain.specs.Desktop.{Desktop}
-use Rattle.wl_desk.specs.Painting.{IsOpaqueAsSaid}
+use Rattle.wl_lending.specs.Painting.{IsOpaqueAsSaid}
 use Rattle.wl_plain.specs.Scratch.{scratch}
 use Rattle.wl_plain.specs.Act.{Act, Connect, Feed, Store, Leave, Tick, Send, Close, Motion, Button}
 use Rattle.wl_session.specs.Step.{act_of}

@@ -12,9 +12,9 @@ use wl_session::{Config, Done, Fed, Rgb, Run, Session, Shot, Step};
 use wl_wire::Arg;
 
 /// Pixels as a store has them: blue, green, red and alpha.
-const RED: &[u8] = &[0, 0, 255, 0];
+pub(crate) const RED: &[u8] = &[0, 0, 255, 0];
 
-const GREEN: &[u8] = &[0, 255, 0, 0];
+pub(crate) const GREEN: &[u8] = &[0, 255, 0, 0];
 
 const WHITE: &[u8] = &[255, 255, 255, 0];
 

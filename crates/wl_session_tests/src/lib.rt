@@ -18,6 +18,8 @@ mod registry;
 #[cfg(test)]
 mod releases;
 #[cfg(test)]
+mod subsurfaces;
+#[cfg(test)]
 mod support;
 #[cfg(test)]
 mod toplevels;

@@ -159,14 +159,24 @@ const NOT_SERVED: &[Row] = &[
     Row::Errs(Message(8, 1, &[Arg::NewId(9)]), 1, 3),
 ];
 
-/// The wl_surfaces 9 and 10, and a subsurface of them.
-const NO_SUBSURFACE: &[Row] = &[
+/// The wl_surface 9 becomes a subsurface of 10.
+const SUBSURFACE: &[Row] = &[
     Row::Sends(Message(3, 0, &[Arg::NewId(9)])),
     Row::Sends(Message(3, 0, &[Arg::NewId(10)])),
+    Row::Sends(Message(4, 1, &[Arg::NewId(11), Arg::Object(9), Arg::Object(10)])),
+];
+
+/// It becomes none once more, and no surface one of its own (wayland.xml, wl_subcompositor.get_subsurface).
+const SECOND_SUBSURFACE: &[Row] = &[
     Row::Errs(
-        Message(4, 1, &[Arg::NewId(11), Arg::Object(9), Arg::Object(10)]),
+        Message(4, 1, &[Arg::NewId(12), Arg::Object(9), Arg::Object(10)]),
+        4,
+        0,
+    ),
+    Row::Errs(
+        Message(4, 1, &[Arg::NewId(12), Arg::Object(10), Arg::Object(10)]),
+        4,
         1,
-        3,
     ),
 ];
 
@@ -312,10 +322,6 @@ const CASES: &[Case] = &[
         &[REGISTRY, ALL_GLOBALS, SUBCOMPOSITOR_DESTROYED],
     ),
     (
-        "a subsurface is not served",
-        &[REGISTRY, ALL_GLOBALS, NO_SUBSURFACE],
-    ),
-    (
         "a client that reads nothing is too slow",
         &[CLIENT, UNREAD, READS_NOTHING],
     ),
@@ -375,6 +381,13 @@ const ROWS: &[(Case, &[Row])] = &[
             &[REGISTRY, ALL_GLOBALS],
         ),
         NOT_SERVED,
+    ),
+    (
+        (
+            "a surface becomes a subsurface once, and not of itself",
+            &[REGISTRY, ALL_GLOBALS, SUBSURFACE],
+        ),
+        SECOND_SUBSURFACE,
     ),
     (
         (

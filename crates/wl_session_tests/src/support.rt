@@ -47,6 +47,9 @@ pub(crate) enum Row<'a> {
     MakesPools(u32, u32),
     /// The client 1 makes surfaces with these ids by its wl_compositor 3, and lives on.
     MakesSurfaces(u32, u32),
+    /// The client 1 makes each surface with these ids a subsurface of the one before it by its wl_subcompositor 9, and lives on.
+    /// The new ids are 100 more.
+    Nests(u32, u32),
     /// The client 1 sends two messages by turns, each so many times, and lives on.
     Changes(u32, Message<'a>, Message<'a>),
     /// All that waits for the client 1 is taken.
@@ -304,6 +307,20 @@ fn make_surfaces(alloc: Global, session: &mut Session<Global>, first: u32, past:
     true
 }
 
+fn nest(alloc: Global, session: &mut Session<Global>, first: u32, past: u32) -> bool {
+    for id in first..past {
+        let args = [
+            Arg::NewId(id.saturating_add(100)),
+            Arg::Object(id),
+            Arg::Object(id.saturating_sub(1)),
+        ];
+        if sent(alloc, session, Message(9, 1, &args)) != Some(Fed::Alive) {
+            return false;
+        }
+    }
+    true
+}
+
 fn change(alloc: Global, session: &mut Session<Global>, count: u32, messages: &[Message]) -> bool {
     for _ in 0..count {
         for &message in messages {
@@ -337,6 +354,7 @@ fn is_met(alloc: Global, session: &mut Session<Global>, row: &Row) -> bool {
         Row::BindsCompositors(first, past) => bind_compositors(alloc, session, first, past),
         Row::MakesPools(first, past) => make_pools(alloc, session, first, past),
         Row::MakesSurfaces(first, past) => make_surfaces(alloc, session, first, past),
+        Row::Nests(first, past) => nest(alloc, session, first, past),
         Row::Changes(count, one, other) => change(alloc, session, count, &[one, other]),
         Row::Takes => take_all(session),
         Row::TakesOf(client) => take_all_of(session, client),

@@ -23,6 +23,11 @@ without_tree client root all = filter (λ s. not (is_of client root s)) all
 abbrev pub without_client : ℕ → List Stacked → List Stacked
 without_client client all = filter (λ s. not (s.client == client)) all
 
+-- The windows, and how many more fit without memory.
+pub record WindowsKept : Type 0 where
+  pub windows : List Stacked
+  pub room : ℕ
+
 -- ---- windows that stand together
 
 -- those that pass the test stand at the front, and none behind

@@ -1,7 +1,8 @@
 //! Where the windows of a tree stand among those of the output, and how others take their place.
 
-ghost use Rattle.std.specs.Prelude.{◌≡◌, ◌++◌, ◌+◌, ◌≤◌, OnErr, OnOk, MatchOption, drop, false, length, map, position, take};
+ghost use Rattle.std.specs.Prelude.{◌≡◌, ◌++◌, ◌+◌, ◌≤◌, IsOk, OnErr, OnOk, MatchOption, drop, false, length, map, position, take};
 ghost use Rattle.std.specs.List.{list_any};
+ghost use Rattle.std.specs.Vec.{vec_capacity, vec_len};
 ghost use Rattle.wl_stacked.specs.Stacked.{AreTogether, IsRun, is_of, last_first, replaced, stacked, tree_of};
 
 use crate::stacked::{Stacked, add_all, is_of_tree};
@@ -87,6 +88,7 @@ pub(crate) fn replace_in<A: Allocator>(
     ensures ok { OnOk result (all.new.items ≡ replaced client root windows.now all.old.items) }
     ensures err { OnErr result (all.new.items ≡ all.old.items) }
     ensures together { AreTogether all.new.items }
+    ensures succeeds { vec_len all.old + length windows.now ≤ vec_capacity all.old → IsOk result }
 {
     let Some(run) = run_of(all, client, root) else {
         return Ok(());

@@ -1,6 +1,6 @@
 //! A window of the output, and whose it is.
 
-ghost use Rattle.std.specs.Prelude.{◌≡◌, ◌++◌, ◌==◌, OnErr, OnOk, map};
+ghost use Rattle.std.specs.Prelude.{◌≡◌, ◌++◌, ◌+◌, ◌==◌, ◌≤◌, IsOk, OnErr, OnOk, length, map, vec_capacity, vec_len};
 ghost use Rattle.wl_stacked.specs.Stacked.{is_of, stacked};
 
 use std::alloc::{AllocError, Allocator};
@@ -42,19 +42,15 @@ pub(crate) fn add_all<A: Allocator>(
 ) -> Result<(), AllocError>
     ensures ok { OnOk result (all.new.items ≡ all.old.items ++ map (stacked client root) windows.now) }
     ensures err { OnErr result (all.new.items ≡ all.old.items) }
+    ensures succeeds { vec_len all.old + length windows.now ≤ vec_capacity all.old → IsOk result }
 {
-    let before = all.len();
     all.try_reserve(windows.len())?;
     for window in windows {
-        let stacked = Stacked {
+        all.push_reserved(Stacked {
             client,
             root,
             window: *window,
-        };
-        if all.push(stacked).is_err() {
-            all.truncate(before);
-            return Err(AllocError);
-        }
+        });
     }
     Ok(())
 }

@@ -130,6 +130,13 @@ impl<A: Allocator + Copy> Surfaces<A> {
         }
     }
 
+    /// How many surfaces there are.
+    pub fn len(&self) -> usize
+        ensures { result ≡ count self.now }
+    {
+        self.slots.len()
+    }
+
     /// wl_compositor.create_surface: a surface of which nothing was asked, under a number that no other has. A client may have 256 surfaces.
     /// On an error nothing changes.
     pub fn create(&mut self) -> Result<SurfaceNo, SurfaceError>

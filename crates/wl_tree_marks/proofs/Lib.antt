@@ -1,7 +1,7 @@
-mod Lists
-mod Records
-mod Damage
-mod Roots
+pub mod Lists
+pub mod Records
+pub mod Damage
+pub mod Roots
 mod Rows
-mod Tree
-mod Whole
+pub mod Tree
+pub mod Whole

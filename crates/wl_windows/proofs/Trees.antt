@@ -1,11 +1,12 @@
 -- The windows of a tree, from the stacks that are kept.
-use Rattle.std.proofs.Common.{◌≡◌, ◌==◌, ◌<◌, ◌+◌, ℕ, zero, suc, ℤ, ◌+ℤ◌, Bool, true, false, cond, Option, Some, None}
+use Rattle.std.proofs.Common.{◌≡◌, ◌==◌, ◌<◌, ◌≤◌, ◌+◌, ℕ, zero, suc, ℤ, ◌+ℤ◌, Bool, true, false, cond, Option, Some, None}
 use Rattle.std.proofs.Common.{List, [], ◌∷◌, ◌++◌, map, flat_map, length, take, refl, ap, ap₂, sym, ◌∙◌, append_assoc, arith}
 use Rattle.std.specs.Prelude.{if◌then◌else◌, filter_map, option_and_then, pos, slice_index_or}
 use Rattle.std.specs.List.{cons_option}
 use Rattle.std.proofs.lemmas.Bool.Decides.{nat_tests}
 use Rattle.std.proofs.lemmas.Int.{ints}
-use Rattle.std.proofs.lemmas.List.{append-nil, flat_map_more, map-append, take_more}
+use Rattle.std.proofs.lemmas.List.{append-nil, flat_map_more, length-append, map-append, take_more}
+use Rattle.std.proofs.lemmas.List.Folds.{length-flat_map-take}
 use Rattle.wl_children.specs.declared.placed.Placed.{Placed}
 use Rattle.wl_children.specs.Stacks.{whole}
 use Rattle.wl_family.specs.Family.{Tied, stacks_in}
@@ -201,6 +202,23 @@ more-behind f stack i d was mid now less so_far next =
 pub continues-next : (was mid now : List TreeWindow) → Continues was mid → Continues mid now → Continues was now
 continues-next was mid now first second =
     (first.0 ++ second.0, second.1 ∙ (ap (λ ws. ws ++ second.0) first.1 ∙ append_assoc was first.0 second.0))
+
+-- ---- the room that they take
+
+-- one that failed didn't succeed
+pub failed-not : {P : Type 0} → false ≡ true → P
+failed-not e = absurd (cc)
+
+-- where the windows of a whole stack have room, those of its next place don't fail
+pub next-fits : {P : Type 0} (f : Placed → List TreeWindow) (stack : List Placed) (i : ℕ) (d : Placed) (was mid : List TreeWindow) (room now : ℕ)
+    → i < length stack → mid ≡ was ++ flat_map f (take i stack) → length was + length (flat_map f stack) ≤ room → room ≤ now
+    → (length mid + length (f (slice_index_or stack i d)) ≤ now → false ≡ true) → P
+next-fits f stack i d was mid room now less so_far fits kept fails =
+    failed-not (fails (omega (arith, length-flat_map-take f stack i d less, ap length so_far ∙ length-append was (flat_map f (take i stack)))))
+
+-- what comes to the same takes the same room
+pub same-fits : (was more told : List TreeWindow) (room : ℕ) → was ++ more ≡ was ++ told → length was + length told ≤ room → length was + length more ≤ room
+same-fits was more told room e fits = omega (arith, sym (length-append was more) ∙ (ap length e ∙ length-append was told))
 
 -- no position from a corner
 pub place-there : (x y a b : ℤ) → a ≡ x → b ≡ y → place_beside (record { x = a; y = b }) (record { x = pos 0; y = pos 0 }) ≡ record { x = x; y = y }

@@ -1,6 +1,6 @@
 //! The windows of a tree of surfaces, from bottom to top.
 
-ghost use Rattle.std.specs.Prelude.{◌≡◌, ◌++◌, flat_map, map, OnErr, OnOk};
+ghost use Rattle.std.specs.Prelude.{◌≡◌, ◌≤◌, ◌+◌, ◌++◌, IsOk, OnErr, OnOk, flat_map, length, map, vec_capacity, vec_len};
 ghost use Rattle.wl_linked.specs.Linked.{Stand};
 ghost use Rattle.wl_scene.specs.Windows.{Owner, tree};
 ghost use Rattle.wl_surface.specs.Surfaces.{Surfaces as Asked};
@@ -27,6 +27,9 @@ fn add_placed<A: Allocator + Copy>(
     ensures ok { OnOk result ((all : Asked) (owner : Owner) → Stand linked.now.surfaces linked.now.family all
         → windows.new.items ≡ windows.old.items ++ placed_windows (told_tree levels owner all) window.now placed.now) }
     ensures more { Continues windows.old.items windows.new.items }
+    ensures succeeds { (all : Asked) (owner : Owner) → Stand linked.now.surfaces linked.now.family all
+        → vec_len windows.old + length (placed_windows (told_tree levels owner all) window.now placed.now) ≤ vec_capacity windows.old → IsOk result }
+    ensures capacity { vec_capacity windows.old ≤ vec_capacity windows.new }
 {
     match placed.member {
         Member::Itself => windows.push(*window)?,
@@ -57,6 +60,10 @@ fn add_stack<A: Allocator + Copy>(
     ensures ok { OnOk result ((all : Asked) (owner : Owner) → Stand linked.now.surfaces linked.now.family all
         → windows.new.items ≡ windows.old.items ++ flat_map (placed_windows (told_tree levels owner all) window.now) stack.now) }
     ensures more { Continues windows.old.items windows.new.items }
+    ensures succeeds { (all : Asked) (owner : Owner) → Stand linked.now.surfaces linked.now.family all
+        → vec_len windows.old + length (flat_map (placed_windows (told_tree levels owner all) window.now) stack.now) ≤ vec_capacity windows.old
+        → IsOk result }
+    ensures capacity { vec_capacity windows.old ≤ vec_capacity windows.new }
 {
     for placed in stack {
         add_placed(linked, levels, window, placed, windows)?;
@@ -78,6 +85,9 @@ fn add_tree<A: Allocator + Copy>(
     ensures ok { OnOk result ((all : Asked) (owner : Owner) → Stand linked.now.surfaces linked.now.family all
         → windows.new.items ≡ windows.old.items ++ told_tree levels owner all surface (place_beside corner.now position.now)) }
     ensures more { Continues windows.old.items windows.new.items }
+    ensures succeeds { (all : Asked) (owner : Owner) → Stand linked.now.surfaces linked.now.family all
+        → vec_len windows.old + length (told_tree levels owner all surface (place_beside corner.now position.now)) ≤ vec_capacity windows.old → IsOk result }
+    ensures capacity { vec_capacity windows.old ≤ vec_capacity windows.new }
 {
     if levels == 0 {
         return Ok(());
@@ -99,7 +109,7 @@ fn add_tree<A: Allocator + Copy>(
 ///
 /// # Errors
 ///
-/// An `Err` is for want of memory, and adds nothing.
+/// An `Err` is for want of memory, and adds nothing. There is none where there is room for the windows already.
 pub fn add_windows<A: Allocator + Copy>(
     linked: &Linked<A>,
     root: SurfaceNo,
@@ -110,6 +120,9 @@ pub fn add_windows<A: Allocator + Copy>(
     ensures ok { OnOk result ((all : Asked) (owner : Owner) → Stand linked.now.surfaces linked.now.family all
         → windows.new.items ≡ windows.old.items ++ map told_of (tree 17 owner all root (record { x = x; y = y }))) }
     ensures err { OnErr result (windows.new.items ≡ windows.old.items) }
+    ensures succeeds { (all : Asked) (owner : Owner) → Stand linked.now.surfaces linked.now.family all
+        → vec_len windows.old + length (tree 17 owner all root (record { x = x; y = y })) ≤ vec_capacity windows.old → IsOk result }
+    ensures capacity { vec_capacity windows.old ≤ vec_capacity windows.new }
 {
     let before = windows.len();
     let corner = Point { x, y };

@@ -7,7 +7,7 @@ use Rattle.wl_plain.specs.declared.answers.Done.{Done}
 use Rattle.wl_plain.specs.Desktop.{Desktop, Resident, client_at, toplevels_of}
 use Rattle.wl_without_popups.specs.NoPopups.{NoPopups, OwnsNoPopupsAt, OwnsNoPopupsBy}
 use Rattle.wl_without_popups.specs.NoPopupsLaws.{OthersStay}
-use Rattle.wl_without_popups.specs.ServedNext.{served_next}
+use Rattle.wl_plain.specs.LeftOut.{served_now}
 use Rattle.wl_plain.specs.Act.{Act, Connect, Feed, Store, Leave, Tick, Send, Close, Motion, Button, is_tick, lowest}
 use Rattle.wl_laws.proofs.Runs.Forms.{ConnectsAt}
 use Rattle.wl_plain.specs.Happens.{Happens}
@@ -58,7 +58,7 @@ nobody (Some k) old new done none (inl h) = h.1
 nobody (Some k) old new done none (inr h) = absurd (none-some (k + 1) (sym none ∙ ap (client_of Connect) h.0))
 
 -- what happens that is no client's step, and no frame, leaves every client as it was, where what isn't served has left no trace
-no-client : (act : Act) (old new : Desktop) (done : Done) (other : ℕ) → is_tick act ≡ false → NoPopups old → client_of act done ≡ None → Happens served_next act done old new
+no-client : (act : Act) (old new : Desktop) (done : Done) (other : ℕ) → is_tick act ≡ false → NoPopups old → client_of act done ≡ None → Happens served_now act done old new
     → (client_at other new ≡ client_at other old) × (toplevels_of other new ≡ toplevels_of other old)
 no-client Connect old new done other untimed has none h = same-all other old new (nobody (lowest old.clients) old new done none h)
 no-client (Tick time) old new done other untimed has none h = absurd (differ untimed)
@@ -74,5 +74,5 @@ pub others_stay : OthersStay
 others_stay act done old new other untimed has h apart = at (client_of act done) refl
   where
     at : (o : Option ℕ) → client_of act done ≡ o → (client_at other new ≡ client_at other old) × (toplevels_of other new ≡ toplevels_of other old)
-    at (Some c) e = alone-same other old new has (others_are_left_alone served_next act done c other old new e h (λ same. apart (e ∙ ap Some same)))
+    at (Some c) e = alone-same other old new has (others_are_left_alone served_now act done c other old new e h (λ same. apart (e ∙ ap Some same)))
     at None e = no-client act old new done other untimed has e h

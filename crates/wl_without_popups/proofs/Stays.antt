@@ -40,7 +40,7 @@ use Rattle.wl_records.proofs.Toplevels.Messages.{told-objects}
 use Rattle.wl_records.proofs.Toplevels.Serves.{becomes-same}
 use Rattle.wl_without_popups.specs.NoPopups.{NoPopups, OwnsNoPopups, OwnsNoPopupsAt, OwnsNoPopupsBy}
 use Rattle.wl_without_popups.specs.NoPopupsLaws.{EmptyHasNoPopups, NoPopupsStay}
-use Rattle.wl_without_popups.specs.ServedNext.{served_next}
+use Rattle.wl_plain.specs.LeftOut.{served_now}
 use Rattle.wl_without_popups.specs.Simple.{AnswersSimply, Becomes, DoesSimply, IsServed, ServesSimply, TakesSimply, WantsOr, changed_simply, stacked_on, stacked_simply, told_simply}
 use Rattle.wl_laws.proofs.Soundness.Message.{allowed-counted}
 use Rattle.wl_without_popups.proofs.Messages.{messages_are_simple, only-peer, owns-there}
@@ -268,27 +268,27 @@ module _ (c : ℕ) (d new : Desktop) (has : NoPopups d) where
   wants-has true r Later next (inr h) = next h
 
   module _ (r : Resident) (owns : OwnsNoPopups r) where
-    answers-has : (rest : List ℕ) (object opcode : ℕ) (body : List ℕ) (judged : Result Demand Refusal) → judge_all served_next r object opcode body ≡ judged
+    answers-has : (rest : List ℕ) (object opcode : ℕ) (body : List ℕ) (judged : Result Demand Refusal) → judge_all served_now r object opcode body ≡ judged
         → AnswersSimply judged c (with_peer (with_rest rest r.peer) r) d new → NoPopups new
     answers-has rest object opcode body (Ok demand) e h =
         let now : Resident = with_peer (counted (with_rest rest r.peer)) r in
         wants-has (wants_memory demand) now _
         (λ k. does-has demand now (only-peer r (counted (with_rest rest r.peer)) refl owns) (demands_are_served r object opcode body demand e)
-        (allowed-counted r rest demand (allowed served_next r object opcode body demand e)) k) h
+        (allowed-counted r rest demand (allowed served_now r object opcode body demand e)) k) h
     answers-has rest object opcode body (Err refusal) e h =
         becomes-has (Errs refusal (with_rest rest r.peer)) (erred refusal (with_rest rest r.peer)) (with_peer (with_rest rest r.peer) r) h
 
     takes-has : (split : Split) → TakesSimply split c r d new → NoPopups new
     takes-has (Message object opcode size) h =
         let body = take (size - 8) (drop 8 r.peer.rest) in
-        answers-has (drop size r.peer.rest) object opcode body (judge_all served_next r object opcode body) refl h
+        answers-has (drop size r.peer.rest) object opcode body (judge_all served_now r object opcode body) refl h
     takes-has Bad h = becomes-has (Errs (display_error InvalidMethod) r.peer) (erred (display_error InvalidMethod) r.peer) r h
     takes-has More h = absurd h
 
-serves-has : (c : ℕ) (d e : Desktop) → NoPopups d → Serves served_next c d e → NoPopups e
+serves-has : (c : ℕ) (d e : Desktop) → NoPopups d → Serves served_now c d e → NoPopups e
 serves-has c d e has h = at (client_at c d) refl h
   where
-    at : (o : Option Resident) → client_at c d ≡ o → ServesAt served_next c o d e → NoPopups e
+    at : (o : Option Resident) → client_at c d ≡ o → ServesAt served_now c o d e → NoPopups e
     at None is served = absurd served
     at (Some r) is served =
         let k : ServesSimply c r d e = (messages_are_simple c r d e has is).0 h in
@@ -296,7 +296,7 @@ serves-has c d e has h = at (client_at c d) refl h
 
 -- ---- a piece
 
-reaches-has : (n c : ℕ) (d e : Desktop) → NoPopups d → Reaches served_next c n d e → NoPopups e
+reaches-has : (n c : ℕ) (d e : Desktop) → NoPopups d → Reaches served_now c n d e → NoPopups e
 reaches-has zero c d e has h = subst NoPopups (sym h) has
 reaches-has (suc n) c d e has h = serves-has c h.0 e (reaches-has n c d h.0 has h.1) h.2
 
@@ -305,7 +305,7 @@ stops-has c None d e has h = absurd h
 stops-has c (Some r) d e has (inl h) = subst NoPopups (sym h.0) has
 stops-has c (Some r) d e has (inr h) = settled-has c Memory r d e has h.1
 
-feeds-has : (s : Option Cause) (c : ℕ) (piece : List ℕ) (r : Resident) (d e : Desktop) → r.peer.status ≡ s → client_at c d ≡ Some r → NoPopups d → FeedsAt served_next c piece s r d e → NoPopups e
+feeds-has : (s : Option Cause) (c : ℕ) (piece : List ℕ) (r : Resident) (d e : Desktop) → r.peer.status ≡ s → client_at c d ≡ Some r → NoPopups d → FeedsAt served_now c piece s r d e → NoPopups e
 feeds-has (Some cause) c piece r d e status is has h = subst NoPopups (sym h) has
 feeds-has None c piece r d e status is has h =
     let come : Peer = with_rest (r.peer.rest ++ piece) r.peer in
@@ -314,7 +314,7 @@ feeds-has None c piece r d e status is has h =
     with-has c (Some (with_peer come r)) d has (owns-by-peer r.peer.status r come (toplevels_of c d) refl owns) in
     stops-has c (client_at c h.1) h.1 e (reaches-has h.0 c (with_client c (Some (with_peer come r)) d) h.1 start h.2) h.3
 
-fed-has : (c : ℕ) (piece : List ℕ) (o : Option Resident) (d : Desktop) (done : Done) (e : Desktop) → client_at c d ≡ o → NoPopups d → IsFedAt served_next c piece o d done e → NoPopups e
+fed-has : (c : ℕ) (piece : List ℕ) (o : Option Resident) (d : Desktop) (done : Done) (e : Desktop) → client_at c d ≡ o → NoPopups d → IsFedAt served_now c piece o d done e → NoPopups e
 fed-has c piece None d done e is has h = subst NoPopups (sym h.1) has
 fed-has c piece (Some r) d done e is has h = feeds-has r.peer.status c piece r d e refl is has h.0
 

@@ -31,11 +31,11 @@ use Rattle.wl_plain.specs.Ask.{Ask, Own, CreateSurface, AskSurface, EndObject, G
 use Rattle.wl_plain.specs.Demand.{Demand, Asks, EndSurface, CommitTree, EndToplevel, Move, AskFrame}
 use Rattle.wl_plain.specs.Demanding.{base_demand, committed_by, demand_by, demand_of, demands, effect_of_commit, judge_all, moved_by_pointer, own_demand, surface_demand, surface_destroyed}
 use Rattle.wl_plain.specs.Demanding.{toplevel_asked, toplevel_demand, toplevel_destroyed, xdg_asked, xdg_demand}
-use Rattle.wl_plain.specs.LeftOut.{served_now}
+use Rattle.wl_plain.specs.LeftOut.{toplevels_only}
 use Rattle.wl_peer.specs.Requests.{Request, ToCompositor, ToSurface, ToSubcompositor, ToSubsurface, ToSeat, ToPointer, ToBase, ToPositioner, ToXdgSurface, ToToplevel, ToPopup, request_of, rect}
 use Rattle.wl_peer.specs.ToplevelRequest.{ToplevelRequest}
 use Rattle.wl_peer.specs.ToplevelRequest as toplevel
-use Rattle.wl_plain.specs.Served.{unserved_now}
+use Rattle.wl_plain.specs.Served.{beyond_toplevels}
 use Rattle.wl_plain.specs.Desktop.{Resident}
 use Rattle.wl_plain.specs.Step.{with_peer}
 use Rattle.wl_records.proofs.Toplevels.Simply.{Simple, Asking, DestroySurface, CommitSurface, DestroyToplevel, effect_for, effect_of, judge, simple_of, simply}
@@ -135,7 +135,7 @@ transform-finds : (r : Resident) (object : ℕ) (z : ℤ) → Accepts (demands (
 transform-finds r object z =
     asks-either (int_le (pos 0) z && int_le z (pos 7)) _ _ r (λ fits. asked (AskSurface object (SetBufferTransform (unsigned_abs z))) r (below-eight z fits)) (λ no_transform. unasked _ r)
 
-surface-finds : (r : Resident) (object version : ℕ) (request : WlSurfaceRequest) → unserved_now (ToSurface request) ≡ false → Accepts (surface_demand r object version request) r
+surface-finds : (r : Resident) (object version : ℕ) (request : WlSurfaceRequest) → beyond_toplevels (ToSurface request) ≡ false → Accepts (surface_demand r object version request) r
 surface-finds r object version surface.Destroy served = destroyed-finds r object
 surface-finds r object version (surface.Frame callback) served = accepted (AskFrame callback version object) r tt
 surface-finds r object version surface.Commit served = effect-finds r (xdg_of object r.owned.shell) object (effect_of_commit r object) refl refl
@@ -152,7 +152,7 @@ made-finds r object version id surface =
     asks-either (is_foreign (role_of r surface) || is_some (xdg_of surface r.owned.shell)) _ _ r (λ other. unasked _ r)
     (λ free. asks-either (has_any r surface) _ _ r (λ full. unasked _ r) (λ none. asked (GetXdgSurface id version object surface) r tt))
 
-base-finds : (r : Resident) (object version : ℕ) (request : XdgWmBaseRequest) → unserved_now (ToBase request) ≡ false → Accepts (base_demand r object version request) r
+base-finds : (r : Resident) (object version : ℕ) (request : XdgWmBaseRequest) → beyond_toplevels (ToBase request) ≡ false → Accepts (base_demand r object version request) r
 base-finds r object version base.Destroy served = asks-either (list_any (λ x. x.base == object) r.owned.shell) _ _ r (λ used. unasked _ r) (λ unused. asked (EndObject object) r tt)
 base-finds r object version (base.CreatePositioner id) served = absurd (cc)
 base-finds r object version (base.GetXdgSurface id surface) served = made-finds r object version id surface
@@ -170,7 +170,7 @@ bare : (o : Option RoleObject) → is_some o ≡ false → o ≡ None
 bare None e = refl
 bare (Some object) e = absurd (cc)
 
-some-finds : (r : Resident) (x : Xdg) (version : ℕ) (request : XdgSurfaceRequest) → unserved_now (ToXdgSurface request) ≡ false → IsFound x r.owned.shell
+some-finds : (r : Resident) (x : Xdg) (version : ℕ) (request : XdgSurfaceRequest) → beyond_toplevels (ToXdgSurface request) ≡ false → IsFound x r.owned.shell
     → Accepts (xdg_asked r (Some x) version request) r
 some-finds r x version xdg.Destroy served is = asks-either (is_some x.role) _ _ r (λ there. unasked _ r) (λ none. asked (DestroyXdgSurface x.id) r (x, refl, is, bare x.role none))
 some-finds r x version (xdg.GetToplevel id) served is =
@@ -186,7 +186,7 @@ some-finds r x version (xdg.AckConfigure serial) served is =
     (λ there. asks-either (is_waiting serial x.serials) (Ok (Acknowledge x.id serial)) (refuse x.id error.InvalidSerial) r
     (λ waits. asked (Acknowledge x.id serial) r tt) (λ unknown. unasked _ r)) (λ none. unasked _ r)
 
-xdg-finds : (r : Resident) (object version : ℕ) (request : XdgSurfaceRequest) → unserved_now (ToXdgSurface request) ≡ false → AreApart r.owned.shell → Accepts (xdg_demand r object version request) r
+xdg-finds : (r : Resident) (object version : ℕ) (request : XdgSurfaceRequest) → beyond_toplevels (ToXdgSurface request) ≡ false → AreApart r.owned.shell → Accepts (xdg_demand r object version request) r
 xdg-finds r object version request served apart = at (xdg_at object r.owned.shell) refl
   where
     at : (o : Option Xdg) → xdg_at object r.owned.shell ≡ o → Accepts (xdg_asked r o version request) r
@@ -229,7 +229,7 @@ toplevel-finds r object request apart = at (xdg_with object r.owned.shell) refl 
 own-finds : (r : Resident) (object version : ℕ) (request : Request) → Accepts (own_demand r object version request) r
 own-finds r object version request = owned-finds (action_of (known_of r.peer) object version request) r
 
-request-finds : (request : Request) (r : Resident) (object version : ℕ) → AreApart r.owned.shell → unserved_now request ≡ false → Accepts (demand_by request r object version) r
+request-finds : (request : Request) (r : Resident) (object version : ℕ) → AreApart r.owned.shell → beyond_toplevels request ≡ false → Accepts (demand_by request r object version) r
 request-finds (ToCompositor (compositor.CreateSurface id)) r object version apart served =
     asks-either (nat_le 256 (length r.owned.surfaces.surfaces)) refuse_limit (Ok (CreateSurface id version)) r (λ full. unasked _ r) (λ room. asked (CreateSurface id version) r tt)
 request-finds (ToCompositor (compositor.CreateRegion id)) r object version apart served = own-finds r object version (ToCompositor (compositor.CreateRegion id))
@@ -248,9 +248,9 @@ request-finds (ToPositioner request) r object version apart served = absurd (cc)
 request-finds (ToPopup request) r object version apart served = absurd (cc)
 request-finds request r object version apart served = own-finds r object version request
 
-demand-finds : (r : Resident) (object version : ℕ) (m : Message) → AreApart r.owned.shell → Accepts (demand_of served_now r object version m) r
+demand-finds : (r : Resident) (object version : ℕ) (m : Message) → AreApart r.owned.shell → Accepts (demand_of toplevels_only r object version m) r
 demand-finds r object version m apart =
-    either (unserved_now (request_of m)) _ _ r (λ left_out. refused _ r) (λ served. request-finds (request_of m) r object version apart served)
+    either (beyond_toplevels (request_of m)) _ _ r (λ left_out. refused _ r) (λ served. request-finds (request_of m) r object version apart served)
 
 -- ---- every message
 
@@ -261,18 +261,18 @@ id-finds r objects held (Some new) asked finds =
     (λ free. either (nat_le 8192 held) (Err (display_error Implementation)) asked r (λ full. refused (display_error Implementation) r) (λ room. finds))
     (λ used. refused (display_error InvalidObject) r)
 
-judged-finds : (r : Resident) (object opcode : ℕ) (body : List ℕ) → AreApart r.owned.shell → Accepts (judge_all served_now r object opcode body) r
+judged-finds : (r : Resident) (object opcode : ℕ) (body : List ℕ) → AreApart r.owned.shell → Accepts (judge_all toplevels_only r object opcode body) r
 judged-finds r object opcode body apart = at (r.peer.objects object)
   where
-    by : (version : ℕ) (decoded : Result Message ProtoError) → Accepts (judged r.peer.objects r.peer.held (λ m. demand_of served_now r object version m) decoded) r
+    by : (version : ℕ) (decoded : Result Message ProtoError) → Accepts (judged r.peer.objects r.peer.held (λ m. demand_of toplevels_only r object version m) decoded) r
     by version (Err error) = refused (display_error InvalidMethod) r
     by version (Ok m) =
-        let asked = demand_of served_now r object version m in
+        let asked = demand_of toplevels_only r object version m in
         either (list_all (fits r.peer.objects) (objects_named m)) (after_new_id r.peer.objects r.peer.held (new_id_in m) asked) (Err (display_error InvalidMethod)) r
         (λ fit. id-finds r r.peer.objects r.peer.held (new_id_in m) asked (demand-finds r object version m apart))
         (λ unfit. refused (display_error InvalidMethod) r)
 
-    at : (o : Option Object) → Accepts (judged_at r.peer.objects r.peer.held (λ version m. demand_of served_now r object version m) opcode body o) r
+    at : (o : Option Object) → Accepts (judged_at r.peer.objects r.peer.held (λ version m. demand_of toplevels_only r object version m) opcode body o) r
     at None = refused (display_error InvalidObject) r
     at (Some o) = by o.version (decoded o.interface o.version opcode body)
 
@@ -281,7 +281,7 @@ simply-finds r (Ok demand) ask finds e = let same : simple_of r demand ≡ ask =
 simply-finds r (Err refusal) ask finds e = absurd (cc)
 
 pub judge-finds : (r : Resident) (object opcode : ℕ) (body : List ℕ) → AreApart r.owned.shell → (ask : Simple) → judge r object opcode body ≡ Ok ask → Finds ask r
-judge-finds r object opcode body apart ask e = simply-finds r (judge_all served_now r object opcode body) ask (judged-finds r object opcode body apart) e
+judge-finds r object opcode body apart ask e = simply-finds r (judge_all toplevels_only r object opcode body) ask (judged-finds r object opcode body apart) e
 
 -- what is told to a client leaves what a request finds
 pub finds-peer : (ask : Simple) (p : Peer) (r : Resident) → Finds ask r → Finds ask (with_peer p r)

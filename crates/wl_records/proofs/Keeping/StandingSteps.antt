@@ -13,7 +13,7 @@ use Rattle.wl_scene.specs.Stacking.{nothing_owned, without_client}
 use Rattle.wl_plain.specs.declared.answers.Done.{Done}
 use Rattle.wl_plain.specs.Desktop.{Desktop, Resident, arrival, client_at, client_in, empty, owned_in, owned_of, place, with_client, with_number, toplevels_of}
 use Rattle.wl_records.specs.Owning.{IsOwned, Names}
-use Rattle.wl_plain.specs.LeftOut.{served_now}
+use Rattle.wl_plain.specs.LeftOut.{toplevels_only}
 use Rattle.wl_records.specs.NoMore.{AreToplevels, NoMore, OwnsToplevelsAt}
 use Rattle.wl_plain.specs.Happens.{Serves}
 use Rattle.wl_records.proofs.Toplevels.Back.{AsksBy, message-by}
@@ -46,9 +46,9 @@ module _ (c : ℕ) (there : Resident) (d : Desktop) (is : client_at c d ≡ Some
       (asks-find (split_of there.peer.rest) ask p asks)
 
   -- a message of the client is taken
-  pub serves-stand : (new : Desktop) → NoMore d → Serves served_now c d new → MappedStand new
+  pub serves-stand : (new : Desktop) → NoMore d → Serves toplevels_only c d new → MappedStand new
   serves-stand new more h =
-      let served : ServesAt served_now c (Some there) d new = subst (λ o. ServesAt served_now c o d new) is h in
+      let served : ServesAt toplevels_only c (Some there) d new = subst (λ o. ServesAt toplevels_only c o d new) is h in
       let owns = subst (λ o. OwnsToplevelsAt o (toplevels_of c d)) is (more.each c) in
       let only = living there.peer.status there (toplevels_of c d) served.0 owns in
       message-by c there d new is more MappedStand (λ p q never. become-stand c (with_peer p there) there q d is refl stand)

@@ -16,7 +16,7 @@ use Rattle.wl_plain.specs.declared.answers.Done.TheVariants as gave
 use Rattle.wl_plain.specs.Demand.{Demand}
 use Rattle.wl_plain.specs.Demanding.{judge_all}
 use Rattle.wl_plain.specs.Desktop.{Desktop, Resident, become, client_at, client_in, with_client, toplevels_of}
-use Rattle.wl_plain.specs.LeftOut.{served_now}
+use Rattle.wl_plain.specs.LeftOut.{toplevels_only}
 use Rattle.wl_records.specs.NoMore.{NoMore, OwnsToplevelsAt, OwnsToplevelsBy, OwnsToplevelsOnly}
 use Rattle.wl_plain.specs.Replies.{replies}
 use Rattle.wl_plain.specs.Settling.{EndsAndSettles, EndsFirst, Midstep, QueuesFirst, QueuesTo, SettlesAll, becomes, unstruck}
@@ -79,16 +79,16 @@ done-back events c made there d new is still alive h =
     )
 
 does-back : (c : ℕ) (ask : Simple) (demand : Demand) (r there : Resident) (d new : Desktop) → client_at c d ≡ Some there → d.pointer ≡ first_pointer → r.peer.status ≡ None → OwnsToplevelsOnly r
-    → Same r ask demand → Does served_now c demand r d new
+    → Same r ask demand → Does toplevels_only c demand r d new
     → Becomes (Queues (told_simply ask r) (changed_simply ask r).peer) c (changed_simply ask r) (stacked_simply c ask r d) new
 does-back c ask demand r there d new is still alive only same h =
     let made : Resident = changed_simply ask r in
     let on : Desktop = stacked_simply c ask r d in
     let found : client_at c on ≡ Some there = ap (λ clients. client_in clients c) (stacked-clients c ask r d) ∙ is in
-    let third : IsDone (replies served_now c demand r made (all_windows d) d) c made (done_for c demand r d) new =
-    subst (λ m. IsDone (replies served_now c demand r m (all_windows d) d) c m (done_for c demand r d) new) (changed-same c ask demand r d only same) h in
-    let second : IsDone (replies served_now c demand r made (all_windows d) d) c made on new =
-    subst (λ e. IsDone (replies served_now c demand r made (all_windows d) d) c made e new) (done-same c ask demand r d still only same) third in
+    let third : IsDone (replies toplevels_only c demand r made (all_windows d) d) c made (done_for c demand r d) new =
+    subst (λ m. IsDone (replies toplevels_only c demand r m (all_windows d) d) c m (done_for c demand r d) new) (changed-same c ask demand r d only same) h in
+    let second : IsDone (replies toplevels_only c demand r made (all_windows d) d) c made on new =
+    subst (λ e. IsDone (replies toplevels_only c demand r made (all_windows d) d) c made e new) (done-same c ask demand r d still only same) third in
     let first : IsDone (told_simply ask r) c made on new =
     subst (λ events. IsDone events c made on new) (replies-same c ask demand r d only same) second in
     done-back (told_simply ask r) c made there on new found (stacked-pointer c ask r d ∙ still) (changed-status ask r ∙ alive) first
@@ -130,7 +130,7 @@ module _ (c : ℕ) (there : Resident) (d new : Desktop) (is : client_at c d ≡ 
 
   does-by : (ask : Simple) (demand : Demand) (p : Peer) → p.status ≡ None → p.objects ≡ there.peer.objects → OwnsToplevelsOnly there → AsksBy there (split_of there.peer.rest) ask
       → Same (with_peer p there) ask demand
-      → Does served_now c demand (with_peer p there) d new → P new
+      → Does toplevels_only c demand (with_peer p there) d new → P new
   does-by ask demand p alive objects only asks same h =
       let k = does-back c ask demand (with_peer p there) there d new is more.pointer alive (only-peer there p objects only) same h in
       subst P (sym k.2) (done ask asks p k.0 objects k.1)
@@ -142,24 +142,24 @@ module _ (c : ℕ) (there : Resident) (d new : Desktop) (is : client_at c d ≡ 
 
   answers-by : (judged : Result Simple Refusal) (demanded : Result Demand Refusal) (p : Peer) → p.status ≡ None → p.objects ≡ there.peer.objects → OwnsToplevelsOnly there
       → ((ask : Simple) → judged ≡ Ok ask → AsksBy there (split_of there.peer.rest) ask)
-      → Pairs there judged demanded → StepAnswers served_now demanded c (with_peer p there) d new → P new
+      → Pairs there judged demanded → StepAnswers toplevels_only demanded c (with_peer p there) d new → P new
   answers-by (Ok ask) (Ok demand) p alive objects only asks same h =
       wants-by (wants_memory demand) (counted p) _ (λ k. does-by ask demand (counted p) alive objects only (asks ask refl) (same-peer there (counted p) ask demand same) k) h
   answers-by (Err refusal) (Err other) p alive objects only asks same h = becomes-by (Errs other p) (erred other p) p h
   answers-by (Ok ask) (Err other) p alive objects only asks same h = absurd same
   answers-by (Err refusal) (Ok demand) p alive objects only asks same h = absurd same
 
-  takes-by : (split : Split) → split_of there.peer.rest ≡ split → there.peer.status ≡ None → OwnsToplevelsOnly there → StepTakes served_now split c there d new → P new
+  takes-by : (split : Split) → split_of there.peer.rest ≡ split → there.peer.status ≡ None → OwnsToplevelsOnly there → StepTakes toplevels_only split c there d new → P new
   takes-by (Message object opcode size) e alive only h =
       let body = take (size - 8) (drop 8 there.peer.rest) in
-      answers-by (judge there object opcode body) (judge_all served_now there object opcode body) (with_rest (drop size there.peer.rest) there.peer) alive refl only
+      answers-by (judge there object opcode body) (judge_all toplevels_only there object opcode body) (with_rest (drop size there.peer.rest) there.peer) alive refl only
       (λ ask judged. subst (λ s. AsksBy there s ask) (sym e) judged) (judge-pair there object opcode body) h
   takes-by Bad e alive only h = becomes-by (Errs (display_error InvalidMethod) there.peer) (erred (display_error InvalidMethod) there.peer) there.peer h
   takes-by More e alive only h = absurd h
 
-  pub message-by : StepServes served_now c d new → P new
+  pub message-by : StepServes toplevels_only c d new → P new
   message-by h =
-      let served : StepServesAt served_now c (Some there) d new = subst (λ o. StepServesAt served_now c o d new) is h in
+      let served : StepServesAt toplevels_only c (Some there) d new = subst (λ o. StepServesAt toplevels_only c o d new) is h in
       let owns = subst (λ o. OwnsToplevelsAt o (toplevels_of c d)) is (more.each c) in
       takes-by (split_of there.peer.rest) refl served.0 (living there.peer.status there (toplevels_of c d) served.0 owns) served.1
 
@@ -198,7 +198,7 @@ leaves-back c (Some r) d new done still is owns h = (Some (left_by r.peer.status
 
 -- ---- a call
 
-pub alters-back : (act : Act) → IsCall act → (d e : Desktop) (done : Done) → NoMore d → Happens served_now act done d e → Alters act done d e
+pub alters-back : (act : Act) → IsCall act → (d e : Desktop) (done : Done) → NoMore d → Happens toplevels_only act done d e → Alters act done d e
 alters-back Connect call d e done only h = h
 alters-back (Feed c piece) call d e done only h = absurd call
 alters-back (Store c store at bytes) call d e done only h =

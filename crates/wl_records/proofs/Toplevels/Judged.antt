@@ -26,11 +26,11 @@ use Rattle.wl_plain.specs.Demand.{Demand, Asks, EndSurface, AskFrame, CommitTree
 use Rattle.wl_plain.specs.Demanding.{base_demand, committed_by, demand_by, demand_of, demands, effect_of_commit, effect_on_xdg, is_dismissed, judge_all, moved_by_pointer, own_demand, surface_demand}
 use Rattle.wl_plain.specs.Demanding.{toplevel_asked, toplevel_destroyed, xdg_asked}
 use Rattle.wl_plain.specs.Desktop.{Resident}
-use Rattle.wl_plain.specs.LeftOut.{served_now}
+use Rattle.wl_plain.specs.LeftOut.{toplevels_only}
 use Rattle.wl_peer.specs.Requests.{Request, ToCompositor, ToSurface, ToSubcompositor, ToSubsurface, ToSeat, ToPointer, ToBase, ToPositioner, ToXdgSurface, ToToplevel, ToPopup, request_of, rect}
 use Rattle.wl_peer.specs.ToplevelRequest.{ToplevelRequest}
 use Rattle.wl_peer.specs.ToplevelRequest as toplevel
-use Rattle.wl_plain.specs.Served.{unserved_now}
+use Rattle.wl_plain.specs.Served.{beyond_toplevels}
 use Rattle.wl_peer.specs.Peer.{Peer, known_of}
 use Rattle.wl_plain.specs.Step.{with_peer}
 use Rattle.wl_records.proofs.Toplevels.Simply.{Simple, Asking, DestroySurface, AskingFrame, CommitSurface, DestroyToplevel, asks_simply, effect_for, effect_of, judge, simple_of, simply}
@@ -126,7 +126,7 @@ commit-simple r (Some x) object Configures = if-simple r (is_full x.serials) _ _
 commit-simple r (Some x) object Maps = commit object (effect_of r object) refl
 commit-simple r (Some x) object Unmaps = commit object (effect_of r object) refl
 
-surface-simple : (r : Resident) (object version : ℕ) (request : WlSurfaceRequest) → unserved_now (ToSurface request) ≡ false → IsSimple r (surface_demand r object version request)
+surface-simple : (r : Resident) (object version : ℕ) (request : WlSurfaceRequest) → beyond_toplevels (ToSurface request) ≡ false → IsSimple r (surface_demand r object version request)
 surface-simple r object version surface.Destroy served = if-simple r (is_some (xdg_of object r.owned.shell)) _ _ (λ there. refl) (λ none. ends object)
 surface-simple r object version (surface.Frame callback) served = frames callback version object
 surface-simple r object version surface.Commit served = commit-simple r (xdg_of object r.owned.shell) object (effect_of_commit r object)
@@ -136,13 +136,13 @@ surface-simple r object version (surface.Damage x y width height) served = asks 
 surface-simple r object version (surface.SetOpaqueRegion region) served = asks _
 surface-simple r object version (surface.SetInputRegion region) served = asks _
 
-base-simple : (r : Resident) (object version : ℕ) (request : XdgWmBaseRequest) → unserved_now (ToBase request) ≡ false → IsSimple r (base_demand r object version request)
+base-simple : (r : Resident) (object version : ℕ) (request : XdgWmBaseRequest) → beyond_toplevels (ToBase request) ≡ false → IsSimple r (base_demand r object version request)
 base-simple r object version base.Destroy served = demands-simple r (base_destroyed r object)
 base-simple r object version (base.CreatePositioner id) served = absurd (cc)
 base-simple r object version (base.GetXdgSurface id surface) served = demands-simple r (xdg_surface_made r object version id surface)
 base-simple r object version (base.Pong serial) served = asks Ignore
 
-xdg-simple : (r : Resident) (x : Option Xdg) (version : ℕ) (request : XdgSurfaceRequest) → unserved_now (ToXdgSurface request) ≡ false → IsSimple r (xdg_asked r x version request)
+xdg-simple : (r : Resident) (x : Option Xdg) (version : ℕ) (request : XdgSurfaceRequest) → beyond_toplevels (ToXdgSurface request) ≡ false → IsSimple r (xdg_asked r x version request)
 xdg-simple r None version request served = refl
 xdg-simple r (Some x) version xdg.Destroy served = demands-simple r (xdg_surface_destroyed x)
 xdg-simple r (Some x) version (xdg.GetToplevel id) served = demands-simple r (toplevel_made r x version id)
@@ -171,7 +171,7 @@ toplevel-simple r object (Some x) request = asks Ignore
 own-simple : (r : Resident) (object version : ℕ) (request : Request) → IsSimple r (own_demand r object version request)
 own-simple r object version request = demands-simple r (owns (action_of (known_of r.peer) object version request))
 
-interface-simple : (request : Request) (r : Resident) (object version : ℕ) → unserved_now request ≡ false → IsSimple r (demand_by request r object version)
+interface-simple : (request : Request) (r : Resident) (object version : ℕ) → beyond_toplevels request ≡ false → IsSimple r (demand_by request r object version)
 interface-simple (ToCompositor (compositor.CreateSurface id)) r object version served = demands-simple r (surface_created r id version)
 interface-simple (ToCompositor (compositor.CreateRegion id)) r object version served = own-simple r object version (ToCompositor (compositor.CreateRegion id))
 interface-simple (ToSurface request) r object version served = surface-simple r object version request served
@@ -189,9 +189,9 @@ interface-simple (ToPositioner request) r object version served = absurd (cc)
 interface-simple (ToPopup request) r object version served = absurd (cc)
 interface-simple request r object version served = own-simple r object version request
 
-pub demand-simple : (r : Resident) (object version : ℕ) (m : Message) → IsSimple r (demand_of served_now r object version m)
+pub demand-simple : (r : Resident) (object version : ℕ) (m : Message) → IsSimple r (demand_of toplevels_only r object version m)
 demand-simple r object version m =
-    if-simple r (unserved_now (request_of m)) _ _ (λ left. refl) (λ served. interface-simple (request_of m) r object version served)
+    if-simple r (beyond_toplevels (request_of m)) _ _ (λ left. refl) (λ served. interface-simple (request_of m) r object version served)
 
 -- ---- the judgement
 
@@ -207,11 +207,11 @@ judged-simple r objects held demand (Ok m) simple =
     if-simple r (list_all (fits objects) (objects_named m)) _ _ (λ fit. new_id-simple r objects held (new_id_in m) (demand m) (simple m)) (λ unfit. refl)
 
 judged_at-simple : (r : Resident) (object opcode : ℕ) (body : List ℕ) (o : Option Object)
-    → IsSimple r (judged_at r.peer.objects r.peer.held (λ version m. demand_of served_now r object version m) opcode body o)
+    → IsSimple r (judged_at r.peer.objects r.peer.held (λ version m. demand_of toplevels_only r object version m) opcode body o)
 judged_at-simple r object opcode body None = refl
 judged_at-simple r object opcode body (Some o) =
-    judged-simple r r.peer.objects r.peer.held (λ m. demand_of served_now r object o.version m) (decoded o.interface o.version opcode body) (λ m. demand-simple r object o.version m)
+    judged-simple r r.peer.objects r.peer.held (λ m. demand_of toplevels_only r object o.version m) (decoded o.interface o.version opcode body) (λ m. demand-simple r object o.version m)
 
 -- a message comes to the same, or is refused for the same
-pub judge-pair : (r : Resident) (object opcode : ℕ) (body : List ℕ) → Pairs r (judge r object opcode body) (judge_all served_now r object opcode body)
+pub judge-pair : (r : Resident) (object opcode : ℕ) (body : List ℕ) → Pairs r (judge r object opcode body) (judge_all toplevels_only r object opcode body)
 judge-pair r object opcode body = judged_at-simple r object opcode body (r.peer.objects object)

@@ -8,7 +8,7 @@ use Rattle.wl_peer.specs.declared.cause.Cause.{Cause}
 use Rattle.wl_peer.specs.Peer.{Peer, Queues, QueuesOr, ended, has_room, queued}
 use Rattle.wl_peer.specs.Told.{Said}
 use Rattle.wl_plain.specs.Desktop.{Desktop, Resident, become, client_at, client_in, toplevels_of}
-use Rattle.wl_plain.specs.LeftOut.{served_now}
+use Rattle.wl_plain.specs.LeftOut.{toplevels_only}
 use Rattle.wl_plain.specs.Happens.{Serves}
 use Rattle.wl_laws.proofs.Runs.Forms.{ServesAt}
 use Rattle.wl_records.proofs.Toplevels.Back.{AsksBy, message-by}
@@ -61,13 +61,13 @@ module _ (finds : TouchesApart) (c : ℕ) (there : Resident) (d new : Desktop) (
       (stacked-others-own c ask r d has)
       (λ alive. only-peer (changed_simply ask r) q (told-objects (told_simply ask r) (changed_simply ask r).peer q told alive) (asked-owns ask r touched (only-peer there p objects only)))
 
-  message-has : Serves served_now c d new → NoMore new
+  message-has : Serves toplevels_only c d new → NoMore new
   message-has h = message-by c there d new is has NoMore ends-has done-has h
 
-pub serves-has : TouchesApart → (c : ℕ) (d e : Desktop) → NoMore d → Serves served_now c d e → NoMore e
+pub serves-has : TouchesApart → (c : ℕ) (d e : Desktop) → NoMore d → Serves toplevels_only c d e → NoMore e
 serves-has finds c d e has h = at (client_at c d) refl h
   where
-    at : (o : Option Resident) → client_at c d ≡ o → ServesAt served_now c o d e → NoMore e
+    at : (o : Option Resident) → client_at c d ≡ o → ServesAt toplevels_only c o d e → NoMore e
     at None is served = absurd served
     at (Some r) is served =
         let owns = subst (λ o. OwnsToplevelsAt o (toplevels_of c d)) is (has.each c) in

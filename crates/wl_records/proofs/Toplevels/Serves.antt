@@ -18,7 +18,7 @@ use Rattle.wl_plain.specs.Ask.{Own, CreateSurface, AskSurface, EndObject, GetXdg
 use Rattle.wl_plain.specs.Changing.{with_kept_move}
 use Rattle.wl_plain.specs.Demand.{Demand}
 use Rattle.wl_plain.specs.Desktop.{Desktop, Resident, become, become_by, client_at, client_in, resident_of, with_client}
-use Rattle.wl_plain.specs.LeftOut.{served_now}
+use Rattle.wl_plain.specs.LeftOut.{toplevels_only}
 use Rattle.wl_plain.specs.Replies.{dismissed_in, newest_first, own_answers, popups_done, releases, replies}
 use Rattle.wl_plain.specs.Settling.{EndsAndSettles, QueuesTo, after_status, becomes, ended_at, pointer_without, unstruck}
 use Rattle.wl_plain.specs.Stacked.{all_windows}
@@ -208,7 +208,7 @@ released-told (CommitSurface id effect) r only = refl
 released-told (DestroyToplevel id xdg surface) r only = ended-told id xdg surface r
 
 pub replies-same : (c : ℕ) (ask : Simple) (demand : Demand) (r : Resident) (d : Desktop) → OwnsToplevelsOnly r → Same r ask demand
-    → replies served_now c demand r (changed_simply ask r) (all_windows d) d ≡ told_simply ask r
+    → replies toplevels_only c demand r (changed_simply ask r) (all_windows d) d ≡ told_simply ask r
 replies-same c ask demand r d only same =
     let made : Resident = changed_simply ask r in
     ap (λ more. own_answers c demand r (all_windows d) d ++ releases r made ++ more) (none-done r made (tops-kept ask r only.roles))
@@ -218,18 +218,18 @@ replies-same c ask demand r d only same =
 
 does-whole : (c : ℕ) (ask : Simple) (demand : Demand) (r there : Resident) (d new : Desktop) → client_at c d ≡ Some there → d.pointer ≡ first_pointer → r.peer.status ≡ None → OwnsToplevelsOnly r
     → Same r ask demand
-    → Becomes (Queues (told_simply ask r) (changed_simply ask r).peer) c (changed_simply ask r) (stacked_simply c ask r d) new → Does served_now c demand r d new
+    → Becomes (Queues (told_simply ask r) (changed_simply ask r).peer) c (changed_simply ask r) (stacked_simply c ask r d) new → Does toplevels_only c demand r d new
 does-whole c ask demand r there d new is still alive only same h =
     let made : Resident = changed_simply ask r in
     let on : Desktop = stacked_simply c ask r d in
     let found : client_at c on ≡ Some there = ap (λ clients. client_in clients c) (stacked-clients c ask r d) ∙ is in
     let first : IsDone (told_simply ask r) c made on new =
     is-done (told_simply ask r) c made there on new found (stacked-pointer c ask r d ∙ still) (changed-status ask r ∙ alive) h in
-    let second : IsDone (replies served_now c demand r made (all_windows d) d) c made on new =
+    let second : IsDone (replies toplevels_only c demand r made (all_windows d) d) c made on new =
     subst (λ events. IsDone events c made on new) (sym (replies-same c ask demand r d only same)) first in
-    let third : IsDone (replies served_now c demand r made (all_windows d) d) c made (done_for c demand r d) new =
-    subst (λ e. IsDone (replies served_now c demand r made (all_windows d) d) c made e new) (sym (done-same c ask demand r d still only same)) second in
-    subst (λ m. IsDone (replies served_now c demand r m (all_windows d) d) c m (done_for c demand r d) new) (sym (changed-same c ask demand r d only same)) third
+    let third : IsDone (replies toplevels_only c demand r made (all_windows d) d) c made (done_for c demand r d) new =
+    subst (λ e. IsDone (replies toplevels_only c demand r made (all_windows d) d) c made e new) (sym (done-same c ask demand r d still only same)) second in
+    subst (λ m. IsDone (replies toplevels_only c demand r m (all_windows d) d) c m (done_for c demand r d) new) (sym (changed-same c ask demand r d only same)) third
 
 -- ---- a message
 
@@ -266,14 +266,14 @@ module _ (c : ℕ) (there : Resident) (d new : Desktop) (is : client_at c d ≡ 
   wants-whole true r Later Then next (inr h) = inr (next h)
 
   pub answers-whole : (judged : Result Simple Refusal) (demanded : Result Demand Refusal) (r : Resident) → r.peer.status ≡ None → OwnsToplevelsOnly r → Pairs r judged demanded
-      → Answers judged c r d new → StepAnswers served_now demanded c r d new
+      → Answers judged c r d new → StepAnswers toplevels_only demanded c r d new
   answers-whole (Ok ask) (Ok demand) r alive only same h =
       let now : Resident = with_peer (counted r.peer) r in
       let same_now : Same now ask demand = same-peer r (counted r.peer) ask demand same in
-      subst (λ b. StepWantsOr b (Does served_now c demand now d new) c now d new) (sym (wants-same ask demand now same_now))
+      subst (λ b. StepWantsOr b (Does toplevels_only c demand now d new) c now d new) (sym (wants-same ask demand now same_now))
       (wants-whole (wants_simply ask) now _ _ (λ k. does-whole c ask demand now there d new is still alive (only-peer r (counted r.peer) refl only) same_now k) h)
   answers-whole (Err refusal) (Err other) r alive only same h =
-      subst (λ e. StepAnswers served_now (Err e) c r d new) same (becomes-whole _ c r d new still h)
+      subst (λ e. StepAnswers toplevels_only (Err e) c r d new) same (becomes-whole _ c r d new still h)
   answers-whole (Ok ask) (Err other) r alive only same h = absurd same
   answers-whole (Err refusal) (Ok demand) r alive only same h = absurd same
 

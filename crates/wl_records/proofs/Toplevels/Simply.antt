@@ -13,7 +13,7 @@ use Rattle.wl_plain.specs.Changing.{callbacks_of, frame_asked, without_callbacks
 use Rattle.wl_plain.specs.Demand.{Demand, Asks, EndSurface, AskFrame, CommitTree, EndToplevel}
 use Rattle.wl_plain.specs.Demanding.{judge_all}
 use Rattle.wl_plain.specs.Desktop.{Desktop, Resident, become}
-use Rattle.wl_plain.specs.LeftOut.{served_now}
+use Rattle.wl_plain.specs.LeftOut.{toplevels_only}
 use Rattle.wl_plain.specs.Replies.{releases}
 use Rattle.wl_plain.specs.Step.{after_surface, answers_to, asked_so_far, changed_by, configured, configures_told, removing, takes_memory, with_peer, with_surfaces, xdg_changed}
 use Rattle.wl_records.specs.Touching.{is_window_at}
@@ -56,7 +56,7 @@ asks_simply (Err refusal) = Err refusal
 
 -- what a message to an object comes to, or the first error that it has
 abbrev pub judge : Resident → ℕ → ℕ → List ℕ → Result Simple Refusal
-judge r object opcode body = simply r (judge_all served_now r object opcode body)
+judge r object opcode body = simply r (judge_all toplevels_only r object opcode body)
 
 -- ---- what it changes
 

@@ -10,7 +10,7 @@ use Rattle.wl_scene.specs.Stacking.{Standing, without_client}
 use Rattle.wl_plain.specs.declared.answers.Done.{Done}
 use Rattle.wl_plain.specs.declared.answers.Done.TheVariants as gave
 use Rattle.wl_plain.specs.Desktop.{Desktop, Resident, become, become_by, client_at, resident_of, with_client, with_number, toplevels_of}
-use Rattle.wl_plain.specs.LeftOut.{served_now}
+use Rattle.wl_plain.specs.LeftOut.{toplevels_only}
 use Rattle.wl_plain.specs.Settling.{becomes}
 use Rattle.wl_plain.specs.Step.{with_peer}
 use Rattle.wl_plain.specs.Act.{IsClosed, IsLeft, IsSent, IsStored, Act, Connect, Feed, Store, Leave, Tick, Send, Close, Motion, Button, closed_by}
@@ -138,7 +138,7 @@ has-put c r there d is owns only = record { pointer = only.pointer; each = λ ot
 
 -- ---- a call
 
-pub alters-whole : (act : Act) (d e : Desktop) (done : Done) → NoMore d → Alters act done d e → Happens served_now act done d e
+pub alters-whole : (act : Act) (d e : Desktop) (done : Done) → NoMore d → Alters act done d e → Happens toplevels_only act done d e
 alters-whole Connect d e done only h = h
 alters-whole (Feed c piece) d e done only h = absurd h
 alters-whole (Store c store at bytes) d e done only h =

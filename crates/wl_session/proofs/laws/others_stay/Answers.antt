@@ -1,5 +1,5 @@
-use Rattle.wl_records.proofs.Toplevels.Left.{others-same}
+use Rattle.wl_without_popups.proofs.Left.{others_stay}
 use Rattle.wl_session.proofs.laws.others_stay.Goals as goal
 
 pub returns : goal.returns
-returns c = others-same
+returns c = λ act old new done other tick none h apart. others_stay act done old new other tick none h apart

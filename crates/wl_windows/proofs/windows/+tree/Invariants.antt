@@ -1,4 +1,5 @@
-use Rattle.std.proofs.Common.{◌≡◌, ◌+◌, ◌*◌, ◌++◌, flat_map, take}
+use Rattle.std.proofs.Common.{◌≡◌, ◌≤◌, ◌+◌, ◌*◌, ◌++◌, flat_map, take}
+use Rattle.std.specs.Prelude.{vec_capacity}
 use Rattle.wl_linked.specs.Linked.{Stand}
 use Rattle.wl_scene.specs.Windows.{Owner}
 use Rattle.wl_surface.specs.Surfaces.{Surfaces as Asked}
@@ -19,4 +20,5 @@ invariant-add_stack-loop-placed g l = record {
   told : (all : Asked) (owner : Owner) → Stand l.linked.surfaces l.linked.family all
       → l.windows.items ≡ l.initial.windows.items ++ flat_map (placed_windows (told_tree l.levels owner all) l.window) (take l.placed-index l.stack);
   more : Continues l.initial.windows.items l.windows.items;
+  capacity : vec_capacity l.initial.windows ≤ vec_capacity l.windows;
 }

@@ -1,65 +1,65 @@
-use Rattle.std.proofs.Common.{false, true, ap, refl, sym, ◌∙◌}
+use Rattle.std.proofs.Common.{false, ap, refl, sym, ◌∙◌}
 use Rattle.wl_plain.specs.Act.{Close, IsClosed}
 use Rattle.wl_plain.specs.declared.answers.Done.TheVariants as gave
-use Rattle.wl_resident.specs.View.{MarkedDesk}
+use Rattle.wl_resident.specs.View.{MarkedDesk, Pile, pile_of}
 use Rattle.wl_desk.proofs.Calls.{Changes-none, closed, unclosed}
-use Rattle.wl_desk.proofs.MarkedCalls.{closed-marks, none-marks, unclosed-marks}
-use Rattle.wl_desk.proofs.NoMore.{marks-nobody, steps-marked, steps-nobody, steps-whole}
+use Rattle.wl_desk.proofs.Marks.{steps-still}
+use Rattle.wl_desk.proofs.Steps.{steps-nobody, steps-whole}
 use Rattle.wl_desk.proofs.Seats.{as-large, empty-slot, found, missing, none-marked}
+use Rattle.wl_desk.proofs.Still.{closed-still}
 use Rattle.wl_desk.proofs.desks.Desk.close.Goals as goal
 
 pub returns-in_default-clause-step : goal.returns-in_default-clause-step
 returns-in_default-clause-step g c =
-    steps-nobody c.args.client c.args.self.now c.args.self.now (missing c.self.inside.output c.self.inside.residents.items c.self.inside.scene c.self.inside.damage _ _ _
-    c.deref.ensures.value c.in_default.ensures.none c.self.view_is) refl (Close c.args.client) (gave.Close false)
+    let pile = pile_of c.self.inside.screen in
+    steps-nobody c.args.client c.args.self.now c.args.self.now (missing c.self.inside.output c.self.inside.residents.items pile c.self.inside.screen.damage _ _ _
+    c.deref.ensures.value c.in_default.ensures.none c.self.view_is) refl (Close c.args.client) tt (gave.Close false)
     (λ d free a. Changes-none IsClosed (gave.Close false) _ d _ free a)
 
 pub returns-in_default-clause-marks : goal.returns-in_default-clause-marks
 returns-in_default-clause-marks g c =
-    marks-nobody c.args.client _ _ (missing c.self.inside.output c.self.inside.residents.items c.self.inside.scene c.self.inside.damage _ _ _ c.deref.ensures.value
-    c.in_default.ensures.none c.self.view_is) refl (Close c.args.client) tt (gave.Close false)
-    (λ d e free a. none-marks IsClosed (gave.Close false) (gave.Close false) _ _ d e _ free a)
+    steps-still c.args.self.now.desk c.args.self.now.damage c.args.self.now.damage refl
+    (Close c.args.client) _ (closed-still c.args.client _)
 
 pub returns-in_default-index-clause-step : goal.returns-in_default-index-clause-step
 returns-in_default-index-clause-step g c =
+    let pile = pile_of c.self.inside.screen in
     steps-nobody c.args.client c.args.self.now c.args.self.now
-    (missing c.self.inside.output c.self.inside.residents.items c.self.inside.scene c.self.inside.damage _ _ _ refl (empty-slot _ _ _ _ _ c.deref.ensures.value
-    c.in-Some.ensures.some c.index.ensures c.in_default-index.is).0 c.self.view_is) refl (Close c.args.client) (gave.Close false)
+    (missing c.self.inside.output c.self.inside.residents.items pile c.self.inside.screen.damage _ _ _ refl (empty-slot _ _ _ _ _ c.deref.ensures.value
+    c.in-Some.ensures.some c.index.ensures c.in_default-index.is).0 c.self.view_is) refl (Close c.args.client) tt (gave.Close false)
     (λ d free a. Changes-none IsClosed (gave.Close false) _ d _ free a)
 
 pub returns-in_default-index-clause-marks : goal.returns-in_default-index-clause-marks
 returns-in_default-index-clause-marks g c =
-    marks-nobody c.args.client _ _
-    (missing c.self.inside.output c.self.inside.residents.items c.self.inside.scene c.self.inside.damage _ _ _ refl (empty-slot _ _ _ _ _ c.deref.ensures.value
-    c.in-Some.ensures.some c.index.ensures c.in_default-index.is).0 c.self.view_is) refl (Close c.args.client) tt (gave.Close false)
-    (λ d e free a. none-marks IsClosed (gave.Close false) (gave.Close false) _ _ d e _ free a)
+    steps-still c.args.self.now.desk c.args.self.now.damage c.args.self.now.damage refl
+    (Close c.args.client) _ (closed-still c.args.client _)
 
 pub returns-then-not-has_ended-clause-step : goal.returns-then-not-has_ended-clause-step
 returns-then-not-has_ended-clause-step g c =
-    steps-whole (Close c.args.client) _ _ _ (λ d a. rw (← c.self.view_is)
-    (unclosed c.self.inside.output c.self.inside.residents.items c.self.inside.scene c.args.client c.in-Some.k c.in-Some-index.resident
-    (found _ _ _ _ _ _ c.deref.ensures.value c.in-Some.ensures.some c.index.ensures c.in-Some-index.is) d (rw (← c.self.view_is) at a) (sym c.has_ended.ensures ∙ c.if-not-has_ended.true)))
+    let pile = pile_of c.self.inside.screen in
+    steps-whole (Close c.args.client) tt _ _ _ (λ d a. rw (← c.self.view_is)
+    (unclosed c.self.inside.output c.self.inside.residents.items pile c.args.client c.in-Some.k c.in-Some-index.resident
+    (found _ _ _ _ _ _ c.deref.ensures.value c.in-Some.ensures.some c.index.ensures c.in-Some-index.is)
+    d (rw (← c.self.view_is) at a.matches) (sym c.has_ended.ensures ∙ c.if-not-has_ended.true)))
 
 pub returns-then-not-has_ended-clause-marks : goal.returns-then-not-has_ended-clause-marks
 returns-then-not-has_ended-clause-marks g c =
-    steps-marked (Close c.args.client) tt _ c.args.self.now.desk c.args.self.now.damage c.args.self.now.damage (λ d e a steps. rw (← c.self.view_is)
-    (unclosed-marks c.self.inside.output c.self.inside.residents.items c.self.inside.scene c.args.client c.in-Some.k c.in-Some-index.resident
-    (found _ _ _ _ _ _ c.deref.ensures.value c.in-Some.ensures.some c.index.ensures c.in-Some-index.is) d (rw (← c.self.view_is) at a) (gave.Close false) e c.self.inside.damage
-    (sym c.has_ended.ensures ∙ c.if-not-has_ended.true) steps))
+    steps-still c.args.self.now.desk c.args.self.now.damage c.args.self.now.damage refl
+    (Close c.args.client) _ (closed-still c.args.client _)
 
 pub returns-clause-step : goal.returns-clause-step
 returns-clause-step g c =
-    steps-whole (Close c.args.client) _ _ _ (λ d a.
-    closed c.self.inside.output c.self.inside.residents.items c.self.inside.scene c.args.client c.in-Some.k c.in-Some-index.resident
-    (found _ _ _ _ _ _ c.deref.ensures.value c.in-Some.ensures.some c.index.ensures c.in-Some-index.is) d (rw (← c.self.view_is) at a)
-    c.unmap_all.new.self (sym c.has_ended.ensures ∙ c.if-not-has_ended.false) c.unmap_all.ensures.standing c.unmap_all.ensures.next)
+    let pile = pile_of c.self.inside.screen in
+    let now : Pile = record { scene = c.unmap_all.new.self; windows = c.remove_client.new.self.windows } in
+    steps-whole (Close c.args.client) tt _ _ _ (λ d a.
+    closed c.self.inside.output c.self.inside.residents.items pile c.args.client c.in-Some.k c.in-Some-index.resident
+    (found _ _ _ _ _ _ c.deref.ensures.value c.in-Some.ensures.some c.index.ensures c.in-Some-index.is) d (rw (← c.self.view_is) at a.matches)
+    now (sym c.has_ended.ensures ∙ c.if-not-has_ended.false) a.orderly c.unmap_all.ensures.standing c.unmap_all.ensures.next c.remove_client.ensures.windows)
 
 pub returns-clause-marks : goal.returns-clause-marks
 returns-clause-marks g c =
-    steps-marked (Close c.args.client) tt _ c.args.self.now.desk c.args.self.now.damage c.self.inside.damage (λ d e a steps. rw (← c.self.view_is)
-    (closed-marks c.self.inside.output c.self.inside.residents.items c.self.inside.scene c.args.client c.in-Some.k c.in-Some-index.resident
-    (found _ _ _ _ _ _ c.deref.ensures.value c.in-Some.ensures.some c.index.ensures c.in-Some-index.is) d (rw (← c.self.view_is) at a) (gave.Close true) e c.self.inside.damage (sym
-    c.has_ended.ensures ∙ c.if-not-has_ended.false) steps))
+    steps-still c.args.self.now.desk c.args.self.now.damage c.self.inside.screen.damage (ap (λ (m : MarkedDesk). m.damage) c.self.view_is)
+    (Close c.args.client) _ (closed-still c.args.client _)
 
 pub returns-clause-sides : goal.returns-clause-sides
 returns-clause-sides g c = as-large _ _ c.self.view_is

@@ -1,43 +1,50 @@
-use Rattle.std.proofs.Common.{ap, ◌∙◌}
+use Rattle.std.proofs.Common.{ap, false, refl, ◌∙◌}
 use Rattle.wl_plain.specs.Act.{Connect, lowest}
-use Rattle.wl_resident.specs.View.{MarkedDesk}
+use Rattle.wl_resident.specs.View.{MarkedDesk, pile_of}
 use Rattle.wl_desk.proofs.Calls.{Connects-full, Connects-new, Connects-refused}
-use Rattle.wl_desk.proofs.MarkedCalls.{connects-marks}
-use Rattle.wl_desk.proofs.NoMore.{steps-marked, steps-whole}
+use Rattle.wl_desk.proofs.Marks.{steps-still}
+use Rattle.wl_desk.proofs.Steps.{steps-whole}
 use Rattle.wl_desk.proofs.Seats.{as-large, none-marked}
+use Rattle.wl_desk.proofs.Still.{connects-still}
 use Rattle.wl_desk.proofs.desks.Desk.connect.Goals as goal
 
 pub returns-in_default-clause-step : goal.returns-in_default-clause-step
 returns-in_default-clause-step g c =
-    steps-whole Connect _ _ _ (λ d a. rw (← c.self.view_is)
-    (Connects-full c.self.inside.output c.self.inside.residents.items c.self.inside.scene d (c.in_default.ensures.lowest ∙ ap (λ xs. lowest xs) c.deref.ensures.value) (rw (←
-    c.self.view_is) at a)))
+    let pile = pile_of c.self.inside.screen in
+    steps-whole Connect tt _ _ _ (λ d a. rw (← c.self.view_is)
+    (Connects-full c.self.inside.output c.self.inside.residents.items pile d (c.in_default.ensures.lowest ∙ ap (λ xs. lowest xs) c.deref.ensures.value) (rw (←
+    c.self.view_is) at a.matches)))
 
 pub returns-in_default-new-clause-step : goal.returns-in_default-new-clause-step
 returns-in_default-new-clause-step g c =
-    steps-whole Connect _ _ _ (λ d a. rw (← c.self.view_is)
-    (Connects-refused c.self.inside.output c.self.inside.residents.items c.self.inside.scene d _ (c.in-Some.ensures.lowest ∙ ap (λ xs. lowest xs) c.deref.ensures.value) (rw (←
-    c.self.view_is) at a)))
+    let pile = pile_of c.self.inside.screen in
+    steps-whole Connect tt _ _ _ (λ d a. rw (← c.self.view_is)
+    (Connects-refused c.self.inside.output c.self.inside.residents.items pile d _ (c.in-Some.ensures.lowest ∙ ap (λ xs. lowest xs) c.deref.ensures.value) (rw (←
+    c.self.view_is) at a.matches)))
 
 pub returns-clause-step : goal.returns-clause-step
 returns-clause-step g c =
-    steps-whole Connect _ _ _ (λ d a.
-    Connects-new c.self.inside.output c.self.inside.residents.items c.self.inside.scene c.in-Some.k (record { client = c.in-Ok.client; owned = c.bare.result }) d
-    (c.in-Some.ensures.lowest ∙ ap (λ xs. lowest xs) c.deref.ensures.value) (rw (← c.deref.ensures.value) c.in-Some.ensures.within) c.in-Ok.ensures c.bare.ensures (rw (←
-    c.self.view_is) at a))
+    let pile = pile_of c.self.inside.screen in
+    steps-whole Connect tt _ _ _ (λ d a.
+    Connects-new c.self.inside.output c.self.inside.residents.items pile c.in-Some.k
+    (record { client = c.in-Ok.client; owned = c.bare.result; subsurfaces = c.new-2.result; has_room = false }) d
+    (c.in-Some.ensures.lowest ∙ ap (λ xs. lowest xs) c.deref.ensures.value) (rw (← c.deref.ensures.value) c.in-Some.ensures.within) c.in-Ok.ensures c.bare.ensures c.new-2.ensures
+    (rw (← c.self.view_is) at a))
 
 pub returns-in_default-clause-marks : goal.returns-in_default-clause-marks
 returns-in_default-clause-marks g c =
-    steps-marked Connect tt _ c.args.self.now.desk c.args.self.now.damage c.args.self.now.damage (λ d e a steps. connects-marks _ d e _ c.args.self.now.damage a steps)
+    steps-still c.args.self.now.desk c.args.self.now.damage c.args.self.now.damage refl
+    Connect _ (λ d e orderly step. connects-still d e _ step)
 
 pub returns-in_default-new-clause-marks : goal.returns-in_default-new-clause-marks
 returns-in_default-new-clause-marks g c =
-    steps-marked Connect tt _ c.args.self.now.desk c.args.self.now.damage c.args.self.now.damage (λ d e a steps. connects-marks _ d e _ c.args.self.now.damage a steps)
+    steps-still c.args.self.now.desk c.args.self.now.damage c.args.self.now.damage refl
+    Connect _ (λ d e orderly step. connects-still d e _ step)
 
 pub returns-clause-marks : goal.returns-clause-marks
 returns-clause-marks g c =
-    steps-marked Connect tt _ c.args.self.now.desk c.args.self.now.damage c.self.inside.damage
-    (λ d e a steps. rw (← c.self.view_is) (connects-marks _ d e _ c.self.inside.damage (rw (← c.self.view_is) at a) steps))
+    steps-still c.args.self.now.desk c.args.self.now.damage c.self.inside.screen.damage (ap (λ (m : MarkedDesk). m.damage) c.self.view_is)
+    Connect _ (λ d e orderly step. connects-still d e _ step)
 
 pub returns-clause-sides : goal.returns-clause-sides
 returns-clause-sides g c = as-large _ _ c.self.view_is

@@ -1,24 +1,27 @@
 use Rattle.std.proofs.Common.{ap, refl, ◌∙◌}
 use Rattle.std.proofs.lemmas.List.{length-set}
 use Rattle.wl_resident.specs.Agreement.{numbers_in}
-use Rattle.wl_resident.specs.View.{MarkedDesk}
+use Rattle.wl_resident.specs.View.{MarkedDesk, pile_of}
 use Rattle.wl_desk.specs.Residents.{client_views}
 use Rattle.wl_desk.proofs.Kept.{ends}
-use Rattle.wl_desk.proofs.MarkedCalls.{ends-marks, own-within}
-use Rattle.wl_desk.proofs.Most.{ends-over, own-most, sized}
-use Rattle.wl_desk.proofs.NoMore.{ends-marked, ends-marks-nobody, ends-nobody, ends-whole}
+use Rattle.wl_desk.proofs.Marks.{adds-within, ends-marked, nobody-adds, own-adds, own-most, sized}
+use Rattle.wl_desk.proofs.Steps.{ends-away, ends-nobody, ends-whole}
 use Rattle.wl_desk.proofs.Seats.{as-large, empty-slot, found, missing, still, was-marked}
 use Rattle.wl_desk.proofs.desks.Desk.end.Goals as goal
 
 pub returns-in_default-clause-ends : goal.returns-in_default-clause-ends
 returns-in_default-clause-ends g c =
-    ends-nobody c.args.client c.args.self.now c.args.self.now (missing c.self.inside.output c.self.inside.residents.items c.self.inside.scene c.self.inside.damage _ _ _
+    let pile = pile_of c.self.inside.screen in
+    ends-nobody c.args.client c.args.self.now c.args.self.now (missing c.self.inside.output c.self.inside.residents.items pile c.self.inside.screen.damage _ _ _
     c.deref.ensures.value c.in_default.ensures.none c.self.view_is) refl c.args.cause
 
 pub returns-in_default-clause-marks : goal.returns-in_default-clause-marks
 returns-in_default-clause-marks g c =
-    ends-marks-nobody c.args.client _ _ (missing c.self.inside.output c.self.inside.residents.items c.self.inside.scene c.self.inside.damage _ _ _ c.deref.ensures.value
-    c.in_default.ensures.none c.self.view_is) refl c.args.cause
+    let pile = pile_of c.self.inside.screen in
+    ends-marked c.args.client c.args.cause c.args.self.now.desk c.args.self.now.damage c.args.self.now.damage
+    (nobody-adds c.args.client c.args.self.now
+    (missing c.self.inside.output c.self.inside.residents.items pile c.self.inside.screen.damage _ _ _ c.deref.ensures.value c.in_default.ensures.none c.self.view_is)
+    c.args.self.now.damage refl)
 
 pub returns-in_default-clause-within : goal.returns-in_default-clause-within
 returns-in_default-clause-within g c = λ d a x y wide high marked. was-marked c.args.self.now c.args.self.now _ x y refl marked
@@ -28,15 +31,19 @@ returns-in_default-clause-most g c = λ d e a step b x y wide high marked. was-m
 
 pub returns-in_default-index_mut-clause-ends : goal.returns-in_default-index_mut-clause-ends
 returns-in_default-index_mut-clause-ends g c =
+    let pile = pile_of c.self.inside.screen in
     let e = (empty-slot _ _ _ _ _ c.deref.ensures.value c.in-Some.ensures.some c.index_mut.ensures.value c.in_default-index_mut.is) in
-    ends-nobody c.args.client _ _ (missing c.self.inside.output c.self.inside.residents.items c.self.inside.scene c.self.inside.damage _ _ _ refl e.0 c.self.view_is) (still
-    c.self.inside.output c.self.inside.residents.items c.self.inside.scene c.self.inside.damage _ _ e.1 c.self.view_is) c.args.cause
+    ends-nobody c.args.client _ _ (missing c.self.inside.output c.self.inside.residents.items pile c.self.inside.screen.damage _ _ _ refl e.0 c.self.view_is) (still
+    c.self.inside.output c.self.inside.residents.items pile c.self.inside.screen.damage _ _ e.1 c.self.view_is) c.args.cause
 
 pub returns-in_default-index_mut-clause-marks : goal.returns-in_default-index_mut-clause-marks
 returns-in_default-index_mut-clause-marks g c =
+    let pile = pile_of c.self.inside.screen in
     let e = (empty-slot _ _ _ _ _ c.deref.ensures.value c.in-Some.ensures.some c.index_mut.ensures.value c.in_default-index_mut.is) in
-    ends-marks-nobody c.args.client _ _ (missing c.self.inside.output c.self.inside.residents.items c.self.inside.scene c.self.inside.damage _ _ _ refl e.0 c.self.view_is) (still
-    c.self.inside.output c.self.inside.residents.items c.self.inside.scene c.self.inside.damage _ _ e.1 c.self.view_is) c.args.cause
+    ends-marked c.args.client c.args.cause c.args.self.now.desk c.args.self.now.damage c.self.inside.screen.damage
+    (nobody-adds c.args.client c.args.self.now
+    (missing c.self.inside.output c.self.inside.residents.items pile c.self.inside.screen.damage _ _ _ refl e.0 c.self.view_is)
+    c.self.inside.screen.damage (ap (λ (m : MarkedDesk). m.damage) c.self.view_is))
 
 pub returns-in_default-index_mut-clause-within : goal.returns-in_default-index_mut-clause-within
 returns-in_default-index_mut-clause-within g c = λ d a x y wide high marked. was-marked _ _ _ x y c.self.view_is marked
@@ -52,30 +59,34 @@ returns-in_default-index_mut-clause-output g c = ap (λ (m : MarkedDesk). m.desk
 
 pub returns-clause-ends : goal.returns-clause-ends
 returns-clause-ends g c =
+    let pile = pile_of c.self.inside.screen in
     ends-whole c.args.client c.args.cause _ _ (λ d a.
-    ends c.self.inside.output c.self.inside.residents.items c.self.inside.scene c.args.client c.in-Some.k c.in-Some-index_mut.resident
-    (found _ _ _ _ _ _ c.deref.ensures.value c.in-Some.ensures.some c.index_mut.ensures.value c.in-Some-index_mut.is) d (rw (← c.self.view_is) at a)
-    c.args.cause c.end.new.self c.end.new.scene (c.end.ensures.ends (numbers_in (client_views c.self.inside.residents.items)) d d))
+    ends c.self.inside.output c.self.inside.residents.items pile c.args.client c.in-Some.k c.in-Some-index_mut.resident
+    (found _ _ _ _ _ _ c.deref.ensures.value c.in-Some.ensures.some c.index_mut.ensures.value c.in-Some-index_mut.is) d (rw (← c.self.view_is) at a.matches)
+    c.args.cause c.end.new.resident (pile_of c.end.new.self) (c.end.ensures.ends (numbers_in (client_views c.self.inside.residents.items)) d d))
 
 pub returns-clause-marks : goal.returns-clause-marks
 returns-clause-marks g c =
-    ends-marked c.args.client c.args.cause c.args.self.now.desk c.args.self.now.damage c.end.new.damage (λ d a.
-    rw (← c.self.view_is) (ends-marks c.self.inside.output c.self.inside.residents.items c.self.inside.scene c.args.client c.in-Some.k c.in-Some-index_mut.resident
+    let pile = pile_of c.self.inside.screen in
+    ends-marked c.args.client c.args.cause c.args.self.now.desk c.args.self.now.damage c.end.new.self.damage (λ d a.
+    rw (← c.self.view_is) (own-adds c.self.inside.output c.self.inside.residents.items pile c.args.client c.in-Some.k c.in-Some-index_mut.resident
     (found _ _ _ _ _ _ c.deref.ensures.value c.in-Some.ensures.some c.index_mut.ensures.value c.in-Some-index_mut.is) d (rw (← c.self.view_is) at a)
-    c.args.cause c.self.inside.damage c.end.new.damage c.end.ensures.marks))
+    c.self.inside.screen.damage c.end.new.self.damage c.end.ensures.marks))
 
 pub returns-clause-within : goal.returns-clause-within
 returns-clause-within g c =
+    let pile = pile_of c.self.inside.screen in
     λ d a.
-    rw (← c.self.view_is) (own-within c.self.inside.output c.self.inside.residents.items c.self.inside.scene c.args.client c.in-Some.k c.in-Some-index_mut.resident
-    (found _ _ _ _ _ _ c.deref.ensures.value c.in-Some.ensures.some c.index_mut.ensures.value c.in-Some-index_mut.is) d (rw (← c.self.view_is) at a.matches)
-    c.self.inside.damage c.end.new.damage c.end.ensures.marks)
+    rw (← c.self.view_is) (adds-within c.args.client d c.self.inside.screen.damage c.end.new.self.damage
+    (own-adds c.self.inside.output c.self.inside.residents.items pile c.args.client c.in-Some.k c.in-Some-index_mut.resident
+    (found _ _ _ _ _ _ c.deref.ensures.value c.in-Some.ensures.some c.index_mut.ensures.value c.in-Some-index_mut.is) d (rw (← c.self.view_is) at a)
+    c.self.inside.screen.damage c.end.new.self.damage c.end.ensures.marks))
 
 pub returns-clause-most : goal.returns-clause-most
 returns-clause-most g c =
     λ d e a step b.
-    own-most c.args.client c.args.self.now _ d e c.end.new.damage a b (sized _ _ d c.self.view_is c.self.invariant.1 a)
-    (ends-over c.args.client c.args.cause d e a.no_more step) (returns-clause-within g c d a)
+    own-most c.args.client c.args.self.now _ d e c.end.new.self.damage a b (sized _ _ d c.self.view_is c.self.invariant.1 a)
+    (ends-away c.args.client c.args.cause d e a.orderly step) (returns-clause-within g c d a)
 
 pub returns-clause-sides : goal.returns-clause-sides
 returns-clause-sides g c = rw (← c.self.view_is) c.end.ensures.marks.0

@@ -1,40 +1,45 @@
-use Rattle.std.proofs.Common.{false, ap, refl, sym, ◌∙◌}
+use Rattle.std.proofs.Common.{false, ap, refl, ◌∙◌}
 use Rattle.std.proofs.lemmas.List.{length-set}
 use Rattle.wl_plain.specs.Act.{Leave, IsLeft}
 use Rattle.wl_plain.specs.declared.answers.Done.TheVariants as gave
-use Rattle.wl_resident.specs.View.{MarkedDesk}
+use Rattle.wl_resident.specs.View.{MarkedDesk, pile_of}
 use Rattle.wl_desk.proofs.Calls.{Changes-none, changes}
-use Rattle.wl_desk.proofs.MarkedCalls.{goes-marks, none-marks, own-within}
-use Rattle.wl_desk.proofs.Most.{leaves-over, own-most, sized}
-use Rattle.wl_desk.proofs.NoMore.{marks-nobody, steps-marked, steps-nobody, steps-whole}
+use Rattle.wl_desk.proofs.Marks.{adds-within, leaves-marked, nobody-adds, own-adds, own-most, sized}
+use Rattle.wl_desk.proofs.Steps.{leaves-away, steps-nobody, steps-whole}
 use Rattle.wl_desk.proofs.Seats.{as-large, empty-slot, found, missing, still, was-marked}
 use Rattle.wl_desk.proofs.desks.Desk.gone.Goals as goal
 
 pub returns-in_default-clause-step : goal.returns-in_default-clause-step
 returns-in_default-clause-step g c =
-    steps-nobody c.args.client c.args.self.now c.args.self.now (missing c.self.inside.output c.self.inside.residents.items c.self.inside.scene c.self.inside.damage _ _ _
-    c.deref.ensures.value c.in_default.ensures.none c.self.view_is) refl (Leave c.args.client) (gave.Gone false)
+    let pile = pile_of c.self.inside.screen in
+    steps-nobody c.args.client c.args.self.now c.args.self.now (missing c.self.inside.output c.self.inside.residents.items pile c.self.inside.screen.damage _ _ _
+    c.deref.ensures.value c.in_default.ensures.none c.self.view_is) refl (Leave c.args.client) tt (gave.Gone false)
     (λ d free a. Changes-none IsLeft (gave.Gone false) _ d _ free a)
 
 pub returns-in_default-clause-marks : goal.returns-in_default-clause-marks
 returns-in_default-clause-marks g c =
-    marks-nobody c.args.client _ _ (missing c.self.inside.output c.self.inside.residents.items c.self.inside.scene c.self.inside.damage _ _ _ c.deref.ensures.value
-    c.in_default.ensures.none c.self.view_is) refl (Leave c.args.client) tt (gave.Gone false)
-    (λ d e free a. none-marks IsLeft (gave.Gone false) (gave.Gone false) _ _ d e _ free a)
+    let pile = pile_of c.self.inside.screen in
+    leaves-marked c.args.client _ c.args.self.now.desk c.args.self.now.damage c.args.self.now.damage
+    (nobody-adds c.args.client c.args.self.now
+    (missing c.self.inside.output c.self.inside.residents.items pile c.self.inside.screen.damage _ _ _ c.deref.ensures.value c.in_default.ensures.none c.self.view_is)
+    c.args.self.now.damage refl)
 
 pub returns-in_default-index_mut-clause-step : goal.returns-in_default-index_mut-clause-step
 returns-in_default-index_mut-clause-step g c =
+    let pile = pile_of c.self.inside.screen in
     let e = (empty-slot _ _ _ _ _ c.deref.ensures.value c.in-Some.ensures.some c.index_mut.ensures.value c.in_default-index_mut.is) in
-    steps-nobody c.args.client _ _ (missing c.self.inside.output c.self.inside.residents.items c.self.inside.scene c.self.inside.damage _ _ _ refl e.0 c.self.view_is) (still
-    c.self.inside.output c.self.inside.residents.items c.self.inside.scene c.self.inside.damage _ _ e.1 c.self.view_is)
-    (Leave c.args.client) (gave.Gone false) (λ d free a. Changes-none IsLeft (gave.Gone false) _ d _ free a)
+    steps-nobody c.args.client _ _ (missing c.self.inside.output c.self.inside.residents.items pile c.self.inside.screen.damage _ _ _ refl e.0 c.self.view_is) (still
+    c.self.inside.output c.self.inside.residents.items pile c.self.inside.screen.damage _ _ e.1 c.self.view_is)
+    (Leave c.args.client) tt (gave.Gone false) (λ d free a. Changes-none IsLeft (gave.Gone false) _ d _ free a)
 
 pub returns-in_default-index_mut-clause-marks : goal.returns-in_default-index_mut-clause-marks
 returns-in_default-index_mut-clause-marks g c =
+    let pile = pile_of c.self.inside.screen in
     let e = (empty-slot _ _ _ _ _ c.deref.ensures.value c.in-Some.ensures.some c.index_mut.ensures.value c.in_default-index_mut.is) in
-    marks-nobody c.args.client _ _ (missing c.self.inside.output c.self.inside.residents.items c.self.inside.scene c.self.inside.damage _ _ _ refl e.0 c.self.view_is) (still
-    c.self.inside.output c.self.inside.residents.items c.self.inside.scene c.self.inside.damage _ _ e.1 c.self.view_is)
-    (Leave c.args.client) tt (gave.Gone false) (λ d e free a. none-marks IsLeft (gave.Gone false) (gave.Gone false) _ _ d e _ free a)
+    leaves-marked c.args.client _ c.args.self.now.desk c.args.self.now.damage c.self.inside.screen.damage
+    (nobody-adds c.args.client c.args.self.now
+    (missing c.self.inside.output c.self.inside.residents.items pile c.self.inside.screen.damage _ _ _ refl e.0 c.self.view_is)
+    c.self.inside.screen.damage (ap (λ (m : MarkedDesk). m.damage) c.self.view_is))
 
 pub returns-in_default-clause-within : goal.returns-in_default-clause-within
 returns-in_default-clause-within g c = λ d a x y wide high marked. was-marked c.args.self.now c.args.self.now _ x y refl marked
@@ -56,31 +61,34 @@ returns-in_default-index_mut-clause-output g c = ap (λ (m : MarkedDesk). m.desk
 
 pub returns-clause-step : goal.returns-clause-step
 returns-clause-step g c =
-    steps-whole (Leave c.args.client) _ _ _ (λ d a.
-    changes c.self.inside.output c.self.inside.residents.items c.self.inside.scene c.args.client c.in-Some.k c.in-Some-index_mut.resident
-    (found _ _ _ _ _ _ c.deref.ensures.value c.in-Some.ensures.some c.index_mut.ensures.value c.in-Some-index_mut.is) d (rw (← c.self.view_is) at a)
-    IsLeft (gave.Gone false) (gave.Gone c.gone.result) c.gone.new.self c.gone.new.scene c.gone.ensures.changes)
+    let pile = pile_of c.self.inside.screen in
+    steps-whole (Leave c.args.client) tt _ _ _ (λ d a.
+    changes c.self.inside.output c.self.inside.residents.items pile c.args.client c.in-Some.k c.in-Some-index_mut.resident
+    (found _ _ _ _ _ _ c.deref.ensures.value c.in-Some.ensures.some c.index_mut.ensures.value c.in-Some-index_mut.is) d (rw (← c.self.view_is) at a.matches)
+    IsLeft (gave.Gone false) (gave.Gone c.gone.result) c.gone.new.resident (pile_of c.gone.new.self) c.gone.ensures.changes)
 
 pub returns-clause-marks : goal.returns-clause-marks
 returns-clause-marks g c =
-    steps-marked (Leave c.args.client) tt _ c.args.self.now.desk c.args.self.now.damage c.gone.new.damage (λ d e a steps.
-    rw (← c.self.view_is) (goes-marks c.self.inside.output c.self.inside.residents.items c.self.inside.scene c.args.client c.in-Some.k c.in-Some-index_mut.resident
+    let pile = pile_of c.self.inside.screen in
+    leaves-marked c.args.client _ c.args.self.now.desk c.args.self.now.damage c.gone.new.self.damage (λ d a.
+    rw (← c.self.view_is) (own-adds c.self.inside.output c.self.inside.residents.items pile c.args.client c.in-Some.k c.in-Some-index_mut.resident
     (found _ _ _ _ _ _ c.deref.ensures.value c.in-Some.ensures.some c.index_mut.ensures.value c.in-Some-index_mut.is) d (rw (← c.self.view_is) at a)
-    IsLeft (gave.Gone false) (gave.Gone c.gone.result) c.gone.new.self c.gone.new.scene e c.self.inside.damage c.gone.new.damage c.gone.ensures.changes (λ p q r h k. h.0 ∙ sym k.0)
-    c.gone.ensures.marks steps))
+    c.self.inside.screen.damage c.gone.new.self.damage c.gone.ensures.marks))
 
 pub returns-clause-within : goal.returns-clause-within
 returns-clause-within g c =
+    let pile = pile_of c.self.inside.screen in
     λ d a.
-    rw (← c.self.view_is) (own-within c.self.inside.output c.self.inside.residents.items c.self.inside.scene c.args.client c.in-Some.k c.in-Some-index_mut.resident
-    (found _ _ _ _ _ _ c.deref.ensures.value c.in-Some.ensures.some c.index_mut.ensures.value c.in-Some-index_mut.is) d (rw (← c.self.view_is) at a.matches)
-    c.self.inside.damage c.gone.new.damage c.gone.ensures.marks)
+    rw (← c.self.view_is) (adds-within c.args.client d c.self.inside.screen.damage c.gone.new.self.damage
+    (own-adds c.self.inside.output c.self.inside.residents.items pile c.args.client c.in-Some.k c.in-Some-index_mut.resident
+    (found _ _ _ _ _ _ c.deref.ensures.value c.in-Some.ensures.some c.index_mut.ensures.value c.in-Some-index_mut.is) d (rw (← c.self.view_is) at a)
+    c.self.inside.screen.damage c.gone.new.self.damage c.gone.ensures.marks))
 
 pub returns-clause-most : goal.returns-clause-most
 returns-clause-most g c =
     λ d e a step b.
-    own-most c.args.client c.args.self.now _ d e c.gone.new.damage a b (sized _ _ d c.self.view_is c.self.invariant.1 a)
-    (leaves-over c.args.client (gave.Gone c.gone.result) d e a.no_more step) (returns-clause-within g c d a)
+    own-most c.args.client c.args.self.now _ d e c.gone.new.self.damage a b (sized _ _ d c.self.view_is c.self.invariant.1 a)
+    (leaves-away c.args.client (gave.Gone c.gone.result) d e a.orderly step) (returns-clause-within g c d a)
 
 pub returns-clause-sides : goal.returns-clause-sides
 returns-clause-sides g c = rw (← c.self.view_is) c.gone.ensures.marks.0

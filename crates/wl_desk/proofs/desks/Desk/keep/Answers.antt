@@ -1,20 +1,22 @@
 use Rattle.std.proofs.Common.{ap, refl}
-use Rattle.wl_resident.specs.View.{MarkedDesk}
+use Rattle.wl_resident.specs.View.{MarkedDesk, pile_of}
 use Rattle.wl_desk.proofs.Kept.{err-then, keeps, lives-there, ok-then, stays}
-use Rattle.wl_desk.proofs.NoMore.{keeps-nobody, keeps-whole, stays-whole}
+use Rattle.wl_desk.proofs.Steps.{keeps-nobody, keeps-whole, stays-whole}
 use Rattle.wl_desk.proofs.Seats.{empty-slot, found, missing, still}
 use Rattle.wl_desk.proofs.desks.Desk.keep.Goals as goal
 
 pub returns-in_default-clause-ok : goal.returns-in_default-clause-ok
 returns-in_default-clause-ok g c =
-    keeps-nobody c.args.client c.args.self.now c.args.self.now (missing c.self.inside.output c.self.inside.residents.items c.self.inside.scene c.self.inside.damage _ _ _
+    let pile = pile_of c.self.inside.screen in
+    keeps-nobody c.args.client c.args.self.now c.args.self.now (missing c.self.inside.output c.self.inside.residents.items pile c.self.inside.screen.damage _ _ _
     c.deref.ensures.value c.in_default.ensures.none c.self.view_is) refl c.args.piece.now
 
 pub returns-in_default-index_mut-clause-ok : goal.returns-in_default-index_mut-clause-ok
 returns-in_default-index_mut-clause-ok g c =
+    let pile = pile_of c.self.inside.screen in
     let e = (empty-slot _ _ _ _ _ c.deref.ensures.value c.in-Some.ensures.some c.index_mut.ensures.value c.in_default-index_mut.is) in
-    keeps-nobody c.args.client _ _ (missing c.self.inside.output c.self.inside.residents.items c.self.inside.scene c.self.inside.damage _ _ _ refl e.0 c.self.view_is) (still
-    c.self.inside.output c.self.inside.residents.items c.self.inside.scene c.self.inside.damage _ _ e.1 c.self.view_is) c.args.piece.now
+    keeps-nobody c.args.client _ _ (missing c.self.inside.output c.self.inside.residents.items pile c.self.inside.screen.damage _ _ _ refl e.0 c.self.view_is) (still
+    c.self.inside.output c.self.inside.residents.items pile c.self.inside.screen.damage _ _ e.1 c.self.view_is) c.args.piece.now
 
 pub returns-in_default-index_mut-clause-damage : goal.returns-in_default-index_mut-clause-damage
 returns-in_default-index_mut-clause-damage g c = ap (λ (m : MarkedDesk). m.damage) c.self.view_is
@@ -24,18 +26,20 @@ returns-in_default-index_mut-clause-output g c = ap (λ (m : MarkedDesk). m.desk
 
 pub returns-clause-ok : goal.returns-clause-ok
 returns-clause-ok g c =
+    let pile = pile_of c.self.inside.screen in
     ok-then c.keep_in.result (λ same. keeps-whole c.args.client c.args.piece.now _ _ (λ d a.
-    keeps c.self.inside.output c.self.inside.residents.items c.self.inside.scene c.args.client c.in-Some.k c.in-Some-index_mut.resident
-    (found _ _ _ _ _ _ c.deref.ensures.value c.in-Some.ensures.some c.index_mut.ensures.value c.in-Some-index_mut.is) d (rw (← c.self.view_is) at a) c.args.piece.now
+    keeps c.self.inside.output c.self.inside.residents.items pile c.args.client c.in-Some.k c.in-Some-index_mut.resident
+    (found _ _ _ _ _ _ c.deref.ensures.value c.in-Some.ensures.some c.index_mut.ensures.value c.in-Some-index_mut.is) d (rw (← c.self.view_is) at a.matches) c.args.piece.now
     c.keep_in.new.resident same)) c.keep_in.ensures.ok
 
 pub returns-clause-err : goal.returns-clause-err
 returns-clause-err g c =
+    let pile = pile_of c.self.inside.screen in
     err-then c.keep_in.result (λ kept d a. (
-      stays-whole _ _ (λ d a. stays c.self.inside.output c.self.inside.residents.items c.self.inside.scene c.args.client c.in-Some.k c.in-Some-index_mut.resident
+      stays-whole _ _ (λ d a. stays c.self.inside.output c.self.inside.residents.items pile c.args.client c.in-Some.k c.in-Some-index_mut.resident
           (found _ _ _ _ _ _ c.deref.ensures.value c.in-Some.ensures.some c.index_mut.ensures.value c.in-Some-index_mut.is) d (rw (← c.self.view_is) at a)
-          c.keep_in.new.resident c.self.inside.scene kept.0 refl) d a,
-      lives-there c.self.inside.output c.self.inside.residents.items c.self.inside.scene c.args.client c.in-Some.k c.in-Some-index_mut.resident
+          c.keep_in.new.resident _ pile kept.0 refl) d a,
+      lives-there c.self.inside.output c.self.inside.residents.items pile c.args.client c.in-Some.k c.in-Some-index_mut.resident
           (found _ _ _ _ _ _ c.deref.ensures.value c.in-Some.ensures.some c.index_mut.ensures.value c.in-Some-index_mut.is) d (rw (← c.self.view_is) at a.matches) kept.1,
     )) c.keep_in.ensures.err
 

@@ -1,41 +1,40 @@
 use Rattle.wl_plain.specs.Act.{Store, IsStored}
 use Rattle.wl_plain.specs.declared.answers.Stored.TheVariants as stored
-use Rattle.std.proofs.Common.{ap, refl, sym, ◌∙◌}
+use Rattle.std.proofs.Common.{ap, refl}
 use Rattle.wl_plain.specs.declared.answers.Done.TheVariants as gave
-use Rattle.wl_resident.specs.View.{MarkedDesk}
+use Rattle.wl_resident.specs.View.{MarkedDesk, pile_of}
 use Rattle.wl_desk.proofs.Calls.{Changes-none, changes}
-use Rattle.wl_desk.proofs.MarkedCalls.{changes-marks, none-marks, stored-status}
-use Rattle.wl_desk.proofs.NoMore.{marks-nobody, steps-marked, steps-nobody, steps-whole}
+use Rattle.wl_desk.proofs.Marks.{steps-still}
+use Rattle.wl_desk.proofs.Steps.{steps-nobody, steps-whole}
 use Rattle.wl_desk.proofs.Seats.{as-large, empty-slot, found, missing, none-marked, still}
+use Rattle.wl_desk.proofs.Still.{stored-still}
 use Rattle.wl_desk.proofs.desks.Desk.store.Goals as goal
 
 pub returns-in_default-clause-step : goal.returns-in_default-clause-step
 returns-in_default-clause-step g c =
-    steps-nobody c.args.client c.args.self.now c.args.self.now (missing c.self.inside.output c.self.inside.residents.items c.self.inside.scene c.self.inside.damage _ _ _
-    c.deref.ensures.value c.in_default.ensures.none c.self.view_is) refl (Store c.args.client c.args.store c.args.at c.args.bytes.now) (gave.Store stored.NoClient)
+    let pile = pile_of c.self.inside.screen in
+    steps-nobody c.args.client c.args.self.now c.args.self.now (missing c.self.inside.output c.self.inside.residents.items pile c.self.inside.screen.damage _ _ _
+    c.deref.ensures.value c.in_default.ensures.none c.self.view_is) refl (Store c.args.client c.args.store c.args.at c.args.bytes.now) tt (gave.Store stored.NoClient)
     (λ d free a. Changes-none (IsStored c.args.store c.args.at c.args.bytes.now) (gave.Store stored.NoClient) _ d _ free a)
 
 pub returns-in_default-clause-marks : goal.returns-in_default-clause-marks
 returns-in_default-clause-marks g c =
-    marks-nobody c.args.client _ _ (missing c.self.inside.output c.self.inside.residents.items c.self.inside.scene c.self.inside.damage _ _ _ c.deref.ensures.value
-    c.in_default.ensures.none c.self.view_is) refl (Store c.args.client c.args.store c.args.at c.args.bytes.now) tt (gave.Store stored.NoClient)
-    (λ d e free a. none-marks (IsStored c.args.store c.args.at c.args.bytes.now) (gave.Store stored.NoClient) (gave.Store stored.NoClient) _ _ d e _ free a)
+    steps-still c.args.self.now.desk c.args.self.now.damage c.args.self.now.damage refl
+    (Store c.args.client c.args.store c.args.at c.args.bytes.now) _ (stored-still c.args.client c.args.store c.args.at c.args.bytes.now _)
 
 pub returns-in_default-index_mut-clause-step : goal.returns-in_default-index_mut-clause-step
 returns-in_default-index_mut-clause-step g c =
+    let pile = pile_of c.self.inside.screen in
     let e = (empty-slot _ _ _ _ _ c.deref.ensures.value c.in-Some.ensures.some c.index_mut.ensures.value c.in_default-index_mut.is) in
-    steps-nobody c.args.client _ _ (missing c.self.inside.output c.self.inside.residents.items c.self.inside.scene c.self.inside.damage _ _ _ refl e.0 c.self.view_is) (still
-    c.self.inside.output c.self.inside.residents.items c.self.inside.scene c.self.inside.damage _ _ e.1 c.self.view_is)
-    (Store c.args.client c.args.store c.args.at c.args.bytes.now) (gave.Store stored.NoClient) (λ d free a. Changes-none (IsStored c.args.store c.args.at c.args.bytes.now)
+    steps-nobody c.args.client _ _ (missing c.self.inside.output c.self.inside.residents.items pile c.self.inside.screen.damage _ _ _ refl e.0 c.self.view_is) (still
+    c.self.inside.output c.self.inside.residents.items pile c.self.inside.screen.damage _ _ e.1 c.self.view_is)
+    (Store c.args.client c.args.store c.args.at c.args.bytes.now) tt (gave.Store stored.NoClient) (λ d free a. Changes-none (IsStored c.args.store c.args.at c.args.bytes.now)
     (gave.Store stored.NoClient) _ d _ free a)
 
 pub returns-in_default-index_mut-clause-marks : goal.returns-in_default-index_mut-clause-marks
 returns-in_default-index_mut-clause-marks g c =
-    let e = (empty-slot _ _ _ _ _ c.deref.ensures.value c.in-Some.ensures.some c.index_mut.ensures.value c.in_default-index_mut.is) in
-    marks-nobody c.args.client _ _ (missing c.self.inside.output c.self.inside.residents.items c.self.inside.scene c.self.inside.damage _ _ _ refl e.0 c.self.view_is) (still
-    c.self.inside.output c.self.inside.residents.items c.self.inside.scene c.self.inside.damage _ _ e.1 c.self.view_is)
-    (Store c.args.client c.args.store c.args.at c.args.bytes.now) tt (gave.Store stored.NoClient) (λ d e free a. none-marks (IsStored c.args.store c.args.at c.args.bytes.now)
-    (gave.Store stored.NoClient) (gave.Store stored.NoClient) _ _ d e _ free a)
+    steps-still c.args.self.now.desk c.args.self.now.damage c.self.inside.screen.damage (ap (λ (m : MarkedDesk). m.damage) c.self.view_is)
+    (Store c.args.client c.args.store c.args.at c.args.bytes.now) _ (stored-still c.args.client c.args.store c.args.at c.args.bytes.now _)
 
 pub returns-in_default-index_mut-clause-sides : goal.returns-in_default-index_mut-clause-sides
 returns-in_default-index_mut-clause-sides g c = as-large _ _ c.self.view_is
@@ -48,19 +47,17 @@ returns-in_default-index_mut-clause-output g c = ap (λ (m : MarkedDesk). m.desk
 
 pub returns-clause-step : goal.returns-clause-step
 returns-clause-step g c =
-    steps-whole (Store c.args.client c.args.store c.args.at c.args.bytes.now) _ _ _ (λ d a.
-    changes c.self.inside.output c.self.inside.residents.items c.self.inside.scene c.args.client c.in-Some.k c.in-Some-index_mut.resident
-    (found _ _ _ _ _ _ c.deref.ensures.value c.in-Some.ensures.some c.index_mut.ensures.value c.in-Some-index_mut.is) d (rw (← c.self.view_is) at a)
-    (IsStored c.args.store c.args.at c.args.bytes.now) (gave.Store stored.NoClient) (gave.Store c.store.result) c.store.new.self c.self.inside.scene (c.store.ensures.changes
-    c.args.client c.self.inside.scene))
+    let pile = pile_of c.self.inside.screen in
+    steps-whole (Store c.args.client c.args.store c.args.at c.args.bytes.now) tt _ _ _ (λ d a.
+    changes c.self.inside.output c.self.inside.residents.items pile c.args.client c.in-Some.k c.in-Some-index_mut.resident
+    (found _ _ _ _ _ _ c.deref.ensures.value c.in-Some.ensures.some c.index_mut.ensures.value c.in-Some-index_mut.is) d (rw (← c.self.view_is) at a.matches)
+    (IsStored c.args.store c.args.at c.args.bytes.now) (gave.Store stored.NoClient) (gave.Store c.store.result) c.store.new.resident pile (c.store.ensures.changes
+    c.args.client pile))
 
 pub returns-clause-marks : goal.returns-clause-marks
 returns-clause-marks g c =
-    steps-marked (Store c.args.client c.args.store c.args.at c.args.bytes.now) tt _ c.args.self.now.desk c.args.self.now.damage c.self.inside.damage (λ d e a steps.
-    rw (← c.self.view_is) (changes-marks c.self.inside.output c.self.inside.residents.items c.self.inside.scene c.args.client c.in-Some.k c.in-Some-index_mut.resident
-    (found _ _ _ _ _ _ c.deref.ensures.value c.in-Some.ensures.some c.index_mut.ensures.value c.in-Some-index_mut.is) d (rw (← c.self.view_is) at a)
-    (IsStored c.args.store c.args.at c.args.bytes.now) (gave.Store stored.NoClient) (gave.Store c.store.result) c.store.new.self e c.self.inside.damage (c.store.ensures.changes
-    c.args.client c.self.inside.scene) (λ p q r h k. h.0 ∙ sym k.0) (stored-status c.args.store c.args.at c.args.bytes.now (gave.Store c.store.result)) steps))
+    steps-still c.args.self.now.desk c.args.self.now.damage c.self.inside.screen.damage (ap (λ (m : MarkedDesk). m.damage) c.self.view_is)
+    (Store c.args.client c.args.store c.args.at c.args.bytes.now) _ (stored-still c.args.client c.args.store c.args.at c.args.bytes.now _)
 
 pub returns-clause-sides : goal.returns-clause-sides
 returns-clause-sides g c = as-large _ _ c.self.view_is

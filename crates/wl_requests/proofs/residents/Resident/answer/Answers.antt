@@ -11,7 +11,7 @@ use Rattle.wl_plain.specs.Demanding.{demand_by, demand_of}
 use Rattle.wl_plain.specs.Desktop.{Resident}
 use Rattle.wl_plain.specs.WlSubsurface.{past_limit}
 use Rattle.wl_plain.specs.WlSurface.{surface_created}
-use Rattle.wl_without_popups.specs.ServedNext.{served_next}
+use Rattle.wl_plain.specs.LeftOut.{served_now}
 use Rattle.wl_owning.proofs.Keeping.OwningNames.{targets-at}
 use Rattle.wl_requests.specs.Messages.{IsKind}
 use Rattle.wl_requests.specs.declared.messages.Kind.TheVariants as kinds
@@ -27,37 +27,37 @@ use Rattle.wl_requests.proofs.residents.Resident.answer.Goals as goal
 
 -- ---- the message is that of the request
 
-answered : {A : Type 0} (old new : Kept A) (object version : ℕ) (m n : Message) → m ≡ n → AnswersDemand (λ r. demand_of served_next r object version n) old new
-    → AnswersDemand (λ r. demand_of served_next r object version m) old new
-answered old new object version m n told h = subst (λ (x : Message). AnswersDemand (λ r. demand_of served_next r object version x) old new) (sym told) h
+answered : {A : Type 0} (old new : Kept A) (object version : ℕ) (m n : Message) → m ≡ n → AnswersDemand (λ r. demand_of served_now r object version n) old new
+    → AnswersDemand (λ r. demand_of served_now r object version m) old new
+answered old new object version m n told h = subst (λ (x : Message). AnswersDemand (λ r. demand_of served_now r object version x) old new) (sym told) h
 
-decided : {A : Type 0} (done : Bool) (old new : Kept A) (object version : ℕ) (m n : Message) → m ≡ n → AnswersDemandAs done (λ r. demand_of served_next r object version n) old new
-    → AnswersDemandAs done (λ r. demand_of served_next r object version m) old new
-decided done old new object version m n told h = subst (λ (x : Message). AnswersDemandAs done (λ r. demand_of served_next r object version x) old new) (sym told) h
+decided : {A : Type 0} (done : Bool) (old new : Kept A) (object version : ℕ) (m n : Message) → m ≡ n → AnswersDemandAs done (λ r. demand_of served_now r object version n) old new
+    → AnswersDemandAs done (λ r. demand_of served_now r object version m) old new
+decided done old new object version m n told h = subst (λ (x : Message). AnswersDemandAs done (λ r. demand_of served_now r object version x) old new) (sym told) h
 
-stacked : {A : Type 0} (old : Kept A) (stacking : Stacking) (object version : ℕ) (m n : Message) → m ≡ n → Stacks (λ r. demand_of served_next r object version n) old stacking
-    → Stacks (λ r. demand_of served_next r object version m) old stacking
-stacked old stacking object version m n told h = subst (λ (x : Message). Stacks (λ r. demand_of served_next r object version x) old stacking) (sym told) h
+stacked : {A : Type 0} (old : Kept A) (stacking : Stacking) (object version : ℕ) (m n : Message) → m ≡ n → Stacks (λ r. demand_of served_now r object version n) old stacking
+    → Stacks (λ r. demand_of served_now r object version m) old stacking
+stacked old stacking object version m n told h = subst (λ (x : Message). Stacks (λ r. demand_of served_now r object version x) old stacking) (sym told) h
 
 -- what isn't served is refused
 unserved-answered : {A : Type 0} (old new : Kept A) (object version : ℕ) (m : Message) → IsKind kinds.Unserved m → AnswersDemand (λ r. past_limit) old new
-    → AnswersDemand (λ r. demand_of served_next r object version m) old new
+    → AnswersDemand (λ r. demand_of served_now r object version m) old new
 unserved-answered old new object version m unserved h =
     subst (λ (b : Bool). AnswersDemand (λ r. if b then past_limit else demand_by (request_of m) r object version) old new) (sym unserved) h
 
-unserved-stays : {A : Type 0} (old : Kept A) (r : Resident) (object version : ℕ) (m : Message) → IsKind kinds.Unserved m → StacksSo old r (demand_of served_next r object version m) Stays
+unserved-stays : {A : Type 0} (old : Kept A) (r : Resident) (object version : ℕ) (m : Message) → IsKind kinds.Unserved m → StacksSo old r (demand_of served_now r object version m) Stays
 unserved-stays old r object version m unserved =
     subst (λ (b : Bool). StacksSo old r (if b then past_limit else demand_by (request_of m) r object version) Stays) (sym unserved) tt
 
 -- ---- what leaves the stack as it is
 
 compositor-stays : {A : Type 0} (old : Kept A) (r : Resident) (object version : ℕ) (request : WlCompositorRequest)
-    → StacksSo old r (demand_of served_next r object version (wl_compositor_request request)) Stays
+    → StacksSo old r (demand_of served_now r object version (wl_compositor_request request)) Stays
 compositor-stays old r object version (compositor.CreateSurface id) = asks-stay old r (surface_created r id version)
 compositor-stays old r object version (compositor.CreateRegion id) = refl
 
 seat-stays : {A : Type 0} (old : Kept A) (r : Resident) (object version : ℕ) (request : WlSeatRequest)
-    → StacksSo old r (demand_of served_next r object version (wl_seat_request request)) Stays
+    → StacksSo old r (demand_of served_now r object version (wl_seat_request request)) Stays
 seat-stays old r object version (seat.GetPointer id) = tt
 seat-stays old r object version (seat.GetKeyboard id) = tt
 seat-stays old r object version (seat.GetTouch id) = tt

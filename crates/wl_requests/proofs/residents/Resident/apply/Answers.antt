@@ -40,10 +40,16 @@ use Rattle.wl_requests.proofs.Simply.{meets-as}
 use Rattle.wl_requests.proofs.Trees.{are-one, lived, told-all, tree-lets-go}
 use Rattle.wl_requests.proofs.residents.Resident.apply.Goals as goal
 
+pub returns-then-not-self-clause-applies : goal.returns-then-not-self-clause-applies
+returns-then-not-self-clause-applies g c = λ client r on names object kept shows only comes lives is owned framed subs names_are named answer serial shell.
+    meets-as _ _ client on (CommitTree object) r only.no_popups tt false (
+    let lacks = lacked c.args.self.now _ _ r (c.lack_memory.ensures.lacks r.peer is) c.lack_memory.ensures.ended in
+    (refl, lacks.0, lacks.1, lacks.2))
+
 pub returns-in_default-clause-applies : goal.returns-in_default-clause-applies
 returns-in_default-clause-applies g c = λ client r on names object kept shows only comes lives is owned framed subs names_are named answer serial shell.
     meets-as _ _ client on (CommitTree object) r only.no_popups tt false (
-    let lacks = lacked c.args.self.now _ _ r (c.lack_memory.ensures.lacks r.peer is) c.lack_memory.ensures.ended in
+    let lacks = lacked c.args.self.now _ _ r (c.lack_memory-in_default.ensures.lacks r.peer is) c.lack_memory-in_default.ensures.ended in
     (refl, lacks.0, lacks.1, lacks.2))
 
 pub returns-in_default-released-clause-applies : goal.returns-in_default-released-clause-applies

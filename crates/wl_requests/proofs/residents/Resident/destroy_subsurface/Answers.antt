@@ -100,18 +100,32 @@ returns-in_default-clause-answers g c = λ here client r d is orderly.
 pub returns-in_default-clause-decides : goal.returns-in_default-clause-decides
 returns-in_default-clause-decides g c = λ child of here client r d is orderly. absurd (gone _ of.0.1 (c.in_default.ensures _ _ is.subsurfaces child of.0.0))
 
+pub returns-then-not-self-clause-decides : goal.returns-then-not-self-clause-decides
+returns-then-not-self-clause-decides g c = λ child of here client r d is orderly.
+    let then = with_peer (counted r.peer) r in
+    meets-as c.args.self.now _ client d (EndSubsurface c.args.object) then (counted-orderly r orderly).no_popups tt false (
+    let lacks = lacked c.args.self.now _ _ then (c.lack_memory.ensures.lacks (counted r.peer) (c.count.ensures.counts r.peer is.peer)) c.lack_memory.ensures.ended in
+    (refl, lacks.0, lacks.1, lacks.2))
+
+pub returns-then-not-self-clause-answers : goal.returns-then-not-self-clause-answers
+returns-then-not-self-clause-answers g c = λ here client r d is orderly.
+    let only = λ (other : ℕ) (there : _). only-number _ _ _ c.args.object other c.in-Some.child is.subsurfaces there c.in-Some.ensures.0 in
+    answered-so false (Ok (EndSubsurface c.args.object)) client r d c.args.self.now (record c.args.self.now { client = c.lack_memory.new.self })
+    (returns-then-not-self-clause-decides g c c.in-Some.child (c.in-Some.ensures, only) here client r d is orderly)
+
 pub returns-in_default-remove_subsurface-clause-decides : goal.returns-in_default-remove_subsurface-clause-decides
 returns-in_default-remove_subsurface-clause-decides g c = λ child of here client r d is orderly.
     let then = with_peer (counted r.peer) r in
     meets-as c.args.self.now _ client d (EndSubsurface c.args.object) then (counted-orderly r orderly).no_popups tt false (
-    let lacks = lacked c.args.self.now _ _ then (c.lack_memory.ensures.lacks (counted r.peer) (c.count.ensures.counts r.peer is.peer)) c.lack_memory.ensures.ended in
+    let lacks = lacked c.args.self.now _ _ then (c.lack_memory-in_default-remove_subsurface.ensures.lacks (counted r.peer) (c.count.ensures.counts r.peer is.peer))
+    c.lack_memory-in_default-remove_subsurface.ensures.ended in
     (refl, lacks.0, lacks.1, lacks.2))
 
 pub returns-in_default-remove_subsurface-clause-answers : goal.returns-in_default-remove_subsurface-clause-answers
 returns-in_default-remove_subsurface-clause-answers g c = λ here client r d is orderly.
     let only = λ (other : ℕ) (there : _). only-number _ _ _ c.args.object other c.in-Some.child is.subsurfaces there c.in-Some.ensures.0 in
     answered-so false (Ok (EndSubsurface c.args.object)) client r d c.args.self.now
-    (record c.args.self.now { client = c.lack_memory.new.self; owned = record c.args.self.now.owned { linked = c.remove_subsurface.new.self } })
+    (record c.args.self.now { client = c.lack_memory-in_default-remove_subsurface.new.self; owned = record c.args.self.now.owned { linked = c.remove_subsurface.new.self } })
     (returns-in_default-remove_subsurface-clause-decides g c c.in-Some.child (c.in-Some.ensures, only) here client r d is orderly)
 
 pub returns-in_default-released-clause-decides : goal.returns-in_default-released-clause-decides

@@ -51,10 +51,16 @@ use Rattle.wl_requests.proofs.Subsurfaces.{gone-subsurfaces}
 use Rattle.wl_requests.proofs.Trees.{are-one, destroy-lets-go, goes-too, is-freed, lived, pending-had, told-all}
 use Rattle.wl_requests.proofs.residents.Resident.destroy_surface.Goals as goal
 
+pub returns-then-not-self-clause-does : goal.returns-then-not-self-clause-does
+returns-then-not-self-clause-does g c = λ named bare client r on is only.
+    meets-as _ _ client on (EndSurface c.args.object) r only.no_popups tt false (
+    let lacks = lacked c.args.self.now _ _ r (c.lack_memory.ensures.lacks r.peer is.peer) c.lack_memory.ensures.ended in
+    (refl, lacks.0, lacks.1, lacks.2))
+
 pub returns-in_default-clause-does : goal.returns-in_default-clause-does
 returns-in_default-clause-does g c = λ named bare client r on is only.
     meets-as _ _ client on (EndSurface c.args.object) r only.no_popups tt false (
-    let lacks = lacked c.args.self.now _ _ r (c.lack_memory.ensures.lacks r.peer is.peer) c.lack_memory.ensures.ended in
+    let lacks = lacked c.args.self.now _ _ r (c.lack_memory-in_default.ensures.lacks r.peer is.peer) c.lack_memory-in_default.ensures.ended in
     (refl, lacks.0, lacks.1, lacks.2))
 
 pub returns-in_default-released-clause-does : goal.returns-in_default-released-clause-does

@@ -49,7 +49,7 @@ returns-in-None-clause-answers g c = λ surface above free below over client r d
     let so = c.in-Err.ensures.judged (names_in v.client.objects) r surface above c.args.object c.args.version c.args.id
     (record { orderly = orderly; owns = is.owns; subsurfaces = is.subsurfaces; child_named = below; parent_named = over }) in
     let peer = subst (λ (w : ClientView). IsPeer w r.peer) (sym c.link.ensures.client) is.peer in
-    let new : Kept _ = record { client = c.lack_memory.new.self; owned = c.link.new.self.owned; subsurfaces = c.link.new.self.subsurfaces } in
+    let new : Kept _ = record c.link.new.self { client = c.lack_memory.new.self } in
     let one_more = with_peer (counted r.peer) r in
     let lacks = lacked v new (changed_simply demand one_more) one_more (c.lack_memory.ensures.lacks (counted r.peer) (c.count-in-None.ensures.counts r.peer peer)) c.lack_memory.ensures.ended in
     subst (λ (j : Result Demand Refusal). AnswersSo j client r d v new) (sym (subst (λ (o : Option Refusal). IsJudged o demand judged) (sym c.refusal_of.ensures ∙ c.in-None.is) so))
@@ -67,7 +67,7 @@ returns-in-Ok-clause-answers g c = λ surface above free below over client r d i
     let after = changed_simply demand then in
     let now = c.add.new.self.objects in
     let entry : Entry = record { interface = WlSubsurface; version = version; target = c.args.child } in
-    let new : Kept _ = record { client = c.add.new.self; owned = c.link.new.self.owned; subsurfaces = c.link.new.self.subsurfaces } in
+    let new : Kept _ = record c.link.new.self { client = c.add.new.self } in
     let so = c.in-Ok.ensures.judged names r surface above c.args.object version id
     (record { orderly = orderly; owns = is.owns; subsurfaces = is.subsurfaces; child_named = below; parent_named = over }) in
     let linked_so = c.in-Ok.ensures.made names r surface above n

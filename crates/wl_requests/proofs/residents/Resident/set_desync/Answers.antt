@@ -49,16 +49,33 @@ returns-in_err-child-clause-decides g c = λ child of here client r d is orderly
     let none = subst (λ (o : Option ℕ). IsChildOf c.args.self.now c.args.object o) c.in_err-child.was c.child_of.ensures in
     absurd (gone _ of.0.1 (none _ _ is.subsurfaces child of.0.0))
 
+pub returns-then-not-self-clause-decides : goal.returns-then-not-self-clause-decides
+returns-then-not-self-clause-decides g c = λ child of here client r d is orderly.
+    let object = c.args.object in
+    let its = link-of-child c.args.self.now r is orderly object child of.0 in
+    let then = with_peer (counted r.peer) r in
+    subst (λ (j : Result Demand Refusal). AnswersAs false j client r d c.args.self.now (record c.args.self.now { client = c.lack_memory.new.self }))
+    (sym (ap (λ o. demand_by_link r object o SetDesync) its.of_object))
+    (meets-as c.args.self.now _ client d (SetMode its.link.number false) then (counted-orderly r orderly).no_popups tt false (
+    let lacks = lacked c.args.self.now _ _ then (c.lack_memory.ensures.lacks (counted r.peer) (c.count.ensures.counts r.peer is.peer)) c.lack_memory.ensures.ended in
+    (refl, lacks.0, lacks.1, lacks.2)))
+
+pub returns-then-not-self-clause-answers : goal.returns-then-not-self-clause-answers
+returns-then-not-self-clause-answers g c = λ here client r d is orderly.
+    let of = subst (λ (o : Option ℕ). IsChildOf c.args.self.now c.args.object o) c.in_ok-child.was c.child_of.ensures in
+    let only = λ (other : ℕ) (there : _). only-number _ _ _ c.args.object other c.in_ok-child.child is.subsurfaces there of.0 in
+    answered-so false _ client r d _ _ (returns-then-not-self-clause-decides g c c.in_ok-child.child (of, only) here client r d is orderly)
+
 pub returns-in_default-clause-decides : goal.returns-in_default-clause-decides
 returns-in_default-clause-decides g c = λ child of here client r d is orderly.
     let object = c.args.object in
     let its = link-of-child c.args.self.now r is orderly object child of.0 in
     let then = with_peer (counted r.peer) r in
     subst (λ (j : Result Demand Refusal). AnswersAs false j client r d c.args.self.now
-    (record c.args.self.now { client = c.lack_memory.new.self; owned = record c.args.self.now.owned { linked = c.set_desync.new.self } })) (sym (ap
+    (record c.args.self.now { client = c.lack_memory-in_default.new.self; owned = record c.args.self.now.owned { linked = c.set_desync.new.self } })) (sym (ap
     (λ o. demand_by_link r object o SetDesync) its.of_object))
     (meets-as c.args.self.now _ client d (SetMode its.link.number false) then (counted-orderly r orderly).no_popups tt false (
-    let lacks = lacked c.args.self.now _ _ then (c.lack_memory.ensures.lacks (counted r.peer) (c.count.ensures.counts r.peer is.peer)) c.lack_memory.ensures.ended in
+    let lacks = lacked c.args.self.now _ _ then (c.lack_memory-in_default.ensures.lacks (counted r.peer) (c.count.ensures.counts r.peer is.peer)) c.lack_memory-in_default.ensures.ended in
     (refl, lacks.0, lacks.1, lacks.2)))
 
 pub returns-in_default-clause-answers : goal.returns-in_default-clause-answers

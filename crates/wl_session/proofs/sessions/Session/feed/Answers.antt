@@ -17,7 +17,7 @@ returns-clause-step g c = λ d a.
       | in-Ok w ↦
           let m = w.serve_all.ensures.serves (kept_at c.args.client c.args.piece.now d) (w.in-Ok.ensures.ok d was) in
           let new : Agrees c.match-keep.self.desk m.0.desktop = rw w.self-is m.0.agrees in
-          (m.0.desktop, fed-served c.args.client m.0.count c.args.piece.now d m.0.desktop c.status.result a.no_more m.0.reaches m.1 (c.status.ensures m.0.desktop new), new)
+          (m.0.desktop, fed-served c.args.client m.0.count c.args.piece.now d m.0.desktop c.status.result a.orderly m.0.reaches m.1 (c.status.ensures m.0.desktop new), new)
       | in-Err w ↦
           let m = w.end.ensures.ends d (w.in-Err.ensures.err d was).0 in
           let new : Agrees c.match-keep.self.desk m.0 = rw w.self-is m.2 in
@@ -32,7 +32,7 @@ returns-clause-course g c = λ d a.
           let kept = w.in-Ok.ensures.ok d was in
           let m = w.serve_all.ensures.serves (kept_at c.args.client c.args.piece.now d) kept in
           let new : Agrees c.match-keep.self.desk m.0.desktop = rw w.self-is m.0.agrees in
-          let happens = fed-served c.args.client m.0.count c.args.piece.now d m.0.desktop c.status.result a.no_more m.0.reaches m.1 (c.status.ensures m.0.desktop new) in
+          let happens = fed-served c.args.client m.0.count c.args.piece.now d m.0.desktop c.status.result a.orderly m.0.reaches m.1 (c.status.ensures m.0.desktop new) in
           rw w.self-is (rw (← c.self.view_is) (fed-course c.args.client c.args.piece.now (gave.Feed c.status.result) _ _ _ d refl w.in-Ok.ensures.damage was m.0 happens kept))
       | in-Err w ↦
           let kept = w.in-Err.ensures.err d was in

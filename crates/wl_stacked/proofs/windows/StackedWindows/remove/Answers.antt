@@ -2,7 +2,7 @@ use Rattle.std.proofs.Common.{rules, ◌≡◌, List, ap, subst, sym, ◌∙◌}
 use Rattle.std.specs.Prelude.{not}
 use Rattle.std.proofs.lemmas.Fn.{filter_same}
 use Rattle.wl_stacked.specs.declared.stacked.Stacked.{Stacked}
-use Rattle.wl_stacked.specs.Stacked.{AreTogether, is_of, without_tree}
+use Rattle.wl_stacked.specs.Stacked.{AreTogether, WindowsKept, is_of, without_tree}
 use Rattle.wl_stacked.proofs.Trees.{together-filter}
 use Rattle.wl_stacked.proofs.windows.StackedWindows.remove.Goals as goal
 
@@ -12,8 +12,8 @@ invariant_of-self g c =
     filter_same _ (λ (s : Stacked). not (is_of c.args.client c.args.root s)) _ (λ x b f' k. search rules) _ _ c.retain.ensures.filtered in
     subst (λ (xs : List Stacked). AreTogether xs) (sym same) (together-filter (λ (s : Stacked). not (is_of c.args.client c.args.root s)) c.self.inside.windows.items c.self.invariant)
 
-pub returns : goal.returns
-returns g c =
+pub returns-clause-windows : goal.returns-clause-windows
+returns-clause-windows g c =
     let same : c.retain.new.self.items ≡ without_tree c.args.client c.args.root c.self.inside.windows.items =
     filter_same _ (λ (s : Stacked). not (is_of c.args.client c.args.root s)) _ (λ x b f' k. search rules) _ _ c.retain.ensures.filtered in
-    same ∙ ap (λ (xs : List Stacked). without_tree c.args.client c.args.root xs) c.self.view_is
+    same ∙ ap (λ (kept : WindowsKept). without_tree c.args.client c.args.root kept.windows) c.self.view_is

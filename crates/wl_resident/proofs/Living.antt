@@ -1,0 +1,102 @@
+-- A message of a client that lives on, from what its parts say.
+use Rattle.std.proofs.Common.{◌≡◌, ℕ, ◌-◌, take, drop, Bool, true, false, Option, None, refl, ap, sym, subst, ◌∙◌, inl, inr, ◌⊎◌}
+use Rattle.std.specs.Prelude.{Result, Ok, Err, is_some}
+use Rattle.wl_wire.specs.Wire.{split_of}
+use Rattle.wl_wire.specs.declared.header.Split.{Split}
+use Rattle.wl_wire.specs.declared.header.Split.TheVariants.{Message as Whole, More, Bad}
+use Rattle.wl_client.specs.Agreement.{IsPeer}
+use Rattle.wl_peer.specs.declared.cause.Cause.{Cause}
+use Rattle.wl_peer.specs.declared.refusals.ErrorCode.TheVariants.{InvalidMethod}
+use Rattle.wl_peer.specs.declared.refusals.Refusal.{Refusal}
+use Rattle.wl_peer.specs.Peer.{Peer, counted, with_rest}
+use Rattle.wl_plain.specs.Step.{with_peer}
+use Rattle.wl_peer.specs.Told.{display_error}
+use Rattle.wl_shell.specs.Shell.{Effect, Stays, Unconfigured, Configures, Maps, Unmaps}
+use Rattle.wl_surface.specs.declared.applied.Applied.{Applied}
+use Rattle.wl_plain.specs.Demand.{Demand, CommitTree, EndToplevel}
+use Rattle.wl_plain.specs.Demanding.{effect_of_commit, judge_all}
+use Rattle.wl_plain.specs.Desktop.{Desktop, Resident}
+use Rattle.wl_plain.specs.LeftOut.{served_now}
+use Rattle.wl_laws.proofs.Lists.Keys.{differ}
+use Rattle.wl_one_tree.specs.Changes.{IsDemanded}
+use Rattle.wl_orderly.specs.Orderly.{OwnsOrderly}
+use Rattle.wl_requests.specs.declared.messages.Asked.{Asked}
+use Rattle.wl_requests.specs.declared.residents.Resident.{Resident as Kept}
+use Rattle.wl_requests.specs.declared.residents.Stacking.{Stacking}
+use Rattle.wl_requests.specs.declared.residents.Stacking.TheVariants as on
+use Rattle.wl_requests.specs.Messages.{IsAsked, IsTouchOfAsked}
+use Rattle.wl_requests.specs.Residents.{AnswersAs, AnswersSo, IsResident, StacksBy, StacksFor, StacksSo, TakesAs, TakesMessage, TakesMessageAs, TakesSo}
+use Rattle.wl_requests.specs.Touching.{Touch}
+use Rattle.wl_resident.proofs.Commits.{asked-touches, untouched-never}
+use Rattle.wl_resident.proofs.Ends.{errs-over, lacks-over, over-ended}
+use Rattle.wl_resident.proofs.Sitting.{numbers}
+
+-- ---- what isn't done ends the client
+
+ended-by-peer : {A : Type 0} (mid : Kept A) (q : Peer) → IsPeer mid.client q → is_some q.status ≡ true → mid.client.ended ≡ None → true ≡ false
+ended-by-peer mid q peer over alive = sym over ∙ (ap (λ (s : Option Cause). is_some s) (sym peer.status) ∙ ap (λ (s : Option Cause). is_some s) alive)
+
+undone-by : {A : Type 0} (judged : Result Demand Refusal) (c : ℕ) (r : Resident) (d : Desktop) (old mid : Kept A) → AnswersAs false judged c r d old mid → mid.client.ended ≡ None → true ≡ false
+undone-by (Ok demand) c r d old mid h alive = ended-by-peer mid h.1 h.3.peer (over-ended h.1 (lacks-over (counted r.peer) h.1 h.2)) alive
+undone-by (Err refusal) c r d old mid h alive = ended-by-peer mid h.0 h.2.peer (over-ended h.0 (errs-over refusal r.peer h.0 h.1)) alive
+
+undone : {A : Type 0} (split : Split) (c : ℕ) (r : Resident) (d : Desktop) (old mid : Kept A) → TakesAs false split c r d old mid → mid.client.ended ≡ None → true ≡ false
+undone (Whole object opcode size) c r d old mid h alive = undone-by _ c _ d old mid h alive
+undone Bad c r d old mid h alive = undone-by (Err (display_error InvalidMethod)) c r d old mid h alive
+undone More c r d old mid h alive = absurd h
+
+-- ---- what comes to the top was mapped by a commit
+
+top-commits : {A : Type 0} (old : Kept A) (r : Resident) (demand : Demand) (n : ℕ) → StacksFor old r demand (on.ToTop n) → (id : ℕ) × (demand ≡ CommitTree id) × (effect_of_commit r id ≡ Maps)
+top-commits old r (CommitTree id) n h = (id, refl, at (effect_of_commit r id) refl h)
+  where
+    at : (effect : Effect) → effect_of_commit r id ≡ effect → StacksBy old id effect (on.ToTop n) → effect_of_commit r id ≡ Maps
+    at Stays e h = absurd (cc)
+    at Unconfigured e h = absurd (cc)
+    at Configures e h = absurd (cc)
+    at Maps e h = e
+    at Unmaps e h = absurd (out-top h.0 n h.2)
+      where
+        out-top : (m n : ℕ) → on.ToTop n ≡ on.Out m → ⊥
+        out-top m n e = absurd (cc)
+top-commits old r (EndToplevel id xdg surface) n h = absurd (out-top h.0 n h.2)
+  where
+    out-top : (m n : ℕ) → on.ToTop n ≡ on.Out m → ⊥
+    out-top m n e = absurd (cc)
+top-commits old r demand n h = absurd (cc)
+
+top-demanded : {A : Type 0} (split : Split) (c : ℕ) (r : Resident) (d : Desktop) (old mid : Kept A) (n : ℕ) → TakesSo split c r d old mid (on.ToTop n) → mid.client.ended ≡ None
+    → (id : ℕ) × IsDemanded split r (CommitTree id) × (effect_of_commit r id ≡ Maps)
+top-demanded {A} (Whole object opcode size) c r d old mid n h alive = at (judge_all served_now r object opcode (take (size - 8) (drop 8 r.peer.rest))) refl h.0 h.1
+  where
+    at : (judged : Result Demand Refusal) → judge_all served_now r object opcode (take (size - 8) (drop 8 r.peer.rest)) ≡ judged → AnswersSo judged c (with_peer (with_rest (drop size r.peer.rest) r.peer) r) d old mid
+        → StacksSo old r judged (on.ToTop n) → (id : ℕ) × IsDemanded (Whole object opcode size) r (CommitTree id) × (effect_of_commit r id ≡ Maps)
+    at (Ok demand) is told stacks =
+        let top = top-commits old r demand n stacks in
+        (top.0, is ∙ ap (λ (x : Demand). let j : Result Demand Refusal = Ok x in j) top.1, top.2)
+    at (Err refusal) is told stacks = absurd (differ (ended-by-peer mid told.0 told.2.peer (over-ended told.0 (errs-over refusal (with_rest (drop size r.peer.rest) r.peer) told.0 told.1)) alive))
+top-demanded Bad c r d old mid n h alive = absurd (differ (ended-by-peer mid h.0 h.2.peer (over-ended h.0 (errs-over (display_error InvalidMethod) r.peer h.0 h.1)) alive))
+top-demanded More c r d old mid n h alive = absurd h
+
+module _ {A : Type 0} (c : ℕ) (r : Resident) (d : Desktop) (old mid : Kept A) (resident : IsResident old r) (owns : OwnsOrderly r) (asked : Asked) (asks : IsAsked old.client asked)
+    (applied : Option (Applied A)) (decides : (touch : Touch) → IsTouchOfAsked asked old touch → TakesMessageAs (is_some applied) old mid) (alive : mid.client.ended ≡ None) where
+  -- What may change what several surfaces show was done.
+  pub some-applied : (touch : Touch) → IsTouchOfAsked asked old touch → is_some applied ≡ true
+  some-applied touch it = at (is_some applied) refl (decides touch it c r d resident owns)
+    where
+      at : (b : Bool) → is_some applied ≡ b → TakesAs b (split_of r.peer.rest) c r d old mid → is_some applied ≡ true
+      at true is h = is
+      at false is h = absurd (differ (undone (split_of r.peer.rest) c r d old mid h alive))
+
+  -- A toplevel that was mapped was by such a request.
+  pub top-applied : (stacking : Stacking) → TakesMessage old mid stacking → (n : ℕ) → stacking ≡ on.ToTop n → is_some applied ≡ true
+  top-applied stacking takes n is = by (asked-touches old (numbers old) r.subsurfaces resident.subsurfaces asked)
+    where
+      answers : TakesSo (split_of r.peer.rest) c r d old mid (on.ToTop n)
+      answers = subst (λ (s : Stacking). TakesSo (split_of r.peer.rest) c r d old mid s) is (takes c r d resident owns)
+
+      by : ((touch : Touch) × IsTouchOfAsked asked old touch) ⊎ ((touch : Touch) → IsTouchOfAsked asked old touch → ⊥) → is_some applied ≡ true
+      by (inl t) = some-applied t.0 t.1
+      by (inr none) =
+          let top = top-demanded (split_of r.peer.rest) c r d old mid n answers alive in
+          absurd (untouched-never old r resident asked asks none top.0 top.1 top.2)

@@ -1,0 +1,103 @@
+-- What is told of the surfaces of a client, by their numbers, is the damage that is applied to the windows of its trees.
+use Rattle.std.proofs.Common.{◌≡◌, ℕ, List, [], Option, Some, true, refl, sym, subst}
+use Rattle.wl_wire.specs.Wire.{split_of}
+use Rattle.wl_peer.specs.Peer.{Peer}
+use Rattle.wl_shell.specs.Shell.{xdg_of}
+use Rattle.wl_surface.specs.Surfaces.{Surfaces}
+use Rattle.wl_surface.specs.Trees.{ending, with_link}
+use Rattle.wl_surface.specs.declared.applied.Applied.{Applied}
+use Rattle.wl_surface.specs.declared.applied.Change.{Change}
+use Rattle.wl_linked.specs.Linked.{IsLink}
+use Rattle.wl_linked.specs.Tree.{IsCommitTold, IsDesyncTold, IsEndTold, IsTold}
+use Rattle.wl_named.specs.Named.{StandBy}
+use Rattle.wl_named.proofs.Linking.{link-named}
+use Rattle.wl_renaming.specs.Renaming.{IsRenaming, has_surface, renamed, renamed_link}
+use Rattle.wl_renaming.proofs.Done.{commits-surface, destroys-surface, desynchronises, unlinks}
+use Rattle.wl_renaming.proofs.Known.{finds-links, keeps-places, reads-surfaces}
+use Rattle.wl_told.proofs.Calls.{commit-tells}
+use Rattle.wl_told.proofs.Going.{end-tells}
+use Rattle.wl_told.proofs.Links.{desync-tells, unlink-tells}
+use Rattle.wl_tree_steps.proofs.Damage.{applies-nothing}
+use Rattle.wl_plain.specs.Changing.{tree_committed, unlinked_at}
+use Rattle.wl_plain.specs.Demand.{Demand, EndToplevel}
+use Rattle.wl_plain.specs.Desktop.{Resident}
+use Rattle.wl_plain.specs.Step.{with_peer}
+use Rattle.wl_without_popups.specs.Simple.{changed_simply, effect_of}
+use Rattle.wl_orderly.specs.Orderly.{OwnsOrderly}
+use Rattle.wl_one_tree.specs.Changes.{IsDemanded}
+use Rattle.wl_one_tree.specs.Telling.{TellsTrees}
+use Rattle.wl_one_tree.proofs.Named.{commit-told-by-name, desync-told-by-name, end-told-by-name, nothing-told-by-name, unlink-told-by-name}
+use Rattle.wl_owning.specs.Owning.{number_in}
+use Rattle.wl_owning.proofs.Keeping.OwningTies.{number-of-name, present, renaming-of, stand-by}
+use Rattle.wl_requests.specs.declared.messages.Asked.{Asked}
+use Rattle.wl_requests.specs.declared.residents.Resident.{Resident as Kept}
+use Rattle.wl_requests.specs.Messages.{IsAsked, IsTouchOfAsked}
+use Rattle.wl_requests.specs.Residents.{IsResident}
+use Rattle.wl_requests.specs.Touching.{IsTouchTold, IsTouched, Touch, Commits, Destroys, Parts, Releases}
+use Rattle.wl_requests.proofs.Committing.{effect-surfaces}
+use Rattle.wl_requests.proofs.Linking.{IsLinkOf}
+use Rattle.wl_requests.proofs.Unlinking.{link-number}
+use Rattle.wl_resident.proofs.Touches.{IsDemandOf, kept_numbers, touch-demands}
+
+-- the names of the surfaces: their numbers
+abbrev pub names_of : {A : Type 0} → Kept A → ℕ → ℕ
+names_of v = number_in (kept_numbers v)
+
+-- they tell them apart
+pub names-rename : {A : Type 0} (v : Kept A) (r : Resident) → IsResident v r → IsRenaming (names_of v) r.owned.surfaces
+names-rename v r is = renaming-of (kept_numbers v) v.owned.linked.surfaces v.owned.linked.family r.owned.surfaces is.owns.surfaces
+
+-- Where a toplevel goes the surfaces stay, and nothing is told.
+pub nothing-told : {A : Type 0} (v : Kept A) (r : Resident) (p : Peer) (id xdg surface : ℕ)
+    → TellsTrees {A = A} (names_of v) [] r.owned.surfaces (changed_simply (EndToplevel id xdg surface) (with_peer p r)).owned.surfaces
+nothing-told {A} v r p id xdg surface = nothing-told-by-name A applies-nothing (names_of v) r.owned.surfaces [] refl
+
+module _ {A : Type 0} (v : Kept A) (r : Resident) (p : Peer) (is : IsResident v r) (orderly : OwnsOrderly r) (changes : List (Change A)) where
+  abbrev names : ℕ → ℕ
+  names = names_of v
+
+  abbrev all : Surfaces
+  all = r.owned.surfaces
+
+  by-names : StandBy names v.owned.linked.surfaces v.owned.linked.family all
+  by-names = stand-by (kept_numbers v) v.owned.linked.surfaces v.owned.linked.family all is.owns.surfaces
+
+  here : (id number : ℕ) → kept_numbers v id ≡ Some number → has_surface id all ≡ true
+  here id number named = present (kept_numbers v) v.owned.linked.surfaces v.owned.linked.family all is.owns.surfaces id number named
+
+  its-link : (object child : ℕ) (its : IsLinkOf v r object child) → IsLink (renamed names all) its.link.number child (renamed_link names its.link)
+  its-link object child its =
+      subst (λ n. IsLink (renamed names all) its.link.number n (renamed_link names its.link)) (number-of-name (kept_numbers v) its.link.child child its.named)
+      (link-named names all its.link.number its.link its.here its.lives)
+
+  -- what is told of such a request, which demands this
+  told-by : (touch : Touch) (demand : Demand) → IsDemandOf v r touch demand → IsTouchTold touch v.owned.linked changes
+      → TellsTrees names changes all (changed_simply demand (with_peer p r)).owned.surfaces
+  told-by (Commits number) demand (id, e, named) told =
+      subst (λ (d : Demand). TellsTrees names changes all (changed_simply d (with_peer p r)).owned.surfaces) (sym e)
+      (subst (λ (x : Surfaces). TellsTrees names changes all x)
+      (sym (effect-surfaces id (effect_of (with_peer p r) id) (xdg_of id r.owned.shell) (tree_committed id (with_peer p r))))
+      (commit-told-by-name A reads-surfaces commits-surface (commit-tells A) names all id changes by-names.renaming orderly.once (here id number named)
+      (subst (λ n. IsCommitTold n (renamed names all) changes) (sym (number-of-name (kept_numbers v) id number named)) (told (renamed names all) by-names.stands))))
+  told-by (Destroys number) demand (id, e, named) told =
+      subst (λ (d : Demand). TellsTrees names changes all (changed_simply d (with_peer p r)).owned.surfaces) (sym e)
+      (end-told-by-name A reads-surfaces keeps-places destroys-surface (end-tells A) names all id changes by-names.renaming orderly.trees orderly.once orderly.numbered (here id number named)
+      (subst (λ n. IsEndTold n (renamed names all) changes) (sym (number-of-name (kept_numbers v) id number named)) (told (renamed names all) by-names.stands)))
+  told-by (Parts child) demand (object, e, its) told =
+      subst (λ (d : Demand). TellsTrees names changes all (changed_simply d (with_peer p r)).owned.surfaces) (sym e)
+      (subst (λ (o : Option ℕ). TellsTrees names changes all (unlinked_at o all)) (sym (link-number object r its.link its.of_object))
+      (unlink-told-by-name A reads-surfaces finds-links unlinks (unlink-tells A) names all its.link.number its.link changes by-names.renaming orderly.once orderly.numbered its.here its.lives
+      (subst (λ n. IsTold n (with_link its.link.number ending (renamed names all)) changes) (sym (number-of-name (kept_numbers v) its.link.child child its.named))
+      (told (renamed names all) its.link.number (renamed_link names its.link) (its-link object child its) by-names.stands))))
+  told-by (Releases child) demand (object, its, e) told =
+      subst (λ (d : Demand). TellsTrees names changes all (changed_simply d (with_peer p r)).owned.surfaces) (sym e)
+      (desync-told-by-name A reads-surfaces finds-links desynchronises (desync-tells A) names all its.link.number its.link changes by-names.renaming orderly.once its.here its.lives
+      (subst (λ n. IsDesyncTold its.link.number n (renamed names all) changes) (sym (number-of-name (kept_numbers v) its.link.child child its.named))
+      (told (renamed names all) its.link.number (renamed_link names its.link) (its-link object child its) by-names.stands)))
+
+-- What is told of a request that may change what several surfaces show is the damage that is applied to the windows of their trees.
+pub touch-told : {A : Type 0} (v mid : Kept A) (r : Resident) (p : Peer) (a : Asked) (demand : Demand) (touch : Touch) (applied : Applied A) → IsResident v r → OwnsOrderly r
+    → IsAsked v.client a → IsDemanded (split_of r.peer.rest) r demand → IsTouchOfAsked a v touch → IsTouched touch v.owned.linked mid.owned.linked (Some applied)
+    → TellsTrees (names_of v) applied.changes.items r.owned.surfaces (changed_simply demand (with_peer p r)).owned.surfaces
+touch-told v mid r p a demand touch applied is orderly asks demanded it touched =
+    told-by v r p is orderly applied.changes.items touch demand (touch-demands v r a demand touch is orderly asks demanded it) touched.1

@@ -1,5 +1,0 @@
-use Rattle.std.proofs.Common.{rules}
-use Rattle.wl_resident.proofs.messages.kind_of.Goals as goal
-
-pub returns-in-XdgToplevel : goal.returns-in-XdgToplevel
-returns-in-XdgToplevel c = search rules

@@ -1,5 +1,0 @@
-use Rattle.std.proofs.Common.{rules}
-use Rattle.wl_resident.proofs.surface_requests.stacking_of.Goals as goal
-
-pub returns-in-Map : goal.returns-in-Map
-returns-in-Map c = search rules

@@ -1,0 +1,6 @@
+pub mod Laws
+pub mod Naming
+pub mod Numbers
+pub mod Shown
+pub mod Told
+pub mod Turned

@@ -1,0 +1,6 @@
+pub mod Ends
+pub mod Gone
+pub mod Lists
+pub mod Marks
+pub mod Routes
+pub mod Trees
