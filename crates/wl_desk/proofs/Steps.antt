@@ -20,7 +20,7 @@ use Rattle.wl_plain.specs.Through.{ServesThrough}
 use Rattle.wl_laws.proofs.Runs.Forms.{LeavesAt}
 use Rattle.wl_laws.proofs.Runs.Places.{client-kept, status-become}
 use Rattle.wl_laws.proofs.Runs.Through.{messages_lead_through}
-use Rattle.wl_records.specs.NoMoreLaws.{LeavesPointer}
+use Rattle.wl_records.specs.Acts.{LeavesPointer}
 use Rattle.wl_records.proofs.Toplevels.Back.{settled-back}
 use Rattle.wl_records.proofs.Toplevels.Serves.{becomes-same, settles-to}
 use Rattle.wl_orderly.specs.Orderly.{Orderly, OrderlyAt}

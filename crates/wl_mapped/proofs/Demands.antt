@@ -35,7 +35,7 @@ use Rattle.wl_laws.specs.Soundness.{IsNoChild}
 use Rattle.wl_laws.proofs.Lists.Keys.{found-passes}
 use Rattle.wl_laws.proofs.Lists.Standings.{apart-left, mapped-another, mapped-apart, mapped-here, mapped-other, without-another, without-here, without-other}
 use Rattle.wl_laws.proofs.Soundness.Orderly.{IsAllowed}
-use Rattle.wl_records.specs.NoMore.{AreToplevels}
+use Rattle.wl_records.specs.Toplevels.{AreToplevels}
 use Rattle.wl_records.specs.Standing.{AreMapped, is_mapped, is_mapped_at}
 use Rattle.wl_records.proofs.Keeping.OwningXdg.{has_surface}
 use Rattle.wl_records.proofs.Keeping.StandingClients.{IsFound, left-else, left-none, stepped-else, stepped-here}

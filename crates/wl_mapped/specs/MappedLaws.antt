@@ -12,7 +12,7 @@ use Rattle.wl_plain.specs.Happens.{Happens, Serves}
 use Rattle.wl_plain.specs.LeftOut.{LeftOut, served_now}
 use Rattle.wl_plain.specs.Settling.{EndsAndSettles, becomes, unstruck}
 use Rattle.wl_plain.specs.Step.{with_peer}
-use Rattle.wl_records.specs.NoMoreLaws.{LeavesPointer}
+use Rattle.wl_records.specs.Acts.{LeavesPointer}
 use Rattle.wl_records.specs.Standing.{MappedStand}
 use Rattle.wl_orderly.specs.Orderly.{LeavesOut, Orderly}
 

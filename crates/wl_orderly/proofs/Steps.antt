@@ -35,7 +35,7 @@ use Rattle.wl_laws.proofs.Runs.Places.{number-same}
 use Rattle.wl_laws.proofs.Runs.Serves.{done-clients_stay}
 use Rattle.wl_laws.proofs.Runs.Stays.{sent-status, stored-status}
 use Rattle.wl_laws.proofs.Soundness.RunSteady.{changed-steady}
-use Rattle.wl_records.specs.NoMoreLaws.{LeavesPointer}
+use Rattle.wl_records.specs.Acts.{LeavesPointer}
 use Rattle.wl_records.proofs.Marks.Framing.{told-shows}
 use Rattle.wl_records.proofs.Toplevels.Back.{erred, lacking, settled-back, told-back}
 use Rattle.wl_records.proofs.Toplevels.Serves.{IsDone, after-same, becomes-same, by-pointer, ended_why}

@@ -19,7 +19,7 @@ use Rattle.wl_laws.proofs.Marks.Stacks.{and-both, and-left, and-right, equal-num
 use Rattle.wl_laws.proofs.Soundness.Linked.{forest-trees}
 use Rattle.wl_laws.proofs.Soundness.ObjectsKeys.{none-found}
 use Rattle.wl_laws.proofs.Soundness.Orderly.{HasObjects, HasRoles, IsForest, IsMapped, IsMappedRole, IsOrderly, is_popup_at, is_toplevel_at}
-use Rattle.wl_records.specs.NoMore.{AreToplevels, IsToplevel}
+use Rattle.wl_records.specs.Toplevels.{AreToplevels, IsToplevel}
 use Rattle.wl_one_buffer.specs.OneBuffer.{HasOneBuffer}
 use Rattle.wl_xdg_roots.specs.Roots.{AreOwnSubsurfaces, HasSubsurface}
 use Rattle.wl_xdg_roots.proofs.Orderly.{forest-apart}

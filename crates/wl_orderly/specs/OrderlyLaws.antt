@@ -20,7 +20,7 @@ use Rattle.wl_plain.specs.Step.{with_peer}
 use Rattle.wl_plain.specs.WlSubsurface.{subsurface_at}
 use Rattle.wl_laws.specs.Laws.{AreApart}
 use Rattle.wl_laws.specs.Soundness.{IsLive, IsNoChild}
-use Rattle.wl_records.specs.NoMoreLaws.{LeavesPointer}
+use Rattle.wl_records.specs.Acts.{LeavesPointer}
 use Rattle.wl_without_popups.specs.NoPopups.{NoPopups}
 use Rattle.wl_without_popups.specs.Simple.{changed_simply}
 use Rattle.wl_orderly.specs.Orderly.{HangOrderly, IsSubsurface, LeavesOut, Orderly, OwnsOrderly}

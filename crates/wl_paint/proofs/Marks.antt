@@ -1,9 +1,9 @@
 -- Counts of the numbers and points that pass a test.
-use Rattle.std.proofs.Common.{◌≡◌, ◌≢◌, ℕ, zero, suc, ◌<◌, ◌≤◌, ◌+◌, Bool, true, false, List, [], length, get_or, refl, ap, ◌∙◌, arith, inl, inr}
+use Rattle.std.proofs.Common.{◌≡◌, ℕ, zero, suc, ◌<◌, ◌≤◌, ◌+◌, Bool, true, false, List, length, get_or, refl, ap, ◌∙◌, arith, inl, inr, []}
 use Rattle.std.specs.Prelude.{if◌then◌else◌}
 use Rattle.std.proofs.lemmas.Bool.{cases_Bool, cases_lt}
-use Rattle.std.proofs.lemmas.List.{get_or_past, get_or_default}
-use Rattle.wl_paint.specs.Damage.{Damaged, IsDamage, marked, has, count_below, count_points}
+use Rattle.std.proofs.lemmas.List.{get_or_default}
+use Rattle.wl_paint.specs.Damage.{Damaged, IsDamage, marked, has, count_below}
 
 -- what one number adds to a count
 one-true : (b : Bool) → b ≡ true → ◌≡◌ {A = ℕ} (if b then 1 else 0) 1
@@ -35,14 +35,6 @@ none_below (suc n) p h k l =
       ]
     ]
 
--- a row without damage has no marked point, past its end too
-pub marked-none : (row : List Bool) → count_below (length row) (marked row) ≡ 0 → (x : ℕ) → marked row x ≡ false
-marked-none row h x =
-    elim (cases_lt x (length row)) [
-      | inl inside ↦ none_below (length row) (marked row) h x inside
-      | inr past ↦ get_or_past row x false past
-    ]
-
 -- the count of a row that was read, as that of the points of its row
 pub count_below-row : (damage : Damaged) (y : ℕ) (row : List Bool) → IsDamage damage → y < damage.height → row ≡ get_or damage.rows y row
     → count_below (length row) (marked row) ≡ count_below damage.width (λ x. has damage x y)
@@ -52,34 +44,12 @@ count_below-row damage y row is h read =
     let wide : length row ≡ damage.width = ap length same ∙ is.each_wide y h in
     rw (wide, same) refl
 
--- without damage there is nothing to count
-pub count_points-empty : (width height : ℕ) (p : ℕ → ℕ → Bool) → ((x y : ℕ) → p x y ≡ false) → count_points width height p ≡ 0
-count_points-empty width zero p h = refl
-count_points-empty width (suc height) p h =
-    omega (arith, count_below-empty width (λ x. p x height) (λ x. h x height), count_points-empty width height p h)
-
 -- the same test of each number, the same count
 pub count_below-same : (n : ℕ) (p q : ℕ → Bool) → ((k : ℕ) → k < n → q k ≡ p k) → count_below n q ≡ count_below n p
 count_below-same zero p q h = refl
 count_below-same (suc n) p q h =
     let first : ◌≡◌ {A = ℕ} (if q n then 1 else 0) (if p n then 1 else 0) = ap (λ (b : Bool). if b then 1 else 0) (h n (omega arith)) in
     omega (arith, first, count_below-same n p q (λ k l. h k (omega arith)))
-
--- one number more passes
-pub count_below-more : (n x : ℕ) (p q : ℕ → Bool) → x < n → p x ≡ false → q x ≡ true → ((k : ℕ) → k ≢ x → q k ≡ p k)
-    → 1 + count_below n p ≡ count_below n q
-count_below-more zero x p q l was now others = absurd (omega arith)
-count_below-more (suc n) x p q l was now others =
-    elim (cases_lt x n) [
-      | inl below ↦ (
-          let first : ◌≡◌ {A = ℕ} (if q n then 1 else 0) (if p n then 1 else 0) = ap (λ (b : Bool). if b then 1 else 0) (others n (omega arith)) in
-          omega (arith, first, count_below-more n x p q below was now others))
-      | inr last ↦ (
-          let same : n ≡ x = omega arith in
-          let one : ◌≡◌ {A = ℕ} (if q n then 1 else 0) 1 = one-true (q n) (rw same now) in
-          let none : ◌≡◌ {A = ℕ} (if p n then 1 else 0) 0 = one-false (p n) (rw same was) in
-          omega (arith, one, none, count_below-same n p q (λ k h. others k (omega arith))))
-    ]
 
 -- what passes the one test passes the other
 pub count_below-grow : (n : ℕ) (p q : ℕ → Bool) → ((k : ℕ) → k < n → p k ≡ true → q k ≡ true) → count_below n p ≤ count_below n q

@@ -1,13 +1,11 @@
 -- Stores of buffers go one after another, and the buffer that one surface showed is released.
-use Rattle.std.specs.Prelude.{ℕ, ◌==◌, ◌&&◌, not, Bool, false, if◌then◌else◌, Option, Some, None, List, [], ◌∷◌}
+use Rattle.std.specs.Prelude.{ℕ, ◌==◌, ◌&&◌, not, Bool, false, if◌then◌else◌, Option, Some, None, List, ◌∷◌, []}
 use Rattle.wl_interface.specs.declared.interface.Interface.TheVariants.{WlBuffer}
 use Rattle.wl_proto.specs.Messages.{says}
 use Rattle.wl_peer.specs.Peer.{released}
 use Rattle.wl_peer.specs.Told.{Said, said}
 use Rattle.wl_store.specs.Stores.{Stock}
 use Rattle.wl_state.specs.Request.{Buffer}
-use Rattle.wl_state.specs.State.{applied}
-use Rattle.wl_state.specs.Surface.{Surface}
 use Rattle.wl_surface.specs.Surfaces.{is_busy}
 use Rattle.wl_plain.specs.Desktop.{Resident}
 use Rattle.wl_plain.specs.Replies.{has_object}
@@ -23,19 +21,9 @@ abbrev pub let_if : (Buffer → Bool) → Bool → Option Buffer → Stock → S
 let_if over again None stores = stores
 let_if over again (Some b) stores = if not again && over b then released b.store stores else stores
 
--- the buffer that a surface shows, where all that was committed counts
-abbrev pub shown_at : Option Surface → Option Buffer
-shown_at None = None
-shown_at (Some s) = (applied s.history).buffer
-
 -- a buffer that was busy isn't any more, and its wl_buffer lives
 abbrev pub is_released : Resident → Buffer → Bool
 is_released r b = not (is_busy b.number r.owned.surfaces) && has_object r b
-
--- the wl_buffer that is released, if this buffer was busy
-abbrev pub release_of : Option Buffer → Resident → Option ℕ
-release_of None r = None
-release_of (Some b) r = if is_released r b then Some b.object else None
 
 -- wl_buffer.release
 abbrev pub release_told : Option ℕ → List Said

@@ -2,11 +2,10 @@
 use Rattle.std.specs.Prelude.{Bool, true, false}
 use Rattle.wl_proto.specs.declared.wl_compositor.WlCompositorRequest.TheVariants as compositor
 use Rattle.wl_proto.specs.declared.wl_seat.WlSeatRequest.TheVariants as seat
-use Rattle.wl_proto.specs.declared.wl_subcompositor.WlSubcompositorRequest.TheVariants as subcompositor
 use Rattle.wl_proto.specs.declared.xdg_surface.XdgSurfaceRequest.TheVariants as xdg
 use Rattle.wl_proto.specs.declared.xdg_wm_base.XdgWmBaseRequest.TheVariants as base
-use Rattle.wl_peer.specs.Requests.{Request, ToDisplay, ToRegistry, ToCompositor, ToRegion, ToShm, ToPool, ToBuffer, ToSubcompositor}
-use Rattle.wl_peer.specs.Requests.{ToSubsurface, ToSeat, ToPointer, ToBase, ToPositioner, ToXdgSurface, ToPopup, ToNothing}
+use Rattle.wl_peer.specs.Requests.{Request, ToDisplay, ToRegistry, ToCompositor, ToRegion, ToShm, ToPool, ToBuffer}
+use Rattle.wl_peer.specs.Requests.{ToSeat, ToPointer, ToBase, ToPositioner, ToXdgSurface, ToPopup, ToNothing}
 
 -- Which requests aren't served: they are refused as a limit would be.
 abbrev pub Unserved : Type 0
@@ -21,18 +20,6 @@ unserved_now (ToPositioner request) = true
 unserved_now (ToXdgSurface (xdg.GetPopup id parent positioner)) = true
 unserved_now (ToPopup request) = true
 unserved_now request = false
-
--- which are left out where toplevels alone are served: those of subsurfaces too
-abbrev pub beyond_toplevels : Unserved
-beyond_toplevels (ToSubcompositor (subcompositor.GetSubsurface id surface parent)) = true
-beyond_toplevels (ToSubsurface request) = true
-beyond_toplevels (ToSeat (seat.GetPointer id)) = true
-beyond_toplevels (ToPointer request) = true
-beyond_toplevels (ToBase (base.CreatePositioner id)) = true
-beyond_toplevels (ToPositioner request) = true
-beyond_toplevels (ToXdgSurface (xdg.GetPopup id parent positioner)) = true
-beyond_toplevels (ToPopup request) = true
-beyond_toplevels request = false
 
 -- which are left out where a client's own interfaces are served, and no surfaces, shell and pointers
 abbrev pub beyond_clients : Unserved

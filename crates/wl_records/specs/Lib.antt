@@ -1,6 +1,5 @@
+pub mod Acts
 pub mod Alone
-pub mod NoMore
-pub mod NoMoreLaws
-pub mod Owning
 pub mod Standing
+pub mod Toplevels
 pub mod Touching

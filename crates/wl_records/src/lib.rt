@@ -1,5 +1,5 @@
-//! What relates records to the definitions of the plain desktop: which toplevels stand, what is told of frames, and what is known of desktops where
-//! toplevels alone are served; and the law that a client that owns nothing is served as it is by itself.
+//! What several crates above need of the plain desktop: which toplevels stand, what is told of frames, and what is known of clients whose role
+//! objects are toplevels; and the law that a client that owns nothing is served as it is by itself.
 #![tactic(auto)]
 
 ghost use Rattle.wl_records.specs.Alone.{ServedAlone};

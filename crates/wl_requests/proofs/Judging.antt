@@ -1,5 +1,5 @@
 -- What is judged of a link that is asked for, by what is kept of a client.
-use Rattle.std.proofs.Common.{◌≡◌, ℕ, List, [], ◌∷◌, ◌++◌, Bool, true, false, Option, Some, None, Result, Ok, Err, refl, ap, ap₂, sym, subst, ◌∙◌, eq-eqb, eqb-true, Bor}
+use Rattle.std.proofs.Common.{◌≡◌, ℕ, List, ◌∷◌, ◌++◌, Bool, true, false, Option, Some, None, Result, Ok, Err, refl, ap, ap₂, sym, subst, ◌∙◌, eq-eqb, eqb-true, Bor, []}
 use Rattle.std.specs.Prelude.{◌==◌, ◌||◌, IsErrAnd, find, if◌then◌else◌, is_some, slice_index_or}
 use Rattle.std.specs.Option.{option_and_then, option_copied}
 use Rattle.wl_family.specs.Family.{HangTogether, IsTooDeep, Tied, links_in}
@@ -80,10 +80,6 @@ same-role (Some roles.Cursor) = refl
 role-same : (o : Option Surface) → role_at o ≡ option_and_then (λ (s : Surface). s.role) o
 role-same None = refl
 role-same (Some s) = refl
-
-or-none : (b : Bool) → (b || false) ≡ b
-or-none true = refl
-or-none false = refl
 
 or-first : (a b : Bool) → a ≡ true → (a || b) ≡ true
 or-first true b e = refl

@@ -1,6 +1,6 @@
 -- What the requests of the shell lead to.
 use Rattle.std.proofs.Common.{◌≡◌, ℕ, List, Bool, true, false, Option, Some, None, Result, cond, refl, ap, sym, subst, ◌∙◌, inl, inr}
-use Rattle.std.specs.Prelude.{◌&&◌, not, nat_le, IfSome, ◌==◌, ◌≢◌, ◌⊎◌, ◌↔◌, ◌||◌, [], ◌∷◌, if◌then◌else◌, is_some, IsOkUnless, MatchOption, IsErr, OnOk, Ok, Err}
+use Rattle.std.specs.Prelude.{◌&&◌, not, nat_le, IfSome, ◌==◌, ◌≢◌, ◌⊎◌, ◌↔◌, ◌||◌, ◌∷◌, if◌then◌else◌, is_some, IsOkUnless, MatchOption, IsErr, OnOk, Ok, Err, []}
 use Rattle.std.specs.Option.{option_map, option_and_then}
 use Rattle.std.proofs.Math.Path.{fun_ext}
 use Rattle.std.proofs.lemmas.Bool.{eqb-true}
@@ -389,10 +389,6 @@ new-free v m free = at (new_id_in m) refl
     at : (o : Option NewId) → new_id_in m ≡ o → IfSome o (λ new. IsFree v new.id)
     at None e = tt
     at (Some new) e = free-entry v new.id (free new e)
-
-number-surface : (interface : Interface) → (interface_number interface == interface_number WlSurface) ≡ true → interface ≡ WlSurface
-number-surface WlSurface e = refl
-number-surface interface e = absurd (cc)
 
 -- the same is told
 pub wants-told : (b : Bool) (told answers : List Said) (p after q : Peer) → told ≡ answers → WantsOr b (Queues answers after q) p q → WantsOr b (Queues told after q) p q

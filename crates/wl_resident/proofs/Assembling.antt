@@ -1,5 +1,5 @@
 -- A message that is served, from what its parts say: the client lives on.
-use Rattle.std.proofs.Common.{◌≡◌, ℕ, suc, ◌<◌, ◌≤◌, Bool, true, false, Option, Some, None, List, [], ◌∷◌, ◌++◌, map, refl, ap, sym, subst, ◌∙◌, inl, inr, arith}
+use Rattle.std.proofs.Common.{◌≡◌, ℕ, ◌<◌, ◌≤◌, Bool, true, false, Option, Some, None, List, ◌∷◌, ◌++◌, map, refl, ap, sym, subst, ◌∙◌, inl, inr, arith, []}
 use Rattle.std.specs.Prelude.{is_some, length, pos, ◌||◌, ◌+◌, vec_capacity, vec_len}
 use Rattle.std.proofs.lemmas.Bool.{or_left, or_right}
 use Rattle.std.proofs.lemmas.Int.{ints}
@@ -81,10 +81,6 @@ pub record Asks {A : Type 0} (c : ℕ) (old mid : Kept A) (was ready : Screen A)
 
 pub within-output : (width height x y : ℕ) → x < width → y < height → in_output width height (pos x) (pos y) ≡ true
 within-output width height x y w h = grind (arith, ints)
-
-length-mapped : {X Y : Type 0} (g : X → Y) (xs : List X) → length (map g xs) ≡ length xs
-length-mapped g [] = refl
-length-mapped g (x ∷ xs) = ap suc (length-mapped g xs)
 
 pub fits-so : (a b c d : ℕ) → a + b ≤ d → c ≤ b → a + c ≤ d
 fits-so a b c d e f = omega (arith)
@@ -183,12 +179,14 @@ module _ {A : Type 0} (c : ℕ) (others : ℕ → ById ℕ) (base d : Desktop) (
     pub lives-least : MarksAtLeast d e was.damage new.damage
     lives-least =
         marks-least c others base d r old mid pile before orderly a.lives asked a.asks stacking a.takes alive e q trees trees-after serves status after.based.there after.seat.owns
-        a.touched root a.by a.root_is a.rootless applied a.touched_so is-applied new.scene done ready.spare.was.items f.is kept filled was.damage new.damage points a.unkept no-is
+        a.touched root a.by a.root_is a.rootless applied a.touched_so is-applied
+            new.scene done ready.spare.was.items f.is kept filled was.damage new.damage points a.unkept no-is
 
     pub lives-most : was.damage.width ≡ d.output.width → was.damage.height ≡ d.output.height → MarksMost d e was.damage new.damage
     lives-most width height =
         marks-most c others base d r old mid pile before orderly a.lives asked a.asks stacking a.takes alive e q trees trees-after serves status after.based.there after.seat.owns
-        a.touched root a.by a.root_is a.rootless applied a.touched_so is-applied new.scene done ready.spare.was.items f.is kept filled was.damage new.damage points a.unkept no-is
+        a.touched root a.by a.root_is a.rootless applied a.touched_so is-applied
+            new.scene done ready.spare.was.items f.is kept filled was.damage new.damage points a.unkept no-is
         (λ x y wide high. within-output d.output.width d.output.height x y (subst (λ (n : ℕ). x < n) width wide) (subst (λ (n : ℕ). y < n) height high))
 
   -- ---- one to which it leads
@@ -229,7 +227,8 @@ module _ {A : Type 0} (c : ℕ) (others : ℕ → ById ℕ) (base d : Desktop) (
       fits : ((n : ℕ) → stacking ≡ on.Out n → ⊥) → length f.is ≤ ready.stacked.room
       fits never =
           told-fit c others base d r old mid pile before orderly a.lives asked a.asks stacking a.takes alive e s trees trees-e serves status-e m.4.based.there m.4.seat.owns
-          a.touched root a.by a.root_is a.rootless applied a.touched_so is-applied new.scene done ready.spare.was.items f.is kept filled ready.stacked.room (λ some. (a.room some).stack) no-is-here never
+          a.touched root a.by a.root_is a.rootless applied a.touched_so is-applied
+            new.scene done ready.spare.was.items f.is kept filled ready.stacked.room (λ some. (a.room some).stack) no-is-here never
 
       at : (t : Stacking) → stacking ≡ t → Fit t (length f.is) ready.stacked.room
       at (on.Out n) is = tt
@@ -250,7 +249,8 @@ module _ {A : Type 0} (c : ℕ) (others : ℕ → ById ℕ) (base d : Desktop) (
       sits-seated c others base mid new.scene new.stacked.windows e s m.4 stands
       (subst (λ (ws : List Stacked). AreStacked (with_numbers c (numbers mid) others) ws (all_windows e)) (sym windows-are)
       (windows-after c others base d r old mid pile before orderly a.lives asked a.asks stacking a.takes alive e s trees trees-e serves status-e m.4.based.there m.4.seat.owns
-      a.touched root a.by a.root_is a.rootless applied a.touched_so is-applied new.scene done ready.spare.was.items f.is kept filled))
+      a.touched root a.by a.root_is a.rootless applied a.touched_so is-applied
+            new.scene done ready.spare.was.items f.is kept filled))
 
   -- What is kept stands for a desktop to which the message leads.
   pub lives-seated : (e : Desktop) × (q : Resident) × Serves served_now c d e × IsSeated c others base mid (pile_of new) e q

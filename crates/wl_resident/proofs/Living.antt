@@ -69,7 +69,8 @@ top-demanded : {A : Type 0} (split : Split) (c : ℕ) (r : Resident) (d : Deskto
     → (id : ℕ) × IsDemanded split r (CommitTree id) × (effect_of_commit r id ≡ Maps)
 top-demanded {A} (Whole object opcode size) c r d old mid n h alive = at (judge_all served_now r object opcode (take (size - 8) (drop 8 r.peer.rest))) refl h.0 h.1
   where
-    at : (judged : Result Demand Refusal) → judge_all served_now r object opcode (take (size - 8) (drop 8 r.peer.rest)) ≡ judged → AnswersSo judged c (with_peer (with_rest (drop size r.peer.rest) r.peer) r) d old mid
+    at : (judged : Result Demand Refusal) → judge_all served_now r object opcode (take (size - 8) (drop 8 r.peer.rest)) ≡ judged
+        → AnswersSo judged c (with_peer (with_rest (drop size r.peer.rest) r.peer) r) d old mid
         → StacksSo old r judged (on.ToTop n) → (id : ℕ) × IsDemanded (Whole object opcode size) r (CommitTree id) × (effect_of_commit r id ≡ Maps)
     at (Ok demand) is told stacks =
         let top = top-commits old r demand n stacks in

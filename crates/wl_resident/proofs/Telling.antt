@@ -1,5 +1,5 @@
 -- What is told to one client of the desk, and a piece of its stream: the toplevels and their windows stay.
-use Rattle.std.proofs.Common.{◌≡◌, ℕ, List, ◌++◌, length, Bool, true, false, Option, Some, None, refl, ap, sym, subst, ◌∙◌, inl, inr, ◌⊎◌, map}
+use Rattle.std.proofs.Common.{◌≡◌, ℕ, List, length, Bool, true, false, Option, Some, None, refl, ap, sym, subst, ◌∙◌, inl, inr, ◌⊎◌, map}
 use Rattle.std.proofs.Math.Path.{fun_ext}
 use Rattle.std.specs.List.{list_any}
 use Rattle.std.specs.Prelude.{is_some, nat_le, drop, filter, if◌then◌else◌, not, ◌==◌, ◌≢◌}
@@ -8,7 +8,7 @@ use Rattle.wl_store.specs.declared.stores.StoreError.{StoreError}
 use Rattle.wl_client.specs.Agreement.{IsPeer}
 use Rattle.wl_client.specs.View.{ClientView}
 use Rattle.wl_peer.specs.Objects.{ById}
-use Rattle.wl_peer.specs.Peer.{Peer, Queues, ended, left_by as gone_by, sent_by, stored_at, stored_by, with_rest}
+use Rattle.wl_peer.specs.Peer.{Peer, Queues, ended, left_by as gone_by, sent_by, stored_at, stored_by}
 use Rattle.wl_peer.specs.declared.cause.Cause.{Cause}
 use Rattle.wl_peer.specs.declared.cause.Cause.TheVariants.{Gone}
 use Rattle.wl_table.specs.Objects.{Held}
@@ -290,42 +290,6 @@ frames-untold time c r d over = at r.peer.status over
     at (Some cause) e = refl
 
 -- ---- a piece
-
--- what is kept of one to whom a piece came
-abbrev pub come_on : {A : Type 0} → List ℕ → Kept A → Kept A
-come_on piece v = record v { client = record v.client { rest = v.client.rest ++ piece } }
-
--- the client with the piece
-abbrev pub come_to : List ℕ → Resident → Peer
-come_to piece r = with_rest (r.peer.rest ++ piece) r.peer
-
--- a piece is kept of a client that lives
-pub come-seated : {A : Type 0} (c : ℕ) (others : ℕ → ById ℕ) (base d : Desktop) (r : Resident) (piece : List ℕ) (old : Kept A) (pile : Pile) → IsSeated c others base old pile d r
-    → old.client.ended ≡ None
-    → IsSeated c others base (come_on piece old) pile (become c r (come_to piece r) d) (record r { peer = come_to piece r })
-come-seated c others base d r piece old pile is lives =
-    let none : r.peer.status ≡ None = sym is.seat.peer.status ∙ lives in
-    subst (λ (s : Option Cause). IsSeated c others base (come_on piece old) pile (become c r (come_to piece r) d) (left_by s r (come_to piece r))) none
-    (kept-seated c others base d r (come_to piece r) old (come_on piece old) pile is peer refl refl refl refl refl)
-  where
-    peer : IsPeer (come_on piece old).client (come_to piece r)
-    peer =
-        let p = is.seat.peer in
-        record {
-          status = p.status;
-          «open» = p.open;
-          requests = p.requests;
-          objects = p.objects;
-          held = p.held;
-          regions = p.regions;
-          pools = p.pools;
-          buffers = p.buffers;
-          stores = p.stores;
-          serial = p.serial;
-          unsent = p.unsent;
-          rest = ap (λ (bytes : List ℕ). bytes ++ piece) p.rest;
-          output = p.output;
-        }
 
 pub lives-of : (o : Option Cause) → is_some o ≡ false → o ≡ None
 lives-of None e = refl

@@ -1,10 +1,9 @@
 -- What a desk keeps agrees with a desktop.
-use Rattle.std.specs.Prelude.{ℕ, zero, suc, ◌≡◌, ◌==◌, ◌+◌, ◌%◌, if◌then◌else◌, List, [], ◌∷◌, length, slice_index_or, Option, Some, None}
+use Rattle.std.specs.Prelude.{ℕ, zero, suc, ◌≡◌, ◌==◌, ◌+◌, ◌%◌, if◌then◌else◌, List, ◌∷◌, length, slice_index_or, Option, Some, None, []}
 use Rattle.std.specs.Prelude.{is_some, true}
 use Rattle.wl_interface.specs.declared.interface.Interface.TheVariants.{WlSurface}
 use Rattle.wl_client.specs.Agreement.{IsPeer, output_of}
 use Rattle.wl_peer.specs.Objects.{ById, nothing}
-use Rattle.wl_peer.specs.Peer.{Peer}
 use Rattle.wl_client.specs.View.{ClientView}
 use Rattle.wl_shell.specs.Kept.{kept_of}
 use Rattle.wl_scene.specs.Stacking.{Stack, Standing}
@@ -34,12 +33,6 @@ abbrev pub IsPlace : Option ClientView → Option OwnedView → Option Resident 
 IsPlace None None None = Unit {0}
 IsPlace (Some v) (Some o) (Some r) = IsSeat v o r
 IsPlace v o r = ⊥
-
--- what is kept of a client, without what it owns
-abbrev pub IsSlot : Option ClientView → Option Peer → Type 0
-IsSlot None None = Unit {0}
-IsSlot (Some v) (Some p) = IsPeer v p
-IsSlot v p = ⊥
 
 -- ---- the stack of toplevels
 

@@ -1,5 +1,6 @@
 -- What a message does to the windows that are kept of the output.
-use Rattle.std.specs.Prelude.{ℕ, ℤ, ◌≡◌, ◌==◌, ◌&&◌, ◌||◌, ◌+◌, ◌≤◌, ◌<◌, pos, Bool, if◌then◌else◌, List, [], ◌++◌, Option, Some, None, map, find, length}
+use Rattle.std.specs.Prelude.{ℕ, ℤ, ◌≡◌, ◌==◌, ◌&&◌, ◌||◌, ◌+◌, ◌≤◌, ◌<◌, pos, Bool}
+use Rattle.std.specs.Prelude.{if◌then◌else◌, List, [], ◌++◌, Option, Some, None, map, find, length}
 use Rattle.std.specs.Prelude.{vec_capacity, vec_len}
 use Rattle.std.specs.List.{list_any}
 use Rattle.std.specs.Option.{option_map}
@@ -68,8 +69,8 @@ abbrev pub tree_on : ℕ → Owner → Surfaces → Option ℕ → List Standing
 tree_on c owner all None standing = []
 tree_on c owner all (Some root) standing = tree_at owner all root (find (is_standing c root) standing)
 
--- These are the windows of the tree of a root now: where its toplevel stands as it did they come to the place of those that it had, where it
--- was mapped they come on top, and where it doesn't stand any more it has none.
+-- These are the windows of the tree of a root now: where its toplevel stands as it did they come to the place of those that it had, where
+-- it was mapped they come on top, and where it doesn't stand any more it has none.
 abbrev pub restacked : ℕ → ℕ → Stacking → List TreeWindow → List Stacked → List Stacked
 restacked c root Stays is all = replaced c root is all
 restacked c root (ToTop number) is all = if list_any (is_of c root) all then replaced c root is all else all ++ map (stacked c root) is
@@ -92,8 +93,8 @@ abbrev pub changes_in : {A : Type 0} → Option (Applied A) → List (Change A)
 changes_in None = []
 changes_in (Some applied) = applied.changes.items
 
--- The points that are marked where these windows of a tree are kept, and those it had before and has after a message were told: all of those
--- that are kept, where its toplevel goes; else what the change of the windows marks.
+-- The points that are marked where these windows of a tree are kept, and those it had before and has after a message were told: all of
+-- those that are kept, where its toplevel goes; else what the change of the windows marks.
 abbrev pub turned_has : {A : Type 0} → Stacking → List TreeWindow → List TreeWindow → List TreeWindow → List (Change A) → ℤ → ℤ → Bool
 turned_has (Out number) kept was is changes x y = list_any (window_has x y) kept
 turned_has stacking kept was is changes x y = marks was is changes x y

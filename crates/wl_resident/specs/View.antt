@@ -11,8 +11,8 @@ use Rattle.wl_stacked.specs.declared.stacked.Stacked.{Stacked}
 use Rattle.wl_requests.specs.declared.residents.Resident.{Resident}
 use Rattle.wl_resident.specs.declared.screens.Screen.{Screen}
 
--- what is kept of a client's surfaces by their numbers, of how they hang together, of its xdg_surfaces by the numbers of their surfaces, and
--- under each of these the id of its wl_subsurface
+-- what is kept of a client's surfaces by their numbers, of how they hang together, of its xdg_surfaces by the numbers of their surfaces,
+-- and under each of these the id of its wl_subsurface
 pub record OwnedView : Type 0 where
   pub surfaces : Slots
   pub family : Tied

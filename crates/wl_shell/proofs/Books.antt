@@ -1,5 +1,5 @@
 -- What a change of one xdg_surface makes of all.
-use Rattle.std.proofs.Common.{◌≡◌, ◌≢◌, ℕ, suc, [], ◌∷◌, Bool, true, false, Option, Some, None, Result, refl, ap, subst, sym, ◌∙◌, arith}
+use Rattle.std.proofs.Common.{◌≡◌, ◌≢◌, ℕ, suc, ◌∷◌, Bool, true, false, Option, Some, Result, refl, ap, subst, sym, ◌∙◌, arith, []}
 use Rattle.std.specs.Prelude.{All, IsSomeAnd, IfSome, OnErr, IfOk, Ok, Err, is_some, cond, if◌then◌else◌, ◌==◌, ◌||◌}
 use Rattle.std.specs.List.{list_any}
 use Rattle.std.specs.Option.{option_map}
@@ -22,14 +22,6 @@ updated old new book surface k same updates = fun_ext (λ other. at other (other
     at : (other : ℕ) (b : Bool) → (other == surface) ≡ b → kept_of new.entries other ≡ (if b then k else kept_of book other)
     at other true e = ap (kept_of new.entries) (eqb-true other surface e) ∙ updates.1
     at other false e = updates.2 other (another surface other e) ∙ ap (λ (b : Book). kept_of b other) same
-
--- a surface that has no xdg_surface
-pub unchanged : (book : Book) (surface : ℕ) (change : Kept → Kept) → kept_of book surface ≡ None → kept_of book ≡ changing surface change (kept_of book)
-unchanged book surface change none = fun_ext (λ other. at other (other == surface) refl)
-  where
-    at : (other : ℕ) (b : Bool) → (other == surface) ≡ b → kept_of book other ≡ (if b then option_map change (kept_of book surface) else kept_of book other)
-    at other true e = ap (kept_of book) (eqb-true other surface e) ∙ none ∙ sym (ap (option_map change) none)
-    at other false e = refl
 
 module _ (old new : BTreeMap ℕ Kept) (book : Book) (surface : ℕ) (k w : Kept) (same : old.entries ≡ book) (found : Some k ≡ kept_of old.entries surface)
     (written : WritesThrough nat_cmp (nat_cmp surface) old w new) where

@@ -1,5 +1,5 @@
 -- Where the windows of a tree stand, by their places.
-use Rattle.std.proofs.Common.{◌≡◌, ℕ, zero, suc, ◌+◌, ◌-◌, ◌<◌, ◌≤◌, List, [], ◌∷◌, ◌++◌, Bool, true, false, Some, None, refl, ap, subst, sym, ◌∙◌, length, get_or, take, drop, arith}
+use Rattle.std.proofs.Common.{◌≡◌, ℕ, zero, suc, ◌+◌, ◌-◌, ◌<◌, ◌≤◌, List, ◌∷◌, ◌++◌, Bool, true, false, Some, None, refl, ap, subst, sym, ◌∙◌, length, get_or, take, drop, arith, []}
 use Rattle.std.specs.Prelude.{pos, ◌&&◌, cond, filter, not}
 use Rattle.std.specs.List.{list_all, list_any, position, position_or_len}
 use Rattle.std.proofs.lemmas.Bool.{ltb-false}
@@ -179,18 +179,6 @@ run-there p xs k n e h c =
     }
 
 -- ---- what is read, taken out and put in at a run
-
--- where a run ends
-pub run-ends : (p : Stacked → Bool) (k n : ℕ) (xs : List Stacked) → IsRun p k n xs → k + n ≤ length xs
-run-ends p k n xs r =
-    omega (
-      arith,
-      ap length r.whole,
-      length-append r.below ((r.first ∷ r.others) ++ r.above),
-      length-append (r.first ∷ r.others) r.above,
-      r.begins,
-      r.counted,
-    )
 
 pub run-read : (p : Stacked → Bool) (k n : ℕ) (xs : List Stacked) → IsRun p k n xs → take n (drop k xs) ≡ filter p xs
 run-read p k n xs r =

@@ -12,7 +12,8 @@ use Rattle.wl_surface.specs.Slots.{Numbered, StandsAt, changed_at, with_at}
 use Rattle.wl_state.specs.declared.role.Role.{Role}
 use Rattle.wl_state.specs.Request.{Commit, Request}
 use Rattle.wl_state.specs.Surface.{Surface, applying, asking, new_surface, with_role}
-use Rattle.wl_surface.specs.Waiting.{AreUndue, AreWaiting, Callback, IsNextDue, IsUndue, IsWaiting, applied_at, applied_by, committed_by, counted_at, frames_at, held_at, held_by, is_in, next_of, without_next}
+use Rattle.wl_surface.specs.Waiting.{AreUndue, AreWaiting, Callback, IsNextDue, IsUndue, IsWaiting, applied_at, applied_by}
+use Rattle.wl_surface.specs.Waiting.{committed_by, counted_at, frames_at, held_at, held_by, is_in, next_of, without_next}
 use Rattle.wl_surface.proofs.Framed.{uncounted}
 use Rattle.wl_state.proofs.Records.{applied-kept, held-committed, held-kept}
 use Rattle.wl_state.specs.State.{is_commit}

@@ -3,7 +3,6 @@ pub mod Counting
 pub mod Framed
 pub mod Gone
 pub mod Slots
-pub mod Trees
 pub mod Waiting
 pub mod Left
 pub mod Callbacks

@@ -1,5 +1,5 @@
 -- The frame requests that wait.
-use Rattle.std.proofs.Common.{◌≡◌, ℕ, suc, ◌+◌, ◌<◌, ◌≤◌, ◌==◌, ltb-false, ltb-true, zero, drop, map, take, ◌++◌, List, [], ◌∷◌, Bool, true, false, cond, Option, Some, None, length, refl, ap, sym}
+use Rattle.std.proofs.Common.{◌≡◌, ℕ, suc, ◌+◌, ◌<◌, ◌≤◌, ◌==◌, ltb-false, ltb-true, zero, drop, map, take, ◌++◌, List, ◌∷◌, Bool, true, false, cond, Option, Some, None, length, refl, ap, sym, []}
 use Rattle.std.proofs.Common.{◌∙◌, arith}
 use Rattle.std.specs.Prelude.{find, nat_lt, not, position, remove, slice_index_or, slice_set}
 use Rattle.std.specs.List.{position_or_len}
@@ -90,13 +90,6 @@ pub mapped-set : {X : Type 0} (f : X → X) (xs : List X) (i : ℕ) (d : X) → 
 mapped-set f [] i d less = absurd (omega arith)
 mapped-set f (x ∷ xs) zero d less = refl
 mapped-set f (x ∷ xs) (suc i) d less = ap (λ ys. f x ∷ ys) (mapped-set f xs i d (omega (arith, less)))
-
--- and where it leaves one as it is
-pub mapped-done : {X : Type 0} (f : X → X) (xs : List X) (i : ℕ) (d : X) → i < length xs → f (slice_index_or (map f (take i xs) ++ drop i xs) i d) ≡ slice_index_or (map f (take i xs) ++ drop i xs) i d
-    → map f (take i xs) ++ drop i xs ≡ map f (take (suc i) xs) ++ drop (suc i) xs
-mapped-done f [] i d less e = absurd (omega arith)
-mapped-done f (x ∷ xs) zero d less e = ap (λ y. y ∷ xs) (sym e)
-mapped-done f (x ∷ xs) (suc i) d less e = ap (λ ys. f x ∷ ys) (mapped-done f xs i d (omega (arith, less)) e)
 
 -- the requests changed in their place
 pub changed-all : (change : Waiting → Waiting) (before now frames : List Waiting) (len : ℕ) → now ≡ map change before → before ≡ frames → length before ≡ len

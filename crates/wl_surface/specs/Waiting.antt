@@ -1,5 +1,6 @@
 -- The frame requests that wait, and the callbacks that they are for (wayland.xml, wl_surface.frame).
-use Rattle.std.specs.Prelude.{ℕ, ◌≡◌, ◌==◌, ◌||◌, if◌then◌else◌, Bool, true, false, cond, not, Option, Some, None, List, [], ◌∷◌, ◌++◌, filter, find, map}
+use Rattle.std.specs.Prelude.{ℕ, ◌≡◌, ◌==◌, ◌||◌, if◌then◌else◌, Bool, true, false, cond, not}
+use Rattle.std.specs.Prelude.{Option, Some, None, List, [], ◌∷◌, ◌++◌, filter, find, map}
 use Rattle.std.specs.List.{list_any}
 use Rattle.std.specs.Option.{option_map}
 use Rattle.wl_surface.specs.declared.frames.Waiting.{Waiting}
@@ -69,7 +70,8 @@ counted_at at = (held_at at, applied_at at)
 abbrev pub is_in : List ℕ → Callback → Bool
 is_in numbers c = list_any (λ n. n == c.number) numbers
 
--- What is kept of a callback: its id, the surface that it was requested of, whether a commit came after that request, and whether it counts.
+-- What is kept of a callback: its id, the surface that it was requested of, whether a commit came after that request, and whether it
+-- counts.
 pub record IsWaiting (w : Waiting) (all : Numbered) (c : Callback) : Type 0 where
   pub id : w.callback ≡ c.id
   pub asked : (number : ℕ) → is_in (frames_at (all number)) c ≡ (number == w.surface)

@@ -1,5 +1,5 @@
 -- Of two lists of buffers the same stores go where those that pass have the same numbers.
-use Rattle.std.proofs.Common.{◌≡◌, ℕ, List, [], ◌∷◌, ◌++◌, Bool, true, false, cond, refl, ap, sym, ◌∙◌}
+use Rattle.std.proofs.Common.{◌≡◌, ℕ, List, ◌∷◌, ◌++◌, Bool, true, false, cond, refl, ap, sym, ◌∙◌, []}
 use Rattle.std.proofs.lemmas.Bool.{eqb-true}
 use Rattle.std.proofs.lemmas.List.Elements.{Contains-append_left, Contains-append_right}
 use Rattle.std.specs.Prelude.{◌==◌, ◌||◌, not, filter}
@@ -17,14 +17,6 @@ use Rattle.wl_tree_buffers.proofs.Orders.{going}
 use Rattle.wl_tree_buffers.proofs.Stores.{commute, filter-swap}
 
 -- ---- numbers
-
-other-way : (a b : ℕ) (c : Bool) → (a == b) ≡ c → (b == a) ≡ c
-other-way a b true e = ap (λ n. n == a) (sym (eqb-true a b e)) ∙ same-number a
-other-way a b false e = at (b == a) refl
-  where
-    at : (c : Bool) → (b == a) ≡ c → c ≡ false
-    at true f = absurd (differ (sym e ∙ ap (λ n. n == b) (sym (eqb-true b a f)) ∙ same-number b))
-    at false f = refl
 
 pub without-has : (k : ℕ) (bs : List Buffer) → has_number k (without_buffer k bs) ≡ false
 without-has k [] = refl

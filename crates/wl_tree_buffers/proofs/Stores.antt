@@ -1,5 +1,5 @@
 -- Two stores have one use less each, in either order.
-use Rattle.std.proofs.Common.{◌≡◌, ℕ, ◌-◌, List, [], ◌∷◌, Bool, true, false, Option, Some, cond, refl, ap, sym, ◌∙◌, map}
+use Rattle.std.proofs.Common.{◌≡◌, ℕ, ◌-◌, List, ◌∷◌, Bool, true, false, Option, Some, cond, refl, ap, sym, ◌∙◌, map, []}
 use Rattle.std.proofs.lemmas.Bool.{eqb-true}
 use Rattle.std.specs.Prelude.{◌==◌, not, filter, find, is_some, nat_le}
 use Rattle.std.specs.Option.{option_map_or}
@@ -69,9 +69,6 @@ acting there last a s = cond there (cond last (without_store a s) (with_change a
 
 abbrev acting_on : Option Held → ℕ → Stock → Stock
 acting_on o a s = acting (is_some o) (nat_le (option_map_or (λ s. s.uses) o 0) 1) a s
-
-released-is : (a : ℕ) (s : Stock) → released a s ≡ acting_on (store_at a s) a s
-released-is a s = refl
 
 one-number : (c : Bool) (x : Held) → (cond c (record x { uses = x.uses - 1 }) x).number ≡ x.number
 one-number true x = refl

@@ -1,5 +1,5 @@
 -- To apply a surface is to apply what descends from it.
-use Rattle.std.proofs.Common.{◌≡◌, ℕ, zero, suc, ◌||◌, ◌&&◌, ◌==◌, Bool, true, false, cond, Option, Some, None, List, [], ◌∷◌, map, refl, ap, ◌∙◌, arith}
+use Rattle.std.proofs.Common.{◌≡◌, ℕ, zero, suc, ◌||◌, ◌&&◌, ◌==◌, Bool, true, false, cond, Option, Some, None, List, ◌∷◌, map, refl, ap, ◌∙◌, arith, []}
 use Rattle.std.specs.Prelude.{filter, find, fold, not}
 use Rattle.std.specs.List.{list_any}
 use Rattle.wl_state.specs.Surface.{Surface, applying}
@@ -108,10 +108,6 @@ child-of top child [] once = refl
 child-of top child (l ∷ ls) once = found-child top child l ls l.has_ended (l.child == child) refl refl once.0 (child-of top child ls once.1)
 
 -- ---- descent, by children and by parents
-
-any-same : (p q : ℕ → Bool) → ((n : ℕ) → p n ≡ q n) → (ns : List ℕ) → list_any p ns ≡ list_any q ns
-any-same p q same [] = refl
-any-same p q same (n ∷ ns) = rw (same n) (ap (λ b. q n || b) (any-same p q same ns))
 
 or-four : (a b c d : Bool) → ((a || b) || (c || d)) ≡ ((a || c) || (b || d))
 or-four true b c d = refl

@@ -1,5 +1,5 @@
 -- What is kept of how surfaces hang together, once a child is placed.
-use Rattle.std.proofs.Common.{◌≡◌, ℕ, ◌≤◌, ◌||◌, ◌==◌, Bool, true, false, cond, Option, Some, None, List, [], ◌∷◌, ◌++◌, take, refl, ap, sym, subst, ◌∙◌, arith, eq-eqb}
+use Rattle.std.proofs.Common.{◌≡◌, ℕ, ◌≤◌, ◌||◌, ◌==◌, Bool, true, false, cond, Option, Some, None, List, ◌∷◌, ◌++◌, take, refl, ap, sym, subst, ◌∙◌, arith, eq-eqb, []}
 use Rattle.std.specs.Prelude.{ℤ, find, if◌then◌else◌}
 use Rattle.std.specs.List.{list_any}
 use Rattle.std.specs.Option.{option_map}
@@ -140,12 +140,6 @@ or-swapped : (a b c : Bool) → (a || (b || c)) ≡ (b || (a || c))
 or-swapped true true c = refl
 or-swapped true false c = refl
 or-swapped false b c = refl
-
-or-turned : (a b : Bool) → (a || b) ≡ (b || a)
-or-turned true true = refl
-or-turned true false = refl
-or-turned false true = refl
-or-turned false false = refl
 
 or-again : (a b : Bool) → (a || (a || b)) ≡ (a || b)
 or-again true b = refl

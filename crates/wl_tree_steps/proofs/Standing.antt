@@ -1,5 +1,5 @@
 -- The windows of toplevels where one tree of surfaces of one client changes.
-use Rattle.std.proofs.Common.{◌≡◌, ℕ, ◌==◌, ◌&&◌, Bool, true, false, None, List, [], ◌∷◌, ◌++◌, refl, ap, ap₂, sym, subst, ◌∙◌, append_assoc}
+use Rattle.std.proofs.Common.{◌≡◌, ℕ, ◌==◌, ◌&&◌, Bool, true, false, None, List, ◌∷◌, ◌++◌, refl, ap, ap₂, sym, subst, ◌∙◌, append_assoc, []}
 use Rattle.std.specs.Prelude.{ℤ, int_le, pos, unsigned_abs}
 use Rattle.std.specs.List.{list_all, list_any}
 use Rattle.std.specs.Option.{option_map}
@@ -32,10 +32,6 @@ each-first P (x ∷ xs) ys e = (e.0, each-first P xs ys e.1)
 each-second : {X : Type 0} (P : X → Type 0) (xs ys : List X) → Each P (xs ++ ys) → Each P ys
 each-second P [] ys e = e
 each-second P (x ∷ xs) ys e = each-second P xs ys e.1
-
-each-two : {X : Type 0} (P Q : X → Type 0) (xs : List X) → Each P xs → Each Q xs → Each (λ x. P x × Q x) xs
-each-two P Q [] e f = tt
-each-two P Q (x ∷ xs) e f = ((e.0, f.0), each-two P Q xs e.1 f.1)
 
 any-none : {X : Type 0} (p : X → Bool) (xs : List X) → Each (λ x. p x ≡ false) xs → list_any p xs ≡ false
 any-none p [] e = refl

@@ -1,5 +1,5 @@
 -- What is kept of the windows of the output goes on standing for those of the desktop where the windows of one tree change.
-use Rattle.std.proofs.Common.{◌≡◌, ℕ, ◌==◌, Bool, true, false, Option, Some, None, List, [], ◌∷◌, ◌++◌, map, refl, ap, ap₂, sym, subst, ◌∙◌}
+use Rattle.std.proofs.Common.{◌≡◌, ℕ, ◌==◌, Bool, true, false, Option, Some, None, List, ◌∷◌, ◌++◌, map, refl, ap, ap₂, sym, subst, ◌∙◌, []}
 use Rattle.std.specs.Prelude.{◌&&◌, find, if◌then◌else◌}
 use Rattle.std.specs.List.{AllByRecursion as Each, list_all, list_any}
 use Rattle.std.proofs.lemmas.List.Folds.{list_any-append}
@@ -151,8 +151,6 @@ module _ (numbers : ℕ → ById ℕ) (all : List Stacked) (c root k : ℕ) (f :
   -- Where it was mapped, they come on top.
   module _ (s : Standing) (its : is_standing c root s ≡ true) (windows : all_windows e ≡ windows_on (owned_in e) e.standing) (stands : e.standing ≡ d.standing ++ s ∷ [])
       (nowhere : list_any (is_standing c root) d.standing ≡ false) where
-    below-windows : List Window
-    below-windows = windows_on (owned_in e) d.standing
 
     no-was : t.was ≡ []
     no-was = t.was_of ∙ none-at c root d (find-none (is_standing c root) d.standing nowhere)

@@ -26,7 +26,7 @@ use Rattle.wl_laws.proofs.Lists.Keys.{apart-left, differ, new-apart}
 use Rattle.wl_laws.proofs.Soundness.ObjectsKeys.{apart-less, none-found}
 use Rattle.wl_laws.proofs.Soundness.ObjectsThere.{there-changed, there-committed, there-desynchronised, there-linked, there-unlinked}
 use Rattle.wl_laws.proofs.Soundness.Orderly.{IsAllowed, IsAsked}
-use Rattle.wl_records.specs.NoMore.{AreToplevels}
+use Rattle.wl_records.specs.Toplevels.{AreToplevels}
 use Rattle.wl_without_popups.specs.NoPopups.{OwnsNoPopups}
 use Rattle.wl_without_popups.specs.Simple.{IsServed, changed_simply, effect_of, effect_on}
 use Rattle.wl_without_popups.proofs.Held.{AreHeld, Left, Rest, bare-new, bare-of, held-at, held-callback}

@@ -10,7 +10,7 @@ use Rattle.wl_scene.specs.Pointer.{Pointer, is_down, is_press}
 use Rattle.wl_scene.specs.Stacking.{Standing}
 use Rattle.wl_plain.specs.Changing.{drawing}
 use Rattle.wl_plain.specs.Desktop.{Desktop, Resident, client_at, toplevels_of}
-use Rattle.wl_records.specs.NoMore.{AreToplevels}
+use Rattle.wl_records.specs.Toplevels.{AreToplevels}
 use Rattle.wl_without_popups.specs.NoPopups.{NoPopups, OwnsNoPopups, OwnsNoPopupsAt}
 use Rattle.wl_plain.specs.Pointing.{button_told, entered_surface, has_pointers, left_surface, motion_told, moved_with}
 use Rattle.wl_plain.specs.Replies.{popups_done}

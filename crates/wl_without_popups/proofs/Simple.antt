@@ -17,7 +17,7 @@ use Rattle.wl_plain.specs.Replies.{commit_told, configure_told, own_answers, rel
 use Rattle.wl_plain.specs.Stacked.{all_windows}
 use Rattle.wl_plain.specs.Step.{asked_so_far, configured, configures_told, removing, role_configured, with_shell}
 use Rattle.wl_plain.specs.WlSurface.{will_show}
-use Rattle.wl_records.specs.NoMore.{AreToplevels, IsToplevel}
+use Rattle.wl_records.specs.Toplevels.{AreToplevels, IsToplevel}
 use Rattle.wl_records.proofs.Toplevels.Buffers.{nothing-after}
 use Rattle.wl_records.proofs.Toplevels.Changed.{none-dismissed, stage-top}
 use Rattle.wl_records.proofs.Toplevels.Judged.{IsToplevelAt, found-toplevel, none-popped}

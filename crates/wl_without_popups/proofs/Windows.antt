@@ -6,7 +6,7 @@ use Rattle.wl_scene.specs.Stacking.{Owned, Standing, root_of, windows_on}
 use Rattle.wl_scene.specs.Windows.{Root, StackedPopup, owner_of, roots_of, tree, windows}
 use Rattle.wl_plain.specs.Desktop.{Desktop, Resident, client_at, owned_in, owned_of, toplevels_of}
 use Rattle.wl_plain.specs.Popups.{stacked_popup, stacked_popups}
-use Rattle.wl_records.specs.NoMore.{AreToplevels}
+use Rattle.wl_records.specs.Toplevels.{AreToplevels}
 use Rattle.wl_records.proofs.Toplevels.Changed.{no-popups}
 use Rattle.wl_without_popups.specs.NoPopups.{NoPopups, OwnsNoPopupsAt, OwnsNoPopupsBy}
 use Rattle.wl_without_popups.specs.NoPopupsLaws.{WindowsAreToplevels}

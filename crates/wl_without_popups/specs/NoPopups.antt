@@ -9,7 +9,7 @@ use Rattle.wl_scene.specs.Stacking.{Standing}
 use Rattle.wl_plain.specs.Desktop.{Desktop, Resident, client_at, resident_of, toplevels_of}
 use Rattle.wl_plain.specs.WlSubsurface.{is_of_child}
 use Rattle.wl_laws.specs.Apart.{AreApartBy, AreObjects}
-use Rattle.wl_records.specs.NoMore.{AreToplevels}
+use Rattle.wl_records.specs.Toplevels.{AreToplevels}
 
 -- A client has no popup and no wl_pointers. Its surfaces are told apart by their ids, which are those of wl_surfaces; its wl_subsurfaces
 -- and its frame callbacks by theirs, which are those of wl_subsurfaces and wl_callbacks; and no two wl_subsurfaces are of one surface

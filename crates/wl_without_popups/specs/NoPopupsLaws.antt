@@ -8,7 +8,7 @@ use Rattle.wl_plain.specs.Desktop.{Desktop, client_at, empty, owned_in, toplevel
 use Rattle.wl_plain.specs.Happens.{Happens}
 use Rattle.wl_plain.specs.Stacked.{all_windows}
 use Rattle.wl_laws.specs.Others.{client_of}
-use Rattle.wl_records.specs.NoMoreLaws.{LeavesPointer}
+use Rattle.wl_records.specs.Acts.{LeavesPointer}
 use Rattle.wl_without_popups.specs.NoPopups.{NoPopups}
 use Rattle.wl_plain.specs.LeftOut.{served_now}
 

@@ -1,5 +1,5 @@
 -- What a change of one client leaves to the others.
-use Rattle.std.proofs.Common.{◌≡◌, ◌≢◌, ℕ, List, [], ◌∷◌, Bool, true, false, Option, Some, None, refl, ap, sym, ◌∙◌}
+use Rattle.std.proofs.Common.{◌≡◌, ◌≢◌, ℕ, List, ◌∷◌, Bool, true, false, Option, Some, None, refl, ap, sym, ◌∙◌, []}
 use Rattle.std.specs.Prelude.{◌==◌, ◌&&◌, not, cond, filter}
 use Rattle.std.proofs.lemmas.Bool.{eqb-true}
 use Rattle.wl_peer.specs.declared.cause.Cause.{Cause}
@@ -66,8 +66,3 @@ become-left c other r q d differ = (other-become c other r q d differ, become-ot
 
 pub same-left : (other : ℕ) (d new : Desktop) → new ≡ d → IsLeft other d new
 same-left other d new e = (ap (λ (x : Desktop). client_at other x) e, ap (λ (x : Desktop). toplevels_of other x) e)
-
--- ---- the output stays
-
-abbrev pub Keeps : Desktop → Desktop → Type 0
-Keeps old new = new.output ≡ old.output

@@ -1,5 +1,5 @@
 -- Lists whose elements are told apart by keys: what is found of one that changes, comes or goes.
-use Rattle.std.proofs.Common.{◌≡◌, ℕ, ◌+◌, List, [], ◌∷◌, ◌++◌, Bool, true, false, Option, Some, None, cond, length, refl, ap, sym, subst, ◌∙◌, map, arith}
+use Rattle.std.proofs.Common.{◌≡◌, ℕ, ◌+◌, List, ◌∷◌, ◌++◌, Bool, true, false, Option, Some, None, cond, length, refl, ap, sym, subst, ◌∙◌, map, arith, []}
 use Rattle.std.proofs.lemmas.Bool.{false_from_ne_true, or_left, or_right}
 use Rattle.std.specs.Prelude.{◌||◌, not, find, filter}
 use Rattle.std.specs.List.{list_any}
@@ -100,10 +100,6 @@ apart-map has f (x ∷ xs) keeps apart = (
   λ key is. found-map (has key) f xs (keeps key) ∙ ap (option_map f) (apart.0 key (sym (keeps key x) ∙ is)),
   apart-map has f xs keeps apart.1,
 )
-
-pub length-map : {X : Type 0} (f : X → X) (xs : List X) → length (map f xs) ≡ length xs
-length-map f [] = refl
-length-map f (x ∷ xs) = let e = length-map f xs in omega (arith, e)
 
 -- ---- one more
 

@@ -1,9 +1,8 @@
 -- What is known of a message that is judged: its object is of its interface, its arguments are of their kinds, they name live objects, and its
 -- new id is free.
-use Rattle.std.proofs.Common.{◌≡◌, ℕ, List, [], ◌∷◌, Bool, true, false, Option, Some, None, Result, refl, ap, sym, subst, map}
+use Rattle.std.proofs.Common.{◌≡◌, ℕ, List, ◌∷◌, Bool, true, false, Option, Some, None, Result, refl, ap, sym, subst, map, []}
 use Rattle.std.specs.Prelude.{Ok, Err, ◌==◌, if◌then◌else◌, nat_le, slice_get}
 use Rattle.std.specs.List.{list_all}
-use Rattle.std.proofs.lemmas.Bool.{eqb-true}
 use Rattle.wl_wire.specs.declared.error.ArgError.{ArgError}
 use Rattle.wl_wire.specs.Wire.{Field, Word, Number, Text, Block, Kind, AWord, AText, fields_at, kind_of}
 use Rattle.wl_proto.specs.declared.argument.NewId.{NewId}
@@ -130,11 +129,6 @@ judged-hears {X = X} objects held object opcode asks body x e = at (objects obje
     at (Some o) there e = by o (decoded o.interface o.version opcode body) there refl e
 
 -- ---- what is known of single arguments
-
--- a message's opcode
-pub heard-at : (objects : Objects) (object : ℕ) (interface : Interface) (opcode k : ℕ) (fields : List Field) → IsHeard objects object interface opcode fields → (opcode == k) ≡ true
-    → IsHeard objects object interface k fields
-heard-at objects object interface opcode k fields heard e = subst (λ n. IsHeard objects object interface n fields) (eqb-true opcode k e) heard
 
 -- a new id in front
 pub fresh-first : (objects : Objects) (interface : Option Interface) (arguments : List Argument) (kinds : List Kind) (fields : List Field) → map kind_of fields ≡ AWord ∷ kinds

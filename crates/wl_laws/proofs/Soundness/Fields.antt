@@ -1,12 +1,9 @@
 -- The object that a message makes is neither a wl_surface nor a wl_callback before.
-use Rattle.std.proofs.Common.{◌≡◌, ℕ, List, [], ◌∷◌, Bool, true, false, Option, Some, None, Result, refl, ap, sym, ◌∙◌, map, length}
-use Rattle.std.specs.Prelude.{Ok, Err, ◌==◌, ◌&&◌, if◌then◌else◌, is_some, nat_le, nat_lt, not, ◌+◌, ◌-◌, drop, slice_index, take}
+use Rattle.std.proofs.Common.{◌≡◌, ℕ, List, ◌∷◌, Bool, true, false, Result, refl, ap, sym, ◌∙◌, map, length, []}
+use Rattle.std.specs.Prelude.{Ok, Err, ◌==◌, if◌then◌else◌, nat_lt, ◌+◌, ◌-◌, drop, slice_index, take}
 use Rattle.wl_wire.specs.declared.error.ArgError.{ArgError}
 use Rattle.wl_wire.specs.declared.error.ArgError.TheVariants.{Null, Short, NoNul}
 use Rattle.wl_wire.specs.Wire.{Field, Text, Block, Kind, AWord, ANumber, AText, ABlock, block_at, field_at, fields_at, fields_behind, kind_of, none_left, text_at, whole, with_front, word_of}
-use Rattle.wl_peer.specs.Judgement.{is_free}
-use Rattle.wl_peer.specs.Objects.{Object, Objects, is_of}
-use Rattle.wl_interface.specs.declared.interface.Interface.TheVariants.{WlCallback, WlSurface}
 
 -- ---- what is read is of the kinds that are asked for
 
@@ -63,15 +60,3 @@ fields-kinds (kind ∷ kinds) bytes fields e = at (field_at kind bytes) refl e (
         → ((more : List ℕ) (rest : List Field) → fields_at kinds more ≡ Ok rest → map kind_of rest ≡ kinds) → map kind_of fields ≡ kind ∷ kinds
     at (Ok x) is e later = front x (fields_at kinds x.1) refl (field-kind kind bytes x is) e (λ rest r. later x.1 rest r)
     at (Err fault) is e later = absurd (cc)
-
--- ---- a new id
-
--- a free id is neither a wl_surface's nor a wl_callback's
-pub free-apart : (objects : Objects) (id : ℕ) → is_free objects id ≡ true → (is_of WlSurface (objects id) ≡ false) × (is_of WlCallback (objects id) ≡ false)
-free-apart objects id free = at (nat_le 1 id) (nat_le id 4278190079) (objects id) free
-  where
-    at : (a b : Bool) (o : Option Object) → (a && (b && not (is_some o))) ≡ true → (is_of WlSurface o ≡ false) × (is_of WlCallback o ≡ false)
-    at a b None e = (refl, refl)
-    at true true (Some o) e = absurd (cc)
-    at true false (Some o) e = absurd (cc)
-    at false b (Some o) e = absurd (cc)

@@ -1,5 +1,5 @@
 -- The callbacks that a client keeps stay its callbacks, whatever is asked of its surfaces.
-use Rattle.std.proofs.Common.{◌≡◌, ℕ, ◌+◌, ◌<◌, ◌≤◌, List, [], ◌∷◌, ◌++◌, Bool, true, false, cond, Option, Some, None, refl, ap, sym, ◌∙◌, arith, inl, inr}
+use Rattle.std.proofs.Common.{◌≡◌, ℕ, ◌+◌, ◌<◌, ◌≤◌, List, ◌∷◌, ◌++◌, Bool, true, false, cond, Option, Some, None, refl, ap, sym, ◌∙◌, arith, inl, inr, []}
 use Rattle.std.specs.Prelude.{◌==◌, ◌||◌, ◌⊎◌}
 use Rattle.std.specs.List.{list_any}
 use Rattle.std.specs.Option.{option_map}
@@ -9,10 +9,10 @@ use Rattle.std.proofs.lemmas.List.Folds.{list_any-append}
 use Rattle.wl_surface.specs.declared.frames.Waiting.{Waiting}
 use Rattle.wl_surface.specs.Slots.{Numbered, changed_at}
 use Rattle.wl_state.specs.Frames.{frames_of}
-use Rattle.wl_state.specs.Request.{Commit, Frame, Request}
-use Rattle.wl_state.specs.Surface.{Surface, applying, asking}
+use Rattle.wl_state.specs.Request.{Frame, Request}
+use Rattle.wl_state.specs.Surface.{Surface, asking}
 use Rattle.wl_surface.specs.Waiting.{AreWaiting, Callback, IsNewNumber, counted_at, frames_at}
-use Rattle.wl_surface.proofs.Counting.{asked-still, waiting-same}
+use Rattle.wl_surface.proofs.Counting.{waiting-same}
 use Rattle.wl_plain.specs.Framing.{AreFramed}
 use Rattle.wl_laws.proofs.Lists.Keys.{differ}
 
@@ -85,10 +85,6 @@ framed-more frames new all surface n bound cs more le f waits = record { waits =
     at : (other number : ℕ) (b : Bool) → has number (frames_at (cond b (option_map (asking (Frame n)) (all other)) (all other))) ≡ true → number < n + 1
     at other number true any = below other number (asked-has n number (all other) any)
     at other number false any = below other number (inl any)
-
-commit-asks : (at : Option Surface) → frames_at (option_map (λ s. applying (asking Commit s)) at) ≡ frames_at at
-commit-asks None = refl
-commit-asks (Some s) = asked-still Commit refl (Some s)
 
 pub framed-less : (frames new : List Waiting) (all : Numbered) (bound : ℕ) (cs less : List Callback) → AreFramed frames all bound cs → AreWaiting new all less → AreFramed new all bound less
 framed-less frames new all bound cs less f waits = record { waits = waits; early = f.early }

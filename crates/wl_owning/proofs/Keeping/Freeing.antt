@@ -1,6 +1,6 @@
 -- Of the buffers that a client's surfaces had, those that are over after a call let their stores go, and those that aren't busy any more are
 -- released: it is enough to look at those that the call tells to be freed, and at a pending buffer that went with its surface.
-use Rattle.std.proofs.Common.{◌≡◌, ℕ, ◌<◌, zero, suc, List, [], ◌∷◌, ◌++◌, Bool, true, false, Option, Some, None, cond, length, map, refl, ap, sym, subst, ◌∙◌, eq-eqb, arith, inl, inr}
+use Rattle.std.proofs.Common.{◌≡◌, ℕ, ◌<◌, zero, suc, List, ◌∷◌, ◌++◌, Bool, true, false, Option, Some, None, cond, length, map, refl, ap, sym, subst, ◌∙◌, eq-eqb, arith, inl, inr, []}
 use Rattle.std.proofs.lemmas.Bool.{eqb-true, or_left}
 use Rattle.std.proofs.lemmas.List.Sums.{length-filter}
 use Rattle.std.specs.Prelude.{◌==◌, ◌&&◌, ◌||◌, ◌⊎◌, not, count_by, filter, find, flat_map, slice_index_or}
@@ -204,14 +204,6 @@ shown-busy all b c =
         or_left (names b.number (applied s.history).buffer) (names b.number (held s.history).buffer) (named (applied s.history).buffer (listed-in (applied s.history).buffer b second))
 
 -- ---- stores go, and buffers are released
-
-or-true : (a b : Bool) → (a || b) ≡ false → b ≡ false
-or-true true b e = absurd (differ e)
-or-true false b e = e
-
-and-true : (a b : Bool) → a ≡ true → b ≡ true → (a && b) ≡ true
-and-true true b e f = f
-and-true false b e f = absurd (differ (sym e))
 
 module _ (old new : Resident) (numbers : List ℕ) (shown : List Buffer) (one : AreOne (had_in old.owned.surfaces)) (are : AreFreedOf numbers shown old.owned.surfaces new.owned.surfaces) where
   -- a buffer that was busy and isn't any more is looked at

@@ -35,17 +35,6 @@ changing-none number change kept none = fun_ext (λ other. at other (other == nu
     at other true here = ap (option_map change) none ∙ sym (ap kept (eqb-true other number here) ∙ none)
     at other false here = refl
 
-pub changing-same : (number : ℕ) (kept : ℕ → Option Kept) → changing number (λ k. k) kept ≡ kept
-changing-same number kept = fun_ext (λ other. at other (other == number) refl)
-  where
-    same : (o : Option Kept) → option_map (λ (k : Kept). k) o ≡ o
-    same None = refl
-    same (Some k) = refl
-
-    at : (other : ℕ) (b : Bool) → (other == number) ≡ b → cond b (option_map (λ (k : Kept). k) (kept number)) (kept other) ≡ kept other
-    at other true here = same (kept number) ∙ ap kept (sym (eqb-true other number here))
-    at other false here = refl
-
 -- the same numbers of a surface are read
 same-number : (a b : ById ℕ) (o : Option XdgSurface) → ((x : XdgSurface) → o ≡ Some x → a x.surface ≡ b x.surface) → number_of a o ≡ number_of b o
 same-number a b None same = refl

@@ -116,12 +116,6 @@ module _ (old new : Held) (id : ℕ) where
       names-with old new _ _ _ (none-made WlSurface entry free (not-surface entry.interface other) holds) (none-made XdgSurface entry free (not-xdg entry.interface other) holds)
       (none-made XdgToplevel entry free (not-toplevel entry.interface other) holds)
 
-  -- an object goes
-  pub names-surface-gone : (entry : Entry) → entry_of old id ≡ Some entry → entry.interface ≡ WlSurface → HoldsAt old new id None → names_in new ≡ with_surface id None (names_in old)
-  names-surface-gone entry found is holds =
-      names-with old new _ _ _ (targets-with WlSurface old new id None holds) (none-gone XdgSurface entry found (apart WlSurface XdgSurface false refl entry is) holds)
-      (none-gone XdgToplevel entry found (apart WlSurface XdgToplevel false refl entry is) holds)
-
   pub names-xdg-gone : (entry : Entry) → entry_of old id ≡ Some entry → entry.interface ≡ XdgSurface → HoldsAt old new id None → names_in new ≡ with_xdg id None (names_in old)
   names-xdg-gone entry found is holds =
       names-with old new _ _ _ (none-gone WlSurface entry found (apart XdgSurface WlSurface false refl entry is) holds) (targets-with XdgSurface old new id None holds)

@@ -11,11 +11,11 @@ use Rattle.wl_state.specs.declared.role.Role.{Role}
 use Rattle.wl_state.specs.declared.role.Role.TheVariants.{Toplevel as AsToplevel, Popup as AsPopup, Subsurface as AsSubsurface, Cursor as AsCursor}
 use Rattle.wl_state.specs.Kept.{buffer_of}
 use Rattle.wl_family.specs.Family.{Tied}
-use Rattle.wl_surface.specs.Slots.{IsAny, Numbered, Slots, StandForAll, content_at, has_at, pending_at, role_at, shows_at}
+use Rattle.wl_surface.specs.Slots.{Numbered, Slots, StandForAll, content_at, pending_at, role_at}
 use Rattle.wl_state.specs.Request.{Buffer, SetWindowGeometry}
 use Rattle.wl_state.specs.State.{History, pending}
 use Rattle.wl_state.specs.Surface.{Surface, has_content, is_there}
-use Rattle.wl_surface.specs.Surfaces.{history_in, is_busy, is_used, surface_at}
+use Rattle.wl_surface.specs.Surfaces.{history_in, surface_at}
 use Rattle.wl_shell.specs.declared.acts.ShellAct.{ShellAct}
 use Rattle.wl_shell.specs.declared.acts.ShellAct.TheVariants.{Configure, Map, Unmap, Nothing}
 use Rattle.wl_shell.specs.declared.error.ShellError.{ShellError}
@@ -33,12 +33,12 @@ use Rattle.wl_plain.specs.WlSurface.{refuse, refuse_limit, will_show}
 use Rattle.wl_plain.specs.XdgShell.{acknowledged_by, base_destroyed, configured_again, geometry_set, has_any, is_foreign, is_no_toplevel, role_of, toplevel_made, xdg_surface_destroyed}
 use Rattle.wl_plain.specs.XdgShell.{xdg_surface_made}
 use Rattle.wl_laws.proofs.Lists.Keys.{none-some, some-same}
-use Rattle.wl_owning.proofs.Keeping.OwningSurfaces.{busy-read, surface-read, used-read}
+use Rattle.wl_owning.proofs.Keeping.OwningSurfaces.{surface-read}
 use Rattle.wl_owning.proofs.Keeping.OwningXdg.{xdg-of, xdg-of-none, xdg-there}
 use Rattle.wl_without_popups.specs.Simple.{effect_for, effect_of}
 use Rattle.wl_plain.specs.Demand.{EndSurface, CommitTree}
 use Rattle.wl_plain.specs.Demanding.{commit_demand, committed_by, effect_of_commit, surface_destroyed}
-use Rattle.wl_records.specs.NoMore.{AreToplevels}
+use Rattle.wl_records.specs.Toplevels.{AreToplevels}
 use Rattle.wl_plain.specs.WlSubsurface.{refuses}
 use Rattle.wl_without_popups.proofs.Simple.{effect-same}
 
@@ -76,12 +76,6 @@ module _ (names : Names) (slots : Slots) (tied : Tied) (kept : ℕ → Option Ke
       at : (o : Option Surface) → is_there (pending_at o) ≡ is_there (option_and_then (λ h. (pending h).buffer) (option_map (λ (s : Surface). s.history) o))
       at None = refl
       at (Some s) = refl
-
-  pub used : (buffer : ℕ) (result : Bool) → ((all : Numbered) → StandForAll slots all → IsAny (has_at buffer) all result) → is_used buffer r.owned.surfaces ≡ result
-  used buffer result told = used-read names.surfaces slots tied r.owned.surfaces is.surfaces buffer result (told (by_number names.surfaces r.owned.surfaces) is.surfaces.stand)
-
-  pub busy : (buffer : ℕ) (result : Bool) → ((all : Numbered) → StandForAll slots all → IsAny (shows_at buffer) all result) → is_busy buffer r.owned.surfaces ≡ result
-  busy buffer result told = busy-read names.surfaces slots tied r.owned.surfaces is.surfaces buffer result (told (by_number names.surfaces r.owned.surfaces) is.surfaces.stand)
 
   pub destroyed-by : (id number : ℕ) → names.surfaces id ≡ Some number → surface_destroyed r id ≡ (if is_some (kept number) then refuses id error.SurfaceHasRoleObject else Ok (EndSurface id))
   destroyed-by id number named = ap (λ b. if b then refuses id error.SurfaceHasRoleObject else Ok (EndSurface id)) (sym (xdg-there names slots tied kept r.owned is id number named))

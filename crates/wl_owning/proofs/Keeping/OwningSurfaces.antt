@@ -1,5 +1,5 @@
 -- What is kept of a client's surfaces goes on standing for them.
-use Rattle.std.proofs.Common.{◌≡◌, ◌≢◌, ℕ, ◌+◌, List, [], ◌∷◌, Bool, true, false, Option, Some, None, cond, length, refl, ap, sym, subst, ◌∙◌, arith, eq-eqb}
+use Rattle.std.proofs.Common.{◌≡◌, ◌≢◌, ℕ, ◌+◌, List, ◌∷◌, Bool, true, false, Option, Some, None, cond, length, refl, ap, sym, subst, ◌∙◌, arith, eq-eqb, []}
 use Rattle.std.specs.Prelude.{◌==◌, find, is_some, not}
 use Rattle.std.specs.List.{list_any}
 use Rattle.std.specs.Option.{option_map}
@@ -36,10 +36,6 @@ number-is number (Some other) e = ap Some (eqb-true other number e)
 is-there : {X : Type 0} (o : Option X) → is_some o ≡ true → (x : X) × (o ≡ Some x)
 is-there None e = absurd (cc)
 is-there (Some x) e = (x, refl)
-
-still-there : {X Y : Type 0} (f : X → Y) (o : Option X) → is_some (option_map f o) ≡ is_some o
-still-there f None = refl
-still-there f (Some x) = refl
 
 -- the tests by id and by number
 abbrev pub has_number : ById ℕ → ℕ → Surface → Bool
@@ -115,9 +111,6 @@ module _ (numbers : ById ℕ) (slots : Slots) (tied : Tied) (all : Surfaces) (is
 
   pub used-read : (buffer : ℕ) (b : Bool) → IsAny (has_at buffer) (by_number numbers all) b → is_used buffer all ≡ b
   used-read buffer b any = any-read (λ s. has buffer s.history) (has_at buffer) b refl (λ s. refl) any
-
-  pub busy-read : (buffer : ℕ) (b : Bool) → IsAny (shows_at buffer) (by_number numbers all) b → is_busy buffer all ≡ b
-  busy-read buffer b any = any-read (λ s. shows buffer s.history) (shows_at buffer) b refl (λ s. refl) any
 
   -- whether one of them has it is so of what is kept
   pub any-is : (property : Surface → Bool) (at : Option Surface → Bool) → at None ≡ false → ((s : Surface) → at (Some s) ≡ property s)

@@ -23,7 +23,7 @@ use Rattle.wl_records.specs.Alone.{IsAllThatChanges, IsAlone, ServedAlone}
 use Rattle.wl_plain.specs.Demand.{Demand, Asks}
 use Rattle.wl_laws.specs.Laws.{OwnsNothing}
 use Rattle.wl_plain.specs.LeftOut.{own_only}
-use Rattle.wl_records.specs.NoMore.{AreToplevels}
+use Rattle.wl_records.specs.Toplevels.{AreToplevels}
 use Rattle.wl_plain.specs.Replies.{popups_done, replies}
 use Rattle.wl_plain.specs.Settling.{becomes}
 use Rattle.wl_plain.specs.Stacked.{all_windows}

@@ -1,43 +1,22 @@
 -- Of every client the mapped toplevels stand, and no others.
-use Rattle.std.proofs.Common.{◌≡◌, ◌≢◌, ℕ, zero, suc, List, [], ◌∷◌, Bool, true, false, Option, Some, None, refl, ap, sym, subst, ◌∙◌, arith}
-use Rattle.std.specs.Prelude.{◌==◌, ◌||◌}
+use Rattle.std.proofs.Common.{◌≡◌, ◌≢◌, ℕ, List, Bool, true, false, Option, Some, None, refl, ap, sym, subst, ◌∙◌}
+use Rattle.std.specs.Prelude.{◌==◌}
 use Rattle.std.specs.List.{list_any}
 use Rattle.std.proofs.lemmas.Bool.{eqb-true, eqb-false}
 use Rattle.wl_peer.specs.declared.cause.Cause.{Cause}
 use Rattle.wl_peer.specs.Peer.{Peer}
-use Rattle.wl_surface.specs.Surfaces.{history_in}
-use Rattle.wl_shell.specs.Shell.{Effect, Stays, Unconfigured, Configures, Maps, Unmaps}
-use Rattle.wl_scene.specs.Lent.{AllShow, shows_buffer}
 use Rattle.wl_scene.specs.Stacking.{Owned, Standing, is_of, nothing_owned, without_client}
 use Rattle.wl_plain.specs.Desktop.{Desktop, Resident, become, become_by, client_at, client_in, owned_in, owned_of, resident_of, with_number}
 use Rattle.wl_laws.specs.Laws.{AreApart}
 use Rattle.wl_records.specs.Standing.{AreMapped, MappedStand}
 use Rattle.wl_laws.proofs.Lists.Keys.{differ, none-some}
 use Rattle.wl_laws.proofs.Runs.Places.{client-become, left_by, number-other}
-use Rattle.wl_records.proofs.Toplevels.Stacks.{stacked-clients}
-use Rattle.wl_records.proofs.Keeping.StandingAsks.{StandAfter}
-use Rattle.wl_laws.proofs.Lists.Standings.{apart-left, ended-here, ended-other, mapped-other, of-it, without-other}
-use Rattle.wl_records.proofs.Toplevels.Simply.{CommitSurface, DestroyToplevel, Simple, changed_simply, stacked_simply}
+use Rattle.wl_laws.proofs.Lists.Standings.{apart-left, ended-here, ended-other}
 
 -- ---- one client, where others' toplevels come and go
 
 pub mapped-same : (c : ℕ) (o : Owned) (old new : List Standing) → ((surface : ℕ) → list_any (is_of c surface) new ≡ list_any (is_of c surface) old) → AreMapped c o old → AreMapped c o new
 mapped-same c o old new same is = record { stands = λ surface. same surface ∙ is.stands surface; shows = is.shows; bare = is.bare; turned = is.turned }
-
-effect-other : (c other surface id : ℕ) (effect : Effect) (r : Resident) (d : Desktop) → c ≢ other → list_any (is_of other surface) (stacked_simply c (CommitSurface id effect) r d).standing ≡ list_any
-    (is_of other surface) d.standing
-effect-other c other surface id Stays r d apart = refl
-effect-other c other surface id Unconfigured r d apart = refl
-effect-other c other surface id Configures r d apart = refl
-effect-other c other surface id Maps r d apart = mapped-other d.mappings c id other surface d.standing apart
-effect-other c other surface id Unmaps r d apart = without-other c id other surface d.standing apart
-
--- a request takes no other client's toplevel away, and brings none
-pub stacked-other : (c other surface : ℕ) (ask : Simple) (r : Resident) (d : Desktop) → c ≢ other → list_any (is_of other surface) (stacked_simply c ask r d).standing ≡ list_any
-    (is_of other surface) d.standing
-stacked-other c other surface (CommitSurface id effect) r d apart = effect-other c other surface id effect r d apart
-stacked-other c other surface (DestroyToplevel id xdg top) r d apart = without-other c _ other surface d.standing apart
-stacked-other c other surface ask r d apart = refl
 
 -- one that owns nothing has none
 pub nothing-mapped : (c : ℕ) (standing : List Standing) → ((surface : ℕ) → list_any (is_of c surface) standing ≡ false) → AreMapped c nothing_owned standing
@@ -96,30 +75,3 @@ told-stand c r there q d is apart here others = by q.status
 pub become-stand : (c : ℕ) (r there : Resident) (q : Peer) (d : Desktop) → client_at c d ≡ Some there → r.owned ≡ there.owned → MappedStand d → MappedStand (become c r q d)
 become-stand c r there q d is same stand =
     told-stand c r there q d is stand.apart (subst (λ o. AreMapped c o d.standing) (ap owned_of is ∙ sym same) (stand.each c)) (λ other differ. stand.each other)
-
--- what is asked is done, and told
-pub done-stand : (c : ℕ) (ask : Simple) (r there : Resident) (q : Peer) (d : Desktop) → client_at c d ≡ Some there → StandAfter c ask r d → MappedStand d
-    → MappedStand (become c (changed_simply ask r) q (stacked_simply c ask r d))
-done-stand c ask r there q d is after stand =
-    told-stand c (changed_simply ask r) there q (stacked_simply c ask r d) (ap (λ clients. client_in clients c) (stacked-clients c ask r d) ∙ is) after.1 after.0
-    (λ other differ. subst (λ o. AreMapped other o (stacked_simply c ask r d).standing) (sym (ap (λ clients. owned_of (client_in clients other)) (stacked-clients c ask r d)))
-    (mapped-same other (owned_in d other) d.standing (stacked_simply c ask r d).standing (λ surface. stacked-other c other surface ask r d differ) (stand.each other)))
-
--- ---- every surface that stands shows a buffer
-
-all-shown : (owned : ℕ → Owned) (standing : List Standing) → ((c surface : ℕ) → list_any (is_of c surface) standing ≡ true → shows_buffer (history_in surface (owned c).surfaces) ≡ true)
-    → AllShow owned standing
-all-shown owned [] shows k d less = absurd (omega arith)
-all-shown owned (s ∷ ss) shows zero d less = shows s.client s.surface (first (is_of s.client s.surface s) (of-it s.client s.surface s refl refl))
-  where
-    first : (b : Bool) → b ≡ true → (b || list_any (is_of s.client s.surface) ss) ≡ true
-    first true e = refl
-    first false e = absurd (cc)
-all-shown owned (s ∷ ss) shows (suc k) d less = all-shown owned ss (λ c surface e. shows c surface (later (is_of c surface s) (list_any (is_of c surface) ss) e)) k d (omega arith)
-  where
-    later : (a b : Bool) → b ≡ true → (a || b) ≡ true
-    later true b e = refl
-    later false b e = e
-
-pub all-show : (d : Desktop) → MappedStand d → AllShow (owned_in d) d.standing
-all-show d stand = all-shown (owned_in d) d.standing (λ c surface e. (stand.each c).shows surface (sym ((stand.each c).stands surface) ∙ e))

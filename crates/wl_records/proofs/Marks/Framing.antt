@@ -1,14 +1,12 @@
 -- A frame where nobody points, as one pass over the clients: each is told, and ends at once where it can't be.
-use Rattle.std.proofs.Common.{◌≡◌, ℕ, zero, suc, ◌+◌, List, [], ◌∷◌, true, Option, Some, None, refl, ap, subst, sym, ◌∙◌, arith}
-use Rattle.std.specs.Prelude.{◌||◌, filter, flat_map, is_some}
+use Rattle.std.proofs.Common.{◌≡◌, ℕ, zero, suc, ◌+◌, Option, Some, None, refl, ap, subst, sym, ◌∙◌, arith}
+use Rattle.std.specs.Prelude.{◌||◌, is_some}
 use Rattle.wl_peer.specs.declared.cause.Cause.{Cause}
-use Rattle.wl_peer.specs.Peer.{Peer, Queues}
-use Rattle.wl_surface.specs.Waiting.{Callback}
+use Rattle.wl_peer.specs.Peer.{Peer}
 use Rattle.wl_scene.specs.Pointer.{first_pointer}
-use Rattle.wl_plain.specs.Changing.{without_callbacks}
-use Rattle.wl_plain.specs.Desktop.{Desktop, Resident, become, become_by, client_at, with_client}
+use Rattle.wl_plain.specs.Desktop.{Desktop, Resident, become, client_at, with_client}
 use Rattle.wl_plain.specs.Framing.{FramesTold, FramesToldAt, FramesToldBy, done_due}
-use Rattle.wl_plain.specs.Happens.{TellsFrames, callbacks_due, frame_told, frames_told}
+use Rattle.wl_plain.specs.Happens.{TellsFrames, callbacks_due, frames_told}
 use Rattle.wl_plain.specs.Settling.{Midstep, QueuesTo, Tells, TellsAt, TellsUnless, ended_all, is_struck, struck_by, unstruck}
 use Rattle.wl_plain.specs.Step.{with_peer}
 use Rattle.wl_records.proofs.Toplevels.Back.{settled-back, told-back}
@@ -16,7 +14,6 @@ use Rattle.wl_records.proofs.Toplevels.Serves.{after-same, by-pointer, ended_why
 use Rattle.wl_laws.proofs.Runs.Forms.{Shows}
 use Rattle.wl_records.proofs.Marks.FramingEnds.{AllBefore, all-there, all-unstruck, put-and-end, struck-before}
 use Rattle.wl_laws.proofs.Runs.Moves.{callbacks-status}
-use Rattle.wl_laws.proofs.Runs.Places.{client-kept}
 
 -- the desktop where those that are to end have ended
 abbrev ending_in : Midstep → Desktop
@@ -132,29 +129,3 @@ told-more time zero c d mid new h k =
 told-more time (suc n) c d mid new h k =
     let here : c + suc n ≡ suc c + n = omega arith in
     (h.0, h.1, told-more time n (suc c) h.0 mid new h.2 (subst (λ (i : ℕ). FramesToldAt time i (client_at i mid) mid new) here k))
-
--- ---- a client to which nothing is due
-
-all-left : (cs : List Callback) → filter (λ (c : Callback). true) cs ≡ cs
-all-left [] = refl
-all-left (c ∷ cs) = ap (λ xs. c ∷ xs) (all-left cs)
-
--- a client that lives is told of these callbacks
-abbrev IsTold : ℕ → ℕ → Resident → List Callback → Desktop → Desktop → Type 0
-IsTold time c r due d new =
-    (q : Peer) × Queues (flat_map (λ callback. frame_told time callback.id) due) (without_callbacks due r).peer q × (new ≡ become c (without_callbacks due r) q d)
-
-nothing-told : (time c : ℕ) (r : Resident) (d : Desktop) → client_at c d ≡ Some r → r.peer.status ≡ None → IsTold time c r [] d d
-nothing-told time c r d is alive = (
-  r.peer,
-  refl,
-  sym (ap (λ s. become_by s c (without_callbacks [] r) r.peer d) alive ∙ ap (λ cs. with_client c (Some (record r { callbacks = cs })) d) (all-left r.callbacks) ∙ ap (λ o. with_client c o d) (sym is)
-      ∙ client-kept c d),
-)
-
-pub told-none : (time c : ℕ) (r : Resident) (d : Desktop) → client_at c d ≡ Some r → callbacks_due r ≡ [] → FramesToldAt time c (Some r) d d
-told-none time c r d is none = by r.peer.status refl
-  where
-    by : (s : Option Cause) → r.peer.status ≡ s → FramesToldBy s time c r d d
-    by (Some cause) e = refl
-    by None e = subst (λ (due : List Callback). IsTold time c r due d d) (sym none) (nothing-told time c r d is e)

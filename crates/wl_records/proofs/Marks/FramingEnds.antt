@@ -1,10 +1,9 @@
 -- Ends of earlier clients and a change of a later one may come in either order.
-use Rattle.std.proofs.Common.{◌≡◌, ◌≢◌, ℕ, zero, suc, ◌<◌, List, [], ◌∷◌, ◌++◌, Bool, true, false, Option, Some, None, cond, refl, ap, subst, sym, ◌∙◌, arith, ltb-true}
+use Rattle.std.proofs.Common.{◌≡◌, ◌≢◌, ℕ, zero, suc, ◌<◌, List, ◌∷◌, ◌++◌, Bool, true, false, Option, Some, None, cond, refl, ap, subst, sym, ◌∙◌, arith, ltb-true, []}
 use Rattle.std.specs.Prelude.{◌==◌, ◌||◌, nat_lt}
 use Rattle.std.proofs.lemmas.Bool.{eqb-true}
 use Rattle.wl_peer.specs.declared.cause.Cause.{Cause}
 use Rattle.wl_peer.specs.Peer.{ended}
-use Rattle.wl_scene.specs.Pointer.{first_pointer}
 use Rattle.wl_scene.specs.Stacking.{without_client}
 use Rattle.wl_plain.specs.Desktop.{Desktop, Resident, client_at, resident_of, with_client, with_number, with_place}
 use Rattle.wl_plain.specs.Settling.{Strike, ended_all, ended_at, ended_by, in_order, is_struck, pointer_without, struck_by}
@@ -106,13 +105,3 @@ put-and-end c None x ss d before = all-put c x ss d before
 put-and-end c (Some cause) x ss d before =
     let s : Strike = record { client = c; cause = cause } in
     ap (λ us. ended_all us (with_client c x d)) (order-last s ss before) ∙ ended-last s ss (with_client c x d) ∙ ap (λ e. ended_by s e) (all-put c x ss d before)
-
--- ---- nobody points
-
-end-still : (k : ℕ) (cause : Cause) (o : Option Resident) (d : Desktop) → d.pointer ≡ first_pointer → (ended_at k cause o d).pointer ≡ first_pointer
-end-still k cause None d still = still
-end-still k cause (Some r) d still = ap (λ p. pointer_without k p) still
-
-pub still-all : (ss : List Strike) (d : Desktop) → d.pointer ≡ first_pointer → (ended_all ss d).pointer ≡ first_pointer
-still-all [] d still = still
-still-all (s ∷ ss) d still = still-all ss (ended_by s d) (end-still s.client s.cause (client_at s.client d) d still)

@@ -1,6 +1,6 @@
--- Which buffers are released: none where each busy one stays so, and where a surface commits or goes at most the one that it showed.
-use Rattle.std.proofs.Common.{◌≡◌, ℕ, ◌≤◌, List, [], ◌∷◌, ◌++◌, Bool, true, false, Option, Some, None, cond, length, refl, ap, subst, sym, ◌∙◌, map, eq-eqb}
-use Rattle.std.specs.Prelude.{◌==◌, ◌&&◌, ◌||◌, not, filter, flat_map, fold, take}
+-- Which buffers are released: none where each busy one stays so, and where surfaces stay as they are.
+use Rattle.std.proofs.Common.{◌≡◌, ℕ, ◌≤◌, List, ◌∷◌, ◌++◌, Bool, true, false, Option, Some, None, cond, length, refl, ap, subst, sym, ◌∙◌, map, eq-eqb, []}
+use Rattle.std.specs.Prelude.{◌==◌, ◌&&◌, ◌||◌, not, flat_map, fold}
 use Rattle.std.specs.List.{list_any}
 use Rattle.std.specs.Option.{option_map}
 use Rattle.std.proofs.lemmas.Bool.{or_left, or_right}
@@ -8,27 +8,23 @@ use Rattle.wl_interface.specs.declared.interface.Interface.TheVariants.{WlBuffer
 use Rattle.wl_proto.specs.Messages.{says}
 use Rattle.wl_peer.specs.Buffers.{Buffer as Made}
 use Rattle.wl_peer.specs.Told.{Said, said}
-use Rattle.wl_peer.specs.Peer.{Peer, removed}
-use Rattle.wl_state.specs.Request.{Buffer, Request, Commit}
+use Rattle.wl_state.specs.Request.{Buffer, Request}
 use Rattle.wl_state.specs.State.{History, applied, committed, held, is_commit, values}
-use Rattle.wl_state.specs.Surface.{Surface, applying, asking, listed, names, new_surface, shows, with_role}
-use Rattle.wl_surface.specs.Surfaces.{Surfaces, is_busy, surface_at, with_change, without_surface}
+use Rattle.wl_state.specs.Surface.{Surface, asking, listed, names, new_surface, shows, with_role}
+use Rattle.wl_surface.specs.Surfaces.{Surfaces, is_busy, surface_at, with_change}
 use Rattle.wl_state.specs.declared.role.Role.TheVariants.{Toplevel as AsToplevel}
-use Rattle.wl_surface.specs.Waiting.{Callback}
 use Rattle.wl_state.proofs.Records.{applied-kept, held-kept}
-use Rattle.wl_shell.specs.Shell.{Effect, Stays, Unconfigured, Configures, Maps, Unmaps, XdgSurface as Xdg, xdg_at, xdg_of}
+use Rattle.wl_shell.specs.Shell.{XdgSurface as Xdg, xdg_at}
 use Rattle.wl_plain.specs.Ask.{Ask, Own, CreateSurface, AskSurface, EndObject, GetXdgSurface, DestroyXdgSurface, GetToplevel, Acknowledge, ConfigureAgain, Ignore}
 use Rattle.wl_plain.specs.Desktop.{Resident}
-use Rattle.wl_records.specs.Owning.{AllCounts}
 use Rattle.wl_laws.specs.Apart.{AreApartBy}
-use Rattle.wl_plain.specs.Releases.{is_released, release_of, release_told, shown_at}
+use Rattle.wl_plain.specs.Releases.{is_released}
 use Rattle.wl_plain.specs.Replies.{buffers_busy, buffers_shown, by_object, is_same_buffer, releases}
-use Rattle.wl_plain.specs.Step.{changed_by, each_once, toplevel_given, with_surfaces, after_surface, with_peer}
-use Rattle.wl_plain.specs.Changing.{callbacks_of}
-use Rattle.wl_records.proofs.Toplevels.Buffers.{OthersUsed, changed-others, gone-others, had-gone, nothing-after, shown_by}
+use Rattle.wl_plain.specs.Step.{changed_by, toplevel_given}
+use Rattle.wl_records.proofs.Toplevels.Buffers.{nothing-after}
 use Rattle.wl_records.proofs.Keeping.Letting.{each-more, each-once, listed-each, named-so, none-left, or-any}
 use Rattle.wl_laws.proofs.Lists.Keys.{any-found, found-any, found-map}
-use Rattle.wl_records.proofs.Toplevels.Simply.{Asking, CommitSurface, DestroySurface, DestroyToplevel, answers_simply, changed_simply, committed_on, effect_on, told_simply}
+use Rattle.wl_records.proofs.Toplevels.Simply.{Asking, DestroyToplevel, answers_simply, changed_simply, told_simply}
 use Rattle.wl_laws.proofs.Marks.Stacks.{Each, each-map}
 
 -- ---- the buffers that are busy
@@ -151,66 +147,3 @@ requested-still id request plain r s apart there cut within =
     at n x e is =
         let same : x ≡ s = let both : Option.Some x ≡ Some s = sym e ∙ there in cc in
         subst (λ (y : Surface). shows n y.history ≡ true → shows n (asking request y).history ≡ true) (sym same) (λ shown. still-shows request plain n s cut within ∙ shown) is
-
--- ---- where a surface commits or goes
-
--- what is held counts
-one-shown : (h : History) → AllCounts h → buffers_shown h ≡ listed (applied h).buffer ++ listed (applied h).buffer
-one-shown h counts = ap (λ n. listed (values (take n h.requests)).buffer ++ listed (applied h).buffer) (sym counts)
-
-one-told : (r : Resident) (o : Option Buffer) → told_of (filter (is_released r) (each_once (listed o ++ listed o))) ≡ release_told (release_of o r)
-one-told r None = refl
-one-told r (Some b) =
-    ap (λ c. told_of (filter (is_released r) (b ∷ cond (not c) (b ∷ []) []))) (named-so b) ∙ at (is_released r b)
-  where
-    at : (c : Bool) → told_of (cond c (b ∷ []) []) ≡ release_told (cond c (Some b.object) None)
-    at true = refl
-    at false = refl
-
-one-released : (id : ℕ) (old new : Resident) → AreApartBy (λ key s. s.id == key) old.owned.surfaces.surfaces → ((h : History) → option_map (λ s. s.history) (surface_at id old.owned.surfaces) ≡ Some h
-    → AllCounts h)
-    → OthersUsed (is_released new) (λ n. is_busy n new.owned.surfaces) (busy-stays new) buffers_shown id old.owned.surfaces.surfaces
-    → releases old new ≡ release_told (release_of (shown_at (surface_at id old.owned.surfaces)) new)
-one-released id old new apart counts used =
-    ap told_of (had-gone (is_released new) (λ n. is_busy n new.owned.surfaces) (busy-stays new) buffers_shown id old.owned.surfaces.surfaces apart used)
-    ∙ at (surface_at id old.owned.surfaces) counts
-  where
-    at : (o : Option Surface) → ((h : History) → option_map (λ s. s.history) o ≡ Some h → AllCounts h)
-        → told_of (filter (is_released new) (each_once (shown_by buffers_shown (option_map (λ s. s.history) o)))) ≡ release_told (release_of (shown_at o) new)
-    at None counts = refl
-    at (Some s) counts =
-        ap (λ bs. told_of (filter (is_released new) (each_once bs))) (one-shown s.history (counts s.history refl)) ∙ one-told new (applied s.history).buffer
-
--- a buffer's id is given back for no callback
-gone-buffers : (gone : List Callback) (p : Peer) → (fold (λ p callback. removed callback.id p) p gone).buffers ≡ p.buffers
-gone-buffers [] p = refl
-gone-buffers (callback ∷ gone) p = gone-buffers gone (removed callback.id p)
-
-gone-same : (id : ℕ) (r : Resident) (o : Option Buffer) → release_of o (changed_simply (DestroySurface id) r) ≡ release_of o (with_surfaces (without_surface id r.owned.surfaces) r)
-gone-same id r None = refl
-gone-same id r (Some b) =
-    let base : Resident = after_surface id r (with_surfaces (without_surface id r.owned.surfaces) r) in
-    ap (λ bs. release_of (Some b) (with_peer (record base.peer { buffers = bs }) base)) (gone-buffers (callbacks_of id r) base.peer)
-
-pub gone-released : (id : ℕ) (r : Resident) → AreApartBy (λ key s. s.id == key) r.owned.surfaces.surfaces → ((h : History) → option_map (λ s. s.history) (surface_at id r.owned.surfaces) ≡ Some h
-    → AllCounts h)
-    → releases r (changed_simply (DestroySurface id) r) ≡ release_told (release_of (shown_at (surface_at id r.owned.surfaces)) (with_surfaces (without_surface id r.owned.surfaces) r))
-gone-released id r apart counts =
-    one-released id r (changed_simply (DestroySurface id) r) apart counts (gone-others shows buffers_shown shown-each id r.owned.surfaces.surfaces)
-    ∙ ap release_told (gone-same id r (shown_at (surface_at id r.owned.surfaces)))
-
--- what a commit comes to for the shell changes no buffer
-effect-still : (id : ℕ) (effect : Effect) (o : Option Xdg) (old now : Resident) → releases old (effect_on id effect o now) ≡ releases old now
-effect-still id effect None old now = refl
-effect-still id Stays (Some x) old now = refl
-effect-still id Unconfigured (Some x) old now = refl
-effect-still id Configures (Some x) old now = refl
-effect-still id Maps (Some x) old now = refl
-effect-still id Unmaps (Some x) old now = refl
-
-pub committed-released : (id : ℕ) (effect : Effect) (r : Resident) → AreApartBy (λ key s. s.id == key) r.owned.surfaces.surfaces
-    → ((h : History) → option_map (λ s. s.history) (surface_at id r.owned.surfaces) ≡ Some h → AllCounts h)
-    → releases r (changed_simply (CommitSurface id effect) r) ≡ release_told (release_of (shown_at (surface_at id r.owned.surfaces)) (committed_on id r))
-committed-released id effect r apart counts =
-    effect-still id effect (xdg_of id r.owned.shell) r _
-    ∙ one-released id r (committed_on id r) apart counts (changed-others shows buffers_shown shown-each id (λ s. applying (asking Commit s)) r.owned.surfaces.surfaces)

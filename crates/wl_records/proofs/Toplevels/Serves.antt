@@ -1,40 +1,28 @@
--- A message of a client, where no client has more than toplevels, does what it does where every request may be served.
-use Rattle.std.proofs.Common.{◌≡◌, ℕ, List, [], ◌∷◌, ◌++◌, Bool, true, false, Option, Some, None, Result, cond, refl, ap, subst, sym, ◌∙◌, map, inl, inr}
-use Rattle.std.specs.Prelude.{Ok, Err, ◌==◌, not, filter, flat_map}
-use Rattle.wl_interface.specs.declared.interface.Interface.TheVariants.{WlSurface, XdgPopup, WlCallback}
+-- Clients whose role objects are toplevels keep that, and what becomes of a desktop where nobody points is its own change.
+use Rattle.std.proofs.Common.{◌≡◌, ℕ, List, ◌∷◌, ◌++◌, Bool, true, false, Option, Some, None, cond, refl, ap, subst, sym, ◌∙◌, map, inl, inr, []}
+use Rattle.std.specs.Prelude.{◌==◌, not, filter, flat_map}
+use Rattle.wl_interface.specs.declared.interface.Interface.TheVariants.{XdgPopup}
 use Rattle.wl_proto.specs.Messages.{says}
 use Rattle.wl_peer.specs.declared.cause.Cause.{Cause}
 use Rattle.wl_peer.specs.declared.cause.Cause.TheVariants.{Memory, Slow}
-use Rattle.wl_peer.specs.declared.refusals.Refusal.{Refusal}
-use Rattle.wl_peer.specs.Objects.{is_of}
-use Rattle.wl_peer.specs.Peer.{LacksMemory, Peer, Queues, QueuesOr, counted, ended, has_room, queued}
+use Rattle.wl_peer.specs.Peer.{Peer, Queues, QueuesOr, ended, has_room, queued}
 use Rattle.wl_peer.specs.Told.{Said, said}
 use Rattle.wl_shell.specs.Popups.{is_among}
 use Rattle.wl_shell.specs.Shell.{Effect, Stays, Unconfigured, Configures, Maps, Unmaps, Fresh, Waiting, Mapped, RoleObject, Shell, XdgSurface as Xdg, acknowledging, configuring, in_stage}
 use Rattle.wl_shell.specs.Shell.{new_toplevel, unmapping, with_change, with_new, without_role, without_xdg, xdg_at, xdg_of}
 use Rattle.wl_scene.specs.Pointer.{first_pointer}
-use Rattle.wl_scene.specs.Stacking.{Standing, without_client}
+use Rattle.wl_scene.specs.Stacking.{without_client}
 use Rattle.wl_plain.specs.Ask.{Own, CreateSurface, AskSurface, EndObject, GetXdgSurface, DestroyXdgSurface, GetToplevel, Acknowledge, ConfigureAgain, Ignore}
 use Rattle.wl_plain.specs.Changing.{with_kept_move}
-use Rattle.wl_plain.specs.Demand.{Demand}
-use Rattle.wl_plain.specs.Desktop.{Desktop, Resident, become, become_by, client_at, client_in, resident_of, with_client}
-use Rattle.wl_plain.specs.LeftOut.{toplevels_only}
-use Rattle.wl_plain.specs.Replies.{dismissed_in, newest_first, own_answers, popups_done, releases, replies}
+use Rattle.wl_plain.specs.Desktop.{Desktop, Resident, become, become_by, client_at, resident_of, with_client}
+use Rattle.wl_plain.specs.Replies.{dismissed_in, newest_first, popups_done}
 use Rattle.wl_plain.specs.Settling.{EndsAndSettles, QueuesTo, after_status, becomes, ended_at, pointer_without, unstruck}
-use Rattle.wl_plain.specs.Stacked.{all_windows}
 use Rattle.wl_plain.specs.Step.{toplevel_given, with_peer}
-use Rattle.wl_records.proofs.Toplevels.Simply.{Answers, Asking, AskingFrame, Becomes, CommitSurface, DestroySurface, DestroyToplevel, Simple, WantsOr, answers_simply, changed_simply, effect_on}
-use Rattle.wl_records.proofs.Toplevels.Simply.{stacked_simply, told_simply, wants_simply}
-use Rattle.wl_records.specs.NoMore.{AreToplevels, IsToplevel, OwnsToplevelsBy, OwnsToplevelsOnly}
-use Rattle.wl_plain.specs.Happens.{done_for}
-use Rattle.wl_laws.proofs.Runs.Forms.{after_why, Answers as StepAnswers, Becomes as StepBecomes, Does, WantsOr as StepWantsOr}
-use Rattle.wl_records.proofs.Toplevels.Statuses.{changed-status}
-use Rattle.wl_records.proofs.Toplevels.Buffers.{nothing-after}
-use Rattle.wl_records.proofs.Toplevels.Changed.{answers-same, changed-same, no-popups, stacked-same, stage-top, wants-same}
-use Rattle.wl_records.proofs.Toplevels.Releases.{asked-told, ended-told}
-use Rattle.wl_records.proofs.Toplevels.Judged.{Pairs, Same, asks, commit, ends, goes, move, frames}
+use Rattle.wl_records.proofs.Toplevels.Simply.{Asking, AskingFrame, Becomes, CommitSurface, DestroySurface, DestroyToplevel, Simple, changed_simply, effect_on}
+use Rattle.wl_records.specs.Toplevels.{AreToplevels, IsToplevel}
+use Rattle.wl_laws.proofs.Runs.Forms.{after_why, Becomes as StepBecomes}
+use Rattle.wl_records.proofs.Toplevels.Changed.{no-popups, stage-top}
 use Rattle.wl_laws.proofs.Runs.Places.{number-same, number-twice}
-use Rattle.wl_records.proofs.Toplevels.Stacks.{stacked-clients}
 use Rattle.wl_laws.proofs.Runs.Ends.{queues-status}
 
 -- ---- the role objects stay toplevels
@@ -172,22 +160,8 @@ is-done events c made there d new is still alive h =
 
 -- ---- what is asked
 
-pub stacked-pointer : (c : ℕ) (ask : Simple) (r : Resident) (d : Desktop) → (stacked_simply c ask r d).pointer ≡ d.pointer
-stacked-pointer c (CommitSurface id Stays) r d = refl
-stacked-pointer c (CommitSurface id Unconfigured) r d = refl
-stacked-pointer c (CommitSurface id Configures) r d = refl
-stacked-pointer c (CommitSurface id Maps) r d = refl
-stacked-pointer c (CommitSurface id Unmaps) r d = refl
-stacked-pointer c (DestroyToplevel id xdg top) r d = refl
-stacked-pointer c ask r d = refl
-
 pub kept-still : (d : Desktop) → d.pointer ≡ first_pointer → with_kept_move d ≡ d
 kept-still d still = ap (λ p. with_kept_move (record d { pointer = p })) still ∙ sym (ap (λ p. record d { pointer = p }) still)
-
-pub done-same : (c : ℕ) (ask : Simple) (demand : Demand) (r : Resident) (d : Desktop) → d.pointer ≡ first_pointer → OwnsToplevelsOnly r → Same r ask demand
-    → done_for c demand r d ≡ stacked_simply c ask r d
-done-same c ask demand r d still only same =
-    ap with_kept_move (stacked-same c ask demand r (all_windows d) d still only same) ∙ kept-still (stacked_simply c ask r d) (stacked-pointer c ask r d ∙ still)
 
 pub none-done : (r made : Resident) → AreToplevels made.owned.shell → popups_done r made ≡ []
 none-done r made top =
@@ -198,85 +172,3 @@ none-done r made top =
 pub nothing-between : (xs ys : List Said) → xs ++ [] ++ ys ≡ xs ++ ys
 nothing-between [] ys = refl
 nothing-between (x ∷ xs) ys = ap (λ zs. x ∷ zs) (nothing-between xs ys)
-
--- the releases come after the answer
-released-told : (ask : Simple) (r : Resident) → OwnsToplevelsOnly r → answers_simply ask r ++ releases r (changed_simply ask r) ≡ told_simply ask r
-released-told (Asking ask) r only = asked-told ask r only.apart
-released-told (DestroySurface id) r only = refl
-released-told (AskingFrame id version surface) r only = refl
-released-told (CommitSurface id effect) r only = refl
-released-told (DestroyToplevel id xdg surface) r only = ended-told id xdg surface r
-
-pub replies-same : (c : ℕ) (ask : Simple) (demand : Demand) (r : Resident) (d : Desktop) → OwnsToplevelsOnly r → Same r ask demand
-    → replies toplevels_only c demand r (changed_simply ask r) (all_windows d) d ≡ told_simply ask r
-replies-same c ask demand r d only same =
-    let made : Resident = changed_simply ask r in
-    ap (λ more. own_answers c demand r (all_windows d) d ++ releases r made ++ more) (none-done r made (tops-kept ask r only.roles))
-    ∙ nothing-after (own_answers c demand r (all_windows d) d ++ releases r made)
-    ∙ ap (λ told. told ++ releases r made) (answers-same c ask demand r (all_windows d) d only same)
-    ∙ released-told ask r only
-
-does-whole : (c : ℕ) (ask : Simple) (demand : Demand) (r there : Resident) (d new : Desktop) → client_at c d ≡ Some there → d.pointer ≡ first_pointer → r.peer.status ≡ None → OwnsToplevelsOnly r
-    → Same r ask demand
-    → Becomes (Queues (told_simply ask r) (changed_simply ask r).peer) c (changed_simply ask r) (stacked_simply c ask r d) new → Does toplevels_only c demand r d new
-does-whole c ask demand r there d new is still alive only same h =
-    let made : Resident = changed_simply ask r in
-    let on : Desktop = stacked_simply c ask r d in
-    let found : client_at c on ≡ Some there = ap (λ clients. client_in clients c) (stacked-clients c ask r d) ∙ is in
-    let first : IsDone (told_simply ask r) c made on new =
-    is-done (told_simply ask r) c made there on new found (stacked-pointer c ask r d ∙ still) (changed-status ask r ∙ alive) h in
-    let second : IsDone (replies toplevels_only c demand r made (all_windows d) d) c made on new =
-    subst (λ events. IsDone events c made on new) (sym (replies-same c ask demand r d only same)) first in
-    let third : IsDone (replies toplevels_only c demand r made (all_windows d) d) c made (done_for c demand r d) new =
-    subst (λ e. IsDone (replies toplevels_only c demand r made (all_windows d) d) c made e new) (sym (done-same c ask demand r d still only same)) second in
-    subst (λ m. IsDone (replies toplevels_only c demand r m (all_windows d) d) c m (done_for c demand r d) new) (sym (changed-same c ask demand r d only same)) third
-
--- ---- a message
-
-pub only-peer : (r : Resident) (p : Peer) → p.objects ≡ r.peer.objects → OwnsToplevelsOnly r → OwnsToplevelsOnly (with_peer p r)
-only-peer r p same only =
-    record {
-      links = only.links;
-      apart = only.apart;
-      known = λ id there. ap (λ objects. is_of WlSurface (objects id)) same ∙ only.known id there;
-      roles = only.roles;
-      subsurfaces = only.subsurfaces;
-      callbacks = (only.callbacks.0, λ id there. ap (λ objects. is_of WlCallback (objects id)) same ∙ only.callbacks.1 id there);
-      pointers = only.pointers;
-    }
-
-pub same-peer : (r : Resident) (p : Peer) (ask : Simple) (demand : Demand) → Same r ask demand → Same (with_peer p r) ask demand
-same-peer r p ask demand (asks other) = asks other
-same-peer r p ask demand (ends id) = ends id
-same-peer r p ask demand (frames id version surface) = frames id version surface
-same-peer r p ask demand (commit id effect e) = commit id effect e
-same-peer r p ask demand (goes id xdg surface) = goes id xdg surface
-same-peer r p ask demand (move id serial) = move id serial
-
-pub pairs-peer : (r : Resident) (p : Peer) (judged : Result Simple Refusal) (demanded : Result Demand Refusal) → Pairs r judged demanded → Pairs (with_peer p r) judged demanded
-pairs-peer r p (Ok ask) (Ok demand) same = same-peer r p ask demand same
-pairs-peer r p (Err refusal) (Err other) same = same
-pairs-peer r p (Ok ask) (Err other) same = absurd same
-pairs-peer r p (Err refusal) (Ok demand) same = absurd same
-
-module _ (c : ℕ) (there : Resident) (d new : Desktop) (is : client_at c d ≡ Some there) (still : d.pointer ≡ first_pointer) where
-  wants-whole : (b : Bool) (r : Resident) (Later Then : Type 0) → (Later → Then) → WantsOr b Later c r d new → StepWantsOr b Then c r d new
-  wants-whole false r Later Then next h = next h
-  wants-whole true r Later Then next (inl h) = inl (becomes-whole (LacksMemory r.peer) c r d new still h)
-  wants-whole true r Later Then next (inr h) = inr (next h)
-
-  pub answers-whole : (judged : Result Simple Refusal) (demanded : Result Demand Refusal) (r : Resident) → r.peer.status ≡ None → OwnsToplevelsOnly r → Pairs r judged demanded
-      → Answers judged c r d new → StepAnswers toplevels_only demanded c r d new
-  answers-whole (Ok ask) (Ok demand) r alive only same h =
-      let now : Resident = with_peer (counted r.peer) r in
-      let same_now : Same now ask demand = same-peer r (counted r.peer) ask demand same in
-      subst (λ b. StepWantsOr b (Does toplevels_only c demand now d new) c now d new) (sym (wants-same ask demand now same_now))
-      (wants-whole (wants_simply ask) now _ _ (λ k. does-whole c ask demand now there d new is still alive (only-peer r (counted r.peer) refl only) same_now k) h)
-  answers-whole (Err refusal) (Err other) r alive only same h =
-      subst (λ e. StepAnswers toplevels_only (Err e) c r d new) same (becomes-whole _ c r d new still h)
-  answers-whole (Ok ask) (Err other) r alive only same h = absurd same
-  answers-whole (Err refusal) (Ok demand) r alive only same h = absurd same
-
-pub living : (s : Option Cause) (r : Resident) (standing : List Standing) → s ≡ None → OwnsToplevelsBy s r standing → OwnsToplevelsOnly r
-living None r standing alive owns = owns
-living (Some cause) r standing alive owns = absurd (cc)

@@ -1,4 +1,4 @@
--- What is asked of desktops that have no more than toplevels leaves a client's status, and what came from it.
+-- What is asked of a client leaves its status, and what came from it.
 use Rattle.std.proofs.Common.{◌≡◌, ℕ, List, Option, Some, None, refl, ap, [], ◌∷◌}
 use Rattle.std.specs.Prelude.{fold}
 use Rattle.wl_peer.specs.declared.cause.Cause.{Cause}

@@ -16,7 +16,8 @@ loop-at-preserved g c =
     let few : count ≤ c.min-room.result = omega (arith, asked, length-take c.min-room.result c.loop-at.buf) in
     record {
       within = omega (arith, few);
-      steps = Takes-then (PutTo c.args.target.client c.args.target.store at) (PutsOnce c.args.target.client c.args.target.store at count) (PutTo c.args.target.client c.args.target.store (at + count)) _ _ _
+      steps = Takes-then (PutTo c.args.target.client c.args.target.store at) (PutsOnce c.args.target.client c.args.target.store at count)
+        (PutTo c.args.target.client c.args.target.store (at + count)) _ _ _
           c.loop-at.invariant.steps c.in-Ok.ensures.put (put-more c.args.target.client c.args.target.store at count);
     }
 
@@ -29,4 +30,5 @@ returns-then-count-eq0 g c =
 
 pub returns : goal.returns
 returns g c =
-    Takes-weaker (PutTo c.args.target.client c.args.target.store c.loop-at.at) (Puts c.args.target.client c.args.target.store) _ _ c.loop-at.invariant.steps (put-all c.args.target.client c.args.target.store c.loop-at.at)
+    Takes-weaker (PutTo c.args.target.client c.args.target.store c.loop-at.at) (Puts c.args.target.client c.args.target.store) _ _ c.loop-at.invariant.steps
+      (put-all c.args.target.client c.args.target.store c.loop-at.at)

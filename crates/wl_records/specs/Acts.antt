@@ -1,4 +1,4 @@
--- Acts that leave the pointer alone.
+-- What happens that leaves the pointer alone.
 use Rattle.wl_plain.specs.Act.{Act, Motion, Button}
 
 -- an act that neither moves the pointer nor presses or releases a button of it
