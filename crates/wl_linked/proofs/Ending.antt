@@ -52,7 +52,6 @@ under-unlinked (suc n) links child x = at (λ y. under-unlinked n links child y)
 module _ (slots : Slots) (tied mid : Tied) (all : Surfaces) (number child : ℕ) (link : Link) (below : List ℕ) (is : IsLink all number child link) (stand : Stand slots tied all)
     (links : links_in mid ≡ unlinked child (links_in tied)) (there : (n : ℕ) → is_there n mid ≡ is_there n tied)
     (stacks : stacks_in mid ≡ left child (links_in tied child) (stacks_in tied)) (those : (n : ℕ) → is_among below n ≡ is_under 16 (parents_of (links_in tied)) child n) where
-
   pub ended-is : ended_in all link ≡ applied_tree levels child (with_link number ending all)
   ended-is =
       ap (λ n. applied_tree levels link.child (with_link n ending all)) (number-found number all.links link is.here) ∙ ap (λ c. applied_tree levels c (with_link number ending all)) is.of_child

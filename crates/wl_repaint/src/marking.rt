@@ -54,12 +54,15 @@ fn mark_struck<A: Allocator>(damage: &mut Damage<A>, window: &TreeWindow, change
     }
 }
 
-/// The points are marked that the damage of a change holds at the windows of its surface.
+/// The points are marked that the damage of a change holds at the windows of its surface. Where it has none they aren't looked through.
 fn mark_surface<A: Allocator>(damage: &mut Damage<A>, windows: &[TreeWindow], change: &Change<A>)
     ensures points { (x y : ℕ) → x < damage.old.width → y < damage.old.height
         → has damage.new x y ≡ (has damage.old x y || is_damaged_by windows.now (pos x) (pos y) change.now) }
     ensures sides { IsAsLarge damage.old damage.new }
 {
+    if change.rects.is_empty() {
+        return;
+    }
     for window in windows {
         mark_struck(damage, window, change);
     }

@@ -180,13 +180,13 @@ module _ {A : Type 0} (c : ℕ) (others : ℕ → ById ℕ) (base d : Desktop) (
     lives-least =
         marks-least c others base d r old mid pile before orderly a.lives asked a.asks stacking a.takes alive e q trees trees-after serves status after.based.there after.seat.owns
         a.touched root a.by a.root_is a.rootless applied a.touched_so is-applied
-            new.scene done ready.spare.was.items f.is kept filled was.damage new.damage points a.unkept no-is
+        new.scene done ready.spare.was.items f.is kept filled was.damage new.damage points a.unkept no-is
 
     pub lives-most : was.damage.width ≡ d.output.width → was.damage.height ≡ d.output.height → MarksMost d e was.damage new.damage
     lives-most width height =
         marks-most c others base d r old mid pile before orderly a.lives asked a.asks stacking a.takes alive e q trees trees-after serves status after.based.there after.seat.owns
         a.touched root a.by a.root_is a.rootless applied a.touched_so is-applied
-            new.scene done ready.spare.was.items f.is kept filled was.damage new.damage points a.unkept no-is
+        new.scene done ready.spare.was.items f.is kept filled was.damage new.damage points a.unkept no-is
         (λ x y wide high. within-output d.output.width d.output.height x y (subst (λ (n : ℕ). x < n) width wide) (subst (λ (n : ℕ). y < n) height high))
 
   -- ---- one to which it leads
@@ -228,7 +228,7 @@ module _ {A : Type 0} (c : ℕ) (others : ℕ → ById ℕ) (base d : Desktop) (
       fits never =
           told-fit c others base d r old mid pile before orderly a.lives asked a.asks stacking a.takes alive e s trees trees-e serves status-e m.4.based.there m.4.seat.owns
           a.touched root a.by a.root_is a.rootless applied a.touched_so is-applied
-            new.scene done ready.spare.was.items f.is kept filled ready.stacked.room (λ some. (a.room some).stack) no-is-here never
+          new.scene done ready.spare.was.items f.is kept filled ready.stacked.room (λ some. (a.room some).stack) no-is-here never
 
       at : (t : Stacking) → stacking ≡ t → Fit t (length f.is) ready.stacked.room
       at (on.Out n) is = tt
@@ -250,7 +250,7 @@ module _ {A : Type 0} (c : ℕ) (others : ℕ → ById ℕ) (base d : Desktop) (
       (subst (λ (ws : List Stacked). AreStacked (with_numbers c (numbers mid) others) ws (all_windows e)) (sym windows-are)
       (windows-after c others base d r old mid pile before orderly a.lives asked a.asks stacking a.takes alive e s trees trees-e serves status-e m.4.based.there m.4.seat.owns
       a.touched root a.by a.root_is a.rootless applied a.touched_so is-applied
-            new.scene done ready.spare.was.items f.is kept filled))
+      new.scene done ready.spare.was.items f.is kept filled))
 
   -- What is kept stands for a desktop to which the message leads.
   pub lives-seated : (e : Desktop) × (q : Resident) × Serves served_now c d e × IsSeated c others base mid (pile_of new) e q

@@ -69,13 +69,14 @@ or-false : (b : Bool) → (b || false) ≡ b
 or-false true = refl
 or-false false = refl
 
+-- no damage is at no windows
+none-damaged : {A : Type 0} (cs : List (Change A)) (x y : ℤ) → list_any (is_damaged_by [] x y) cs ≡ false
+none-damaged [] x y = refl
+none-damaged (c ∷ cs) x y = none-damaged cs x y
+
 -- of a tree that has no windows any more all are marked that it had
 marks-gone : {A : Type 0} (was : List TreeWindow) (list : List (Change A)) (x y : ℤ) → marks was [] list x y ≡ list_any (window_has x y) was
-marks-gone {A = A} [] list x y = none-damaged list
-  where
-    none-damaged : (cs : List (Change A)) → list_any (is_damaged_by [] x y) cs ≡ false
-    none-damaged [] = refl
-    none-damaged (c ∷ cs) = none-damaged cs
+marks-gone [] list x y = none-damaged list x y
 marks-gone (w ∷ ws) list x y = or-false (list_any (window_has x y) (w ∷ ws))
 
 is-out : (stacking : Stacking) → ((n : ℕ) × (stacking ≡ on.Out n)) ⊎ ((n : ℕ) → stacking ≡ on.Out n → ⊥)
@@ -333,16 +334,8 @@ module _ {A : Type 0} (c : ℕ) (others : ℕ → ById ℕ) (base d : Desktop) (
 
         at : (s : Stacking) → turned_has s (tree_kept c root pile.windows) was is list x y ≡ false
         at (on.Out n) = ap (λ (o : Option ℕ). list_any (window_has x y) (tree_kept c o pile.windows)) no-root
-        at on.Stays = ap (λ (ws : List TreeWindow). marks ws is list x y) no_was ∙ (ap (λ (ws : List TreeWindow). marks [] ws list x y) no_is ∙ none-damaged list)
-          where
-            none-damaged : (cs : List (Change A)) → list_any (is_damaged_by [] x y) cs ≡ false
-            none-damaged [] = refl
-            none-damaged (c ∷ cs) = none-damaged cs
-        at (on.ToTop n) = ap (λ (ws : List TreeWindow). marks ws is list x y) no_was ∙ (ap (λ (ws : List TreeWindow). marks [] ws list x y) no_is ∙ none-damaged list)
-          where
-            none-damaged : (cs : List (Change A)) → list_any (is_damaged_by [] x y) cs ≡ false
-            none-damaged [] = refl
-            none-damaged (c ∷ cs) = none-damaged cs
+        at on.Stays = ap (λ (ws : List TreeWindow). marks ws is list x y) no_was ∙ (ap (λ (ws : List TreeWindow). marks [] ws list x y) no_is ∙ none-damaged list x y)
+        at (on.ToTop n) = ap (λ (ws : List TreeWindow). marks ws is list x y) no_was ∙ (ap (λ (ws : List TreeWindow). marks [] ws list x y) no_is ∙ none-damaged list x y)
 
     -- What was marked of the tree is what has to be and may be.
     module _ (d0 d2 : Damaged) (points : (x y : ℕ) → x < d0.width → y < d0.height

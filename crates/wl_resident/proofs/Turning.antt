@@ -187,7 +187,7 @@ module _ {A : Type 0} (c : ℕ) (others : ℕ → ById ℕ) (base d : Desktop) (
                 or_right (has d0 x y) _
                 ((between (pos x) (pos y)).1
                 (both-true _ _ (inside x y wide high)
-                    (sym (ap (λ b. b || marks (map (told_by f) tree.was) (map (told_by f) tree.is) list (pos x) (pos y)) clean) ∙ (sym (points x y wide high) ∙ marked))))
+                (sym (ap (λ b. b || marks (map (told_by f) tree.was) (map (told_by f) tree.is) list (pos x) (pos y)) clean) ∙ (sym (points x y wide high) ∙ marked))))
 
 -- ---- a message that changes no windows
 

@@ -117,7 +117,7 @@ module _ (places : List (Option Kept)) (frames : List Waiting) (all : Numbered) 
 
   pub waiting-framed : (callback : ℕ) (ws : List Waiting) (cs : List Callback) → is_some (all surface) ≡ true → IsNewNumber n all cs → AreWaiting ws all cs
       → AreWaiting (ws ++ record { surface = surface; callback = callback; is_held = false; is_applied = false } ∷ [])
-          (changed_at surface (asking (Frame n)) all) (cs ++ record { number = n; id = callback } ∷ [])
+      (changed_at surface (asking (Frame n)) all) (cs ++ record { number = n; id = callback } ∷ [])
   waiting-framed callback [] [] there new t = (waits-new callback there new.0, tt)
   waiting-framed callback [] (c ∷ cs) there new t = absurd t
   waiting-framed callback (w ∷ ws) [] there new t = absurd t

@@ -151,7 +151,6 @@ module _ (numbers : ℕ → ById ℕ) (all : List Stacked) (c root k : ℕ) (f :
   -- Where it was mapped, they come on top.
   module _ (s : Standing) (its : is_standing c root s ≡ true) (windows : all_windows e ≡ windows_on (owned_in e) e.standing) (stands : e.standing ≡ d.standing ++ s ∷ [])
       (nowhere : list_any (is_standing c root) d.standing ≡ false) where
-
     no-was : t.was ≡ []
     no-was = t.was_of ∙ none-at c root d (find-none (is_standing c root) d.standing nowhere)
 

@@ -9,7 +9,7 @@ use Rattle.wl_replay.proofs.step.take_line.Goals as goal
 pub returns-in-Nothing-clause-told : goal.returns-in-Nothing-clause-told
 returns-in-Nothing-clause-told g c =
     Leads-passed (files_of g.S.SideFiles.opens g.S.SideFiles.gives g.S.SideFiles.fault_count) c.args.side.now
-      c.args.asked.line c.args.asked.piece.now c.args.session.now (g.W.Write.contents c.args.writer.now) _
+    c.args.asked.line c.args.asked.piece.now c.args.session.now (g.W.Write.contents c.args.writer.now) _
     c.in-Nothing.is
 
 pub returns-clause-told : goal.returns-clause-told

@@ -17,7 +17,7 @@ loop-at-preserved g c =
     record {
       within = omega (arith, few);
       steps = Takes-then (PutTo c.args.target.client c.args.target.store at) (PutsOnce c.args.target.client c.args.target.store at count)
-        (PutTo c.args.target.client c.args.target.store (at + count)) _ _ _
+          (PutTo c.args.target.client c.args.target.store (at + count)) _ _ _
           c.loop-at.invariant.steps c.in-Ok.ensures.put (put-more c.args.target.client c.args.target.store at count);
     }
 
@@ -31,4 +31,4 @@ returns-then-count-eq0 g c =
 pub returns : goal.returns
 returns g c =
     Takes-weaker (PutTo c.args.target.client c.args.target.store c.loop-at.at) (Puts c.args.target.client c.args.target.store) _ _ c.loop-at.invariant.steps
-      (put-all c.args.target.client c.args.target.store c.loop-at.at)
+    (put-all c.args.target.client c.args.target.store c.loop-at.at)

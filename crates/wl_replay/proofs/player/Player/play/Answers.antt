@@ -15,7 +15,7 @@ loop-lines-preserved g c =
     record {
       played = λ first stands.
           PlayedTo-more _ first _ c.loop-lines.side c.play_line.new.side c.loop-lines.self.session c.play_line.new.self.session
-            _ _ _ _ _ _ _ _ _ c.loop-lines.lines c.loop-lines.frames c.loop-lines.clients
+          _ _ _ _ _ _ _ _ _ c.loop-lines.lines c.loop-lines.frames c.loop-lines.clients
           c.in-Some.shown.frames c.in-Some.shown.clients c.loop-lines-test.true (c.loop-lines.invariant.played first stands) one;
       few_frames = omega (arith, small.0);
       few_clients = omega (arith, small.1);

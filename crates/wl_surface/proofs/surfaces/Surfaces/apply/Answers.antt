@@ -11,7 +11,7 @@ use Rattle.wl_surface.proofs.surfaces.Surfaces.apply.Goals.{in-Some, in-None}
 pub returns-clause-frames : goal.returns-clause-frames
 returns-clause-frames g c =
     let applied = changed-all (applied_by c.args.surface) c.deref_mut.result.now c.apply_all.new.frames c.self.inside.frames.items _
-      c.apply_all.ensures c.deref_mut.ensures.value c.deref_mut.ensures.len in
+    c.apply_all.ensures c.deref_mut.ensures.value c.deref_mut.ensures.len in
     elim c.match-get_mut.branch [
       | in-Some w ↦ rw (← c.self.view_is, w.self-inside-is) applied
       | in-None w ↦ rw (← c.self.view_is, w.self-inside-is) applied

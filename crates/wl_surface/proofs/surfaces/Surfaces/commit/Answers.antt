@@ -48,7 +48,7 @@ returns-clause-frames g c =
       | in_default w ↦ rw (← c.self.view_is, w.self-inside-is) refl
     ] in
     let held = changed-all (held_by c.args.surface) c.deref_mut.result.now c.hold_all.new.frames c.match-get_mut.self-inside.frames.items _
-      c.hold_all.ensures c.deref_mut.ensures.value c.deref_mut.ensures.len in
+    c.hold_all.ensures c.deref_mut.ensures.value c.deref_mut.ensures.len in
     changed-all (applied_by c.args.surface) c.deref_mut-2.result.now c.apply_all.new.frames _ _ c.apply_all.ensures c.deref_mut-2.ensures.value c.deref_mut-2.ensures.len
     ∙ ap (λ ws. map (applied_by c.args.surface) ws) held
     ∙ ap (committed_by c.args.surface) same
