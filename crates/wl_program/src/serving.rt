@@ -42,7 +42,13 @@ pub(crate) fn serve<'a, F: Files + Net + AllocGlobal, A: Allocator + Copy, W: Wr
     let session = session_of(heap, serve.size)?;
     let mut service = Service::new(session, lines, &mut *output, ppm.as_mut());
     let mut connections = Connections::new();
-    take_turns(&mut hub, &mut service, &mut connections, &mut side, serve.turns)
+    take_turns(
+        &mut hub,
+        &mut service,
+        &mut connections,
+        &mut side,
+        serve.turns,
+    )
 }
 
 fn bind_failed(error: io::Error) -> Fault

@@ -31,7 +31,15 @@ fn reports(
     let mut service = Service::new(session, Vec::new(alloc), Vec::new(alloc), None::<Vec<u8>>);
     let mut connections = Connections::new();
     for before in 0..turns {
-        if turn(hub, &mut service, &mut connections, side, before.saturating_add(1)).is_err() {
+        if turn(
+            hub,
+            &mut service,
+            &mut connections,
+            side,
+            before.saturating_add(1),
+        )
+        .is_err()
+        {
             return false;
         }
     }
