@@ -1,10 +1,6 @@
-//! Tests of the crates without crates below them, with allocations that are refused.
+//! Tests of regions, stores, xdg_surfaces and the stack of toplevels, with allocations that are refused.
 #![tactic(auto)]
 
-#[cfg(test)]
-mod calls;
-#[cfg(test)]
-mod held;
 #[cfg(test)]
 mod regions;
 #[cfg(test)]
@@ -15,7 +11,3 @@ mod shells;
 mod stores;
 #[cfg(test)]
 mod support;
-#[cfg(test)]
-mod surface_cases;
-#[cfg(test)]
-mod surfaces;

@@ -1,17 +1,11 @@
-//! Tests of the crates of subsurfaces, with allocations that are refused.
+//! Tests of linked surfaces and of the windows of their trees, with allocations that are refused.
 #![tactic(auto)]
 
-#[cfg(test)]
-mod children;
-#[cfg(test)]
-mod family;
 #[cfg(test)]
 mod linked;
 #[cfg(test)]
 mod repaint;
 #[cfg(test)]
 mod stacked;
-#[cfg(test)]
-mod trees;
 #[cfg(test)]
 mod windows;

@@ -1,10 +1,6 @@
-//! Tests of the session: its worked recordings, and what it does where memory is refused.
+//! Tests of the session: its worked recordings but for frames, and what it does where memory is refused.
 #![tactic(auto)]
 
-#[cfg(test)]
-mod callbacks;
-#[cfg(test)]
-mod frames;
 #[cfg(test)]
 mod memory;
 #[cfg(test)]
@@ -15,11 +11,5 @@ mod recordings;
 mod regions;
 #[cfg(test)]
 mod registry;
-#[cfg(test)]
-mod releases;
-#[cfg(test)]
-mod subsurfaces;
-#[cfg(test)]
-mod support;
 #[cfg(test)]
 mod toplevels;

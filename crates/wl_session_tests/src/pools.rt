@@ -1,56 +1,14 @@
 //! Pools, buffers and the stores behind them.
 
-use crate::support::{Case, Message, REGISTRY, Row, first_missed_case};
+use session_rows::{
+    BUFFER_10, BUFFER_11, BUFFERS, Case, Message, POOL_12800, REGISTRY, Row, SHM, first_missed_case,
+};
 use wl_session::{Cause, Done, Fed, Step, Stored};
 use wl_wire::Arg;
-
-/// The wl_compositor 3 and the wl_shm 4, by the registry 2.
-pub(crate) const SHM: &[Row] = &[
-    Row::Binds(1, b"wl_compositor", 2, 3, Fed::Alive),
-    Row::Binds(3, b"wl_shm", 1, 4, Fed::Alive),
-    Row::Takes,
-];
-
-/// The buffer 10 of the pool 9 at its start, and the buffer 11 behind it: 40 by 40 pixels with a stride of 160, of the format 1.
-pub(crate) const BUFFER_10: Message = Message(
-    9,
-    0,
-    &[
-        Arg::NewId(10),
-        Arg::Int(0),
-        Arg::Int(40),
-        Arg::Int(40),
-        Arg::Int(160),
-        Arg::Uint(1),
-    ],
-);
-
-const BUFFER_11: Message = Message(
-    9,
-    0,
-    &[
-        Arg::NewId(11),
-        Arg::Int(6400),
-        Arg::Int(40),
-        Arg::Int(40),
-        Arg::Int(160),
-        Arg::Uint(1),
-    ],
-);
-
-/// The pool 9 of so many bytes.
-const POOL_12800: Message = Message(4, 0, &[Arg::NewId(9), Arg::Int(12800)]);
 
 const POOL_12799: Message = Message(4, 0, &[Arg::NewId(9), Arg::Int(12799)]);
 
 const POOL_6399: Message = Message(4, 0, &[Arg::NewId(9), Arg::Int(6399)]);
-
-/// The pool 9 of 12,800 bytes and its buffers 10 and 11.
-pub(crate) const BUFFERS: &[Row] = &[
-    Row::Sends(POOL_12800),
-    Row::Sends(BUFFER_10),
-    Row::Sends(BUFFER_11),
-];
 
 const STORED: &[Row] = &[
     Row::Waits(1, Some(&[])),

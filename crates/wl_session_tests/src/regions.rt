@@ -1,7 +1,6 @@
 //! Regions.
 
-use crate::pools::SHM;
-use crate::support::{Case, Message, REGISTRY, Row, first_missed_case};
+use session_rows::{Case, Message, REGISTRY, Row, SHM, first_missed_case};
 use wl_wire::Arg;
 
 const RECT: &[Arg] = &[Arg::Int(0), Arg::Int(0), Arg::Int(4), Arg::Int(4)];

@@ -1,63 +1,11 @@
 //! Surfaces and toplevels: what is told of them, their errors, and how long their buffers keep stores.
 
-use crate::pools::{BUFFER_10, BUFFERS};
-use crate::support::{Case, Message, REGISTRY, Row, first_missed_case, first_missed_row};
+use session_rows::{
+    ACKNOWLEDGES, ATTACH_10, ATTACH_NONE, BUFFER_10, BUFFERS, COMMIT, CONFIGURED, CONFIGURES, Case,
+    GLOBALS, MADE, MAPS, Message, REGISTRY, Row, first_missed_case, first_missed_row,
+};
 use wl_session::{Done, Fed, Step, Stored};
 use wl_wire::Arg;
-
-/// The wl_compositor 3, the wl_shm 4 and the xdg_wm_base 5, by the registry 2.
-pub(crate) const GLOBALS: &[Row] = &[
-    Row::Binds(1, b"wl_compositor", 2, 3, Fed::Alive),
-    Row::Binds(3, b"wl_shm", 1, 4, Fed::Alive),
-    Row::Binds(6, b"xdg_wm_base", 1, 5, Fed::Alive),
-    Row::Takes,
-];
-
-pub(crate) const COMMIT: Message = Message(6, 6, &[]);
-
-/// The surface 6 with its xdg_surface 7 and its toplevel 8.
-pub(crate) const MADE: &[Row] = &[
-    Row::Sends(Message(3, 0, &[Arg::NewId(6)])),
-    Row::Sends(Message(5, 2, &[Arg::NewId(7), Arg::Object(6)])),
-    Row::Sends(Message(7, 1, &[Arg::NewId(8)])),
-    Row::Waits(1, Some(&[])),
-];
-
-/// xdg_toplevel.configure of the toplevel 8: of no size, and activated.
-pub(crate) const CONFIGURED: Message = Message(
-    8,
-    0,
-    &[Arg::Int(0), Arg::Int(0), Arg::Array(&[4, 0, 0, 0])],
-);
-
-/// Its first commit is answered with a configure.
-pub(crate) const CONFIGURES: &[Row] = &[
-    Row::Sends(COMMIT),
-    Row::Told(&[CONFIGURED, Message(7, 0, &[Arg::Uint(1)])]),
-    Row::Takes,
-];
-
-pub(crate) const ACKNOWLEDGES: &[Row] = &[
-    Row::Sends(Message(7, 4, &[Arg::Uint(1)])),
-    Row::Waits(1, Some(&[])),
-];
-
-/// wl_surface.attach of a buffer, or of none for null.
-const ATTACH_10: Message = Message(6, 1, &[Arg::Object(10), Arg::Int(0), Arg::Int(0)]);
-
-pub(crate) const ATTACH_NONE: Message = Message(6, 1, &[Arg::Object(0), Arg::Int(0), Arg::Int(0)]);
-
-/// The buffer 10 is attached, all of it is damaged, and the toplevel is mapped.
-pub(crate) const MAPS: &[Row] = &[
-    Row::Sends(ATTACH_10),
-    Row::Sends(Message(
-        6,
-        2,
-        &[Arg::Int(0), Arg::Int(0), Arg::Int(40), Arg::Int(40)],
-    )),
-    Row::Sends(COMMIT),
-    Row::Waits(1, Some(&[])),
-];
 
 /// Another state is asked for: the toplevel is configured again. A serial that doesn't wait can't be acknowledged.
 const MAXIMIZES: &[Row] = &[

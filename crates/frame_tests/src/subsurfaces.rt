@@ -1,9 +1,9 @@
 //! Subsurfaces: when what they commit is shown, where they stand, and how deep they go.
 
-use crate::frames::{GREEN, RED};
-use crate::pools::BUFFERS;
-use crate::support::{Case, Message, Pixel, REGISTRY, Row, first_missed_case};
-use crate::toplevels::{ACKNOWLEDGES, COMMIT, CONFIGURES, GLOBALS, MADE, MAPS};
+use session_rows::{
+    ACKNOWLEDGES, BUFFERS, COMMIT, CONFIGURES, Case, GLOBALS, GREEN, MADE, MAPS, Message, Pixel,
+    RED, REGISTRY, Row, first_missed_case,
+};
 use wl_session::Fed;
 use wl_wire::Arg;
 

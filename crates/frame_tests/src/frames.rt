@@ -1,20 +1,13 @@
 //! Frames of windows: what they show, and which points are painted again.
 
-use crate::pools::BUFFERS;
-use crate::support::{
-    Case, Message, Pixel, REGISTRY, Row, bytes_of, first_missed_case, is_pixel, play_after,
-};
-use crate::toplevels::{
-    ACKNOWLEDGES, ATTACH_NONE, COMMIT, CONFIGURED, CONFIGURES, GLOBALS, MADE, MAPS,
+use session_rows::{
+    ACKNOWLEDGES, ATTACH_NONE, BUFFERS, COMMIT, CONFIGURED, CONFIGURES, Case, GLOBALS, GREEN, MADE,
+    MAPS, Message, Pixel, RED, RED_10, REGISTRY, Row, bytes_of, first_missed_case, is_pixel,
+    play_after,
 };
 use std::alloc::Global;
 use wl_session::{Config, Done, Fed, Rgb, Run, Session, Shot, Step};
 use wl_wire::Arg;
-
-/// Pixels as a store has them: blue, green, red and alpha.
-pub(crate) const RED: &[u8] = &[0, 0, 255, 0];
-
-pub(crate) const GREEN: &[u8] = &[0, 255, 0, 0];
 
 const WHITE: &[u8] = &[255, 255, 255, 0];
 
@@ -25,9 +18,6 @@ const ATTACH_11: Message = Message(6, 1, &[Arg::Object(11), Arg::Int(0), Arg::In
 
 /// wl_buffer.release of the buffer 10, which is no longer shown.
 const RELEASED_10: Message = Message(10, 0, &[]);
-
-/// The buffer 10 is all red before it is shown.
-pub(crate) const RED_10: &[Row] = &[Row::Fills(1, 1, 0, 1600, RED)];
 
 /// The window is there: 40 by 40 points at (0, 0), and black around it.
 const SHOWS_RED: &[Row] = &[
