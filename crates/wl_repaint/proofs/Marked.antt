@@ -28,6 +28,11 @@ marked-more p xs n d old was new less is more sides = record {
   sides = record { width = sides.width ∙ is.sides.width; height = sides.height ∙ is.sides.height };
 }
 
+-- nothing more is damaged
+pub nothing-more : (was more : Bool) → more ≡ false → was ≡ (was || more)
+nothing-more true more none = refl
+nothing-more false more none = sym none
+
 -- a change without damage has no point
 pub undamaged : {A : Type 0} (c : Change A) (windows : List TreeWindow) (x y : ℤ) → c.rects.items ≡ [] → is_damaged_by windows x y c ≡ false
 undamaged c [] x y none = refl
