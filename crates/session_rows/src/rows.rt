@@ -129,22 +129,19 @@ fn sent(alloc: Global, session: &mut Session<Global>, message: Message) -> Optio
     sent_by(alloc, session, 1, message)
 }
 
-/// How the client 1 is after wl_registry.bind by its registry 2.
-fn bind(
-    alloc: Global,
-    session: &mut Session<Global>,
-    name: u32,
-    interface: &[u8],
-    version: u32,
-    id: u32,
-) -> Option<Fed> {
-    let args = [
+/// What wl_registry.bind is sent with: a global's name, interface and version, and the new id.
+fn bind_args<'a>(name: u32, interface: &'a [u8], version: u32, id: u32) -> [Arg<'a>; 4] {
+    [
         Arg::Uint(name),
         Arg::Str(interface),
         Arg::Uint(version),
         Arg::NewId(id),
-    ];
-    sent(alloc, session, Message(2, 0, &args))
+    ]
+}
+
+/// How the client 1 is after wl_registry.bind by its registry 2.
+fn bind(alloc: Global, session: &mut Session<Global>, args: &[Arg]) -> Option<Fed> {
+    sent(alloc, session, Message(2, 0, args))
 }
 
 fn waiting(session: &Session<Global>) -> usize {
@@ -161,17 +158,17 @@ fn take_all_of(session: &mut Session<Global>, client: u32) -> bool {
     session.sent(client, count)
 }
 
-fn fill(
-    session: &mut Session<Global>,
+/// A client's store from a byte on.
+struct Place {
     client: u32,
     store: u32,
     at: u32,
-    count: u32,
-    pixel: &[u8],
-) -> bool {
+}
+
+fn fill(session: &mut Session<Global>, place: &Place, count: u32, pixel: &[u8]) -> bool {
     for k in 0..count {
-        let place = at.saturating_add(4u32.saturating_mul(k));
-        if session.store(client, store, place, pixel) != Stored::Done {
+        let at = place.at.saturating_add(4u32.saturating_mul(k));
+        if session.store(place.client, place.store, at, pixel) != Stored::Done {
             return false;
         }
     }
@@ -279,7 +276,7 @@ fn get_registries(alloc: Global, session: &mut Session<Global>, first: u32, past
 
 fn bind_compositors(alloc: Global, session: &mut Session<Global>, first: u32, past: u32) -> bool {
     for id in first..past {
-        bind(alloc, session, 1, b"wl_compositor", 2, id);
+        bind(alloc, session, &bind_args(1, b"wl_compositor", 2, id));
     }
     true
 }
@@ -342,7 +339,7 @@ fn is_met(alloc: Global, session: &mut Session<Global>, row: &Row) -> bool {
             sent_by(alloc, session, client, message) == Some(Fed::Alive)
         }
         Row::Binds(name, interface, version, id, fed) => {
-            bind(alloc, session, name, interface, version, id) == Some(fed)
+            bind(alloc, session, &bind_args(name, interface, version, id)) == Some(fed)
         }
         Row::Errs(message, object, code) => {
             sent(alloc, session, message) == Some(protocol(object, code))
@@ -359,7 +356,7 @@ fn is_met(alloc: Global, session: &mut Session<Global>, row: &Row) -> bool {
         Row::Takes => take_all(session),
         Row::TakesOf(client) => take_all_of(session, client),
         Row::Fills(client, store, at, count, pixel) => {
-            fill(session, client, store, at, count, pixel)
+            fill(session, &Place { client, store, at }, count, pixel)
         }
         Row::Shows(least, most, pixels) => shows(session, least, most, pixels),
         Row::Is(client, wanted) => session.status(client) == wanted,

@@ -77,7 +77,7 @@ abbrev pub IsLeftBy : Option Cause → Resident → List Standing → Option Res
 IsLeftBy (Some cause) r before now after = (now ≡ Some r) × (after ≡ before)
 IsLeftBy None r before now after = IsLeftLiving r before now after
 
--- where none has the number, none has it after
+-- where none has the number, none has it after; one that has it is left as above
 abbrev pub IsLeftSo : Option Resident → List Standing → Option Resident → List Standing → Type 0
 IsLeftSo None before now after = (now ≡ None) × (after ≡ before)
 IsLeftSo (Some r) before now after = IsLeftBy r.peer.status r before now after

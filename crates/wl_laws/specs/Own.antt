@@ -57,7 +57,7 @@ abbrev pub HasEndedLate : Resident → Resident → Type 0
 HasEndedLate r q =
     (last : Resident) × (cause : Cause) × HasItsOwn r last × ((cause ≡ Slow) ⊎ (cause ≡ Memory)) × (q ≡ resident_of (ended cause last.peer))
 
--- the same toplevels of a client stand
+-- the same toplevels of a client are mapped
 abbrev pub StandTheSame : List Standing → List Standing → Type 0
 StandTheSame before after = (surface : ℕ) → list_any (λ s. s.surface == surface) after ≡ list_any (λ s. s.surface == surface) before
 
@@ -71,10 +71,12 @@ abbrev pub KeepsItsOwnBy : Option Cause → Resident → List Standing → Optio
 KeepsItsOwnBy (Some cause) r before now after = now ≡ Some r
 KeepsItsOwnBy None r before now after = LivesOrEnds r before now after
 
+-- where there is no client, there is none after
 abbrev pub KeepsItsOwnSo : Option Resident → List Standing → Option Resident → List Standing → Type 0
 KeepsItsOwnSo None before now after = now ≡ None
 KeepsItsOwnSo (Some r) before now after = KeepsItsOwnBy r.peer.status r before now after
 
+-- from one desktop to the next client c keeps what it had, or it has ended for an event that wasn't queued
 abbrev pub KeepsItsOwn : ℕ → Desktop → Desktop → Type 0
 KeepsItsOwn c old new = KeepsItsOwnSo (client_at c old) (toplevels_of c old) (client_at c new) (toplevels_of c new)
 

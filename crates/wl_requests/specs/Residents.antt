@@ -92,6 +92,7 @@ MeetsFor c demand r d q =
     (Queues (replies served_now c demand r (changed_for c demand r d) (all_windows d) d) (changed_for c demand r d).peer q)
     r.peer q
 
+-- The same, and what is kept of the client agrees with what became of it.
 abbrev pub MeetsSo : {A : Type 0} → ℕ → Demand → Resident → Desktop → Kept A → Kept A → Type 0
 MeetsSo c demand r d old new = (q : Peer) × MeetsFor c demand r d q × IsLeft old new (changed_for c demand r d) q
 
@@ -202,7 +203,7 @@ StacksFor old r (CommitTree id) stacking = StacksBy old id (effect_of_commit r i
 StacksFor old r (EndToplevel id xdg surface) stacking = StacksTo old surface Out stacking
 StacksFor old r demand stacking = stacking ≡ Stays
 
--- a refusal ends the client, and with it its toplevels
+-- What a request does to the order of the mapped toplevels. Of one that is refused nothing is said, since it ends the client.
 abbrev pub StacksSo : {A : Type 0} → Kept A → Resident → Result Demand Refusal → Stacking → Type 0
 StacksSo old r (Ok demand) stacking = StacksFor old r demand stacking
 StacksSo old r (Err refusal) stacking = Unit {0}
@@ -211,7 +212,7 @@ StacksSo old r (Err refusal) stacking = Unit {0}
 abbrev pub Stacks : {A : Type 0} → (Resident → Result Demand Refusal) → Kept A → Stacking → Type 0
 Stacks judged old stacking = (r : Resident) → IsResident old r → OwnsOrderly r → StacksSo old r (judged r) stacking
 
--- The first message of what has come is taken and answered.
+-- The first message of what has come is taken and answered, and the mapped toplevels are restacked as it asks.
 abbrev pub TakesSo : {A : Type 0} → Split → ℕ → Resident → Desktop → Kept A → Kept A → Stacking → Type 0
 TakesSo (Whole object opcode size) c r d old new stacking =
     AnswersSo (judge_all served_now r object opcode (take (size - 8) (drop 8 r.peer.rest))) c

@@ -39,8 +39,8 @@ impl<A: Allocator> Outcome<A> {
     }
 }
 
-/// A client, and its surfaces and xdg_surfaces. The table of its objects gives for each wl_surface, xdg_surface and xdg_toplevel the number of
-/// its surface.
+/// A client, and its surfaces, wl_subsurfaces and xdg_surfaces. The table of its objects gives for each wl_surface, xdg_surface and
+/// xdg_toplevel the number of its surface.
 #[derive(Drop)]
 pub struct Resident<A: Allocator> {
     /// Its stream, its objects and its stores.

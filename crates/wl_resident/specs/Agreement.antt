@@ -19,8 +19,8 @@ use Rattle.wl_resident.specs.View.{DeskView, OwnedView}
 
 -- ---- the clients
 
--- One client of the desk, at its seat: what is kept of it and of what it owns stands for a client of the desktop. One that ended owns
--- nothing.
+-- A client at its seat, its place at the desk (no wl_seat): what is kept of it and of what it owns stands for a client of the desktop. One
+-- that ended owns nothing.
 pub record IsSeat (v : ClientView) (o : OwnedView) (r : Resident) : Type 0 where
   pub peer : IsPeer v r.peer
   pub owns : IsOwned (names_in v.objects) o.surfaces o.family (kept_of o.shell) r.owned
@@ -28,7 +28,7 @@ pub record IsSeat (v : ClientView) (o : OwnedView) (r : Resident) : Type 0 where
   pub subsurfaces : AreOfSurfaces o.subsurfaces (targets_in WlSurface v.objects) r.subsurfaces
   pub ended : is_some r.peer.status ≡ true → OwnsNothing r
 
--- The place of a number, 1 to 32: its client is there in all three, or in none.
+-- A client's number, 1 to 32: what is kept of the client, what is kept of all it owns, and a client of the desktop are there, or none is.
 abbrev pub IsPlace : Option ClientView → Option OwnedView → Option Resident → Type 0
 IsPlace None None None = Unit {0}
 IsPlace (Some v) (Some o) (Some r) = IsSeat v o r
@@ -63,7 +63,7 @@ IsStack numbers (k ∷ ks) (s ∷ ss) = IsStanding numbers k s × IsStack number
 IsStack numbers [] (s ∷ ss) = ⊥
 IsStack numbers (k ∷ ks) [] = ⊥
 
--- the toplevels that stand, and the place of the next one
+-- the mapped toplevels from bottom to top, and the place of the next one
 pub record IsScene (numbers : ℕ → ById ℕ) (stack : Stack) (d : Desktop) : Type 0 where
   pub standing : IsStack numbers stack.standing d.standing
   pub next : stack.next ≡ d.mappings % 8

@@ -37,7 +37,7 @@ pub record IsSeated {A : Type 0} (c : ℕ) (others : ℕ → ById ℕ) (base : D
   pub windows : AreStacked (with_numbers c (targets_in WlSurface v.client.objects) others) pile.windows (all_windows d)
   pub mapped : MappedStand d
 
--- Told what makes it another peer, or ended by that, the client agrees with what becomes of the desktop's.
+-- A call does to what is kept of client c what R does to it on the desktop: its stream, objects and stores change, or it ends.
 abbrev pub IsChangedSo : {A : Type 0} → ℕ → (Peer → Done → Option Peer → Type 0) → Done → Kept A → Kept A → Pile → Pile → Type 0
 IsChangedSo c R done old new was is =
     (others : ℕ → ById ℕ) (base d : Desktop) (r : Resident) → IsSeated c others base old was d r

@@ -1,4 +1,4 @@
-//! One client is served, and its toplevels come to the stack and go.
+//! What a client sends is taken one message at a time, and its toplevels and their windows follow; a client ends, and goes.
 
 ghost use Rattle.std.specs.Prelude.{ℕ, ◌≡◌, ◌<◌, List, length, true, false};
 ghost use Rattle.wl_marking.specs.Marking.{IsAsLarge};

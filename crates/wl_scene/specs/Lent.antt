@@ -20,7 +20,7 @@ abbrev pub slots_lent : {A : Type 0} → List (Option (Lent A)) → ℕ → Slot
 slots_lent lent zero = no_slots
 slots_lent lent (suc index) = slots_of (slice_index_or lent index None)
 
--- What is lent stands for what each client owns, its surfaces by their numbers. None of them is linked to another.
+-- What is lent is right for what each client owns, its surfaces by their numbers. None of them was made a subsurface.
 pub record Stands {A : Type 0} (lent : List (Option (Lent A))) (owned : ℕ → Owned) : Type 0 where
   pub surfaces : (c : ℕ) → StandForAll (slots_lent lent c) (λ number. surface_at number (owned c).surfaces)
   pub links : (c : ℕ) → (owned c).surfaces.links ≡ []

@@ -1,4 +1,4 @@
--- Which clients broke a promise since they connected, and what is right of a session but for them.
+-- Which clients broke a promise since they connected (the liars), and what is right of a session but for them.
 use Rattle.std.specs.Prelude.{ℕ, ◌≡◌, ◌==◌, ◌&&◌, ◌<◌, pos, Bool, true, false, List, [], ◌∷◌}
 use Rattle.wl_paint.specs.Damage.{has}
 use Rattle.wl_paint.specs.Frame.{color_at}
@@ -41,7 +41,7 @@ HoldsLiars e before after =
     (c : ℕ) → after c ≡ false
     → KeepsIn all_windows e.happening e.before.desktop e.after.desktop c × (before c ≡ true → gives_back e.happening c ≡ true)
 
--- The same after many events.
+-- The same after many events, of the set before the first of them and the set after the last.
 abbrev pub AreLiars : (ℕ → Bool) → List Event → (ℕ → Bool) → Type 0
 AreLiars liars [] last = (c : ℕ) → last c ≡ false → liars c ≡ false
 AreLiars liars (e ∷ es) last = (next : ℕ → Bool) × HoldsLiars e liars next × AreLiars next es last

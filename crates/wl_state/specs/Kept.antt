@@ -86,6 +86,7 @@ HasMoved o requests = (o.x ≡ (offset requests).x) × (o.y ≡ (offset requests
 abbrev pub held_list : List Request → List Request
 held_list requests = take (committed requests) requests
 
+-- What is kept is right for a surface's requests: for what is pending, for what the last commit held, and for what is applied.
 pub record Stands (k : Kept) (h : History) : Type 0 where
   pub pending : Shows k.pending_buffer k.pending_transform (latest k.pending_opaque (latest k.held_opaque k.current_opaque))
       (latest k.pending_input (latest k.held_input k.current_input)) (pending h)

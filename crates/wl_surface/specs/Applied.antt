@@ -9,7 +9,7 @@ use Rattle.wl_state.specs.Request.{Buffer}
 use Rattle.wl_state.specs.State.{History, applied, apply, between, committed, damaged_rects}
 use Rattle.wl_state.specs.Surface.{Surface, is_there}
 
--- what is told of a surface that is committed
+-- what is told of a surface that is committed; it is whole where its size, transform or offset changed, or it got or lost its buffer
 pub record IsChange {A : Type 0} (number : ℕ) (h : History) (c : Change A) : Type 0 where
   pub surface : c.surface ≡ number
   pub whole : (c.whole ≡ false) ↔ IsSameShape h (committed_now h)

@@ -51,7 +51,7 @@ MarksTreeAlone =
     → at_least width height applied (among below above was) (among below above is) x y ≡ true
     → (in_output width height x y && (is_in_any x y was || is_in_any x y is)) ≡ true
 
--- Where their records differ, all points of the windows of the tree, before and after, are marked at most, whatever damage was applied.
+-- Where a window of the tree came, went, moved, was restacked or resized, all points of the tree, before and after, may be painted again.
 abbrev pub MayMarkWholeTree : Type 0
 MayMarkWholeTree =
     (below above was is : List Window) (applied : Applied) → IsOneTree below above was is → same_records was is ≡ false

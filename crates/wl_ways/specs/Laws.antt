@@ -28,7 +28,7 @@ use Rattle.wl_ways.specs.Ways.{IsGone, RouteBy, Struck, TakesAs}
 abbrev pub OrderlyHasTrees : Type 0
 OrderlyHasTrees = (d : Desktop) → Orderly d → MappedStand d → HasTrees d
 
--- A message of a client that lives, with what it is answered, leads on one of the ways to where that leads.
+-- A living client's message leads to the last desktop at once, or by one on which it is done, where an unqueued event ends the client.
 abbrev pub MessagesLeadSo : Type 0
 MessagesLeadSo =
     (b : Bool) (c : ℕ) (r : Resident) (d e : Desktop) → Orderly d → MappedStand d → client_at c d ≡ Some r → r.peer.status ≡ None
