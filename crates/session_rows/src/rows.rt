@@ -159,6 +159,7 @@ fn take_all_of(session: &mut Session<Global>, client: u32) -> bool {
 }
 
 /// A client's store from a byte on.
+#[derive(Clone, Copy)]
 struct Place {
     client: u32,
     store: u32,
