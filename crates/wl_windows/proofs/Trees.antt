@@ -221,7 +221,7 @@ pub same-fits : (was more told : List TreeWindow) (room : ℕ) → was ++ more �
 same-fits was more told room e fits = omega (arith, sym (length-append was more) ∙ (ap length e ∙ length-append was told))
 
 -- no position from a corner
-pub place-there : (x y a b : ℤ) → a ≡ x → b ≡ y → place_beside (record { x = a; y = b }) (record { x = pos 0; y = pos 0 }) ≡ record { x = x; y = y }
+pub place-there : (x y a b : ℤ) → a ≡ x → b ≡ y → place_beside (record { corner = record { x = a; y = b }; position = record { x = pos 0; y = pos 0 } }) ≡ record { x = x; y = y }
 place-there x y a b ex ey =
     let first : a +ℤ pos 0 ≡ a = omega (arith, ints) in
     let second : b +ℤ pos 0 ≡ b = omega (arith, ints) in
@@ -229,7 +229,7 @@ place-there x y a b ex ey =
 
 -- the windows of a tree at the place of its root
 pub root-told : (all : Surfaces) (owner : Owner) (root : ℕ) (x y a b : ℤ) (was now : List TreeWindow) → a ≡ x → b ≡ y
-    → now ≡ was ++ told_tree 17 owner all root (place_beside (record { x = a; y = b }) (record { x = pos 0; y = pos 0 }))
+    → now ≡ was ++ told_tree 17 owner all root (place_beside (record { corner = record { x = a; y = b }; position = record { x = pos 0; y = pos 0 } }))
     → now ≡ was ++ told_tree 17 owner all root (record { x = x; y = y })
 root-told all owner root x y a b was now ex ey e =
     e ∙ ap (λ (place : Place). was ++ told_tree 17 owner all root place) (place-there x y a b ex ey)

@@ -8,7 +8,7 @@ use Rattle.wl_state.specs.Request.{Buffer}
 use Rattle.wl_state.specs.State.{History, Values, applied, height_of, width_of}
 use Rattle.wl_store.specs.Transform.{transform_of}
 use Rattle.wl_surface.specs.Surfaces.{Surfaces, history_in}
-use Rattle.wl_windows.specs.declared.window.Point.{Point}
+use Rattle.wl_windows.specs.declared.window.Spot.{Spot}
 use Rattle.wl_windows.specs.declared.window.TreeWindow.{TreeWindow}
 
 -- what is told of a window
@@ -49,8 +49,8 @@ abbrev pub window_at : Surfaces → ℕ → Place → Option TreeWindow
 window_at all surface place = option_and_then (window_in surface place) (history_in surface all)
 
 -- a position from a corner
-abbrev pub place_beside : Point → Point → Place
-place_beside corner position = record { x = corner.x +ℤ position.x; y = corner.y +ℤ position.y }
+abbrev pub place_beside : Spot → Place
+place_beside spot = record { x = spot.corner.x +ℤ spot.position.x; y = spot.corner.y +ℤ spot.position.y }
 
 -- what stands at one place in the stack of a surface with this window: the window itself, or the windows of a child
 abbrev pub member_windows : (ℕ → Place → List TreeWindow) → TreeWindow → ℤ → ℤ → Member → List TreeWindow

@@ -25,11 +25,18 @@ pub struct TreeWindow {
     pub transform: Transform,
 }
 
-/// So many pixels to the right and down: from the output's corner, or from that of another surface.
+/// So many pixels to the right and down.
 #[derive(Clone, Copy, Debug)]
 pub(crate) struct Point {
     pub x: i32,
     pub y: i32,
+}
+
+/// A place on the output: so far from a corner there. The sum isn't held within the bounds.
+#[derive(Clone, Copy, Debug)]
+pub(crate) struct Spot {
+    pub corner: Point,
+    pub position: Point,
 }
 
 /// A coordinate in pixels, held within the bounds.
@@ -52,24 +59,22 @@ fn held_sum(corner: i32, position: i32, offset: i32) -> i32
     held(i64::from(corner) + i64::from(position) + i64::from(offset))
 }
 
-/// The window of a surface that is placed at this position, in pixels, from the corner of its parent (wayland.xml,
-/// wl_subsurface.set_position), or from a point of the output: its corner is there plus its own offset. `None` where it shows no buffer, or
-/// isn't there.
+/// The window of a surface that is placed there, as a child is at its position from the corner of its parent (wayland.xml,
+/// wl_subsurface.set_position): its corner is there plus its own offset. `None` where it shows no buffer, or isn't there.
 pub(crate) fn window_of<A: Allocator + Copy>(
     linked: &Linked<A>,
     surface: SurfaceNo,
-    corner: &Point,
-    position: &Point,
+    spot: &Spot,
 ) -> Option<TreeWindow>
     ensures { (all : Asked) → Stand linked.now.surfaces linked.now.family all
-        → result ≡ window_at all surface (place_beside corner.now position.now) }
+        → result ≡ window_at all surface (place_beside spot.now) }
 {
     let current = linked.surfaces.current(surface)?;
     match current.buffer {
         None => None,
         Some(_) => {
-            let x = held_sum(corner.x, position.x, current.offset.x);
-            let y = held_sum(corner.y, position.y, current.offset.y);
+            let x = held_sum(spot.corner.x, spot.position.x, current.offset.x);
+            let y = held_sum(spot.corner.y, spot.position.y, current.offset.y);
             Some(TreeWindow {
                 surface,
                 x,

@@ -6,7 +6,7 @@ ghost use Rattle.wl_scene.specs.Windows.{Owner, tree};
 ghost use Rattle.wl_surface.specs.Surfaces.{Surfaces as Asked};
 ghost use Rattle.wl_windows.specs.Windows.{Continues, place_beside, placed_windows, told_of, told_tree};
 
-use crate::window::{Point, TreeWindow, window_of};
+use crate::window::{Point, Spot, TreeWindow, window_of};
 use std::alloc::{AllocError, Allocator};
 use wl_children::{Member, Placed};
 use wl_linked::{Linked, SurfaceNo};
@@ -34,15 +34,17 @@ fn add_placed<A: Allocator + Copy>(
     match placed.member {
         Member::Itself => windows.push(*window)?,
         Member::Child(child) => {
-            let corner = Point {
-                x: window.x,
-                y: window.y,
+            let spot = Spot {
+                corner: Point {
+                    x: window.x,
+                    y: window.y,
+                },
+                position: Point {
+                    x: placed.x,
+                    y: placed.y,
+                },
             };
-            let position = Point {
-                x: placed.x,
-                y: placed.y,
-            };
-            add_tree(linked, levels, child, &corner, &position, windows)?;
+            add_tree(linked, levels, child, &spot, windows)?;
         }
     }
     Ok(())
@@ -71,28 +73,26 @@ fn add_stack<A: Allocator + Copy>(
     Ok(())
 }
 
-/// Adds the windows of the tree of a surface that is placed at this position from the corner of its parent, or from a point of the output,
-/// down to so many levels.
+/// Adds the windows of the tree of a surface that is placed there, down to so many levels.
 #[cycle(tree)]
 fn add_tree<A: Allocator + Copy>(
     linked: &Linked<A>,
     levels: u8,
     surface: SurfaceNo,
-    corner: &Point,
-    position: &Point,
+    spot: &Spot,
     windows: &mut Vec<TreeWindow, A>,
 ) -> Result<(), AllocError>
     ensures ok { OnOk result ((all : Asked) (owner : Owner) → Stand linked.now.surfaces linked.now.family all
-        → windows.new.items ≡ windows.old.items ++ told_tree levels owner all surface (place_beside corner.now position.now)) }
+        → windows.new.items ≡ windows.old.items ++ told_tree levels owner all surface (place_beside spot.now)) }
     ensures more { Continues windows.old.items windows.new.items }
     ensures succeeds { (all : Asked) (owner : Owner) → Stand linked.now.surfaces linked.now.family all
-        → vec_len windows.old + length (told_tree levels owner all surface (place_beside corner.now position.now)) ≤ vec_capacity windows.old → IsOk result }
+        → vec_len windows.old + length (told_tree levels owner all surface (place_beside spot.now)) ≤ vec_capacity windows.old → IsOk result }
     ensures capacity { vec_capacity windows.old ≤ vec_capacity windows.new }
 {
     if levels == 0 {
         return Ok(());
     }
-    let Some(window) = window_of(linked, surface, corner, position) else {
+    let Some(window) = window_of(linked, surface, spot) else {
         return Ok(());
     };
     let stack = linked.family.stack(surface);
@@ -125,9 +125,11 @@ pub fn add_windows<A: Allocator + Copy>(
     ensures capacity { vec_capacity windows.old ≤ vec_capacity windows.new }
 {
     let before = windows.len();
-    let corner = Point { x, y };
-    let position = Point { x: 0, y: 0 };
-    let added = add_tree(linked, LEVELS, root, &corner, &position, windows);
+    let spot = Spot {
+        corner: Point { x, y },
+        position: Point { x: 0, y: 0 },
+    };
+    let added = add_tree(linked, LEVELS, root, &spot, windows);
     if added.is_err() {
         windows.truncate(before);
     }

@@ -8,8 +8,8 @@ use Rattle.wl_windows.proofs.window.window_of.Goals as goal
 
 pub returns-in-Some : goal.returns-in-Some
 returns-in-Some g c = λ all stand.
-    let corner = c.args.corner.now in
-    let position = c.args.position.now in
+    let corner = c.args.spot.now.corner in
+    let position = c.args.spot.now.position in
     let offset = c.in_ok-current.current.offset in
     let corner_x : to_z w32 (of_z w32 corner.x) ≡ corner.x = search rules in
     let corner_y : to_z w32 (of_z w32 corner.y) ≡ corner.y = search rules in
@@ -19,7 +19,7 @@ returns-in-Some g c = λ all stand.
     let offset_y : to_z w32 (of_z w32 offset.y) ≡ offset.y = search rules in
     let left : to_z w32 (of_z w32 c.held_sum-x.result) ≡ c.held_sum-x.result = search rules in
     let top : to_z w32 (of_z w32 c.held_sum-y.result) ≡ c.held_sum-y.result = search rules in
-    window-shown c.in_ok-current.current c.current.result c.in-Some.field-0 c.args.surface (place_beside corner position)
+    window-shown c.in_ok-current.current c.current.result c.in-Some.field-0 c.args.surface (place_beside c.args.spot.now)
     (to_z w32 (of_z w32 c.held_sum-x.result)) (to_z w32 (of_z w32 c.held_sum-y.result)) (surface_at c.args.surface all)
     (c.current.ensures.stands (numbered all) stand.surfaces) c.in_ok-current.was c.in-Some.is
     (left ∙ (c.held_sum-x.ensures ∙ ap₂ (λ z o. within_bounds (z +ℤ o)) (ap₂ (λ a b. a +ℤ b) corner_x position_x) offset_x))

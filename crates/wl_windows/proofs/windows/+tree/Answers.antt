@@ -27,25 +27,25 @@ add_stack-returns-clause-ok g t c = λ all owner stand.
 
 pub add_tree-returns-then-levels-eq0-clause-ok : goal.add_tree-returns-then-levels-eq0-clause-ok
 add_tree-returns-then-levels-eq0-clause-ok g t c = λ all owner stand.
-    told-nothing c.args.levels owner all c.args.surface (place_beside c.args.corner.now c.args.position.now) c.args.windows.now.items c.if-levels-eq0.true
+    told-nothing c.args.levels owner all c.args.surface (place_beside c.args.spot.now) c.args.windows.now.items c.if-levels-eq0.true
 
 pub add_tree-returns-in_default-clause-ok : goal.add_tree-returns-in_default-clause-ok
 add_tree-returns-in_default-clause-ok g t c = λ all owner stand.
-    told-hidden c.args.levels owner all c.args.surface (place_beside c.args.corner.now c.args.position.now) c.window_of.result c.args.windows.now.items
+    told-hidden c.args.levels owner all c.args.surface (place_beside c.args.spot.now) c.window_of.result c.args.windows.now.items
     (c.window_of.ensures all stand) c.in_default.is
 
 pub add_tree-returns-then-is_empty-clause-ok : goal.add_tree-returns-then-is_empty-clause-ok
 add_tree-returns-then-is_empty-clause-ok g t c = λ all owner stand.
     let less : c.args.levels ≡ suc (c.args.levels - 1) = omega arith in
     told-alone c.args.linked.now.surfaces c.args.linked.now.family all c.args.levels (c.args.levels - 1) owner c.args.surface
-    (place_beside c.args.corner.now c.args.position.now) c.window_of.result c.in-Some.window c.stack-stack.result.now c.is_empty.result c.args.windows.now.items
+    (place_beside c.args.spot.now) c.window_of.result c.in-Some.window c.stack-stack.result.now c.is_empty.result c.args.windows.now.items
     c.push.new.self.items stand less (c.window_of.ensures all stand) c.in-Some.is c.stack-stack.ensures.stack c.is_empty.ensures c.if-is_empty.true
     c.in_ok-push.ensures.items
 
 pub add_tree-returns-clause-ok : goal.add_tree-returns-clause-ok
 add_tree-returns-clause-ok g t c =
     let less : c.args.levels ≡ suc (c.args.levels - 1) = omega arith in
-    let place = place_beside c.args.corner.now c.args.position.now in
+    let place = place_beside c.args.spot.now in
     on_ok_weaker
     {Q = (all : Asked) (owner : Owner) → Stand c.args.linked.now.surfaces c.args.linked.now.family all
     → c.add_stack.new.windows.items ≡ c.args.windows.now.items ++ told_tree c.args.levels owner all c.args.surface place}
@@ -68,7 +68,7 @@ pub add_tree-returns-in_err-push-clause-succeeds : goal.add_tree-returns-in_err-
 add_tree-returns-in_err-push-clause-succeeds g t c = λ all owner stand fits.
     let less : c.args.levels ≡ suc (c.args.levels - 1) = omega arith in
     let old : length c.args.windows.now.items ≡ vec_len c.args.windows.now = sym c.args.windows.now.ok.0 in
-    let place = place_beside c.args.corner.now c.args.position.now in
+    let place = place_beside c.args.spot.now in
     let room = same-fits c.args.windows.now.items (c.in-Some.window ∷ []) (told_tree c.args.levels owner all c.args.surface place) (vec_capacity c.args.windows.now)
     (told-alone c.args.linked.now.surfaces c.args.linked.now.family all c.args.levels (c.args.levels - 1) owner c.args.surface place c.window_of.result
     c.in-Some.window c.stack-stack.result.now c.is_empty.result c.args.windows.now.items (c.args.windows.now.items ++ c.in-Some.window ∷ []) stand less
@@ -79,7 +79,7 @@ pub add_tree-returns-clause-succeeds : goal.add_tree-returns-clause-succeeds
 add_tree-returns-clause-succeeds g t c = λ all owner stand fits.
     let less : c.args.levels ≡ suc (c.args.levels - 1) = omega arith in
     let old : length c.args.windows.now.items ≡ vec_len c.args.windows.now = sym c.args.windows.now.ok.0 in
-    let place = place_beside c.args.corner.now c.args.position.now in
+    let place = place_beside c.args.spot.now in
     let more = flat_map (placed_windows (told_tree (c.args.levels - 1) owner all) c.in-Some.window) c.stack-stack.result.now in
     let room = same-fits c.args.windows.now.items more (told_tree c.args.levels owner all c.args.surface place) (vec_capacity c.args.windows.now)
     (told-stack c.args.linked.now.surfaces c.args.linked.now.family all c.args.levels (c.args.levels - 1) owner c.args.surface place c.window_of.result

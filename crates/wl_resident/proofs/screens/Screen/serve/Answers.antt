@@ -61,7 +61,8 @@ returns-clause-marks g c = λ some others base d r is orderly e q serves after.
       | else-has_ended-2 w ↦
           rw (w.self-is)
           (lives-least c.args.client others base d r old mid was ready w.follow.new.self before orderly c.asked-asked.result c.root_of-root.result o.stacking o.applied asks
-          (lives-so mid.client.ended (sym c.has_ended-2.ensures ∙ w.if-has_ended-2.false)) w.follow.ensures.follows e q serves (subst (λ (k : Kept _). IsSeated c.args.client others base k (pile_of w.follow.new.self) e q) w.resident-is
+          (lives-so mid.client.ended (sym c.has_ended-2.ensures ∙ w.if-has_ended-2.false)) w.follow.ensures.follows e q serves
+          (subst (λ (k : Kept _). IsSeated c.args.client others base k (pile_of w.follow.new.self) e q) w.resident-is
           (subst (λ (s : Screen _). IsSeated c.args.client others base c.if-has_ended-2.resident (pile_of s) e q) w.self-is after)))
     ]
 
@@ -90,7 +91,8 @@ returns-clause-within g c = λ some others base d r width height is orderly e q 
       | else-has_ended-2 w ↦
           rw (w.self-is)
           (lives-most c.args.client others base d r old mid was ready w.follow.new.self before orderly c.asked-asked.result c.root_of-root.result o.stacking o.applied asks
-          (lives-so mid.client.ended (sym c.has_ended-2.ensures ∙ w.if-has_ended-2.false)) w.follow.ensures.follows e q serves (subst (λ (k : Kept _). IsSeated c.args.client others base k (pile_of w.follow.new.self) e q) w.resident-is
+          (lives-so mid.client.ended (sym c.has_ended-2.ensures ∙ w.if-has_ended-2.false)) w.follow.ensures.follows e q serves
+          (subst (λ (k : Kept _). IsSeated c.args.client others base k (pile_of w.follow.new.self) e q) w.resident-is
           (subst (λ (s : Screen _). IsSeated c.args.client others base c.if-has_ended-2.resident (pile_of s) e q) w.self-is after)) width height)
     ]
 
