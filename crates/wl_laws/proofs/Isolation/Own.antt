@@ -175,9 +175,9 @@ module _ (c : ℕ) (A : Option Resident → List Standing → Type 0) where
   move-shifts shifting (Some from) to None = tt
   move-shifts shifting (Some from) to (Some t) = (shifting.moves t _ _, tt)
 
-  append-shifts : (first then : List PointerAction) → AllShift first → AllShift then → AllShift (first ++ then)
-  append-shifts [] then one other = other
-  append-shifts (action ∷ first) then one other = (one.0, append-shifts first then one.1 other)
+  append-shifts : (first later : List PointerAction) → AllShift first → AllShift later → AllShift (first ++ later)
+  append-shifts [] later one other = other
+  append-shifts (action ∷ first) later one other = (one.0, append-shifts first later one.1 other)
 
   -- nothing else of what the pointer does raises or moves one
   focus-shifts : (staying : List PointerAction) (p : Pointer) (windows : List Window) → AllShift staying → AllShift (focus_or staying p windows)
@@ -217,9 +217,8 @@ module _ (c : ℕ) (A : Option Resident → List Standing → Type 0) where
       → AllShift (actions (pointer.Press time button holder) p windows)
   press-shifts time button holder p windows shift =
       let w = hit_now p.place windows in
-      let rest : List PointerAction = button_of time button true p.focus in
-      append-shifts (raise_of w) (dismiss_of holder w ++ rest) shift
-      (append-shifts (dismiss_of holder w) rest (dismiss-shifts holder w) (button-shifts time button true p.focus))
+      append-shifts (raise_of w ++ dismiss_of holder w) (button_of time button true p.focus) (append-shifts (raise_of w) (dismiss_of holder w) shift (dismiss-shifts holder w))
+      (button-shifts time button true p.focus)
 
 -- where nothing is said of what stands
 Is-shifting : (c : ℕ) (o : Option Resident) → Shifting c (Is o)

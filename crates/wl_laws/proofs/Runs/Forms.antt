@@ -10,8 +10,8 @@ use Rattle.wl_plain.specs.Demand.{Demand}
 use Rattle.wl_plain.specs.Desktop.{Desktop, Resident}
 use Rattle.wl_plain.specs.LeftOut.{LeftOut}
 use Rattle.wl_plain.specs.Settling.{ended_all, struck_by}
-use Rattle.wl_plain.specs.Happens.{BecomesThen, ConnectsThen, DoesThen, WantsOrThen, AnswersThen, TakesThen, ServesThen, settling, LeavesThen, ChangesThen, ending, ShowsThen, MovesThen, PressedThen}
-use Rattle.wl_plain.specs.Happens.{ReleasedThen, PressesThen, ReleasesThen, ButtonsThen}
+use Rattle.wl_plain.specs.Happens.{BecomesThen, ConnectsThen, DoesThen, WantsOrThen, AnswersThen, TakesThen, ServesThen, settling, LeavesThen, ChangesThen, ending, ShowsThen, MovesThen}
+use Rattle.wl_plain.specs.Happens.{PressesThen, ReleasesThen, ButtonsThen}
 
 abbrev pub Becomes : (Peer → Type 0) → ℕ → Resident → Desktop → Desktop → Type 0
 Becomes Q c r d new = BecomesThen Q c r d (settling new)

@@ -1,5 +1,5 @@
 -- Where memory is there, a frame, a motion and a button lead to one desktop.
-use Rattle.std.proofs.Common.{◌≡◌, ℕ, zero, suc, ◌≤◌, List, [], ◌∷◌, Bool, true, false, Option, Some, None, refl, sym, subst, ◌∙◌, arith}
+use Rattle.std.proofs.Common.{◌≡◌, ℕ, zero, suc, ◌≤◌, List, [], ◌∷◌, Bool, true, false, refl, arith}
 use Rattle.std.specs.Prelude.{fold}
 use Rattle.wl_peer.specs.Peer.{Peer, removed}
 use Rattle.wl_surface.specs.Waiting.{Callback}

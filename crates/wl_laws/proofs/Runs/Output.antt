@@ -16,7 +16,7 @@ use Rattle.wl_scene.specs.PointerActions.{PointerAction, PointerInput, actions}
 use Rattle.wl_scene.specs.PointerActions as pointer
 use Rattle.wl_scene.specs.Windows.{Place, Window}
 use Rattle.wl_plain.specs.declared.answers.Done.{Done}
-use Rattle.wl_plain.specs.Changing.{changed_for, stacked_by, stacked_for}
+use Rattle.wl_plain.specs.Changing.{changed_for, grab_holder, stacked_by, stacked_for}
 use Rattle.wl_plain.specs.Demand.{Demand, Asks, EndSurface, AskFrame, CommitTree, GetSubsurface, EndSubsurface, SetMode, GetPointer, MakeCursor, CreatePositioner, EndPositioner}
 use Rattle.wl_plain.specs.Demand.{SetPositioner, GetPopup, Grab, EndPopup, EndToplevel, Move}
 use Rattle.wl_plain.specs.Demanding.{effect_of_commit}
@@ -225,11 +225,13 @@ moves-same time at d new h =
     last-same h.2 new h.4 ∙ acts-still (pointer.Went time) (placed at h.0) h.2 h.3 ∙ acts-still (pointer.GoTo at) (unstruck d) h.0 h.1
 
 presses-same : (b : Bool) (time button : ℕ) (d new : Desktop) → PressesIf b time button d new → Same d new
-presses-same true time button d new h = last-same h.2 new h.4 ∙ settles-still h.0 h.2 h.3 ∙ acts-still _ (unstruck (with_press button d)) h.0 h.1
+presses-same true time button d new h =
+    last-same h.2 new h.4 ∙ settles-still h.0 h.2 h.3 ∙ acts-still (pointer.Press time button (grab_holder d)) (unstruck (with_press button d)) h.0 h.1
 presses-same false time button d new h = of-desktop d new h
 
 releases-same : (b : Bool) (time button : ℕ) (d new : Desktop) → ReleasesIf b time button d new → Same d new
-releases-same true time button d new h = last-same h.2 new h.4 ∙ settles-still h.0 h.2 h.3 ∙ acts-still _ (unstruck (with_release button d)) h.0 h.1
+releases-same true time button d new h =
+    last-same h.2 new h.4 ∙ settles-still h.0 h.2 h.3 ∙ acts-still (pointer.Release time button) (unstruck (with_release button d)) h.0 h.1
 releases-same false time button d new h = of-desktop d new h
 
 pub happens-output : (left : LeftOut) (act : Act) (done : Done) (d e : Desktop) → Happens left act done d e → e.output ≡ d.output
