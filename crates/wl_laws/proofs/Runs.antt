@@ -1,6 +1,7 @@
 -- What may happen, and that it is determined: with memory there is one run, and a client that ended stays so.
 pub mod Ends
 pub mod Fates
+pub mod Focus
 pub mod Following
 pub mod Forms
 pub mod Idling

@@ -11,22 +11,24 @@ use Rattle.wl_peer.specs.declared.refusals.Refusal.{Refusal}
 use Rattle.wl_peer.specs.Peer.{Peer, counted, ended, has_room, queued, sent_by, stored_at, with_rest}
 use Rattle.wl_peer.specs.Plain.{refused}
 use Rattle.wl_peer.specs.Told.{Said, display_error}
-use Rattle.wl_scene.specs.Pointer.{Target, is_down, is_press}
-use Rattle.wl_scene.specs.Windows.{Window}
+use Rattle.wl_scene.specs.Pointer.{is_down, is_press}
+use Rattle.wl_scene.specs.PointerActions.{PointerAction, PointerInput, actions}
+use Rattle.wl_scene.specs.PointerActions as pointer
+use Rattle.wl_scene.specs.Stacking.{raised}
+use Rattle.wl_scene.specs.Windows.{Place, Window}
 use Rattle.wl_plain.specs.Changing.{changed_for, grab_holder, without_callbacks}
 use Rattle.wl_plain.specs.Demand.{Demand}
 use Rattle.wl_plain.specs.Demanding.{judge_all}
 use Rattle.wl_plain.specs.Desktop.{Desktop, Resident, arrival, client_at, with_client}
-use Rattle.wl_plain.specs.Pointing.{button_told, entered_surface, has_pointers, left_surface, motion_told}
+use Rattle.wl_plain.specs.Pointing.{button_told, entered_surface, has_pointers, left_surface, motion_told, moved_standing}
 use Rattle.wl_plain.specs.LeftOut.{LeftOut}
 use Rattle.wl_plain.specs.Replies.{focus_window, popups_done, replies}
-use Rattle.wl_plain.specs.Settling.{Midstep, Strike, becomes, ended_all, ended_by, is_settled, is_struck, leave_drawn, struck_by}
-use Rattle.wl_plain.specs.Settling.{target_now, told_drawn, unstruck, with_focus}
+use Rattle.wl_plain.specs.Settling.{Midstep, Strike, becomes, ended_all, ended_by, is_struck, leave_drawn, noted_if, number_of, struck_by}
+use Rattle.wl_plain.specs.Settling.{told_drawn, unstruck, with_focus, with_standing, without_grabs}
 use Rattle.wl_plain.specs.Stacked.{all_windows}
 use Rattle.wl_plain.specs.Step.{with_peer}
 use Rattle.wl_plain.specs.Act.{Act, Connect, Feed, Store, Leave, Tick, Send, Close, Motion, Button, closed_by, lowest}
-use Rattle.wl_plain.specs.Happens.{callbacks_due, changed_so, frames_told, hit_now, is_hit_of, noted_if, number_of, point_in, pointed}
-use Rattle.wl_plain.specs.Happens.{raised_by, with_press, with_release, without_grabs}
+use Rattle.wl_plain.specs.Happens.{callbacks_due, changed_so, frames_told, placed, point_in, with_press, with_release}
 
 -- ---- events
 
@@ -53,22 +55,31 @@ tells_at change events c (Some r) m = tells_unless (is_some r.peer.status || is_
 abbrev pub tells : (Resident → Resident) → (Resident → List Said) → ℕ → Midstep → Midstep
 tells change events c m = tells_at change events c (client_at c m.desktop) m
 
--- ---- the focus, and ends
+-- ---- what the pointer does
 
-abbrev pub leaves : Option Target → Midstep → Midstep
-leaves None m = m
-leaves (Some t) m = tells (leave_drawn t.surface) (left_surface t.surface) t.client m
+abbrev pub applied : List Window → PointerAction → Midstep → Midstep
+applied windows (pointer.Leave t) m = with_focus None (tells (leave_drawn t.surface) (left_surface t.surface) t.client m)
+applied windows (pointer.Enter t) m =
+    with_focus (Some t) (tells told_drawn (entered_surface m.desktop.pointer.place (focus_window (Some t) windows)) t.client m)
+applied windows (pointer.Motion time t) m =
+    tells (λ r. r) (motion_told time m.desktop.pointer.place (focus_window (Some t) windows)) t.client m
+applied windows (pointer.Button time button pressed t) m =
+    tells (λ r. noted_if (has_pointers r) pressed r) (button_told time button (number_of pressed)) t.client m
+applied windows (pointer.Raise t) m = with_standing (raised t.client t.surface m.desktop.standing) m
+applied windows (pointer.MoveWindow t x y) m = with_standing (moved_standing t x y m.desktop.standing) m
+applied windows (pointer.Dismiss c) m = tells without_grabs (λ r. popups_done r (without_grabs r)) c m
 
-abbrev pub enters : Option Target → List Window → Midstep → Midstep
-enters None windows m = m
-enters (Some t) windows m = tells told_drawn (entered_surface m.desktop.pointer.place (focus_window (Some t) windows)) t.client m
+abbrev pub applied_all : List Window → List PointerAction → Midstep → Midstep
+applied_all windows [] m = m
+applied_all windows (action ∷ later) m = applied_all windows later (applied windows action m)
 
-abbrev pub moves_unless : Bool → Option Target → Midstep → Midstep
-moves_unless true t m = m
-moves_unless false t m = with_focus t (enters t (all_windows m.desktop) (leaves m.desktop.pointer.focus m))
+abbrev pub acts : PointerInput → Midstep → Midstep
+acts input m = applied_all (all_windows m.desktop) (actions input m.desktop.pointer (all_windows m.desktop)) m
+
+-- ---- the focus is settled, and clients end
 
 abbrev pub settles : Midstep → Midstep
-settles m = moves_unless (is_settled m.desktop) (target_now m.desktop) m
+settles m = acts pointer.Settle m
 
 abbrev pub ends_first : (Midstep → Desktop) → List Strike → Desktop → Desktop
 ends_first next [] d = d
@@ -172,43 +183,20 @@ shown time d = ends_and_settles (frames_to time 32 (unstruck d))
 
 -- ---- the pointer
 
-abbrev pub motion_for : ℕ → Option Target → Option Target → Midstep → Midstep
-motion_for time moves None m = m
-motion_for time None (Some t) m = tells (λ r. r) (motion_told time m.desktop.pointer.place (focus_window (Some t) (all_windows m.desktop)))
-    t.client m
-motion_for time (Some moved) (Some t) m = m
+-- the pointer is there, and what it moves went along
+abbrev pub gone_to : Place → Desktop → Midstep
+gone_to at d = placed at (acts (pointer.GoTo at) (unstruck d))
 
-abbrev pub motion_settles : Bool → ℕ → Midstep → Midstep
-motion_settles true time m = motion_for time m.desktop.pointer.move m.desktop.pointer.focus m
-motion_settles false time m = settles m
-
-abbrev pub moved_to : ℕ → Desktop → Desktop
-moved_to time d = settles_ends (motion_settles (is_settled d) time (unstruck d))
-
-abbrev pub dismisses_unless : Bool → ℕ → Midstep → Midstep
-dismisses_unless true c m = m
-dismisses_unless false c m = tells without_grabs (λ r. popups_done r (without_grabs r)) c m
-
-abbrev pub dismisses : Option ℕ → Option Window → Midstep → Midstep
-dismisses None w m = m
-dismisses (Some holder) w m = dismisses_unless (is_hit_of holder w) holder m
-
-abbrev pub tells_button : ℕ → ℕ → Bool → Option Target → Midstep → Midstep
-tells_button time button pressed None m = m
-tells_button time button pressed (Some t) m =
-    tells (λ r. noted_if (has_pointers r) pressed r) (button_told time button (number_of pressed)) t.client m
-
-abbrev pub pressed_on : Option Window → ℕ → ℕ → Desktop → Desktop
-pressed_on w time button d =
-    settles_ends (settles
-    (tells_button time button true d.pointer.focus (dismisses (grab_holder d) w (unstruck (with_press button (raised_by w d))))))
+abbrev pub moved_to : ℕ → Place → Desktop → Desktop
+moved_to time at d = settles_ends (acts (pointer.Went time) (gone_to at d))
 
 abbrev pub pressed_if : Bool → ℕ → ℕ → Desktop → Desktop
-pressed_if true time button d = pressed_on (hit_now d.pointer.place (all_windows d)) time button d
+pressed_if true time button d =
+    settles_ends (settles (acts (pointer.Press time button (grab_holder d)) (unstruck (with_press button d))))
 pressed_if false time button d = d
 
 abbrev pub released_if : Bool → ℕ → ℕ → Desktop → Desktop
-released_if true time button d = settles_ends (settles (tells_button time button false d.pointer.focus (unstruck (with_release button d))))
+released_if true time button d = settles_ends (settles (acts (pointer.Release time button) (unstruck (with_release button d))))
 released_if false time button d = d
 
 abbrev pub buttons : Bool → ℕ → ℕ → Desktop → Desktop
@@ -225,5 +213,5 @@ happened left (Leave c) d = left_at c (client_at c d) d
 happened left (Tick time) d = shown time d
 happened left (Send c n) d = changes_at (λ p. Some (sent_by n p)) c (client_at c d) d
 happened left (Close c) d = changes_at (λ p. closed_by p.status p) c (client_at c d) d
-happened left (Motion time x y) d = moved_to time (pointed (point_in d.output x y) d)
+happened left (Motion time x y) d = moved_to time (point_in d.output x y) d
 happened left (Button time button pressed) d = buttons pressed time button d

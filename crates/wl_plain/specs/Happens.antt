@@ -15,10 +15,9 @@ use Rattle.wl_peer.specs.Peer.{Errs, IsIdle, LacksMemory, Peer, counted, ended, 
 use Rattle.wl_peer.specs.Told.{Output, Said, display_error, id_deleted, said}
 use Rattle.wl_surface.specs.Frames.{frames_counting}
 use Rattle.wl_surface.specs.Waiting.{Callback}
-use Rattle.wl_shell.specs.Popups.{dismissing}
 use Rattle.wl_scene.specs.Pointer.{Pointer, Target, is_down, is_press, without_button}
-use Rattle.wl_scene.specs.Stacking.{raised}
-use Rattle.wl_scene.specs.Windows.{Place, Window, hit}
+use Rattle.wl_scene.specs.PointerActions.{GoTo, Went, Press, Release}
+use Rattle.wl_scene.specs.Windows.{Place}
 use Rattle.wl_plain.specs.declared.answers.Done.{Done}
 use Rattle.wl_plain.specs.declared.answers.ConnectError.TheVariants.{Full, Memory}
 use Rattle.wl_plain.specs.declared.answers.Done.TheVariants as gave
@@ -29,12 +28,11 @@ use Rattle.wl_plain.specs.Demand.{Demand, Asks, Move}
 use Rattle.wl_plain.specs.Demanding.{judge_all}
 use Rattle.wl_plain.specs.Desktop.{Desktop, Resident, arrival, client_at, with_client, status_in}
 use Rattle.wl_plain.specs.LeftOut.{LeftOut}
-use Rattle.wl_plain.specs.Pointing.{button_told, has_pointers, motion_told, moved_with}
-use Rattle.wl_plain.specs.Replies.{focus_window, popups_done, replies}
-use Rattle.wl_plain.specs.Settling.{EndsAndSettles, Midstep, QueuesTo, Settles, SettlesEnds, Tells, becomes, is_settled, struck_by}
-use Rattle.wl_plain.specs.Settling.{told_drawn, unstruck}
+use Rattle.wl_plain.specs.Pointing.{has_pointers}
+use Rattle.wl_plain.specs.Replies.{replies}
+use Rattle.wl_plain.specs.Settling.{Acts, EndsAndSettles, Midstep, QueuesTo, Settles, SettlesEnds, Tells, becomes, struck_by, unstruck}
 use Rattle.wl_plain.specs.Stacked.{all_windows}
-use Rattle.wl_plain.specs.Step.{takes_memory, with_peer, with_shell}
+use Rattle.wl_plain.specs.Step.{takes_memory, with_peer}
 use Rattle.wl_plain.specs.Act.{Act, Connect, Feed, Store, Leave, Tick, Send, Close, Motion, Button, IsClosed, IsSent, IsStored, fed_of}
 use Rattle.wl_plain.specs.Act.{lowest}
 
@@ -185,71 +183,16 @@ within side z = if int_lt z (pos 0) then pos 0 else (if int_lt z (pos side) then
 abbrev pub point_in : Output → ℤ → ℤ → Place
 point_in output x y = record { x = within output.width x; y = within output.height y }
 
--- the pointer is there, and a toplevel that it moves is moved with it
-abbrev pub pointed : Place → Desktop → Desktop
-pointed at d = record d {
-  pointer = record d.pointer { place = Some at };
-  standing = moved_with d.pointer.place at d.pointer.move d.standing;
-}
+-- the pointer is there
+abbrev pub placed : Place → Midstep → Midstep
+placed at m = record m { desktop = record m.desktop { pointer = record m.desktop.pointer { place = Some at } } }
 
--- A surface that keeps the focus is told of the motion, unless a toplevel is moved.
-abbrev pub TellsMotion : ℕ → Option Target → Option Target → Midstep → Midstep → Type 0
-TellsMotion time moves None old new = new ≡ old
-TellsMotion time None (Some t) old new =
-    Tells (λ r. r) (motion_told time old.desktop.pointer.place (focus_window (Some t) (all_windows old.desktop))) t.client old new
-TellsMotion time (Some moved) (Some t) old new = new ≡ old
-
-abbrev pub MotionSettles : Bool → ℕ → Midstep → Midstep → Type 0
-MotionSettles true time old new = TellsMotion time old.desktop.pointer.move old.desktop.pointer.focus old new
-MotionSettles false time old new = Settles old new
-
-abbrev pub MovesThen : ℕ → Desktop → (Midstep → Type 0) → Type 0
-MovesThen time d Settled = (told : Midstep) × MotionSettles (is_settled d) time (unstruck d) told × Settled told
+-- a toplevel that it moves goes along, and then a surface is told of the motion, or the focus moves
+abbrev pub MovesThen : ℕ → Place → Desktop → (Midstep → Type 0) → Type 0
+MovesThen time at d Settled =
+    (gone : Midstep) × Acts (GoTo at) (unstruck d) gone × (told : Midstep) × Acts (Went time) (placed at gone) told × Settled told
 
 -- ---- a button
-
--- the toplevel whose tree or popups hold the hit stands on top
-abbrev pub raised_by : Option Window → Desktop → Desktop
-raised_by None d = d
-raised_by (Some w) d = record d { standing = raised w.owner.client w.owner.toplevel d.standing }
-
-abbrev pub hit_now : Option Place → List Window → Option Window
-hit_now None windows = None
-hit_now (Some at) windows = hit at.x at.y windows
-
--- A press that hits no surface of the client that holds a grab dismisses its popups with a grab.
-abbrev pub is_hit_of : ℕ → Option Window → Bool
-is_hit_of c None = false
-is_hit_of c (Some w) = w.owner.client == c
-
-abbrev pub without_grabs : Resident → Resident
-without_grabs r = with_shell (dismissing (λ p. p.popup.has_grab) r.owned.shell) r
-
-abbrev pub DismissesUnless : Bool → ℕ → Midstep → Midstep → Type 0
-DismissesUnless true c old new = new ≡ old
-DismissesUnless false c old new = Tells without_grabs (λ r. popups_done r (without_grabs r)) c old new
-
-abbrev pub Dismisses : Option ℕ → Option Window → Midstep → Midstep → Type 0
-Dismisses None w old new = new ≡ old
-Dismisses (Some holder) w old new = DismissesUnless (is_hit_of holder w) holder old new
-
--- the focus is told of the button, and its client keeps the serial as that of its latest press or release
-abbrev pub noted : Bool → Resident → Resident
-noted true r = record r { press = Some r.peer.serial }
-noted false r = record r { release = Some r.peer.serial }
-
-abbrev pub noted_if : Bool → Bool → Resident → Resident
-noted_if true pressed r = told_drawn (noted pressed r)
-noted_if false pressed r = r
-
-abbrev pub number_of : Bool → ℕ
-number_of true = 1
-number_of false = 0
-
-abbrev pub TellsButton : ℕ → ℕ → Bool → Option Target → Midstep → Midstep → Type 0
-TellsButton time button pressed None old new = new ≡ old
-TellsButton time button pressed (Some t) old new =
-    Tells (λ r. noted_if (has_pointers r) pressed r) (button_told time button (number_of pressed)) t.client old new
 
 -- the serial of the press that begins a hold, where it is sent
 abbrev pub serial_for : Option Resident → Option ℕ
@@ -276,18 +219,15 @@ released_to (button ∷ buttons) p = record p { buttons = button ∷ buttons }
 abbrev pub with_release : ℕ → Desktop → Desktop
 with_release button d = record d { pointer = released_to (without_button button d.pointer.buttons) d.pointer }
 
--- popups are dismissed, the focus is told, and then it is settled
+-- the pointer does what a press, or a release, asks, and then the focus is settled
 abbrev pub PressedThen : ℕ → ℕ → Desktop → (Midstep → Type 0) → Type 0
 PressedThen time button d Settled =
-    (dismissed : Midstep)
-    × Dismisses (grab_holder d) (hit_now d.pointer.place (all_windows d))
-    (unstruck (with_press button (raised_by (hit_now d.pointer.place (all_windows d)) d))) dismissed
-    × (told : Midstep) × TellsButton time button true d.pointer.focus dismissed told
+    (told : Midstep) × Acts (Press time button (grab_holder d)) (unstruck (with_press button d)) told
     × (settled : Midstep) × Settles told settled × Settled settled
 
 abbrev pub ReleasedThen : ℕ → ℕ → Desktop → (Midstep → Type 0) → Type 0
 ReleasedThen time button d Settled =
-    (told : Midstep) × TellsButton time button false d.pointer.focus (unstruck (with_release button d)) told
+    (told : Midstep) × Acts (Release time button) (unstruck (with_release button d)) told
     × (settled : Midstep) × Settles told settled × Settled settled
 
 -- a press of a button that is down, one past 16, and a release of one that isn't, do nothing
@@ -316,7 +256,7 @@ HappensThen left (Leave c) done d Next Settled = LeavesThen c (client_at c d) d 
 HappensThen left (Tick time) done d Next Settled = (done ≡ gave.Tick) × ShowsThen time d Next
 HappensThen left (Send c n) done d Next Settled = ChangesThen (IsSent n) (gave.Sent false) c (client_at c d) d done Settled
 HappensThen left (Close c) done d Next Settled = ChangesThen IsClosed (gave.Close false) c (client_at c d) d done Settled
-HappensThen left (Motion time x y) done d Next Settled = (done ≡ gave.Motion) × MovesThen time (pointed (point_in d.output x y) d) Settled
+HappensThen left (Motion time x y) done d Next Settled = (done ≡ gave.Motion) × MovesThen time (point_in d.output x y) d Settled
 HappensThen left (Button time button pressed) done d Next Settled = (done ≡ gave.Button) × ButtonsThen pressed time button d Settled
 
 -- What may happen to the plain desktop, with its answer. Want of memory is the only choice.

@@ -1,6 +1,5 @@
 -- What clients are told of the pointer (wayland.xml, wl_pointer).
-use Rattle.std.specs.Prelude.{ℕ, ℤ, ◌-ℤ◌, ◌==◌, ◌&&◌, Bool, true, false, if◌then◌else◌, Option, Some, None, List, [], ◌∷◌, flat_map}
-use Rattle.std.specs.Prelude.{is_some}
+use Rattle.std.specs.Prelude.{ℕ, ℤ, Bool, true, false, if◌then◌else◌, Option, Some, None, List, [], ◌∷◌, flat_map, is_some}
 use Rattle.wl_wire.specs.Wire.{Word, Number}
 use Rattle.wl_interface.specs.declared.interface.Interface.TheVariants.{WlPointer}
 use Rattle.wl_proto.specs.Messages.{says}
@@ -12,13 +11,6 @@ use Rattle.wl_scene.specs.Windows.{Place, Window, moved}
 use Rattle.wl_plain.specs.Desktop.{Resident}
 use Rattle.wl_plain.specs.Popups.{standing_place}
 use Rattle.wl_plain.specs.Replies.{entered_at}
-
--- two surfaces are the same
-abbrev pub is_same : Option Target → Option Target → Bool
-is_same None None = true
-is_same None (Some t) = false
-is_same (Some s) None = false
-is_same (Some s) (Some t) = (s.client == t.client) && (s.surface == t.surface)
 
 -- An event of each wl_pointer of a client, in rising id.
 abbrev pub to_pointers : (ℕ → List Said) → Resident → List Said
@@ -59,11 +51,5 @@ button_told time button pressed r =
 
 -- ---- a toplevel is moved with the pointer
 
-abbrev pub moved_standing : Option Target → ℤ → ℤ → List Standing → List Standing
-moved_standing None x y standing = standing
-moved_standing (Some t) x y standing = moved_to t.client t.surface (moved (standing_place standing t.client t.surface) x y) standing
-
--- by the pointer's change, from a place that it had
-abbrev pub moved_with : Option Place → Place → Option Target → List Standing → List Standing
-moved_with None to t standing = standing
-moved_with (Some from) to t standing = moved_standing t (to.x -ℤ from.x) (to.y -ℤ from.y) standing
+abbrev pub moved_standing : Target → ℤ → ℤ → List Standing → List Standing
+moved_standing t x y standing = moved_to t.client t.surface (moved (standing_place standing t.client t.surface) x y) standing

@@ -1,4 +1,4 @@
--- How events are queued, how clients end, and how the focus is settled, where every request is served.
+-- How events are queued, how clients end, what the pointer does, and how its focus is settled, where every request is served.
 use Rattle.std.specs.Prelude.{ℕ, zero, suc, ◌≡◌, ◌==◌, ◌&&◌, ◌||◌, nat_lt, Bool, true, false, if◌then◌else◌, is_some, Option, Some, None}
 use Rattle.std.specs.Prelude.{List, [], ◌∷◌, fold, ◌⊎◌}
 use Rattle.std.specs.List.{list_any}
@@ -7,13 +7,18 @@ use Rattle.wl_peer.specs.declared.cause.Cause.TheVariants.{Memory, Slow}
 use Rattle.wl_peer.specs.Peer.{Peer, ended, has_room, queued}
 use Rattle.wl_peer.specs.Told.{Said}
 use Rattle.wl_surface.specs.Surfaces.{history_in}
-use Rattle.wl_scene.specs.Pointer.{Pointer, Target, settled}
+use Rattle.wl_shell.specs.Popups.{dismissing}
+use Rattle.wl_scene.specs.Pointer.{Pointer, Target}
+use Rattle.wl_scene.specs.PointerActions.{PointerAction, Leave, Enter, Motion, Button, Raise, MoveWindow, Dismiss}
+use Rattle.wl_scene.specs.PointerActions.{PointerInput, Settle, actions}
+use Rattle.wl_scene.specs.Stacking.{Standing, raised}
 use Rattle.wl_scene.specs.Windows.{Window}
 use Rattle.wl_plain.specs.Changing.{drawing}
 use Rattle.wl_plain.specs.Desktop.{Desktop, Resident, become, client_at, with_client}
-use Rattle.wl_plain.specs.Pointing.{entered_surface, has_pointers, is_same, left_surface}
-use Rattle.wl_plain.specs.Replies.{focus_window}
+use Rattle.wl_plain.specs.Pointing.{button_told, entered_surface, has_pointers, left_surface, motion_told, moved_standing}
+use Rattle.wl_plain.specs.Replies.{focus_window, popups_done}
 use Rattle.wl_plain.specs.Stacked.{all_windows}
+use Rattle.wl_plain.specs.Step.{with_shell}
 
 -- a client that is to end since an event for it wasn't queued, and why
 pub record Strike : Type 0 where
@@ -95,7 +100,7 @@ ended_at c cause (Some r) d = becomes c r (ended cause r.peer) d
 abbrev pub ended_by : Strike → Desktop → Desktop
 ended_by s d = ended_at s.client s.cause (client_at s.client d) d
 
--- ---- the focus
+-- ---- what the pointer does
 
 -- wl_pointer.leave and enter draw a serial of the client where it is told
 abbrev pub leave_drawn : ℕ → Resident → Resident
@@ -104,38 +109,59 @@ leave_drawn surface r = drawing (is_some (history_in surface r.owned.surfaces) &
 abbrev pub told_drawn : Resident → Resident
 told_drawn r = drawing (has_pointers r) r
 
-abbrev pub Leaves : Option Target → Midstep → Midstep → Type 0
-Leaves None old new = new ≡ old
-Leaves (Some t) old new = Tells (leave_drawn t.surface) (left_surface t.surface) t.client old new
+-- a button draws one too, and its client keeps the serial as that of its latest press or release
+abbrev pub noted : Bool → Resident → Resident
+noted true r = record r { press = Some r.peer.serial }
+noted false r = record r { release = Some r.peer.serial }
 
-abbrev pub Enters : Option Target → List Window → Midstep → Midstep → Type 0
-Enters None windows old new = new ≡ old
-Enters (Some t) windows old new =
-    Tells told_drawn (entered_surface old.desktop.pointer.place (focus_window (Some t) windows)) t.client old new
+abbrev pub noted_if : Bool → Bool → Resident → Resident
+noted_if true pressed r = told_drawn (noted pressed r)
+noted_if false pressed r = r
+
+abbrev pub number_of : Bool → ℕ
+number_of true = 1
+number_of false = 0
+
+abbrev pub without_grabs : Resident → Resident
+without_grabs r = with_shell (dismissing (λ p. p.popup.has_grab) r.owned.shell) r
 
 abbrev pub with_focus : Option Target → Midstep → Midstep
 with_focus t m = record m { desktop = record m.desktop { pointer = record m.desktop.pointer { focus = t } } }
 
--- the old surface is left, and the new one is entered
-abbrev pub MovesFocus : Option Target → Midstep → Midstep → Type 0
-MovesFocus t old new =
-    (left : Midstep) × Leaves old.desktop.pointer.focus old left
-    × (entered : Midstep) × Enters t (all_windows old.desktop) left entered × (new ≡ with_focus t entered)
+abbrev pub with_standing : List Standing → Midstep → Midstep
+with_standing standing m = record m { desktop = record m.desktop { standing = standing } }
 
-abbrev pub MovesUnless : Bool → Option Target → Midstep → Midstep → Type 0
-MovesUnless true t old new = new ≡ old
-MovesUnless false t old new = MovesFocus t old new
+-- One action of the pointer is done: a client is told of it, or the stack changes. A place in a surface goes by these windows.
+abbrev pub Applies : List Window → PointerAction → Midstep → Midstep → Type 0
+Applies windows (Leave t) old new =
+    (told : Midstep) × Tells (leave_drawn t.surface) (left_surface t.surface) t.client old told × (new ≡ with_focus None told)
+Applies windows (Enter t) old new =
+    (told : Midstep) × Tells told_drawn (entered_surface old.desktop.pointer.place (focus_window (Some t) windows)) t.client old told
+    × (new ≡ with_focus (Some t) told)
+Applies windows (Motion time t) old new =
+    Tells (λ r. r) (motion_told time old.desktop.pointer.place (focus_window (Some t) windows)) t.client old new
+Applies windows (Button time button pressed t) old new =
+    Tells (λ r. noted_if (has_pointers r) pressed r) (button_told time button (number_of pressed)) t.client old new
+Applies windows (Raise t) old new = new ≡ with_standing (raised t.client t.surface old.desktop.standing) old
+Applies windows (MoveWindow t x y) old new = new ≡ with_standing (moved_standing t x y old.desktop.standing) old
+Applies windows (Dismiss c) old new = Tells without_grabs (λ r. popups_done r (without_grabs r)) c old new
 
--- what the pointer is on now
-abbrev pub target_now : Desktop → Option Target
-target_now d = settled d.pointer (all_windows d)
+-- these, one after another
+abbrev pub AppliesAll : List Window → List PointerAction → Midstep → Midstep → Type 0
+AppliesAll windows [] old new = new ≡ old
+AppliesAll windows (action ∷ later) old new =
+    (mid : Midstep) × Applies windows action old mid × AppliesAll windows later mid new
 
-abbrev pub is_settled : Desktop → Bool
-is_settled d = is_same d.pointer.focus (target_now d)
+-- What comes in to the pointer is done, by the windows of the beginning.
+abbrev pub Acts : PointerInput → Midstep → Midstep → Type 0
+Acts input old new =
+    AppliesAll (all_windows old.desktop) (actions input old.desktop.pointer (all_windows old.desktop)) old new
+
+-- ---- the focus is settled, and clients end
 
 -- The focus is settled once.
 abbrev pub Settles : Midstep → Midstep → Type 0
-Settles old new = MovesUnless (is_settled old.desktop) (target_now old.desktop) old new
+Settles old new = Acts Settle old new
 
 -- One client that is to end does, the least number first, and what comes then; where none is, the step is over.
 abbrev pub EndsFirst : (Midstep → Desktop → Type 0) → List Strike → Desktop → Desktop → Type 0

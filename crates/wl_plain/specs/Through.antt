@@ -1,13 +1,13 @@
 -- The desktops that a step leads through: that of its own change, and one after each end and each settling of the focus, the last one last.
 use Rattle.std.specs.Prelude.{ℕ, zero, suc, ◌≡◌, ◌&&◌, Bool, true, false, if◌then◌else◌, Option, Some, None, List, [], ◌∷◌, ◌++◌}
-use Rattle.wl_scene.specs.Pointer.{is_press}
+use Rattle.wl_scene.specs.Pointer.{hit_now, is_press}
 use Rattle.wl_scene.specs.Stacking.{Standing, is_of}
 use Rattle.wl_scene.specs.Windows.{Window}
 use Rattle.wl_plain.specs.Desktop.{Desktop, client_at}
 use Rattle.wl_plain.specs.LeftOut.{LeftOut}
 use Rattle.wl_plain.specs.Settling.{Midstep, Settles, Strike, ended_all, ended_by, unstruck}
 use Rattle.wl_plain.specs.Stacked.{all_windows}
-use Rattle.wl_plain.specs.Happens.{HappensThen, ServesThen, hit_now}
+use Rattle.wl_plain.specs.Happens.{HappensThen, ServesThen}
 use Rattle.wl_plain.specs.Act.{Act, Button}
 use Rattle.wl_plain.specs.declared.answers.Done.{Done}
 

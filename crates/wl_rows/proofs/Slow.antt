@@ -4,17 +4,16 @@ use Rattle.std.specs.Prelude.{pos}
 use Rattle.wl_peer.specs.declared.cause.Cause.TheVariants.{Memory, Slow}
 use Rattle.wl_surface.specs.Trees.{applied_tree, behaves_synchronised}
 use Rattle.wl_scene.specs.Windows.{tree}
-use Rattle.wl_laws.specs.Ample.{done_so, ends_and_settles, settles, settles_ends}
+use Rattle.wl_laws.specs.Ample.{done_so, ends_and_settles, gone_to, settles, settles_ends}
 use Rattle.wl_plain.specs.Ask.{Ignore}
 use Rattle.wl_plain.specs.Demand.{Asks}
 use Rattle.wl_plain.specs.Desktop.{Desktop, Resident, client_at}
-use Rattle.wl_plain.specs.Happens.{pointed}
 use Rattle.wl_rows.proofs.Steps.{at, corners, enter, motion, status, unsent}
 use Rattle.wl_rows.proofs.Pointer.{both}
 
 -- the pointer comes where the second client's window stands above that of the first
 abbrev over_both : Desktop
-over_both = pointed (at (pos 35) (pos 35)) both
+over_both = (gone_to (at (pos 35) (pos 35)) both).desktop
 
 -- the second client is to end: it is told nothing more, it ends, and the window below is entered
 abbrev one_slow : Desktop

@@ -1,6 +1,6 @@
 -- The pointer: where it is, what is pressed, and which surface has its focus (wayland.xml, wl_pointer).
-use Rattle.std.specs.Prelude.{ℕ, ℤ, pos, negsuc, ◌-ℤ◌, ◌*ℤ◌, ◌==◌, ◌&&◌, int_lt, nat_le, Bool, if◌then◌else◌, Option, Some, None, List, []}
-use Rattle.std.specs.Prelude.{◌∷◌, length, filter, not}
+use Rattle.std.specs.Prelude.{ℕ, ℤ, pos, negsuc, ◌-ℤ◌, ◌*ℤ◌, ◌==◌, ◌&&◌, int_lt, nat_le, Bool, true, false, if◌then◌else◌, Option, Some}
+use Rattle.std.specs.Prelude.{None, List, [], ◌∷◌, length, filter, not}
 use Rattle.std.specs.List.{list_any}
 use Rattle.wl_scene.specs.Windows.{Place, Window, hit}
 
@@ -36,9 +36,13 @@ abbrev pub target_of : Option Window → Option Target
 target_of None = None
 target_of (Some w) = Some (record { client = w.owner.client; surface = w.surface })
 
+-- what the pointer hits, once it has a place
+abbrev pub hit_now : Option Place → List Window → Option Window
+hit_now None ws = None
+hit_now (Some place) ws = hit place.x place.y ws
+
 abbrev pub hit_by : Option Place → List Window → Option Target
-hit_by None ws = None
-hit_by (Some place) ws = target_of (hit place.x place.y ws)
+hit_by place ws = target_of (hit_now place ws)
 
 abbrev pub is_stacked : Target → List Window → Bool
 is_stacked t ws = list_any (λ w. (w.owner.client == t.client) && (w.surface == t.surface)) ws
@@ -54,6 +58,13 @@ settled_focus (button ∷ buttons) p ws = kept_focus p.focus ws
 
 abbrev pub settled : Pointer → List Window → Option Target
 settled p ws = settled_focus p.buttons p ws
+
+-- two surfaces are the same
+abbrev pub is_same : Option Target → Option Target → Bool
+is_same None None = true
+is_same None (Some t) = false
+is_same (Some s) None = false
+is_same (Some s) (Some t) = (s.client == t.client) && (s.surface == t.surface)
 
 -- A coordinate as it is told to a surface, a 24.8 fixed number: the point less the surface's corner, held to what such a number can say.
 abbrev pub fixed_from : ℤ → ℤ → ℤ

@@ -1,23 +1,25 @@
 -- Where no client has wl_pointers and popups, none is told of the pointer, and each stays as it is.
 use Rattle.std.proofs.Common.{◌≡◌, ℕ, List, [], Bool, true, false, Option, Some, None, refl, ap, subst, sym, ◌∙◌}
-use Rattle.std.specs.Prelude.{ℤ, ◌==◌, ◌&&◌, filter, if◌then◌else◌, is_some}
+use Rattle.std.specs.Prelude.{ℤ, ◌&&◌, if◌then◌else◌, is_some}
 use Rattle.wl_peer.specs.declared.cause.Cause.{Cause}
 use Rattle.wl_peer.specs.Peer.{Peer}
 use Rattle.wl_peer.specs.Told.{Said}
 use Rattle.wl_surface.specs.Surfaces.{history_in}
 use Rattle.wl_shell.specs.Shell.{Shell}
-use Rattle.wl_scene.specs.Pointer.{Pointer, is_down, is_press}
+use Rattle.wl_scene.specs.Pointer.{Pointer, hit_now, is_down, is_press}
+use Rattle.wl_scene.specs.PointerActions.{move_of, raise_of}
 use Rattle.wl_scene.specs.Stacking.{Standing}
+use Rattle.wl_scene.specs.Windows.{Place}
 use Rattle.wl_plain.specs.Changing.{drawing}
 use Rattle.wl_plain.specs.Desktop.{Desktop, Resident, client_at, toplevels_of}
 use Rattle.wl_records.specs.Toplevels.{AreToplevels}
 use Rattle.wl_without_popups.specs.NoPopups.{NoPopups, OwnsNoPopups, OwnsNoPopupsAt}
-use Rattle.wl_plain.specs.Pointing.{button_told, entered_surface, has_pointers, left_surface, motion_told, moved_with}
+use Rattle.wl_plain.specs.Pointing.{button_told, entered_surface, has_pointers, left_surface, motion_told}
 use Rattle.wl_plain.specs.Replies.{popups_done}
-use Rattle.wl_plain.specs.Settling.{QueuesTo, leave_drawn, told_drawn}
+use Rattle.wl_plain.specs.Settling.{QueuesTo, leave_drawn, noted_if, number_of, told_drawn, without_grabs}
 use Rattle.wl_plain.specs.Stacked.{all_windows}
 use Rattle.wl_plain.specs.Step.{with_shell}
-use Rattle.wl_plain.specs.Happens.{hit_now, noted_if, number_of, point_in, pointed, raised_by, without_grabs}
+use Rattle.wl_plain.specs.Happens.{point_in}
 use Rattle.wl_laws.proofs.Runs.Forms.{Buttons, MovesTo, PressesIf, ReleasesIf}
 use Rattle.wl_records.proofs.Toplevels.Changed.{none-dismissed}
 use Rattle.wl_records.proofs.Toplevels.Serves.{none-done}
@@ -25,7 +27,7 @@ use Rattle.wl_without_popups.proofs.Messages.{living}
 use Rattle.wl_laws.proofs.Lists.Keys.{none-some}
 use Rattle.wl_laws.proofs.Isolation.LeftAlone.{Is, Never}
 use Rattle.wl_laws.proofs.Isolation.Kept.{TellsPointer}
-use Rattle.wl_laws.proofs.Isolation.Own.{moves, pressed-so, raised-client, released-so}
+use Rattle.wl_laws.proofs.Isolation.Own.{AllShift, moves, pressed-so, released-so}
 use Rattle.wl_laws.proofs.Isolation.Settling.{Stays}
 use Rattle.wl_laws.proofs.Isolation.Told.{TellsBy}
 
@@ -97,20 +99,21 @@ module _ (other : ℕ) (old : Desktop) (has : NoPopups old) where
       owns : (r : Resident) → r.peer.status ≡ None → Some r ≡ client_at other old → OwnsNoPopups r
       owns r alive is = living r.peer.status r (toplevels_of other old) alive (subst (λ o. OwnsNoPopupsAt o (toplevels_of other old)) (sym is) (has.each other))
 
-  pub moves-same : (time : ℕ) (x y : ℤ) (new : Desktop) → MovesTo time (pointed (point_in old.output x y) old) new → (client_at other new ≡ client_at other old)
+  -- where the pointer isn't anywhere it raises nothing and moves nothing
+  pub moves-same : (time : ℕ) (x y : ℤ) (new : Desktop) → MovesTo time (point_in old.output x y) old new → (client_at other new ≡ client_at other old)
       × (toplevels_of other new ≡ toplevels_of other old)
   moves-same time x y new h =
-      let at = point_in old.output x y in
-      let tops : toplevels_of other (pointed at old) ≡ toplevels_of other old =
-      ap (λ (p : Pointer). filter (λ s. s.client == other) (moved_with p.place at p.move old.standing)) has.pointer in
-      moves other StaysQuiet quiet-all As Never as-stays time (pointed at old) new (refl, tops) h
+      let at : Place = point_in old.output x y in
+      let none : AllShift other As (move_of old.pointer.place at old.pointer.move) =
+      subst (λ (p : Pointer). AllShift other As (move_of p.place at p.move)) (sym has.pointer) tt in
+      moves other StaysQuiet quiet-all As Never as-stays time at old new none (refl, refl) h
 
   presses-same : (b : Bool) (time button : ℕ) (new : Desktop) → PressesIf b time button old new → (client_at other new ≡ client_at other old) × (toplevels_of other new ≡ toplevels_of other old)
   presses-same false time button new h = (ap (λ (d : Desktop). client_at other d) h, ap (λ (d : Desktop). toplevels_of other d) h)
   presses-same true time button new h =
-      let tops : toplevels_of other (raised_by (hit_now old.pointer.place (all_windows old)) old) ≡ toplevels_of other old =
-      ap (λ (p : Pointer). toplevels_of other (raised_by (hit_now p.place (all_windows old)) old)) has.pointer in
-      pressed-so other StaysQuiet quiet-all As Never as-stays time button old new (raised-client other (hit_now old.pointer.place (all_windows old)) old, tops) h
+      let none : AllShift other As (raise_of (hit_now old.pointer.place (all_windows old))) =
+      subst (λ (p : Pointer). AllShift other As (raise_of (hit_now p.place (all_windows old)))) (sym has.pointer) tt in
+      pressed-so other StaysQuiet quiet-all As Never as-stays time button old new none (refl, refl) h
 
   releases-same : (b : Bool) (time button : ℕ) (new : Desktop) → ReleasesIf b time button old new → (client_at other new ≡ client_at other old) × (toplevels_of other new ≡ toplevels_of other old)
   releases-same false time button new h = (ap (λ (d : Desktop). client_at other d) h, ap (λ (d : Desktop). toplevels_of other d) h)

@@ -14,9 +14,9 @@ use Rattle.wl_peer.specs.Told.{Output, Said, display_error}
 use Rattle.wl_store.specs.Stores.{write_refusal}
 use Rattle.wl_store.specs.declared.stores.StoreError.{StoreError}
 use Rattle.wl_surface.specs.Surfaces.{Surfaces, no_surfaces}
-use Rattle.wl_scene.specs.Pointer.{is_down, is_press}
+use Rattle.wl_scene.specs.Pointer.{hit_now, is_down, is_press}
 use Rattle.wl_scene.specs.Stacking.{Standing}
-use Rattle.wl_scene.specs.Windows.{Window}
+use Rattle.wl_scene.specs.Windows.{Place}
 use Rattle.wl_plain.specs.declared.answers.Done.{Done}
 use Rattle.wl_plain.specs.Act.{Act, Connect, Feed, Store, Leave, Tick, Send, Close, Motion, Button, IsClosed, IsSent, IsStored, closed_by, lowest}
 use Rattle.wl_plain.specs.Changing.{changed_for, drawing, without_callbacks}
@@ -24,18 +24,17 @@ use Rattle.wl_plain.specs.Demand.{Demand}
 use Rattle.wl_plain.specs.Demanding.{judge_all}
 use Rattle.wl_plain.specs.Desktop.{Desktop, Resident, Subsurface, arrival, client_at, client_in, empty, place, resident_of, toplevels_of, with_client, with_number, with_place}
 use Rattle.wl_plain.specs.Happens.{AnswersThen, BecomesThen, ChangesThen, ConnectsThen, DoesThen, FeedsAt, Happens, HappensThen, IsFedAt, LeavesThen, PressesThen, Reaches, ReleasesThen, ServesThen}
-use Rattle.wl_plain.specs.Happens.{StopsAt, TakesThen, WantsOrThen, callbacks_due, changed_so, done_for, ending, frames_told, hit_now, noted, noted_if, number_of, point_in, pointed, raised_by}
-use Rattle.wl_plain.specs.Happens.{settling, wants_memory, without_grabs}
+use Rattle.wl_plain.specs.Happens.{StopsAt, TakesThen, WantsOrThen, callbacks_due, changed_so, done_for, ending, frames_told, point_in, settling, wants_memory}
 use Rattle.wl_plain.specs.LeftOut.{LeftOut}
 use Rattle.wl_plain.specs.Pointing.{button_told, entered_surface, has_pointers, left_surface, motion_told}
 use Rattle.wl_plain.specs.Replies.{popups_done, replies}
-use Rattle.wl_plain.specs.Settling.{Midstep, Strike, becomes, leave_drawn, told_drawn, unstruck}
+use Rattle.wl_plain.specs.Settling.{Midstep, Strike, becomes, leave_drawn, noted, noted_if, number_of, told_drawn, unstruck, without_grabs}
 use Rattle.wl_plain.specs.Stacked.{all_windows}
 use Rattle.wl_plain.specs.Step.{with_peer}
 use Rattle.wl_laws.proofs.Soundness.RunMessages.{HasEnded, erred-ended, lacking-ended}
 use Rattle.wl_laws.specs.RunLaws.{Lasts}
 use Rattle.wl_laws.proofs.Isolation.Kept.{TellsDone, TellsPointer, has-more}
-use Rattle.wl_laws.proofs.Isolation.Own.{moves-then, pressed-then, raised-client, released-then, shown-then}
+use Rattle.wl_laws.proofs.Isolation.Own.{Shifting, move-shifts, moves-then, pressed-then, raise-shifts, released-then, shown-then}
 use Rattle.wl_laws.proofs.Isolation.Settling.{AreIn, Stays, ending-in, settled-in, settling-in}
 use Rattle.wl_laws.proofs.Isolation.Told.{TellsBy}
 use Rattle.wl_laws.proofs.Runs.Places.{number-same}
@@ -264,14 +263,15 @@ module _ (Holds : ℕ → Surfaces → List Subsurface → Type 0) (first : (bou
             let k : Next over = rw e at h.1 in
             next over (gone a Gone r.peer r d known c) k
 
-    raised-holds : (w : Option Window) (d : Desktop) → HoldsAt (client_at c d) → HoldsAt (client_at c (raised_by w d))
-    raised-holds w d known = at-so (client_at c (raised_by w d)) (client_at c d) (raised-client c w d) known
+    -- nothing is said of what stands
+    holds-shifting : Shifting c HoldsBy
+    holds-shifting = record { raises = λ t o ss known. known; moves = λ t x y o ss known. known }
 
     presses : (b : Bool) (time button : ℕ) (d : Desktop) → HoldsAt (client_at c d) → PressesThen b time button d Settled → X
     presses false time button d known h = last (unstruck d) known h
     presses true time button d known h =
         pressed-then c ToldHolds pointer-holds HoldsBy Anyhow stays-so X Settled (λ mid within. last mid within.0)
-        time button d (raised-holds (hit_now d.pointer.place (all_windows d)) d known) h
+        time button d (raise-shifts c HoldsBy holds-shifting (hit_now d.pointer.place (all_windows d))) known h
 
     releases : (b : Bool) (time button : ℕ) (d : Desktop) → HoldsAt (client_at c d) → ReleasesThen b time button d Settled → X
     releases false time button d known h = last (unstruck d) known h
@@ -290,8 +290,9 @@ module _ (Holds : ℕ → Surfaces → List Subsurface → Type 0) (first : (bou
     happens-known left (Send a n) done d known h = changes (IsSent n) _ a (client_at a d) d done (sent-keeps n done) refl known h
     happens-known left (Close a) done d known h = changes IsClosed _ a (client_at a d) d done (closed-keeps done) refl known h
     happens-known left (Motion time x y) done d known h =
+        let at : Place = point_in d.output x y in
         moves-then c ToldHolds pointer-holds HoldsBy Anyhow stays-so X Settled (λ mid within. last mid within.0)
-        time (pointed (point_in d.output x y) d) (known c) h.1
+        time at d (move-shifts c HoldsBy holds-shifting d.pointer.place at d.pointer.move) (known c) h.1
     happens-known left (Button time button true) done d known h = presses (is_press button d.pointer.buttons) time button d (known c) h.1
     happens-known left (Button time button false) done d known h = releases (is_down button d.pointer.buttons) time button d (known c) h.1
 

@@ -17,8 +17,8 @@ use Rattle.wl_plain.specs.Changing.{drawing, without_callbacks}
 use Rattle.wl_plain.specs.Desktop.{Resident}
 use Rattle.wl_plain.specs.Pointing.{button_told, entered_surface, has_pointers, left_surface, motion_told}
 use Rattle.wl_plain.specs.Replies.{popups_done}
-use Rattle.wl_plain.specs.Settling.{QueuesFirst, QueuesTo, leave_drawn, told_drawn}
-use Rattle.wl_plain.specs.Happens.{callbacks_due, frames_told, is_counting, noted, noted_if, number_of, without_grabs}
+use Rattle.wl_plain.specs.Settling.{QueuesFirst, QueuesTo, leave_drawn, noted, noted_if, number_of, told_drawn, without_grabs}
+use Rattle.wl_plain.specs.Happens.{callbacks_due, frames_told, is_counting}
 use Rattle.wl_laws.specs.Own.{AreSameOrDismissed, HasItsOwn, IsSameOrDismissed, LivesOn}
 use Rattle.wl_laws.proofs.Lists.Standings.{none-left}
 use Rattle.wl_laws.proofs.Marks.Stacks.{equal-numbers, or-left, or-right, unless}

@@ -1,33 +1,35 @@
 -- Whatever happens leaves a client what it has, but for its own steps.
 use Rattle.std.proofs.Common.{◌≡◌, ◌≢◌, ℕ, zero, suc, ◌+◌, List, [], ◌∷◌, ◌++◌, Bool, true, false, cond, Option, Some, None, refl, ap, sym, ◌∙◌, inl, inr}
-use Rattle.std.specs.Prelude.{◌==◌, ◌&&◌, ◌||◌, ◌⊎◌, filter, flat_map, if◌then◌else◌}
+use Rattle.std.specs.Prelude.{◌==◌, ◌&&◌, ◌||◌, ◌⊎◌, ℤ, filter, flat_map, if◌then◌else◌}
 use Rattle.std.specs.List.{list_any}
 use Rattle.wl_peer.specs.declared.cause.Cause.{Cause}
 use Rattle.wl_peer.specs.declared.cause.Cause.TheVariants.{Memory, Slow}
 use Rattle.wl_peer.specs.Peer.{ended, has_room}
 use Rattle.wl_peer.specs.Told.{Said, said_bytes}
-use Rattle.wl_scene.specs.Pointer.{Target, is_down, is_press}
+use Rattle.wl_scene.specs.Pointer.{Pointer, Target, hit_now, is_down, is_press, is_same, settled}
+use Rattle.wl_scene.specs.PointerActions.{PointerAction, PointerInput, actions, button_of, dismiss_of, enter_of, focus_or, is_hit_of, leave_of, motion_of, move_of, raise_of}
+use Rattle.wl_scene.specs.PointerActions as pointer
 use Rattle.wl_scene.specs.Stacking.{Standing, is_of, moved_to, raised}
 use Rattle.wl_scene.specs.Windows.{Place, Window}
 use Rattle.wl_plain.specs.declared.answers.Done.{Done}
 use Rattle.wl_plain.specs.Changing.{drawing, grab_holder, without_callbacks}
 use Rattle.wl_plain.specs.Desktop.{Desktop, Resident, client_at, resident_of, toplevels_of}
 use Rattle.wl_plain.specs.LeftOut.{LeftOut}
-use Rattle.wl_plain.specs.Pointing.{button_told, has_pointers, motion_told, moved_with}
+use Rattle.wl_plain.specs.Pointing.{button_told, has_pointers, motion_told, moved_standing}
 use Rattle.wl_plain.specs.Replies.{focus_window, popups_done}
-use Rattle.wl_plain.specs.Settling.{Midstep, SettlesEnds, Settles, is_settled, unstruck}
+use Rattle.wl_plain.specs.Settling.{Acts, Applies, AppliesAll, Midstep, SettlesEnds, Settles, noted_if, number_of, unstruck, with_standing, without_grabs}
 use Rattle.wl_plain.specs.Stacked.{all_windows}
 use Rattle.wl_plain.specs.Act.{Act, Connect, Feed, Store, Leave, Tick, Send, Close, Motion, Button, lowest}
-use Rattle.wl_laws.proofs.Runs.Forms.{ConnectsAt, MovesTo, PressedSo, PressesIf, ReleasedSo, ReleasesIf, Shows}
-use Rattle.wl_plain.specs.Happens.{Dismisses, DismissesUnless, Happens, MotionSettles, MovesThen, PressedThen, ReleasedThen, ShowsThen, TellsButton, TellsFrames, TellsMotion, callbacks_due, ending}
-use Rattle.wl_plain.specs.Happens.{frames_told, hit_now, is_hit_of, noted_if, number_of, point_in, pointed, raised_by, settling, with_press, with_release, without_grabs}
+use Rattle.wl_laws.proofs.Runs.Forms.{ConnectsAt, MovesTo, PressesIf, ReleasesIf, Shows}
+use Rattle.wl_plain.specs.Happens.{Happens, MovesThen, PressedThen, ReleasedThen, ShowsThen, TellsFrames, callbacks_due, ending, frames_told, placed, point_in, settling, with_press, with_release}
 use Rattle.wl_laws.specs.Others.{IsLeftAlone, IsLeftBy, IsLeftSo, IsNotQueued, IsToldTimes, client_of, told_once}
 use Rattle.wl_laws.specs.Own.{HasEndedLate, HasItsOwn, KeepsItsOwn, KeepsItsOwnBy, KeepsItsOwnSo, LivesOrEnds, StandTheSame, OwnStays}
 use Rattle.wl_laws.proofs.Lists.Keys.{some-same}
 use Rattle.wl_laws.proofs.Lists.Standings.{any-last}
 use Rattle.wl_laws.proofs.Isolation.LeftAlone.{others_are_left_alone}
 use Rattle.wl_laws.proofs.Isolation.Kept.{StaysOwn, TellsDone, TellsPointer, own-all, own-drawn, own-frames, own-more, own-same, own-then}
-use Rattle.wl_laws.proofs.Isolation.Settling.{IsIn, IsWithin, Stays, ending-in, settles-in, settling-in, tells-in, within-same}
+use Rattle.wl_laws.proofs.Isolation.Settling.{IsIn, IsWithin, Stays, ending-in, enters-in, leaves-in, settles-in, settling-in, tells-in, within-same}
+use Rattle.wl_laws.proofs.Marks.Stacks.{differ, equal-numbers}
 
 -- ---- what stays of a client
 
@@ -89,31 +91,6 @@ living-stays r before = record {
     untold p q tops cause alive (inl known) so = (q, own-then r p q known.0 so.0, so.1, λ other. refl)
     untold p q tops cause alive (inr known) so = absurd (over p alive known.0)
 
--- From a desktop where a client is as it was and the same toplevels of its stand, what leaves to it whatever stays leaves it what it has.
-kept : (c : ℕ) (old start new : Desktop) → client_at c start ≡ client_at c old → StandTheSame (toplevels_of c old) (toplevels_of c start)
-    → ((A : Option Resident → List Standing → Type 0) (P : Resident → Cause → Type 0) → Stays StaysOwn A P → A (client_at c start) (toplevels_of c start) → A (client_at c new) (toplevels_of c new))
-    → KeepsItsOwn c old new
-kept c old start new left stand carry = at (client_at c old) refl
-  where
-    by : (r : Resident) → client_at c old ≡ Some r → (s : Option Cause) → r.peer.status ≡ s → KeepsItsOwnBy s r (toplevels_of c old) (client_at c new) (toplevels_of c new)
-    by r there (Some cause) e = carry (Is (Some r)) Never (gone-stays r cause e) (left ∙ there)
-    by r there None e =
-        let found : client_at c start ≡ Some r = left ∙ there in
-        let begins : LivesOrEnds r (toplevels_of c old) (Some r) (toplevels_of c start) = inl (own-same r, stand) in
-        carry (LivesOrEnds r (toplevels_of c old)) (Late r) (living-stays r (toplevels_of c old)) (rw found begins)
-
-    at : (o : Option Resident) → client_at c old ≡ o → KeepsItsOwnSo o (toplevels_of c old) (client_at c new) (toplevels_of c new)
-    at None there = carry (Is None) Never none-stays (left ∙ there)
-    at (Some r) there = by r there r.peer.status refl
-
-kept-same : (c : ℕ) (old new : Desktop) → new ≡ old → KeepsItsOwn c old new
-kept-same c old new e =
-    kept c old old new refl (λ surface. refl)
-    (λ A P stays known.
-    let clients : client_at c new ≡ client_at c old = ap (λ (x : Desktop). client_at c x) e in
-    let tops : toplevels_of c new ≡ toplevels_of c old = ap (λ (x : Desktop). toplevels_of c x) e in
-    rw (clients, tops) known)
-
 -- ---- which toplevels stand
 
 -- what passes of those that are left
@@ -152,22 +129,138 @@ any-moved p same c surface place (s ∷ ss) = at (is_of c surface s) (any-moved 
 abbrev its : ℕ → ℕ → Standing → Bool
 its c surface s = (s.client == c) && (s.surface == surface)
 
-pub stand-same : (c : ℕ) (old new : Desktop) → ((surface : ℕ) → list_any (its c surface) new.standing ≡ list_any (its c surface) old.standing) → StandTheSame (toplevels_of c old) (toplevels_of c new)
-stand-same c old new same surface =
-    any-kept (λ s. s.surface == surface) (λ s. s.client == c) new.standing ∙ same surface ∙ sym (any-kept (λ s. s.surface == surface) (λ s. s.client == c) old.standing)
+-- those of a client
+abbrev pub of : ℕ → List Standing → List Standing
+of c ss = filter (λ s. s.client == c) ss
 
-pub stand-raised : (c : ℕ) (w : Option Window) (d : Desktop) (surface : ℕ) → list_any (its c surface) (raised_by w d).standing ≡ list_any (its c surface) d.standing
-stand-raised c None d surface = refl
-stand-raised c (Some w) d surface = any-raised (its c surface) w.owner.client w.owner.toplevel d.standing
+stand-same : (c : ℕ) (before after : List Standing) → ((surface : ℕ) → list_any (its c surface) after ≡ list_any (its c surface) before) → StandTheSame (of c before) (of c after)
+stand-same c before after same surface =
+    any-kept (λ s. s.surface == surface) (λ s. s.client == c) after ∙ same surface ∙ sym (any-kept (λ s. s.surface == surface) (λ s. s.client == c) before)
 
-pub stand-moved : (c : ℕ) (from : Option Place) (to : Place) (t : Option Target) (ss : List Standing) (surface : ℕ) → list_any (its c surface) (moved_with from to t ss) ≡ list_any (its c surface) ss
-stand-moved c None to t ss surface = refl
-stand-moved c (Some from) to None ss surface = refl
-stand-moved c (Some from) to (Some t) ss surface = any-moved (its c surface) (λ s place. refl) t.client t.surface _ ss
+pub stand-raised : (c k surface : ℕ) (ss : List Standing) → StandTheSame (of c ss) (of c (raised k surface ss))
+stand-raised c k surface ss = stand-same c ss (raised k surface ss) (λ other. any-raised (its c other) k surface ss)
 
-pub raised-client : (c : ℕ) (w : Option Window) (d : Desktop) → client_at c (raised_by w d) ≡ client_at c d
-raised-client c None d = refl
-raised-client c (Some w) d = refl
+pub stand-moved : (c k surface : ℕ) (place : Place) (ss : List Standing) → StandTheSame (of c ss) (of c (moved_to k surface place ss))
+stand-moved c k surface place ss = stand-same c ss (moved_to k surface place ss) (λ other. any-moved (its c other) (λ s place. refl) k surface place ss)
+
+pub none-stand : (before after : List Standing) → StandTheSame before after → before ≡ [] → after ≡ []
+none-stand before [] same none = refl
+none-stand before (s ∷ ss) same none =
+    absurd (differ (sym (ap (λ (tops : List Standing). list_any (λ t. t.surface == s.surface) tops) none) ∙ sym (same s.surface)
+    ∙ ap (λ (b : Bool). b || list_any (λ t. t.surface == s.surface) ss) (equal-numbers s.surface s.surface refl)))
+
+-- ---- what stays of a client as toplevels are raised and moved
+
+module _ (c : ℕ) (A : Option Resident → List Standing → Type 0) where
+  abbrev pub Shifts : PointerAction → Type 0
+  Shifts (pointer.Raise t) = (o : Option Resident) (ss : List Standing) → A o (of c ss) → A o (of c (raised t.client t.surface ss))
+  Shifts (pointer.MoveWindow t x y) = (o : Option Resident) (ss : List Standing) → A o (of c ss) → A o (of c (moved_standing t x y ss))
+  Shifts action = Unit {0}
+
+  abbrev pub AllShift : List PointerAction → Type 0
+  AllShift [] = Unit {0}
+  AllShift (action ∷ later) = Shifts action × AllShift later
+
+  -- whichever is raised or moved
+  pub record Shifting : Type 0 where
+    pub raises : (t : Target) → Shifts (pointer.Raise t)
+    pub moves : (t : Target) (x y : ℤ) → Shifts (pointer.MoveWindow t x y)
+
+  pub raise-shifts : Shifting → (w : Option Window) → AllShift (raise_of w)
+  raise-shifts shifting None = tt
+  raise-shifts shifting (Some w) = (shifting.raises _, tt)
+
+  pub move-shifts : Shifting → (from : Option Place) (to : Place) (t : Option Target) → AllShift (move_of from to t)
+  move-shifts shifting None to t = tt
+  move-shifts shifting (Some from) to None = tt
+  move-shifts shifting (Some from) to (Some t) = (shifting.moves t _ _, tt)
+
+  append-shifts : (first later : List PointerAction) → AllShift first → AllShift later → AllShift (first ++ later)
+  append-shifts [] later one other = other
+  append-shifts (action ∷ first) later one other = (one.0, append-shifts first later one.1 other)
+
+  -- nothing else of what the pointer does raises or moves one
+  focus-shifts : (staying : List PointerAction) (p : Pointer) (windows : List Window) → AllShift staying → AllShift (focus_or staying p windows)
+  focus-shifts staying p windows shift = at (is_same p.focus (settled p windows))
+    where
+      both : (s t : Option Target) → AllShift (leave_of s ++ enter_of t)
+      both None None = tt
+      both None (Some t) = (tt, tt)
+      both (Some s) None = (tt, tt)
+      both (Some s) (Some t) = (tt, (tt, tt))
+
+      at : (b : Bool) → AllShift (if b then staying else leave_of p.focus ++ enter_of (settled p windows))
+      at true = shift
+      at false = both p.focus (settled p windows)
+
+  motion-shifts : (time : ℕ) (moved focus : Option Target) → AllShift (motion_of time moved focus)
+  motion-shifts time moved None = tt
+  motion-shifts time None (Some t) = (tt, tt)
+  motion-shifts time (Some moved) (Some t) = tt
+
+  dismiss-shifts : (holder : Option ℕ) (w : Option Window) → AllShift (dismiss_of holder w)
+  dismiss-shifts None w = tt
+  dismiss-shifts (Some holder) w = at (is_hit_of holder w)
+    where
+      at : (b : Bool) → AllShift (if b then [] else pointer.Dismiss holder ∷ [])
+      at true = tt
+      at false = (tt, tt)
+
+  button-shifts : (time button : ℕ) (pressed : Bool) (focus : Option Target) → AllShift (button_of time button pressed focus)
+  button-shifts time button pressed None = tt
+  button-shifts time button pressed (Some t) = (tt, tt)
+
+  went-shifts : (time : ℕ) (p : Pointer) (windows : List Window) → AllShift (actions (pointer.Went time) p windows)
+  went-shifts time p windows = focus-shifts (motion_of time p.move p.focus) p windows (motion-shifts time p.move p.focus)
+
+  press-shifts : (time button : ℕ) (holder : Option ℕ) (p : Pointer) (windows : List Window) → AllShift (raise_of (hit_now p.place windows))
+      → AllShift (actions (pointer.Press time button holder) p windows)
+  press-shifts time button holder p windows shift =
+      let w = hit_now p.place windows in
+      append-shifts (raise_of w ++ dismiss_of holder w) (button_of time button true p.focus) (append-shifts (raise_of w) (dismiss_of holder w) shift (dismiss-shifts holder w))
+      (button-shifts time button true p.focus)
+
+-- where nothing is said of what stands
+Is-shifting : (c : ℕ) (o : Option Resident) → Shifting c (Is o)
+Is-shifting c o = record { raises = λ t p ss known. known; moves = λ t x y p ss known. known }
+
+-- where the same toplevels stand
+living-shifting : (c : ℕ) (r : Resident) (before : List Standing) → Shifting c (LivesOrEnds r before)
+living-shifting c r before = record {
+  raises = λ t o ss known. so o (of c ss) _ (stand-raised c t.client t.surface ss) known;
+  moves = λ t x y o ss known. so o (of c ss) _ (stand-moved c t.client t.surface _ ss) known;
+}
+  where
+    so : (o : Option Resident) (ss now : List Standing) → StandTheSame ss now → LivesOrEnds r before o ss → LivesOrEnds r before o now
+    so None ss now same known = absurd known
+    so (Some q) ss now same (inl known) = inl (known.0, λ surface. same surface ∙ known.1 surface)
+    so (Some q) ss now same (inr known) = inr (known.0, none-stand ss now same known.1)
+
+-- What leaves to a client whatever stays leaves it what it has.
+kept : (c : ℕ) (old new : Desktop)
+    → ((A : Option Resident → List Standing → Type 0) (P : Resident → Cause → Type 0) → Stays StaysOwn A P → Shifting c A → A (client_at c old) (toplevels_of c old)
+    → A (client_at c new) (toplevels_of c new))
+    → KeepsItsOwn c old new
+kept c old new carry = at (client_at c old) refl
+  where
+    by : (r : Resident) → client_at c old ≡ Some r → (s : Option Cause) → r.peer.status ≡ s → KeepsItsOwnBy s r (toplevels_of c old) (client_at c new) (toplevels_of c new)
+    by r there (Some cause) e = carry (Is (Some r)) Never (gone-stays r cause e) (Is-shifting c (Some r)) there
+    by r there None e =
+        let before : List Standing = toplevels_of c old in
+        let begins : LivesOrEnds r before (Some r) before = inl (own-same r, λ surface. refl) in
+        carry (LivesOrEnds r before) (Late r) (living-stays r before) (living-shifting c r before) (rw there begins)
+
+    at : (o : Option Resident) → client_at c old ≡ o → KeepsItsOwnSo o (toplevels_of c old) (client_at c new) (toplevels_of c new)
+    at None there = carry (Is None) Never none-stays (Is-shifting c None) there
+    at (Some r) there = by r there r.peer.status refl
+
+kept-same : (c : ℕ) (old new : Desktop) → new ≡ old → KeepsItsOwn c old new
+kept-same c old new e =
+    kept c old new
+    (λ A P stays shifting known.
+    let clients : client_at c new ≡ client_at c old = ap (λ (x : Desktop). client_at c x) e in
+    let tops : toplevels_of c new ≡ toplevels_of c old = ap (λ (x : Desktop). toplevels_of c x) e in
+    rw (clients, tops) known)
 
 -- ---- a frame is shown, the pointer moves, a button is pressed or released
 
@@ -196,31 +289,32 @@ module _ (c : ℕ) (T : Resident → Resident → Option Cause → Type 0) (all 
       let mid : Within h.0 = tells-in c T all.focus A P stays (λ r. without_callbacks (callbacks_due r) r) (frames_told time) (done time) k old h.0 known h.1 in
       frames done time n (suc k) h.0 new mid h.2
 
-  motion : (time : ℕ) (moves focus : Option Target) (old new : Midstep) → Within old → TellsMotion time moves focus old new → Within new
-  motion time moves None old new known h = same old new h known
-  motion time None (Some t) old new known h =
-      let told = motion_told time old.desktop.pointer.place (focus_window (Some t) (all_windows old.desktop)) in
-      tells-in c T all.focus A P stays (λ r. r) told (all.motion time old.desktop.pointer.place (focus_window (Some t) (all_windows old.desktop))) t.client old new known h
-  motion time (Some moved) (Some t) old new known h = same old new h known
-
-  motion-settles : (b : Bool) (time : ℕ) (old new : Midstep) → Within old → MotionSettles b time old new → Within new
-  motion-settles true time old new known h = motion time old.desktop.pointer.move old.desktop.pointer.focus old new known h
-  motion-settles false time old new known h = settles old new known h
-
-  dismisses-unless : (b : Bool) (k : ℕ) (old new : Midstep) → Within old → DismissesUnless b k old new → Within new
-  dismisses-unless true k old new known h = same old new h known
-  dismisses-unless false k old new known h =
-      tells-in c T all.focus A P stays without_grabs (λ r. popups_done r (without_grabs r)) all.dismissed k old new known h
-
-  dismisses : (holder : Option ℕ) (w : Option Window) (old new : Midstep) → Within old → Dismisses holder w old new → Within new
-  dismisses None w old new known h = same old new h known
-  dismisses (Some holder) w old new known h = dismisses-unless (is_hit_of holder w) holder old new known h
-
-  button-told : (time button : ℕ) (pressed : Bool) (t : Option Target) (old new : Midstep) → Within old → TellsButton time button pressed t old new → Within new
-  button-told time button pressed None old new known h = same old new h known
-  button-told time button pressed (Some t) old new known h =
+  applies : (windows : List Window) (action : PointerAction) → Shifts c A action → (old new : Midstep) → Within old → Applies windows action old new → Within new
+  applies windows (pointer.Leave t) shift old new known h = leaves-in c T all.focus A P stays windows t old new known h
+  applies windows (pointer.Enter t) shift old new known h = enters-in c T all.focus A P stays windows t old new known h
+  applies windows (pointer.Motion time t) shift old new known h =
+      let told = motion_told time old.desktop.pointer.place (focus_window (Some t) windows) in
+      tells-in c T all.focus A P stays (λ r. r) told (all.motion time old.desktop.pointer.place (focus_window (Some t) windows)) t.client old new known h
+  applies windows (pointer.Button time button pressed t) shift old new known h =
       let change = λ (r : Resident). noted_if (has_pointers r) pressed r in
       tells-in c T all.focus A P stays change (button_told time button (number_of pressed)) (all.pressed time button pressed) t.client old new known h
+  applies windows (pointer.Raise t) shift old new known h =
+      let standing : List Standing = raised t.client t.surface old.desktop.standing in
+      let now : Within (with_standing standing old) = (shift (client_at c old.desktop) old.desktop.standing known.0, known.1) in
+      same (with_standing standing old) new h now
+  applies windows (pointer.MoveWindow t x y) shift old new known h =
+      let standing : List Standing = moved_standing t x y old.desktop.standing in
+      let now : Within (with_standing standing old) = (shift (client_at c old.desktop) old.desktop.standing known.0, known.1) in
+      same (with_standing standing old) new h now
+  applies windows (pointer.Dismiss k) shift old new known h =
+      tells-in c T all.focus A P stays without_grabs (λ r. popups_done r (without_grabs r)) all.dismissed k old new known h
+
+  applies-all : (windows : List Window) (actions : List PointerAction) → AllShift c A actions → (old new : Midstep) → Within old → AppliesAll windows actions old new → Within new
+  applies-all windows [] shift old new known h = same old new h known
+  applies-all windows (action ∷ later) shift old new known h = applies-all windows later shift.1 h.0 new (applies windows action shift.0 old h.0 known h.1) h.2
+
+  acts : (input : PointerInput) (old new : Midstep) → AllShift c A (actions input old.desktop.pointer (all_windows old.desktop)) → Within old → Acts input old new → Within new
+  acts input old new shift known h = applies-all (all_windows old.desktop) (actions input old.desktop.pointer (all_windows old.desktop)) shift old new known h
 
   -- what follows from the middle of a step, with what comes then, follows from the step
   module _ (X : Type 0) (Next : Midstep → Type 0) (next : (mid : Midstep) → Within mid → Next mid → X) where
@@ -229,48 +323,48 @@ module _ (c : ℕ) (T : Resident → Resident → Option Cause → Type 0) (all 
     shown-then done time d known h = next h.0 (frames done time 32 1 (unstruck d) h.0 (begun d known) h.1) h.2
 
     -- the pointer moves
-    pub moves-then : (time : ℕ) (d : Desktop) → Known d → MovesThen time d Next → X
-    moves-then time d known h = next h.0 (motion-settles (is_settled d) time (unstruck d) h.0 (begun d known) h.1) h.2
+    pub moves-then : (time : ℕ) (at : Place) (d : Desktop) → AllShift c A (move_of d.pointer.place at d.pointer.move) → Known d → MovesThen time at d Next → X
+    moves-then time at d shift known h =
+        let gone : Within h.0 = acts (pointer.GoTo at) (unstruck d) h.0 shift (begun d known) h.1 in
+        let start : Midstep = placed at h.0 in
+        next h.2 (acts (pointer.Went time) start h.2 (went-shifts c A time start.desktop.pointer (all_windows start.desktop)) gone h.3) h.4
 
     -- a button is pressed
-    pub pressed-then : (time button : ℕ) (d : Desktop) → Known (with_press button (raised_by (hit_now d.pointer.place (all_windows d)) d))
-        → PressedThen time button d Next → X
-    pressed-then time button d known h =
-        let start : Desktop = with_press button (raised_by (hit_now d.pointer.place (all_windows d)) d) in
-        let hit : Option Window = hit_now d.pointer.place (all_windows d) in
-        let dismissed : Within h.0 = dismisses (grab_holder d) hit (unstruck start) h.0 (begun start known) h.1 in
-        let told : Within h.2 = button-told time button true d.pointer.focus h.0 h.2 dismissed h.3 in
-        next h.4 (settles h.2 h.4 told h.5) h.6
+    pub pressed-then : (time button : ℕ) (d : Desktop) → AllShift c A (raise_of (hit_now d.pointer.place (all_windows d))) → Known d → PressedThen time button d Next → X
+    pressed-then time button d shift known h =
+        let start : Desktop = with_press button d in
+        let input : PointerInput = pointer.Press time button (grab_holder d) in
+        let told : Within h.0 = acts input (unstruck start) h.0 (press-shifts c A time button (grab_holder d) start.pointer (all_windows start) shift) (begun start known) h.1 in
+        next h.2 (settles h.0 h.2 told h.3) h.4
 
     -- a button is released
     pub released-then : (time button : ℕ) (d : Desktop) → Known d → ReleasedThen time button d Next → X
     released-then time button d known h =
         let start : Desktop = with_release button d in
-        let told : Within h.0 = button-told time button false d.pointer.focus (unstruck start) h.0 (begun start known) h.1 in
+        let told : Within h.0 = acts (pointer.Release time button) (unstruck start) h.0 (button-shifts c A time button false start.pointer.focus) (begun start known) h.1 in
         next h.2 (settles h.0 h.2 told h.3) h.4
 
   pub shown : TellsDone T → (time : ℕ) (d new : Desktop) → Known d → Shows time d new → Known new
   shown done time d new known h = shown-then (Known new) (settling new) (λ mid known. settling-in c T all.focus A P stays mid new known) done time d known h
 
-  pub moves : (time : ℕ) (d new : Desktop) → Known d → MovesTo time d new → Known new
-  moves time d new known h = moves-then (Known new) (ending new) (λ mid known. ends mid new known) time d known h
+  pub moves : (time : ℕ) (at : Place) (d new : Desktop) → AllShift c A (move_of d.pointer.place at d.pointer.move) → Known d → MovesTo time at d new → Known new
+  moves time at d new shift known h = moves-then (Known new) (ending new) (λ mid known. ends mid new known) time at d shift known h
 
-  pub pressed-so : (time button : ℕ) (d new : Desktop) → Known (with_press button (raised_by (hit_now d.pointer.place (all_windows d)) d)) → PressedSo time button d new → Known new
-  pressed-so time button d new known h = pressed-then (Known new) (ending new) (λ mid known. ends mid new known) time button d known h
+  pub pressed-so : (time button : ℕ) (d new : Desktop) → AllShift c A (raise_of (hit_now d.pointer.place (all_windows d))) → Known d → PressesIf true time button d new → Known new
+  pressed-so time button d new shift known h = pressed-then (Known new) (ending new) (λ mid known. ends mid new known) time button d shift known h
 
-  pub released-so : (time button : ℕ) (d new : Desktop) → Known d → ReleasedSo time button d new → Known new
+  pub released-so : (time button : ℕ) (d new : Desktop) → Known d → ReleasesIf true time button d new → Known new
   released-so time button d new known h = released-then (Known new) (ending new) (λ mid known. ends mid new known) time button d known h
 
 presses : (b : Bool) (time button c : ℕ) (d new : Desktop) → PressesIf b time button d new → KeepsItsOwn c d new
 presses false time button c d new h = kept-same c d new h
 presses true time button c d new h =
-    let w = hit_now d.pointer.place (all_windows d) in
-    kept c d (with_press button (raised_by w d)) new (raised-client c w d) (stand-same c d (raised_by w d) (stand-raised c w d))
-    (λ A P stays known. pressed-so c StaysOwn own-all A P stays time button d new known h)
+    kept c d new
+    (λ A P stays shifting known. pressed-so c StaysOwn own-all A P stays time button d new (raise-shifts c A shifting (hit_now d.pointer.place (all_windows d))) known h)
 
 releases : (b : Bool) (time button c : ℕ) (d new : Desktop) → ReleasesIf b time button d new → KeepsItsOwn c d new
 releases false time button c d new h = kept-same c d new h
-releases true time button c d new h = kept c d d new refl (λ surface. refl) (λ A P stays known. released-so c StaysOwn own-all A P stays time button d new known h)
+releases true time button c d new h = kept c d new (λ A P stays shifting known. released-so c StaysOwn own-all A P stays time button d new known h)
 
 -- ---- another client's step
 
@@ -323,12 +417,12 @@ own_stays out (Feed a piece) done c old new not_it h = another out (Feed a piece
 own_stays out (Store a store at bytes) done c old new not_it h = another out (Store a store at bytes) done a c old new refl not_it h
 own_stays out (Leave a) done c old new not_it h = another out (Leave a) done a c old new refl not_it h
 own_stays out (Tick time) done c old new not_it h =
-    kept c old old new refl (λ surface. refl) (λ A P stays known. shown c StaysOwn own-all A P stays own-frames time old new known h.1)
+    kept c old new (λ A P stays shifting known. shown c StaysOwn own-all A P stays own-frames time old new known h.1)
 own_stays out (Send a n) done c old new not_it h = another out (Send a n) done a c old new refl not_it h
 own_stays out (Close a) done c old new not_it h = another out (Close a) done a c old new refl not_it h
 own_stays out (Motion time x y) done c old new not_it h =
-    let start : Desktop = pointed (point_in old.output x y) old in
-    kept c old start new refl (stand-same c old start (stand-moved c old.pointer.place (point_in old.output x y) old.pointer.move old.standing))
-    (λ A P stays known. moves c StaysOwn own-all A P stays time start new known h.1)
+    let at : Place = point_in old.output x y in
+    kept c old new
+    (λ A P stays shifting known. moves c StaysOwn own-all A P stays time at old new (move-shifts c A shifting old.pointer.place at old.pointer.move) known h.1)
 own_stays out (Button time button true) done c old new not_it h = presses (is_press button old.pointer.buttons) time button c old new h.1
 own_stays out (Button time button false) done c old new not_it h = releases (is_down button old.pointer.buttons) time button c old new h.1

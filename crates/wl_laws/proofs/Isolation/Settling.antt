@@ -6,14 +6,15 @@ use Rattle.wl_peer.specs.declared.cause.Cause.{Cause}
 use Rattle.wl_peer.specs.Peer.{ended}
 use Rattle.wl_peer.specs.Told.{Said}
 use Rattle.wl_scene.specs.Pointer.{Target}
+use Rattle.wl_scene.specs.PointerActions.{Leave, Enter}
 use Rattle.wl_scene.specs.Stacking.{Standing, without_client}
 use Rattle.wl_scene.specs.Windows.{Window}
 use Rattle.wl_plain.specs.Desktop.{Desktop, Resident, client_at, client_in, resident_of, with_number, toplevels_of}
 use Rattle.wl_plain.specs.Replies.{focus_window}
-use Rattle.wl_plain.specs.Settling.{Enters, EndsAndSettles, EndsFirst, Leaves, MovesUnless, Midstep, Settles, SettlesAll, SettlesEnds, Strike, Tells, TellsAt, TellsUnless, ended_all, ended_at}
-use Rattle.wl_plain.specs.Settling.{ended_by, in_order, is_settled, is_struck, struck_by, target_now, unstruck}
-use Rattle.wl_plain.specs.Stacked.{all_windows}
+use Rattle.wl_plain.specs.Settling.{Applies, EndsAndSettles, EndsFirst, Midstep, Settles, SettlesAll, SettlesEnds, Strike, Tells, TellsAt, TellsUnless, ended_all, ended_at}
+use Rattle.wl_plain.specs.Settling.{ended_by, in_order, is_struck, struck_by, unstruck}
 use Rattle.wl_laws.proofs.Isolation.Others.{left_out, one_client}
+use Rattle.wl_laws.proofs.Runs.Focus.{settles-keeps}
 use Rattle.wl_laws.proofs.Runs.Places.{number-other, number-same}
 use Rattle.wl_laws.proofs.Marks.Stacks.{equal-numbers, or-left, or-right}
 use Rattle.wl_laws.proofs.Isolation.Told.{TellsBy, TellsFocus}
@@ -162,24 +163,17 @@ module _ (other : ℕ) (T : Resident → Resident → Option Cause → Type 0) (
 
   -- ---- the focus moves
 
-  leaves-in : (t : Option Target) (old new : Midstep) → IsWithin old → Leaves t old new → IsWithin new
-  leaves-in None old new known h = within-same old new h known
-  leaves-in (Some t) old new known h = tells-in _ _ (focus.leave t.surface) t.client old new known h
+  pub leaves-in : (windows : List Window) (t : Target) (old new : Midstep) → IsWithin old → Applies windows (Leave t) old new → IsWithin new
+  leaves-in windows t old new known h =
+      let told : IsWithin h.0 = tells-in _ _ (focus.leave t.surface) t.client old h.0 known h.1 in within-same _ new h.2 told
 
-  enters-in : (t : Option Target) (windows : List Window) (old new : Midstep) → IsWithin old → Enters t windows old new → IsWithin new
-  enters-in None windows old new known h = within-same old new h known
-  enters-in (Some t) windows old new known h =
-      tells-in _ _ (focus.enter old.desktop.pointer.place (focus_window (Some t) windows)) t.client old new known h
-
-  moves-in : (b : Bool) (t : Option Target) (old new : Midstep) → IsWithin old → MovesUnless b t old new → IsWithin new
-  moves-in true t old new known h = within-same old new h known
-  moves-in false t old new known h =
-      let left : IsWithin h.0 = leaves-in old.desktop.pointer.focus old h.0 known h.1 in
-      let entered : IsWithin h.2 = enters-in t (all_windows old.desktop) h.0 h.2 left h.3 in
-      within-same _ new h.4 entered
+  pub enters-in : (windows : List Window) (t : Target) (old new : Midstep) → IsWithin old → Applies windows (Enter t) old new → IsWithin new
+  enters-in windows t old new known h =
+      let told : IsWithin h.0 = tells-in _ _ (focus.enter old.desktop.pointer.place (focus_window (Some t) windows)) t.client old h.0 known h.1 in
+      within-same _ new h.2 told
 
   pub settles-in : (old new : Midstep) → IsWithin old → Settles old new → IsWithin new
-  settles-in old new known h = moves-in (is_settled old.desktop) (target_now old.desktop) old new known h
+  settles-in old new known h = settles-keeps IsWithin leaves-in enters-in old new known h
 
   -- ---- clients end
 

@@ -5,19 +5,21 @@ use Rattle.wl_peer.specs.declared.cause.Cause.{Cause}
 use Rattle.wl_peer.specs.Peer.{Peer, ended, has_room, queued, with_rest}
 use Rattle.wl_peer.specs.Told.{Said}
 use Rattle.wl_surface.specs.Surfaces.{history_in}
-use Rattle.wl_scene.specs.Pointer.{Target, settled}
+use Rattle.wl_scene.specs.Pointer.{Target}
+use Rattle.wl_scene.specs.PointerActions.{Leave, Enter, focus_or}
 use Rattle.wl_scene.specs.Stacking.{without_client}
 use Rattle.wl_scene.specs.Windows.{Place, Window}
 use Rattle.wl_plain.specs.Changing.{drawing}
 use Rattle.wl_plain.specs.Desktop.{Desktop, Resident, client_at, resident_of, with_client}
-use Rattle.wl_plain.specs.Pointing.{entered_surface, has_pointers, is_same, left_surface}
+use Rattle.wl_plain.specs.Pointing.{entered_surface, has_pointers, left_surface}
 use Rattle.wl_plain.specs.Replies.{focus_window}
-use Rattle.wl_plain.specs.Settling.{EndsAndSettles, EndsFirst, Enters, Leaves, MovesUnless, Midstep, QueuesFirst, QueuesTo, Settles, SettlesAll, Strike, Tells, TellsAt, TellsResident, TellsUnless}
-use Rattle.wl_plain.specs.Settling.{ended_at, ended_by, is_settled, is_struck, leave_drawn, pointer_without, struck_by, target_now, told_drawn, unstruck}
+use Rattle.wl_plain.specs.Settling.{Applies, AppliesAll, EndsAndSettles, EndsFirst, Midstep, QueuesFirst, QueuesTo, Settles, SettlesAll, Strike, Tells, TellsAt, TellsResident, TellsUnless}
+use Rattle.wl_plain.specs.Settling.{ended_at, ended_by, is_struck, leave_drawn, pointer_without, struck_by, told_drawn, unstruck}
 use Rattle.wl_plain.specs.Stacked.{all_windows}
 use Rattle.wl_plain.specs.Step.{with_peer}
 use Rattle.wl_laws.proofs.Pieces.Behind.{with_behind}
 use Rattle.wl_laws.proofs.Pieces.Changing.{drawing-behind}
+use Rattle.wl_laws.proofs.Runs.Focus.{focus-turns}
 use Rattle.wl_laws.proofs.Pieces.Places.{at-longer, behind, longer, longer_client, longer_in, longer_moving, put-longer, windows-longer}
 
 -- ---- events are queued
@@ -118,32 +120,23 @@ module _ (c : ℕ) (more : List ℕ) where
 
   -- ---- the focus moves
 
-  leaves-longer : (t : Option Target) (old new : Midstep) → Leaves t old new → Leaves t (longer_moving c more old) (longer_moving c more new)
-  leaves-longer None old new h = ap (λ (m : Midstep). longer_moving c more m) h
-  leaves-longer (Some t) old new h = tells-longer _ _ (leaves-apart t.surface) t.client old new h
+  leaves-longer : (windows : List Window) (t : Target) (old new : Midstep) → Applies windows (Leave t) old new → Applies windows (Leave t) (longer_moving c more old) (longer_moving c more new)
+  leaves-longer windows t old new h =
+      (longer_moving c more h.0, tells-longer _ _ (leaves-apart t.surface) t.client old h.0 h.1, ap (λ (m : Midstep). longer_moving c more m) h.2)
 
-  enters-longer : (t : Option Target) (windows : List Window) (old new : Midstep) → Enters t windows old new → Enters t windows (longer_moving c more old) (longer_moving c more new)
-  enters-longer None windows old new h = ap (λ (m : Midstep). longer_moving c more m) h
-  enters-longer (Some t) windows old new h =
-      tells-longer _ _ (enters-apart old.desktop.pointer.place (focus_window (Some t) windows)) t.client old new h
-
-  moves-longer : (b : Bool) (t : Option Target) (old new : Midstep) → MovesUnless b t old new → MovesUnless b t (longer_moving c more old) (longer_moving c more new)
-  moves-longer true t old new h = ap (λ (m : Midstep). longer_moving c more m) h
-  moves-longer false t old new h =
-      let enters : Enters t (all_windows old.desktop) (longer_moving c more h.0) (longer_moving c more h.2) = enters-longer t (all_windows old.desktop) h.0 h.2 h.3 in (
-        longer_moving c more h.0,
-        leaves-longer old.desktop.pointer.focus old h.0 h.1,
-        longer_moving c more h.2,
-        subst (λ (windows : List Window). Enters t windows (longer_moving c more h.0) (longer_moving c more h.2)) (sym (windows-longer c more old.desktop)) enters,
-        ap (λ (m : Midstep). longer_moving c more m) h.4,
-      )
+  enters-longer : (windows : List Window) (t : Target) (old new : Midstep) → Applies windows (Enter t) old new → Applies windows (Enter t) (longer_moving c more old) (longer_moving c more new)
+  enters-longer windows t old new h = (
+    longer_moving c more h.0,
+    tells-longer _ _ (enters-apart old.desktop.pointer.place (focus_window (Some t) windows)) t.client old h.0 h.1,
+    ap (λ (m : Midstep). longer_moving c more m) h.2,
+  )
 
   pub settles-longer : (old new : Midstep) → Settles old new → Settles (longer_moving c more old) (longer_moving c more new)
   settles-longer old new h =
       let on = old.desktop.pointer in
-      subst (λ (windows : List Window). MovesUnless (is_same on.focus (settled on windows)) (settled on windows) (longer_moving c more old) (longer_moving c more new))
-      (sym (windows-longer c more old.desktop))
-      (moves-longer (is_settled old.desktop) (target_now old.desktop) old new h)
+      let windows = all_windows old.desktop in
+      subst (λ (windows : List Window). AppliesAll windows (focus_or [] on windows) (longer_moving c more old) (longer_moving c more new)) (sym (windows-longer c more old.desktop))
+      (focus-turns (longer_moving c more) windows (leaves-longer windows) (enters-longer windows) on old new h)
 
   -- ---- clients end
 

@@ -6,13 +6,15 @@ use Rattle.wl_peer.specs.declared.cause.Cause.TheVariants.{Memory}
 use Rattle.wl_peer.specs.Peer.{Peer, ended, has_room, queued}
 use Rattle.wl_peer.specs.Told.{Said}
 use Rattle.wl_scene.specs.Pointer.{Target}
+use Rattle.wl_scene.specs.PointerActions.{PointerAction, Leave, Enter, Motion, Button, Raise, MoveWindow, Dismiss, PointerInput, Settle, actions}
+use Rattle.wl_scene.specs.Stacking.{raised}
 use Rattle.wl_scene.specs.Windows.{Window}
 use Rattle.wl_plain.specs.Changing.{drawing}
 use Rattle.wl_plain.specs.Desktop.{Desktop, Resident, client_at, resident_of, with_client, with_number}
-use Rattle.wl_plain.specs.Pointing.{entered_surface, has_pointers, left_surface}
-use Rattle.wl_plain.specs.Replies.{focus_window}
-use Rattle.wl_plain.specs.Settling.{EndsAndSettles, EndsFirst, Enters, Leaves, Midstep, MovesFocus, MovesUnless, QueuesFirst, QueuesTo, Settles, SettlesAll, SettlesEnds, Strike, Tells, TellsAt}
-use Rattle.wl_plain.specs.Settling.{TellsUnless, ended_all, ended_at, ended_by, is_settled, is_struck, leave_drawn, struck_by, target_now, told_drawn, unstruck, with_focus}
+use Rattle.wl_plain.specs.Pointing.{button_told, entered_surface, has_pointers, left_surface, motion_told, moved_standing}
+use Rattle.wl_plain.specs.Replies.{focus_window, popups_done}
+use Rattle.wl_plain.specs.Settling.{Acts, Applies, AppliesAll, EndsAndSettles, EndsFirst, Midstep, QueuesFirst, QueuesTo, Settles, SettlesAll, SettlesEnds, Strike, Tells, TellsAt, TellsUnless}
+use Rattle.wl_plain.specs.Settling.{ended_all, ended_at, ended_by, is_struck, leave_drawn, noted, noted_if, number_of, struck_by, told_drawn, unstruck, with_focus, with_standing, without_grabs}
 use Rattle.wl_plain.specs.Stacked.{all_windows}
 use Rattle.wl_laws.proofs.Lists.Keys.{none-some}
 use Rattle.wl_laws.proofs.Marks.Stacks.{or-right}
@@ -112,39 +114,53 @@ tells-leads change events keeps c old sound = at (client_at c old.desktop) refl
     at None is = only Midstep moving old old (still _ _ sound)
     at (Some r) is = unless r (is_some r.peer.status || is_struck c old.struck) is refl
 
--- ---- the focus
+-- ---- what the pointer does
 
 pub drawn-status : (b : Bool) (r : Resident) → (drawing b r).peer.status ≡ r.peer.status
 drawn-status true r = refl
 drawn-status false r = refl
 
-leaves-leads : (t : Option Target) (old : Midstep) → Sound old → Leads Midstep moving old (Leaves t old)
-leaves-leads None old sound = only Midstep moving old old (still _ _ sound)
-leaves-leads (Some t) old sound = tells-leads (leave_drawn t.surface) (left_surface t.surface) (λ r. drawn-status _ r) t.client old sound
+noted-status : (pressed : Bool) (r : Resident) → (noted pressed r).peer.status ≡ r.peer.status
+noted-status true r = refl
+noted-status false r = refl
 
-enters-leads : (t : Option Target) (windows : List Window) (old : Midstep) → Sound old → Leads Midstep moving old (Enters t windows old)
-enters-leads None windows old sound = only Midstep moving old old (still _ _ sound)
-enters-leads (Some t) windows old sound =
-    tells-leads told_drawn (entered_surface old.desktop.pointer.place (focus_window (Some t) windows)) (λ r. drawn-status (has_pointers r) r) t.client old sound
+noted_if-status : (b pressed : Bool) (r : Resident) → (noted_if b pressed r).peer.status ≡ r.peer.status
+noted_if-status true pressed r = drawn-status (has_pointers (noted pressed r)) (noted pressed r) ∙ noted-status pressed r
+noted_if-status false pressed r = refl
 
-focus-leads : (t : Option Target) (old : Midstep) → Sound old → Leads Midstep moving old (MovesFocus t old)
-focus-leads t old sound =
-    let focus = old.desktop.pointer.focus in
-    let windows = all_windows old.desktop in
-    let leaves = leaves-leads focus old sound in
-    worded Midstep moving old (λ new. (left : Midstep) × Leaves focus old left × ((entered : Midstep) × Enters t windows left entered × (new ≡ with_focus t entered))) (MovesFocus t old)
-    (λ new h. (h.0, h.1, (h.2, h.3, h.4)))
-    (chained Midstep Midstep moving moving old (Leaves focus old) (λ left new. (entered : Midstep) × Enters t windows left entered × (new ≡ with_focus t entered)) leaves
-    (λ left h. let enters = enters-leads t windows left (leaves.follows left h).sound in
-    chained Midstep Midstep moving moving left (Enters t windows left) (λ entered new. new ≡ with_focus t entered) enters
-    (λ entered k. only Midstep moving entered (with_focus t entered) (still _ _ (enters.follows entered k).sound))))
+-- and then another has the focus
+focus-leads : (t : Option Target) (old : Midstep) (P : Midstep → Type 0) → Leads Midstep moving old P → Leads Midstep moving old (λ new. (told : Midstep) × P told × (new ≡ with_focus t told))
+focus-leads t old P leads =
+    chained Midstep Midstep moving moving old P (λ told new. new ≡ with_focus t told) leads
+    (λ told h. only Midstep moving told (with_focus t told) (still _ _ (leads.follows told h).sound))
 
-pub settles-leads : (old : Midstep) → Sound old → Leads Midstep moving old (Settles old)
-settles-leads old sound = at (is_settled old.desktop)
-  where
-    at : (b : Bool) → Leads Midstep moving old (MovesUnless b (target_now old.desktop) old)
-    at true = only Midstep moving old old (still _ _ sound)
-    at false = focus-leads (target_now old.desktop) old sound
+applies-leads : (windows : List Window) (action : PointerAction) (old : Midstep) → Sound old → Leads Midstep moving old (Applies windows action old)
+applies-leads windows (Leave t) old sound =
+    focus-leads None old (Tells (leave_drawn t.surface) (left_surface t.surface) t.client old)
+    (tells-leads (leave_drawn t.surface) (left_surface t.surface) (λ r. drawn-status _ r) t.client old sound)
+applies-leads windows (Enter t) old sound =
+    let entered = entered_surface old.desktop.pointer.place (focus_window (Some t) windows) in
+    focus-leads (Some t) old (Tells told_drawn entered t.client old) (tells-leads told_drawn entered (λ r. drawn-status (has_pointers r) r) t.client old sound)
+applies-leads windows (Motion time t) old sound =
+    tells-leads (λ r. r) (motion_told time old.desktop.pointer.place (focus_window (Some t) windows)) (λ r. refl) t.client old sound
+applies-leads windows (Button time button pressed t) old sound =
+    tells-leads (λ r. noted_if (has_pointers r) pressed r) (button_told time button (number_of pressed)) (λ r. noted_if-status (has_pointers r) pressed r) t.client old sound
+applies-leads windows (Raise t) old sound = only Midstep moving old (with_standing (raised t.client t.surface old.desktop.standing) old) (still _ _ sound)
+applies-leads windows (MoveWindow t x y) old sound = only Midstep moving old (with_standing (moved_standing t x y old.desktop.standing) old) (still _ _ sound)
+applies-leads windows (Dismiss c) old sound = tells-leads without_grabs (λ r. popups_done r (without_grabs r)) (λ r. refl) c old sound
+
+all-lead : (windows : List Window) (actions : List PointerAction) (old : Midstep) → Sound old → Leads Midstep moving old (AppliesAll windows actions old)
+all-lead windows [] old sound = only Midstep moving old old (still _ _ sound)
+all-lead windows (action ∷ later) old sound =
+    let first = applies-leads windows action old sound in
+    chained Midstep Midstep moving moving old (Applies windows action old) (λ mid new. AppliesAll windows later mid new) first
+    (λ mid h. all-lead windows later mid (first.follows mid h).sound)
+
+pub acts-lead : (input : PointerInput) (old : Midstep) → Sound old → Leads Midstep moving old (Acts input old)
+acts-lead input old sound = all-lead (all_windows old.desktop) (actions input old.desktop.pointer (all_windows old.desktop)) old sound
+
+settles-leads : (old : Midstep) → Sound old → Leads Midstep moving old (Settles old)
+settles-leads old sound = acts-lead Settle old sound
 
 -- ---- ends
 

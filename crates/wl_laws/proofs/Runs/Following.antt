@@ -5,15 +5,16 @@ use Rattle.wl_peer.specs.declared.cause.Cause.{Cause}
 use Rattle.wl_peer.specs.Peer.{ended}
 use Rattle.wl_peer.specs.Told.{Said}
 use Rattle.wl_scene.specs.Pointer.{Target}
+use Rattle.wl_scene.specs.PointerActions.{Leave, Enter}
 use Rattle.wl_scene.specs.Stacking.{nothing_owned}
 use Rattle.wl_scene.specs.Windows.{Window}
 use Rattle.wl_plain.specs.Changing.{drawing}
 use Rattle.wl_plain.specs.Desktop.{Desktop, Resident, client_at, owned_in, owned_of, resident_of, with_client}
-use Rattle.wl_plain.specs.Settling.{Enters, Leaves, MovesUnless, Midstep, Settles, Strike, Tells, TellsAt, TellsUnless, ended_all, ended_at, ended_by, is_settled, target_now, unstruck}
-use Rattle.wl_plain.specs.Stacked.{all_windows}
+use Rattle.wl_plain.specs.Settling.{Applies, Midstep, Settles, Strike, Tells, TellsAt, TellsUnless, ended_all, ended_at, ended_by, unstruck, with_focus}
 use Rattle.wl_plain.specs.Through.{EndsFirstThrough, SettlesAllThrough, ending_through, ends_through, settling_through}
 use Rattle.wl_laws.proofs.Runs.Places.{number-other, number-same}
 use Rattle.wl_laws.proofs.Runs.Fates.{same-or}
+use Rattle.wl_laws.proofs.Runs.Focus.{settles-keeps}
 use Rattle.wl_laws.proofs.Runs.Output.{ended-same, settles-still}
 
 -- a client owns what it owned, or nothing any more
@@ -56,23 +57,17 @@ tells-owned change events same c old new h = at (client_at c old.desktop) refl h
     at None there h = same-own old new h
     at (Some r) there h = unless _ r there h
 
-leaves-owned : (t : Option Target) (old new : Midstep) → Leaves t old new → AllOwn old new
-leaves-owned None old new h = same-own old new h
-leaves-owned (Some t) old new h = tells-owned _ _ (λ r. drawing-owned _ r) t.client old new h
-
-enters-owned : (t : Option Target) (windows : List Window) (old new : Midstep) → Enters t windows old new → AllOwn old new
-enters-owned None windows old new h = same-own old new h
-enters-owned (Some t) windows old new h = tells-owned _ _ (λ r. drawing-owned _ r) t.client old new h
-
 settles-owned : (old new : Midstep) → Settles old new → AllOwn old new
-settles-owned old new h = at (is_settled old.desktop) h
+settles-owned old new h = settles-keeps (λ m. AllOwn old m) left entered old new (λ k. refl) h
   where
-    at : (b : Bool) → MovesUnless b (target_now old.desktop) old new → AllOwn old new
-    at true h = same-own old new h
-    at false h = λ k.
-        ap (λ (m : Midstep). owned_in m.desktop k) h.4
-        ∙ enters-owned (target_now old.desktop) (all_windows old.desktop) h.0 h.2 h.3 k
-        ∙ leaves-owned old.desktop.pointer.focus old h.0 h.1 k
+    told : (focus : Option Target) (m mid n : Midstep) → n ≡ with_focus focus mid → AllOwn m mid → AllOwn old m → AllOwn old n
+    told focus m mid n e step known k = ap (λ (m : Midstep). owned_in m.desktop k) e ∙ step k ∙ known k
+
+    left : (windows : List Window) (t : Target) (m n : Midstep) → AllOwn old m → Applies windows (Leave t) m n → AllOwn old n
+    left windows t m n known h = told None m h.0 n h.2 (tells-owned _ _ (λ r. drawing-owned _ r) t.client m h.0 h.1) known
+
+    entered : (windows : List Window) (t : Target) (m n : Midstep) → AllOwn old m → Applies windows (Enter t) m n → AllOwn old n
+    entered windows t m n known h = told (Some t) m h.0 n h.2 (tells-owned _ _ (λ r. drawing-owned _ r) t.client m h.0 h.1) known
 
 -- ---- ends
 

@@ -4,13 +4,14 @@ use Rattle.wl_wire.specs.declared.header.Split.{Split}
 use Rattle.wl_peer.specs.declared.cause.Cause.{Cause}
 use Rattle.wl_peer.specs.declared.refusals.Refusal.{Refusal}
 use Rattle.wl_peer.specs.Peer.{Peer}
+use Rattle.wl_scene.specs.Windows.{Place}
 use Rattle.wl_plain.specs.declared.answers.Done.{Done}
 use Rattle.wl_plain.specs.Demand.{Demand}
 use Rattle.wl_plain.specs.Desktop.{Desktop, Resident}
 use Rattle.wl_plain.specs.LeftOut.{LeftOut}
 use Rattle.wl_plain.specs.Settling.{ended_all, struck_by}
-use Rattle.wl_plain.specs.Happens.{BecomesThen, ConnectsThen, DoesThen, WantsOrThen, AnswersThen, TakesThen, ServesThen, settling, LeavesThen, ChangesThen, ending, ShowsThen, MovesThen, PressedThen}
-use Rattle.wl_plain.specs.Happens.{ReleasedThen, PressesThen, ReleasesThen, ButtonsThen}
+use Rattle.wl_plain.specs.Happens.{BecomesThen, ConnectsThen, DoesThen, WantsOrThen, AnswersThen, TakesThen, ServesThen, settling, LeavesThen, ChangesThen, ending, ShowsThen, MovesThen}
+use Rattle.wl_plain.specs.Happens.{PressesThen, ReleasesThen, ButtonsThen}
 
 abbrev pub Becomes : (Peer → Type 0) → ℕ → Resident → Desktop → Desktop → Type 0
 Becomes Q c r d new = BecomesThen Q c r d (settling new)
@@ -43,14 +44,8 @@ ChangesAt R absent c r d done new = ChangesThen R absent c r d done (ending new)
 abbrev pub Shows : ℕ → Desktop → Desktop → Type 0
 Shows time d new = ShowsThen time d (settling new)
 
-abbrev pub MovesTo : ℕ → Desktop → Desktop → Type 0
-MovesTo time d new = MovesThen time d (ending new)
-
-abbrev pub PressedSo : ℕ → ℕ → Desktop → Desktop → Type 0
-PressedSo time button d new = PressedThen time button d (ending new)
-
-abbrev pub ReleasedSo : ℕ → ℕ → Desktop → Desktop → Type 0
-ReleasedSo time button d new = ReleasedThen time button d (ending new)
+abbrev pub MovesTo : ℕ → Place → Desktop → Desktop → Type 0
+MovesTo time at d new = MovesThen time at d (ending new)
 
 abbrev pub PressesIf : Bool → ℕ → ℕ → Desktop → Desktop → Type 0
 PressesIf is_new time button d new = PressesThen is_new time button d (ending new)

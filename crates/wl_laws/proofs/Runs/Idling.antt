@@ -13,9 +13,9 @@ use Rattle.wl_peer.specs.Peer.{IsIdle, IsIdleAt, Peer, counted, ended, has_room,
 use Rattle.wl_peer.specs.Plain.{or_slow as refused_or, refused}
 use Rattle.wl_peer.specs.Told.{Said, display_error, error_told}
 use Rattle.wl_surface.specs.Waiting.{Callback}
-use Rattle.wl_scene.specs.Pointer.{Target}
+use Rattle.wl_scene.specs.PointerActions.{PointerAction, Leave, Enter, Motion, Button, Raise, MoveWindow, Dismiss, PointerInput, Settle, actions}
 use Rattle.wl_scene.specs.Windows.{Window}
-use Rattle.wl_laws.specs.Ample.{answered, became, done, ends_and_settles, ends_first, enters, leaves, moves_unless, or_slow, queued_to, served, served_all, served_at, served_by, settles, settles_all}
+use Rattle.wl_laws.specs.Ample.{acts, answered, applied, applied_all, became, done, ends_and_settles, ends_first, or_slow, queued_to, served, served_all, served_at, served_by, settles, settles_all}
 use Rattle.wl_laws.specs.Ample.{taken, tells, tells_at, tells_unless}
 use Rattle.wl_shell.specs.Popups.{is_toplevel}
 use Rattle.wl_shell.specs.Positioner.{Positioner}
@@ -27,10 +27,11 @@ use Rattle.wl_plain.specs.Demand.{SetPositioner, GetPopup, Grab, EndPopup, EndTo
 use Rattle.wl_plain.specs.Demanding.{effect_of_commit, judge_all}
 use Rattle.wl_plain.specs.Desktop.{Desktop, Resident, become_by, client_at, client_in, place, resident_of, with_client, with_number, with_place}
 use Rattle.wl_plain.specs.LeftOut.{LeftOut}
+use Rattle.wl_plain.specs.Pointing.{has_pointers}
 use Rattle.wl_plain.specs.Replies.{replies}
 use Rattle.wl_plain.specs.Happens.{done_for}
 use Rattle.wl_laws.proofs.Runs.Forms.{after_why}
-use Rattle.wl_plain.specs.Settling.{Midstep, Strike, after_status, becomes, ended_at, is_settled, is_struck, leave_drawn, target_now, told_drawn, unstruck}
+use Rattle.wl_plain.specs.Settling.{Midstep, Strike, after_status, becomes, ended_at, is_struck, leave_drawn, noted, noted_if, told_drawn, unstruck, without_grabs}
 use Rattle.wl_plain.specs.Stacked.{all_windows}
 use Rattle.wl_plain.specs.Step.{with_peer}
 use Rattle.wl_laws.proofs.Pieces.Behind.{ask-rest, ask-status}
@@ -99,23 +100,35 @@ tells-leaves : (rest : List ℕ) (change : Resident → Resident) (events : Resi
     → Leaves rest c (tells change events k m).desktop
 tells-leaves rest change events k c m quiet h = tells-leaves-at rest change events k c (client_at k m.desktop) m quiet refl h
 
--- ---- the focus, and ends
+-- ---- what the pointer does, and ends
 
 drawing-quiet : (b : Bool) (r : Resident) → ((drawing b r).peer.status ≡ r.peer.status) × ((drawing b r).peer.rest ≡ r.peer.rest)
 drawing-quiet true r = (refl, refl)
 drawing-quiet false r = (refl, refl)
 
-left-leaves : (rest : List ℕ) (c : ℕ) (t : Option Target) (m : Midstep) → Leaves rest c m.desktop → Leaves rest c (leaves t m).desktop
-left-leaves rest c None m h = h
-left-leaves rest c (Some t) m h = tells-leaves rest (leave_drawn t.surface) _ t.client c m (λ r. drawing-quiet _ r) h
+noted-quiet : (b pressed : Bool) (r : Resident) → ((noted_if b pressed r).peer.status ≡ r.peer.status) × ((noted_if b pressed r).peer.rest ≡ r.peer.rest)
+noted-quiet true true r = drawing-quiet (has_pointers r) (noted true r)
+noted-quiet true false r = drawing-quiet (has_pointers r) (noted false r)
+noted-quiet false pressed r = (refl, refl)
 
-entered-leaves : (rest : List ℕ) (c : ℕ) (t : Option Target) (windows : List Window) (m : Midstep) → Leaves rest c m.desktop → Leaves rest c (enters t windows m).desktop
-entered-leaves rest c None windows m h = h
-entered-leaves rest c (Some t) windows m h = tells-leaves rest told_drawn _ t.client c m (λ r. drawing-quiet _ r) h
+applied-leaves : (rest : List ℕ) (c : ℕ) (windows : List Window) (action : PointerAction) (m : Midstep) → Leaves rest c m.desktop → Leaves rest c (applied windows action m).desktop
+applied-leaves rest c windows (Leave t) m h = tells-leaves rest (leave_drawn t.surface) _ t.client c m (λ r. drawing-quiet _ r) h
+applied-leaves rest c windows (Enter t) m h = tells-leaves rest told_drawn _ t.client c m (λ r. drawing-quiet _ r) h
+applied-leaves rest c windows (Motion time t) m h = tells-leaves rest (λ r. r) _ t.client c m (λ r. (refl, refl)) h
+applied-leaves rest c windows (Button time button pressed t) m h =
+    tells-leaves rest (λ r. noted_if (has_pointers r) pressed r) _ t.client c m (λ r. noted-quiet (has_pointers r) pressed r) h
+applied-leaves rest c windows (Raise t) m h = h
+applied-leaves rest c windows (MoveWindow t x y) m h = h
+applied-leaves rest c windows (Dismiss k) m h = tells-leaves rest without_grabs _ k c m (λ r. (refl, refl)) h
 
-moves-leaves : (rest : List ℕ) (c : ℕ) (b : Bool) (t : Option Target) (m : Midstep) → Leaves rest c m.desktop → Leaves rest c (moves_unless b t m).desktop
-moves-leaves rest c true t m h = h
-moves-leaves rest c false t m h = entered-leaves rest c t (all_windows m.desktop) (leaves m.desktop.pointer.focus m) (left-leaves rest c m.desktop.pointer.focus m h)
+all-applied-leaves : (rest : List ℕ) (c : ℕ) (windows : List Window) (actions : List PointerAction) (m : Midstep) → Leaves rest c m.desktop
+    → Leaves rest c (applied_all windows actions m).desktop
+all-applied-leaves rest c windows [] m h = h
+all-applied-leaves rest c windows (action ∷ later) m h =
+    all-applied-leaves rest c windows later (applied windows action m) (applied-leaves rest c windows action m h)
+
+acts-leaves : (rest : List ℕ) (c : ℕ) (input : PointerInput) (m : Midstep) → Leaves rest c m.desktop → Leaves rest c (acts input m).desktop
+acts-leaves rest c input m h = all-applied-leaves rest c (all_windows m.desktop) (actions input m.desktop.pointer (all_windows m.desktop)) m h
 
 become-leaves : (rest : List ℕ) (s : Option Cause) (k c : ℕ) (r : Resident) (q : Peer) (d : Desktop) → (k ≡ c → LeavesBy rest q.status q.rest) → Leaves rest c d
     → Leaves rest c (after_status s k (become_by s k r q d))
@@ -135,7 +148,7 @@ settles-leaves : (rest : List ℕ) (c n : ℕ) (m : Midstep) → Leaves rest c m
 settles-leaves rest c zero m h = h
 settles-leaves rest c (suc n) m h =
     first-leaves rest c (λ mid. settles_all n mid) (λ mid. settles-leaves rest c n mid) (settles m).struck (settles m).desktop
-    (moves-leaves rest c (is_settled m.desktop) (target_now m.desktop) m h)
+    (acts-leaves rest c Settle m h)
 
 -- nothing more than what a step struck ends here
 all-leaves : (rest : List ℕ) (c : ℕ) (d : Desktop) → Leaves rest c d → Leaves rest c (ends_and_settles (unstruck d))

@@ -12,11 +12,13 @@ use Rattle.wl_peer.specs.Peer.{Errs, Peer, QueuesOr, counted, ended, has_room, q
 use Rattle.wl_store.specs.Stores.{write_refusal}
 use Rattle.wl_peer.specs.Plain.{or_slow as refused_or, refused}
 use Rattle.wl_peer.specs.Told.{Said, code_number, display_error, error_told}
-use Rattle.wl_scene.specs.Pointer.{Target, is_down, is_press}
-use Rattle.wl_scene.specs.Windows.{Window}
-use Rattle.wl_laws.specs.Ample.{answered, became, buttons, changes_at, connects_at, dismisses, dismisses_unless, done, ends_and_settles, ends_first, enters, fed_at, fed_by, frames_to, happened}
-use Rattle.wl_laws.specs.Ample.{held_so, leaves, left_at, left_by, motion_for, motion_settles, moved_to, moves_unless, or_slow, pressed_if, queued_to, released_if, served_all, served_at, served_by}
-use Rattle.wl_laws.specs.Ample.{settles, settles_all, settles_ends, shown, taken, tells, tells_at, tells_button, tells_unless}
+use Rattle.wl_scene.specs.Pointer.{is_down, is_press}
+use Rattle.wl_scene.specs.PointerActions.{PointerAction, PointerInput, actions}
+use Rattle.wl_scene.specs.PointerActions as pointer
+use Rattle.wl_scene.specs.Windows.{Place, Window}
+use Rattle.wl_laws.specs.Ample.{acts, answered, applied, applied_all, became, buttons, changes_at, connects_at, done, ends_and_settles, ends_first, fed_at, fed_by, frames_to, happened}
+use Rattle.wl_laws.specs.Ample.{held_so, left_at, left_by, moved_to, or_slow, pressed_if, queued_to, released_if, served_all, served_at, served_by}
+use Rattle.wl_laws.specs.Ample.{settles, settles_all, settles_ends, shown, taken, tells, tells_at, tells_unless}
 use Rattle.wl_plain.specs.declared.answers.ConnectError.TheVariants.{Full}
 use Rattle.wl_plain.specs.declared.answers.Done.{Done}
 use Rattle.wl_plain.specs.declared.answers.Done.TheVariants as gave
@@ -27,16 +29,16 @@ use Rattle.wl_plain.specs.Demand.{Demand}
 use Rattle.wl_plain.specs.Demanding.{judge_all}
 use Rattle.wl_plain.specs.Desktop.{Desktop, Resident, client_at, with_client, status_in}
 use Rattle.wl_plain.specs.LeftOut.{LeftOut}
-use Rattle.wl_plain.specs.Replies.{replies}
-use Rattle.wl_plain.specs.Settling.{EndsAndSettles, EndsFirst, Enters, Leaves, MovesUnless, Midstep, QueuesFirst, QueuesTo, Settles, SettlesAll, SettlesEnds, Strike, Tells, TellsAt, TellsUnless}
-use Rattle.wl_plain.specs.Settling.{becomes, ended_all, is_settled, is_struck, target_now, unstruck}
+use Rattle.wl_plain.specs.Pointing.{entered_surface, left_surface}
+use Rattle.wl_plain.specs.Replies.{focus_window, replies}
+use Rattle.wl_plain.specs.Settling.{Acts, Applies, AppliesAll, EndsAndSettles, EndsFirst, Midstep, QueuesFirst, QueuesTo, Settles, SettlesAll, SettlesEnds, Strike, Tells, TellsAt, TellsUnless}
+use Rattle.wl_plain.specs.Settling.{becomes, ended_all, is_struck, leave_drawn, told_drawn, unstruck}
 use Rattle.wl_plain.specs.Stacked.{all_windows}
 use Rattle.wl_plain.specs.Step.{with_peer}
 use Rattle.wl_laws.proofs.Runs.Idling.{IsTaken, all-taken}
 use Rattle.wl_plain.specs.Act.{Act, Connect, Feed, Store, Leave, Tick, Send, Close, Motion, Button, IsClosed, IsSent, IsStored, closed_by, fed_of, lowest, stored_of}
 use Rattle.wl_laws.proofs.Runs.Forms.{ConnectsAt, Answers, Becomes, Buttons, ChangesAt, Does, LeavesAt, MovesTo, PressesIf, ReleasesIf, ServesAt, Shows, Takes, WantsOr, after_why}
-use Rattle.wl_plain.specs.Happens.{Dismisses, DismissesUnless, FeedsAt, Happens, IsFedAt, MotionSettles, Reaches, StopsAt, TellsButton, TellsFrames, TellsMotion, done_for, hit_now, is_hit_of}
-use Rattle.wl_plain.specs.Happens.{point_in, pointed, raised_by, wants_memory, with_press, with_release}
+use Rattle.wl_plain.specs.Happens.{FeedsAt, Happens, IsFedAt, Reaches, StopsAt, TellsFrames, done_for, placed, point_in, wants_memory, with_press, with_release}
 
 -- ---- events
 
@@ -62,24 +64,29 @@ tells-at change events c (Some r) m = tells-unless (is_some r.peer.status || is_
 tells-so : (change : Resident → Resident) (events : Resident → List Said) (c : ℕ) (m : Midstep) → Tells change events c m (tells change events c m)
 tells-so change events c m = tells-at change events c (client_at c m.desktop) m
 
--- ---- the focus, and ends
+-- ---- what the pointer does
 
-leaves-so : (t : Option Target) (m : Midstep) → Leaves t m (leaves t m)
-leaves-so None m = refl
-leaves-so (Some t) m = tells-so _ _ t.client m
+applied-so : (windows : List Window) (action : PointerAction) (m : Midstep) → Applies windows action m (applied windows action m)
+applied-so windows (pointer.Leave t) m = (tells (leave_drawn t.surface) (left_surface t.surface) t.client m, tells-so _ _ t.client m, refl)
+applied-so windows (pointer.Enter t) m =
+    (tells told_drawn (entered_surface m.desktop.pointer.place (focus_window (Some t) windows)) t.client m, tells-so _ _ t.client m, refl)
+applied-so windows (pointer.Motion time t) m = tells-so _ _ t.client m
+applied-so windows (pointer.Button time button pressed t) m = tells-so _ _ t.client m
+applied-so windows (pointer.Raise t) m = refl
+applied-so windows (pointer.MoveWindow t x y) m = refl
+applied-so windows (pointer.Dismiss c) m = tells-so _ _ c m
 
-enters-so : (t : Option Target) (windows : List Window) (m : Midstep) → Enters t windows m (enters t windows m)
-enters-so None windows m = refl
-enters-so (Some t) windows m = tells-so _ _ t.client m
+all-so : (windows : List Window) (actions : List PointerAction) (m : Midstep) → AppliesAll windows actions m (applied_all windows actions m)
+all-so windows [] m = refl
+all-so windows (action ∷ later) m = (applied windows action m, applied-so windows action m, all-so windows later (applied windows action m))
 
-moves-unless : (b : Bool) (t : Option Target) (m : Midstep) → MovesUnless b t m (moves_unless b t m)
-moves-unless true t m = refl
-moves-unless false t m =
-    let left : Midstep = leaves m.desktop.pointer.focus m in
-    (left, leaves-so m.desktop.pointer.focus m, enters t (all_windows m.desktop) left, enters-so t (all_windows m.desktop) left, refl)
+acts-so : (input : PointerInput) (m : Midstep) → Acts input m (acts input m)
+acts-so input m = all-so (all_windows m.desktop) (actions input m.desktop.pointer (all_windows m.desktop)) m
+
+-- ---- the focus is settled, and clients end
 
 settles-so : (m : Midstep) → Settles m (settles m)
-settles-so m = moves-unless (is_settled m.desktop) (target_now m.desktop) m
+settles-so m = acts-so pointer.Settle m
 
 ends-first : (Next : Midstep → Desktop → Type 0) (next : Midstep → Desktop) → ((m : Midstep) → Next m (next m)) → (ss : List Strike) (d : Desktop) → EndsFirst Next ss d (ends_first next ss d)
 ends-first Next next so [] d = refl
@@ -226,48 +233,25 @@ module _ (out : LeftOut) where
 
   -- ---- the pointer
 
-  motion-for : (time : ℕ) (moves t : Option Target) (m : Midstep) → TellsMotion time moves t m (motion_for time moves t m)
-  motion-for time None None m = refl
-  motion-for time (Some moved) None m = refl
-  motion-for time None (Some t) m = tells-so _ _ t.client m
-  motion-for time (Some moved) (Some t) m = refl
-
-  motion-settles : (b : Bool) (time : ℕ) (m : Midstep) → MotionSettles b time m (motion_settles b time m)
-  motion-settles true time m = motion-for time m.desktop.pointer.move m.desktop.pointer.focus m
-  motion-settles false time m = settles-so m
-
-  moves-so : (time : ℕ) (d : Desktop) → MovesTo time d (moved_to time d)
-  moves-so time d =
-      let told : Midstep = motion_settles (is_settled d) time (unstruck d) in
-      (told, motion-settles (is_settled d) time (unstruck d), settles-ends told)
-
-  dismisses-unless : (b : Bool) (c : ℕ) (m : Midstep) → DismissesUnless b c m (dismisses_unless b c m)
-  dismisses-unless true c m = refl
-  dismisses-unless false c m = tells-so _ _ c m
-
-  dismisses-so : (o : Option ℕ) (w : Option Window) (m : Midstep) → Dismisses o w m (dismisses o w m)
-  dismisses-so None w m = refl
-  dismisses-so (Some holder) w m = dismisses-unless (is_hit_of holder w) holder m
-
-  button-so : (time button : ℕ) (pressed : Bool) (t : Option Target) (m : Midstep) → TellsButton time button pressed t m (tells_button time button pressed t m)
-  button-so time button pressed None m = refl
-  button-so time button pressed (Some t) m = tells-so _ _ t.client m
+  moves-so : (time : ℕ) (at : Place) (d : Desktop) → MovesTo time at d (moved_to time at d)
+  moves-so time at d =
+      let gone : Midstep = acts (pointer.GoTo at) (unstruck d) in
+      let told : Midstep = acts (pointer.Went time) (placed at gone) in
+      (gone, acts-so (pointer.GoTo at) (unstruck d), told, acts-so (pointer.Went time) (placed at gone), settles-ends told)
 
   pressed-so : (b : Bool) (time button : ℕ) (d : Desktop) → PressesIf b time button d (pressed_if b time button d)
   pressed-so false time button d = refl
   pressed-so true time button d =
-      let w : Option Window = hit_now d.pointer.place (all_windows d) in
-      let first : Midstep = unstruck (with_press button (raised_by w d)) in
-      let dismissed : Midstep = dismisses (grab_holder d) w first in
-      let told : Midstep = tells_button time button true d.pointer.focus dismissed in
-      (dismissed, dismisses-so (grab_holder d) w first, told, button-so time button true d.pointer.focus dismissed, settles told, settles-so told, settles-ends (settles told))
+      let input : PointerInput = pointer.Press time button (grab_holder d) in
+      let told : Midstep = acts input (unstruck (with_press button d)) in
+      (told, acts-so input (unstruck (with_press button d)), settles told, settles-so told, settles-ends (settles told))
 
   released-so : (b : Bool) (time button : ℕ) (d : Desktop) → ReleasesIf b time button d (released_if b time button d)
   released-so false time button d = refl
   released-so true time button d =
-      let first : Midstep = unstruck (with_release button d) in
-      let told : Midstep = tells_button time button false d.pointer.focus first in
-      (told, button-so time button false d.pointer.focus first, settles told, settles-so told, settles-ends (settles told))
+      let input : PointerInput = pointer.Release time button in
+      let told : Midstep = acts input (unstruck (with_release button d)) in
+      (told, acts-so input (unstruck (with_release button d)), settles told, settles-so told, settles-ends (settles told))
 
   buttons-so : (pressed : Bool) (time button : ℕ) (d : Desktop) → Buttons pressed time button d (buttons pressed time button d)
   buttons-so true time button d = pressed-so (is_press button d.pointer.buttons) time button d
@@ -288,5 +272,5 @@ module _ (out : LeftOut) where
       changes-so (IsSent n) (gave.Sent false) (λ p. gave.Sent (nat_le n (length p.unsent))) (λ p. Some (sent_by n p)) (λ p. (refl, refl)) c (client_at c d) d
   happens-ample (Close c) d =
       changes-so IsClosed (gave.Close false) (λ p. gave.Close (is_some p.status)) (λ p. closed_by p.status p) (λ p. (refl, refl)) c (client_at c d) d
-  happens-ample (Motion time x y) d = (gave.Motion, (refl, moves-so time (pointed (point_in d.output x y) d)))
+  happens-ample (Motion time x y) d = (gave.Motion, (refl, moves-so time (point_in d.output x y) d))
   happens-ample (Button time button pressed) d = (gave.Button, (refl, buttons-so pressed time button d))

@@ -13,7 +13,7 @@ use Rattle.wl_plain.specs.Settling.{EndsAndSettles, becomes, unstruck}
 use Rattle.wl_plain.specs.Step.{with_peer}
 use Rattle.wl_plain.specs.Act.{Act, Connect, Feed, Store, Leave, Tick, Send, Close, Motion, Button, IsClosed, IsSent, IsStored, fed_of, lowest}
 use Rattle.wl_laws.proofs.Runs.Forms.{ConnectsAt, Buttons, ChangesAt, LeavesAt, MovesTo, Shows}
-use Rattle.wl_plain.specs.Happens.{FeedsAt, Happens, IsFedAt, point_in, pointed}
+use Rattle.wl_plain.specs.Happens.{FeedsAt, Happens, IsFedAt, point_in}
 use Rattle.wl_laws.specs.RunLaws.{HadMemory, OneRun}
 use Rattle.wl_laws.proofs.Runs.Fates.{Lives, lasting, lasting-within, number-long, still}
 use Rattle.wl_laws.proofs.Runs.Leads.{After, Leads, Spares, from, only}
@@ -147,10 +147,8 @@ closed_once p a b q r h k = (h.1 ∙ sym k.1, h.0 ∙ sym k.0)
 pub few-of : (d : Desktop) → length d.clients ≤ 32 → lasting d.clients ≤ 32
 few-of d short = omega (arith, lasting-within d.clients, short)
 
-pub motion-leads : (time : ℕ) (x y : ℤ) (d : Desktop) → length d.clients ≤ 32 → Leads Desktop unstruck (unstruck d) (MovesTo time (pointed (point_in d.output x y) d))
-motion-leads time x y d short =
-    let to = pointed (point_in d.output x y) d in
-    from Desktop unstruck (unstruck d) (unstruck to) (MovesTo time to) (still _ d.clients tt) (moves-leads time to (few-of d short))
+pub motion-leads : (time : ℕ) (x y : ℤ) (d : Desktop) → length d.clients ≤ 32 → Leads Desktop unstruck (unstruck d) (MovesTo time (point_in d.output x y) d)
+motion-leads time x y d short = moves-leads time (point_in d.output x y) d (few-of d short)
 
 pub one_run : OneRun
 unfolding Same
@@ -164,7 +162,7 @@ one_run out (Tick time) done other d new end short h k fine well =
 one_run out (Send c n) done other d new end short h k fine well = changes-once (IsSent n) (sent_once n) _ done other c (client_at c d) d new end h k
 one_run out (Close c) done other d new end short h k fine well = changes-once IsClosed closed_once _ done other c (client_at c d) d new end h k
 one_run out (Motion time x y) done other d new end short h k fine well =
-    answered-once (MovesTo time (pointed (point_in d.output x y) d)) (λ new. gave.Motion) d new end done other (motion-leads time x y d short) h.1 k.1 h.0 k.0 fine.1 well.1
+    answered-once (MovesTo time (point_in d.output x y) d) (λ new. gave.Motion) d new end done other (motion-leads time x y d short) h.1 k.1 h.0 k.0 fine.1 well.1
 one_run out (Button time button pressed) done other d new end short h k fine well =
     answered-once (Buttons pressed time button d) (λ new. gave.Button) d new end done other (buttons-leads pressed time button d (few-of d short)) h.1 k.1 h.0 k.0 fine.1 well.1
 

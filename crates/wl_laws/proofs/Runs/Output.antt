@@ -11,8 +11,10 @@ use Rattle.wl_peer.specs.Peer.{Peer, LacksMemory, counted, ended}
 use Rattle.wl_peer.specs.Told.{Said}
 use Rattle.wl_shell.specs.Popups.{is_toplevel}
 use Rattle.wl_shell.specs.Shell.{Effect, Stays, Unconfigured, Configures, Maps, Unmaps, xdg_of}
-use Rattle.wl_scene.specs.Pointer.{Target, is_down, is_press}
-use Rattle.wl_scene.specs.Windows.{Window}
+use Rattle.wl_scene.specs.Pointer.{is_down, is_press}
+use Rattle.wl_scene.specs.PointerActions.{PointerAction, PointerInput, actions}
+use Rattle.wl_scene.specs.PointerActions as pointer
+use Rattle.wl_scene.specs.Windows.{Place, Window}
 use Rattle.wl_plain.specs.declared.answers.Done.{Done}
 use Rattle.wl_plain.specs.Changing.{changed_for, grab_holder, stacked_by, stacked_for}
 use Rattle.wl_plain.specs.Demand.{Demand, Asks, EndSurface, AskFrame, CommitTree, GetSubsurface, EndSubsurface, SetMode, GetPointer, MakeCursor, CreatePositioner, EndPositioner}
@@ -20,14 +22,13 @@ use Rattle.wl_plain.specs.Demand.{SetPositioner, GetPopup, Grab, EndPopup, EndTo
 use Rattle.wl_plain.specs.Demanding.{effect_of_commit}
 use Rattle.wl_plain.specs.Desktop.{Desktop, Resident, arrival, become, become_by, client_at, with_client}
 use Rattle.wl_plain.specs.LeftOut.{LeftOut}
-use Rattle.wl_plain.specs.Settling.{EndsAndSettles, EndsFirst, Enters, Leaves, MovesUnless, Midstep, Settles, SettlesAll, SettlesEnds, Strike, Tells, TellsAt, TellsUnless, after_status, becomes}
-use Rattle.wl_plain.specs.Settling.{ended_all, ended_at, ended_by, is_settled, target_now, unstruck}
+use Rattle.wl_plain.specs.Settling.{Acts, Applies, AppliesAll, EndsAndSettles, EndsFirst, Midstep, Settles, SettlesAll, SettlesEnds, Strike, Tells, TellsAt, TellsUnless, after_status, becomes}
+use Rattle.wl_plain.specs.Settling.{ended_all, ended_at, ended_by, unstruck}
 use Rattle.wl_plain.specs.Stacked.{all_windows}
 use Rattle.wl_plain.specs.Step.{with_peer}
 use Rattle.wl_plain.specs.Act.{Act, Connect, Feed, Store, Leave, Tick, Send, Close, Motion, Button, lowest}
-use Rattle.wl_laws.proofs.Runs.Forms.{ConnectsAt, Answers, Becomes, ChangesAt, Does, LeavesAt, PressedSo, PressesIf, ReleasesIf, ServesAt, Takes, WantsOr, after_why}
-use Rattle.wl_plain.specs.Happens.{Dismisses, DismissesUnless, FeedsAt, Happens, IsFedAt, MotionSettles, Reaches, StopsAt, TellsButton, TellsFrames, TellsMotion, done_for, hit_now, is_hit_of}
-use Rattle.wl_plain.specs.Happens.{point_in, pointed, raised_by, wants_memory, with_press}
+use Rattle.wl_laws.proofs.Runs.Forms.{ConnectsAt, Answers, Becomes, ChangesAt, Does, LeavesAt, MovesTo, PressesIf, ReleasesIf, ServesAt, Takes, WantsOr, after_why}
+use Rattle.wl_plain.specs.Happens.{FeedsAt, Happens, IsFedAt, Reaches, StopsAt, TellsFrames, done_for, placed, point_in, wants_memory, with_press, with_release}
 
 -- ---- what a step is made of
 
@@ -75,20 +76,24 @@ tells-still change events c old new h = at (client_at c old.desktop) h
     at None h = of-moving old new h
     at (Some r) h = unless _ r h
 
-leaves-still : (t : Option Target) (old new : Midstep) → Leaves t old new → Still old new
-leaves-still None old new h = of-moving old new h
-leaves-still (Some t) old new h = tells-still _ _ t.client old new h
+applies-still : (windows : List Window) (action : PointerAction) (old new : Midstep) → Applies windows action old new → Still old new
+applies-still windows (pointer.Leave t) old new h = of-moving _ new h.2 ∙ tells-still _ _ t.client old h.0 h.1
+applies-still windows (pointer.Enter t) old new h = of-moving _ new h.2 ∙ tells-still _ _ t.client old h.0 h.1
+applies-still windows (pointer.Motion time t) old new h = tells-still _ _ t.client old new h
+applies-still windows (pointer.Button time button pressed t) old new h = tells-still _ _ t.client old new h
+applies-still windows (pointer.Raise t) old new h = of-moving _ new h
+applies-still windows (pointer.MoveWindow t x y) old new h = of-moving _ new h
+applies-still windows (pointer.Dismiss c) old new h = tells-still _ _ c old new h
 
-enters-still : (t : Option Target) (windows : List Window) (old new : Midstep) → Enters t windows old new → Still old new
-enters-still None windows old new h = of-moving old new h
-enters-still (Some t) windows old new h = tells-still _ _ t.client old new h
+all-still : (windows : List Window) (actions : List PointerAction) (old new : Midstep) → AppliesAll windows actions old new → Still old new
+all-still windows [] old new h = of-moving old new h
+all-still windows (action ∷ later) old new h = all-still windows later h.0 new h.2 ∙ applies-still windows action old h.0 h.1
+
+acts-still : (input : PointerInput) (old new : Midstep) → Acts input old new → Still old new
+acts-still input old new h = all-still (all_windows old.desktop) (actions input old.desktop.pointer (all_windows old.desktop)) old new h
 
 pub settles-still : (old new : Midstep) → Settles old new → Still old new
-settles-still old new h = at (is_settled old.desktop) h
-  where
-    at : (b : Bool) → MovesUnless b (target_now old.desktop) old new → Still old new
-    at true h = of-moving old new h
-    at false h = of-moving _ new h.4 ∙ enters-still (target_now old.desktop) (all_windows old.desktop) h.0 h.2 h.3 ∙ leaves-still old.desktop.pointer.focus old h.0 h.1
+settles-still old new h = acts-still pointer.Settle old new h
 
 ends-same : (Next : Midstep → Desktop → Type 0) → ((m : Midstep) (new : Desktop) → Next m new → Same m.desktop new) → (ss : List Strike) (d new : Desktop) → EndsFirst Next ss d new → Same d new
 ends-same Next next [] d new h = of-desktop d new h
@@ -215,43 +220,18 @@ frames-still : (time n k : ℕ) (old new : Midstep) → TellsFrames time n k old
 frames-still time zero k old new h = of-moving old new h
 frames-still time (suc n) k old new h = frames-still time n (suc k) h.0 new h.2 ∙ tells-still _ _ k old h.0 h.1
 
-motion-still : (time : ℕ) (moves focus : Option Target) (old new : Midstep) → TellsMotion time moves focus old new → Still old new
-motion-still time moves None old new h = of-moving old new h
-motion-still time None (Some t) old new h = tells-still _ _ t.client old new h
-motion-still time (Some moved) (Some t) old new h = of-moving old new h
-
-moves-still : (b : Bool) (time : ℕ) (old new : Midstep) → MotionSettles b time old new → Still old new
-moves-still true time old new h = motion-still time old.desktop.pointer.move old.desktop.pointer.focus old new h
-moves-still false time old new h = settles-still old new h
-
-unless-still : (b : Bool) (k : ℕ) (old new : Midstep) → DismissesUnless b k old new → Still old new
-unless-still true k old new h = of-moving old new h
-unless-still false k old new h = tells-still _ _ k old new h
-
-dismisses-still : (holder : Option ℕ) (w : Option Window) (old new : Midstep) → Dismisses holder w old new → Still old new
-dismisses-still None w old new h = of-moving old new h
-dismisses-still (Some holder) w old new h = unless-still (is_hit_of holder w) holder old new h
-
-button-still : (time button : ℕ) (pressed : Bool) (t : Option Target) (old new : Midstep) → TellsButton time button pressed t old new → Still old new
-button-still time button pressed None old new h = of-moving old new h
-button-still time button pressed (Some t) old new h = tells-still _ _ t.client old new h
-
-raised-same : (w : Option Window) (d : Desktop) → Same d (raised_by w d)
-raised-same None d = refl
-raised-same (Some w) d = refl
-
-pressed-same : (time button : ℕ) (d new : Desktop) → PressedSo time button d new → Same d new
-pressed-same time button d new h =
-    let w : Option Window = hit_now d.pointer.place (all_windows d) in
-    last-same h.4 new h.6 ∙ settles-still h.2 h.4 h.5 ∙ button-still time button true d.pointer.focus h.0 h.2 h.3
-    ∙ dismisses-still (grab_holder d) w (unstruck (with_press button (raised_by w d))) h.0 h.1 ∙ raised-same w d
+moves-same : (time : ℕ) (at : Place) (d new : Desktop) → MovesTo time at d new → Same d new
+moves-same time at d new h =
+    last-same h.2 new h.4 ∙ acts-still (pointer.Went time) (placed at h.0) h.2 h.3 ∙ acts-still (pointer.GoTo at) (unstruck d) h.0 h.1
 
 presses-same : (b : Bool) (time button : ℕ) (d new : Desktop) → PressesIf b time button d new → Same d new
-presses-same true time button d new h = pressed-same time button d new h
+presses-same true time button d new h =
+    last-same h.2 new h.4 ∙ settles-still h.0 h.2 h.3 ∙ acts-still (pointer.Press time button (grab_holder d)) (unstruck (with_press button d)) h.0 h.1
 presses-same false time button d new h = of-desktop d new h
 
 releases-same : (b : Bool) (time button : ℕ) (d new : Desktop) → ReleasesIf b time button d new → Same d new
-releases-same true time button d new h = last-same h.2 new h.4 ∙ settles-still h.0 h.2 h.3 ∙ button-still time button false d.pointer.focus _ h.0 h.1
+releases-same true time button d new h =
+    last-same h.2 new h.4 ∙ settles-still h.0 h.2 h.3 ∙ acts-still (pointer.Release time button) (unstruck (with_release button d)) h.0 h.1
 releases-same false time button d new h = of-desktop d new h
 
 pub happens-output : (left : LeftOut) (act : Act) (done : Done) (d e : Desktop) → Happens left act done d e → e.output ≡ d.output
@@ -262,8 +242,6 @@ happens-output left (Leave c) done d e h = leaves-same c (client_at c d) d done 
 happens-output left (Tick time) done d e h = struck-same h.1.0 e h.1.2 ∙ frames-still time 32 1 (unstruck d) h.1.0 h.1.1
 happens-output left (Send c n) done d e h = changes-same _ _ c (client_at c d) d done e h
 happens-output left (Close c) done d e h = changes-same _ _ c (client_at c d) d done e h
-happens-output left (Motion time x y) done d e h =
-    let start : Desktop = pointed (point_in d.output x y) d in
-    last-same h.1.0 e h.1.2 ∙ moves-still (is_settled start) time (unstruck start) h.1.0 h.1.1
+happens-output left (Motion time x y) done d e h = moves-same time (point_in d.output x y) d e h.1
 happens-output left (Button time button true) done d e h = presses-same (is_press button d.pointer.buttons) time button d e h.1
 happens-output left (Button time button false) done d e h = releases-same (is_down button d.pointer.buttons) time button d e h.1

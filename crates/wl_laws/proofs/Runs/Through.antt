@@ -79,7 +79,7 @@ module _ {P : Type 0} (N S : Midstep → Type 0) (T U : P → Midstep → Type 0
   changed R absent c (Some r) d done (Some q, h, e) = let k = last _ e in (k.0, (Some q, h, k.1))
 
   pressed : (b : Bool) (time button : ℕ) (d : Desktop) → PressesThen b time button d S → (p : P) × PressesThen b time button d (U p)
-  pressed true time button d h = let k = last h.4 h.6 in (k.0, (h.0, h.1, h.2, h.3, h.4, h.5, k.1))
+  pressed true time button d h = let k = last h.2 h.4 in (k.0, (h.0, h.1, h.2, h.3, k.1))
   pressed false time button d h = last (unstruck d) h
 
   released : (b : Bool) (time button : ℕ) (d : Desktop) → ReleasesThen b time button d S → (p : P) × ReleasesThen b time button d (U p)
@@ -94,7 +94,7 @@ module _ {P : Type 0} (N S : Midstep → Type 0) (T U : P → Midstep → Type 0
   happened left (Tick time) done d h = let k = next h.1.0 h.1.2 in (k.0, (h.0, (h.1.0, h.1.1, k.1)))
   happened left (Send c n) done d h = changed _ _ c (client_at c d) d done h
   happened left (Close c) done d h = changed _ _ c (client_at c d) d done h
-  happened left (Motion time x y) done d h = let k = last h.1.0 h.1.2 in (k.0, (h.0, (h.1.0, h.1.1, k.1)))
+  happened left (Motion time x y) done d h = let k = last h.1.2 h.1.4 in (k.0, (h.0, (h.1.0, h.1.1, h.1.2, h.1.3, k.1)))
   happened left (Button time button true) done d h = let k = pressed (is_press button d.pointer.buttons) time button d h.1 in (k.0, (h.0, k.1))
   happened left (Button time button false) done d h = let k = released (is_down button d.pointer.buttons) time button d h.1 in (k.0, (h.0, k.1))
 

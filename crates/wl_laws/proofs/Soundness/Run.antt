@@ -9,8 +9,9 @@ use Rattle.wl_peer.specs.declared.cause.Cause.TheVariants.{Gone}
 use Rattle.wl_peer.specs.Objects.{is_of}
 use Rattle.wl_peer.specs.Peer.{Peer, ended, newcomer, object_at_version, sent_by, stored_at, stored_by}
 use Rattle.wl_peer.specs.Told.{Output}
-use Rattle.wl_scene.specs.Pointer.{is_down, is_press}
+use Rattle.wl_scene.specs.Pointer.{hit_now, is_down, is_press}
 use Rattle.wl_scene.specs.Stacking.{Standing}
+use Rattle.wl_scene.specs.Windows.{Place}
 use Rattle.wl_plain.specs.declared.answers.Done.{Done}
 use Rattle.wl_plain.specs.Desktop.{Desktop, Resident, arrival, client_at, client_in, empty, place, with_client, with_number, with_place, toplevels_of}
 use Rattle.wl_plain.specs.LeftOut.{LeftOut}
@@ -18,18 +19,18 @@ use Rattle.wl_plain.specs.Settling.{Midstep, becomes, ended_at, unstruck}
 use Rattle.wl_plain.specs.Stacked.{all_windows}
 use Rattle.wl_plain.specs.Step.{with_peer}
 use Rattle.wl_plain.specs.Act.{Act, Connect, Feed, Store, Leave, Tick, Send, Close, Motion, Button, IsClosed, IsSent, IsStored, closed_by, lowest, next_of}
-use Rattle.wl_plain.specs.Happens.{ChangesThen, ConnectsThen, Happens, HappensThen, LeavesThen, PressesThen, ReleasesThen, ending, hit_now, point_in, pointed, settling}
+use Rattle.wl_plain.specs.Happens.{ChangesThen, ConnectsThen, Happens, HappensThen, LeavesThen, PressesThen, ReleasesThen, ending, point_in, settling}
 use Rattle.wl_laws.proofs.Soundness.Orderly.{AreOrderly, IsOrderlyAt, IsOrderlyBy}
 use Rattle.wl_laws.proofs.Soundness.RunMessages.{MessageKeeps, fed-known}
 use Rattle.wl_laws.proofs.Soundness.RunTold.{Anyhow, Frames, IsAlike, Known, ToldOrderly, alike, ended-by-known, ending-known, known-so, left-orderly, nothing-orderly, orderly-all, orderly-frames}
 use Rattle.wl_laws.proofs.Soundness.RunTold.{orderly-stays, settling-known}
-use Rattle.wl_laws.proofs.Soundness.RunTops.{pointed-known, raised-known}
+use Rattle.wl_laws.proofs.Soundness.RunTops.{orderly-shifting}
 use Rattle.wl_laws.proofs.Lists.Keys.{none-some, some-same}
 use Rattle.wl_laws.proofs.Runs.Places.{number-other, number-same}
 use Rattle.wl_laws.proofs.Runs.Through.{connects-with}
 use Rattle.wl_laws.proofs.Runs.Fates.{same-or}
 use Rattle.wl_laws.proofs.Isolation.LeftAlone.{others_are_left_alone}
-use Rattle.wl_laws.proofs.Isolation.Own.{moves-then, pressed-then, released-then, shown-then}
+use Rattle.wl_laws.proofs.Isolation.Own.{move-shifts, moves-then, pressed-then, raise-shifts, released-then, shown-then}
 
 -- ---- a desktop without clients
 
@@ -193,7 +194,7 @@ module _ (frames : Frames) where
     presses-known false time button d known h = last (unstruck d) known h
     presses-known true time button d known h =
         pressed-then c ToldOrderly (orderly-all frames) IsOrderlyAt Anyhow (orderly-stays frames) X Settled (λ mid within. last mid within.0)
-        time button d (raised-known c (hit_now d.pointer.place (all_windows d)) d known) h
+        time button d (raise-shifts c IsOrderlyAt (orderly-shifting c) (hit_now d.pointer.place (all_windows d))) known h
 
     releases-known : (b : Bool) (time button : ℕ) (d : Desktop) → Known c d → ReleasesThen b time button d Settled → X
     releases-known false time button d known h = last (unstruck d) known h
@@ -213,9 +214,9 @@ module _ (frames : Frames) where
     happens-known left (Send a n) done d known h = changes-known (IsSent n) _ a (client_at a d) d done (sent-keeps n done) refl known h
     happens-known left (Close a) done d known h = changes-known IsClosed _ a (client_at a d) d done (closed-keeps done) refl known h
     happens-known left (Motion time x y) done d known h =
-        let start : Desktop = pointed (point_in d.output x y) d in
+        let at : Place = point_in d.output x y in
         moves-then c ToldOrderly (orderly-all frames) IsOrderlyAt Anyhow (orderly-stays frames) X Settled (λ mid within. last mid within.0)
-        time start (pointed-known c (point_in d.output x y) d known) h.1
+        time at d (move-shifts c IsOrderlyAt (orderly-shifting c) d.pointer.place at d.pointer.move) known h.1
     happens-known left (Button time button true) done d known h = presses-known (is_press button d.pointer.buttons) time button d known h.1
     happens-known left (Button time button false) done d known h = releases-known (is_down button d.pointer.buttons) time button d known h.1
 

@@ -16,10 +16,10 @@ use Rattle.wl_plain.specs.Changing.{drawing, without_callbacks}
 use Rattle.wl_plain.specs.Desktop.{Desktop, Resident, client_at, resident_of, toplevels_of}
 use Rattle.wl_plain.specs.Pointing.{button_told, entered_surface, has_pointers, left_surface, motion_told}
 use Rattle.wl_plain.specs.Replies.{popups_done}
-use Rattle.wl_plain.specs.Settling.{EndsAndSettles, Midstep, QueuesTo, Settles, Strike, becomes, ended_by, leave_drawn, told_drawn, unstruck}
+use Rattle.wl_plain.specs.Settling.{EndsAndSettles, Midstep, QueuesTo, Settles, Strike, becomes, ended_by, leave_drawn, noted, noted_if, number_of, told_drawn, unstruck, without_grabs}
 use Rattle.wl_laws.specs.Soundness.{IsLive}
 use Rattle.wl_plain.specs.Step.{with_peer, with_shell}
-use Rattle.wl_plain.specs.Happens.{callbacks_due, ending, frames_told, is_counting, noted, noted_if, number_of, settling, without_grabs}
+use Rattle.wl_plain.specs.Happens.{callbacks_due, ending, frames_told, is_counting, settling}
 use Rattle.wl_laws.specs.Others.{IsLeftAlone, IsLeftBy, IsLeftLiving, IsLeftSo, IsToldTimes, told_once}
 use Rattle.wl_laws.proofs.Soundness.Orderly.{HasObjects, HasRoles, IsForest, IsOrderly, IsOrderlyAt, IsOrderlyBy, StandsSo}
 use Rattle.wl_laws.proofs.Lists.Keys.{none-some}

@@ -1,25 +1,16 @@
 -- A client stays orderly as toplevels are raised and moved.
 use Rattle.std.proofs.Common.{◌≡◌, ℕ, List, [], ◌∷◌, ◌++◌, Bool, true, false, cond, Option, Some, None, refl, ap, sym, subst, ◌∙◌}
-use Rattle.std.specs.Prelude.{◌+◌, ◌==◌, ◌&&◌, ◌||◌, filter, if◌then◌else◌}
+use Rattle.std.specs.Prelude.{◌+◌, ◌==◌, ◌&&◌, if◌then◌else◌}
 use Rattle.std.specs.List.{list_any}
 use Rattle.wl_peer.specs.declared.cause.Cause.{Cause}
-use Rattle.wl_scene.specs.Pointer.{Target}
 use Rattle.wl_scene.specs.Stacking.{Standing, is_of, moved_to, raised}
-use Rattle.wl_scene.specs.Windows.{Place, Window}
-use Rattle.wl_plain.specs.Desktop.{Desktop, Resident, client_at, toplevels_of}
+use Rattle.wl_scene.specs.Windows.{Place}
+use Rattle.wl_plain.specs.Desktop.{Resident}
 use Rattle.wl_laws.specs.Laws.{AreApart}
-use Rattle.wl_plain.specs.Pointing.{moved_with}
-use Rattle.wl_plain.specs.Happens.{pointed, raised_by}
 use Rattle.wl_laws.specs.Own.{StandTheSame}
 use Rattle.wl_laws.proofs.Soundness.Orderly.{IsOrderly, IsOrderlyAt, IsOrderlyBy}
-use Rattle.wl_laws.proofs.Soundness.RunTold.{Known}
-use Rattle.wl_laws.proofs.Marks.Stacks.{differ, equal-numbers}
 use Rattle.wl_laws.proofs.Lists.Standings.{apart-last}
-use Rattle.wl_laws.proofs.Isolation.Own.{any-kept, any-moved, any-raised, raised-client, stand-moved, stand-raised, stand-same}
-
--- those of a client
-abbrev of : ℕ → List Standing → List Standing
-of c ss = filter (λ s. s.client == c) ss
+use Rattle.wl_laws.proofs.Isolation.Own.{Shifting, any-kept, any-moved, any-raised, none-stand, of, stand-moved, stand-raised}
 
 -- ---- raised
 
@@ -83,12 +74,6 @@ apart-moved c k surface place (s ∷ ss) apart = at (is_of k surface s) (apart-m
 
 -- ---- what is known of a client
 
-none-stand : (before after : List Standing) → StandTheSame before after → before ≡ [] → after ≡ []
-none-stand before [] same none = refl
-none-stand before (s ∷ ss) same none =
-    absurd (differ (sym (ap (λ (tops : List Standing). list_any (λ t. t.surface == s.surface) tops) none) ∙ sym (same s.surface)
-    ∙ ap (λ (b : Bool). b || list_any (λ t. t.surface == s.surface) ss) (equal-numbers s.surface s.surface refl)))
-
 stand-so : (r : Resident) (before after : List Standing) → StandTheSame before after → (AreApart before → AreApart after) → IsOrderlyAt (Some r) before → IsOrderlyAt (Some r) after
 stand-so r before after same apart known = at r.peer.status known
   where
@@ -109,21 +94,9 @@ stand-at : (o : Option Resident) (before after : List Standing) → StandTheSame
 stand-at None before after same apart known = none-stand before after same known
 stand-at (Some r) before after same apart known = stand-so r before after same apart known
 
-pub raised-known : (c : ℕ) (w : Option Window) (d : Desktop) → Known c d → Known c (raised_by w d)
-raised-known c w d known =
-    subst (λ (o : Option Resident). IsOrderlyAt o (toplevels_of c (raised_by w d))) (sym (raised-client c w d))
-    (stand-at (client_at c d) (toplevels_of c d) (toplevels_of c (raised_by w d)) (stand-same c d (raised_by w d) (stand-raised c w d)) (apart w) known)
-  where
-    apart : (w : Option Window) → AreApart (toplevels_of c d) → AreApart (toplevels_of c (raised_by w d))
-    apart None known = known
-    apart (Some w) known = apart-raised c w.owner.client w.owner.toplevel d.standing known
-
-pub pointed-known : (c : ℕ) (to : Place) (d : Desktop) → Known c d → Known c (pointed to d)
-pointed-known c to d known =
-    stand-at (client_at c d) (toplevels_of c d) (toplevels_of c (pointed to d)) (stand-same c d (pointed to d) (stand-moved c d.pointer.place to d.pointer.move d.standing))
-    (apart d.pointer.place d.pointer.move) known
-  where
-    apart : (from : Option Place) (t : Option Target) → AreApart (of c d.standing) → AreApart (of c (moved_with from to t d.standing))
-    apart None t known = known
-    apart (Some from) None known = known
-    apart (Some from) (Some t) known = apart-moved c t.client t.surface _ d.standing known
+-- whichever is raised or moved, the client stays orderly
+pub orderly-shifting : (c : ℕ) → Shifting c IsOrderlyAt
+orderly-shifting c = record {
+  raises = λ t o ss known. stand-at o (of c ss) _ (stand-raised c t.client t.surface ss) (apart-raised c t.client t.surface ss) known;
+  moves = λ t x y o ss known. stand-at o (of c ss) _ (stand-moved c t.client t.surface _ ss) (apart-moved c t.client t.surface _ ss) known;
+}
