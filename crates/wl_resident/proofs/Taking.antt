@@ -56,7 +56,7 @@ use Rattle.wl_wire.specs.declared.header.Split.{Split}
 use Rattle.wl_wire.specs.declared.header.Split.TheVariants.{Message as Whole, More, Bad}
 use Rattle.wl_wire.specs.Wire.{split_of}
 use Rattle.wl_without_popups.proofs.Served.{IsServedSo, judge-served}
-use Rattle.wl_without_popups.proofs.Simple.{changes_simply, effect-same, replies_simply}
+use Rattle.wl_without_popups.proofs.Simple.{changes_simply, replies_simply}
 use Rattle.wl_without_popups.specs.NoPopups.{OwnsNoPopups}
 use Rattle.wl_without_popups.specs.Simple.{Becomes, DoesSimply, IsServed, answers_simply, changed_simply, stacked_on, stacked_simply, told_simply}
 
@@ -78,7 +78,7 @@ module _ {A : Type 0} (c : ℕ) (old : Kept A) (r : Resident) (p : Peer) (top : 
   commit-stacks id h = at (effect_of_commit r id) refl h
     where
       comes : (effect : Effect) → effect_of_commit r id ≡ effect → stacked_simply c (CommitTree id) (with_peer p r) d ≡ stacked_on effect c id d
-      comes effect e = ap (λ (f : Effect). stacked_on f c id d) (sym (effect-same r id top) ∙ e)
+      comes effect e = ap (λ (f : Effect). stacked_on f c id d) e
 
       at : (effect : Effect) → effect_of_commit r id ≡ effect → StacksBy old id effect stacking → StacksHere (CommitTree id)
       at Stays e h = inl (h, comes Stays e)
