@@ -40,7 +40,8 @@ pub record RoleObject : Type 0 where
   pub kind : Kind
   pub stage : Stage
 
--- a configure that waits to be acknowledged: its serial, and where it placed the popup that it was for (xdg-shell.xml, xdg_surface.configure)
+-- a configure that waits to be acknowledged: its serial, and where it placed the popup that it was for (xdg-shell.xml,
+-- xdg_surface.configure)
 pub record Configure : Type 0 where
   pub serial : ℕ
   pub placement : Option Placed
@@ -134,7 +135,8 @@ is_waiting serial configures = list_any (λ c. c.serial == serial) configures
 
 abbrev pub later_than : ℕ → List Configure → List Configure
 later_than serial [] = []
-later_than serial (c ∷ cs) = if is_waiting serial cs then later_than serial cs else (if c.serial == serial then cs else c ∷ later_than serial cs)
+later_than serial (c ∷ cs) =
+    if is_waiting serial cs then later_than serial cs else (if c.serial == serial then cs else c ∷ later_than serial cs)
 
 -- an xdg_surface has at most 64 configures that weren't acknowledged
 abbrev pub is_full : {A : Type 0} → List A → Bool
