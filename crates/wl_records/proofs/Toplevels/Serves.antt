@@ -11,7 +11,7 @@ use Rattle.wl_peer.specs.Told.{Said, said}
 use Rattle.wl_shell.specs.Popups.{is_among, placing, with_effect, with_popup, with_popup_role, without_grab}
 use Rattle.wl_shell.specs.Positioner.{Placed}
 use Rattle.wl_shell.specs.Shell.{Effect, Stays, Unconfigured, Configures, Maps, Unmaps, Fresh, Waiting, Mapped, Popup, RoleObject, Shell, XdgSurface as Xdg, acknowledging, configuring, in_stage}
-use Rattle.wl_shell.specs.Shell.{new_toplevel, unmapping, with_change, with_new, without_role, without_xdg, xdg_at, xdg_of}
+use Rattle.wl_shell.specs.Shell.{new_toplevel, unmapping, with_change, with_new, without_role, without_xdg, xdg_at}
 use Rattle.wl_scene.specs.Pointer.{first_pointer}
 use Rattle.wl_scene.specs.Stacking.{without_client}
 use Rattle.wl_plain.specs.Ask.{Ask, Own, CreateSurface, AskSurface, EndObject, GetXdgSurface, DestroyXdgSurface, GetToplevel, Acknowledge, ConfigureAgain, Ignore}
