@@ -12,7 +12,7 @@ use Rattle.wl_state.specs.Request.{AddChild, Frame}
 use Rattle.wl_state.specs.Surface.{Surface, new_surface, with_role}
 use Rattle.wl_surface.specs.Surfaces.{Surfaces, surface_at, with_change, with_new}
 use Rattle.wl_surface.specs.Trees.{linked}
-use Rattle.wl_shell.specs.Shell.{Configures, Effect, Mapped, Maps, Stays, Unconfigured, Unmaps, Waiting, XdgSurface as Xdg, acknowledging, configuring, in_stage, new_toplevel, unmapping}
+use Rattle.wl_shell.specs.Shell.{Configures, Effect, Maps, Stays, Unconfigured, Unmaps, XdgSurface as Xdg, acknowledging, configuring, new_toplevel}
 use Rattle.wl_shell.specs.Shell.{with_change as with_xdg_change, without_role, xdg_at, xdg_of}
 use Rattle.wl_plain.specs.Ask.{Ask, Own, CreateSurface, AskSurface, EndObject, GetXdgSurface, DestroyXdgSurface, GetToplevel, Acknowledge, ConfigureAgain, Ignore}
 use Rattle.wl_plain.specs.Changing.{link_with_id, mode_set, subsurface_given, surface_ended, tree_committed, without_child}
@@ -28,7 +28,7 @@ use Rattle.wl_laws.proofs.Lists.Standings.{any-last}
 use Rattle.wl_laws.proofs.Soundness.Moves.{destroyed-role, trees-asked, trees-committed, trees-desynchronised, trees-synchronised, trees-unlinked}
 use Rattle.wl_laws.proofs.Soundness.ObjectsKeys.{any-less, any-map, any-of-filter}
 use Rattle.wl_laws.proofs.Soundness.Orderly.{IsAllowed, IsAsked, role_in}
-use Rattle.wl_laws.proofs.Soundness.Roles.{KeepsShell, StaysChild, has_surface, no-child, role-else, role-now, role-still, shell-changed, shell-more, shell-same, shell-without}
+use Rattle.wl_laws.proofs.Soundness.Roles.{KeepsShell, StaysChild, has_surface, no-child, role-else, role-now, role-still, shell-changed, shell-same, shell-without}
 use Rattle.wl_laws.proofs.Soundness.Standing.{found-first}
 use Rattle.wl_without_popups.specs.Simple.{IsServed, changed_simply, effect_on}
 
