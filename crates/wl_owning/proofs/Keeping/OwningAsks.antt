@@ -1,5 +1,5 @@
 -- What each thing that is asked changes of what a client owns, and of what is kept of it.
-use Rattle.std.proofs.Common.{◌≡◌, ℕ, ◌+◌, List, [], ◌∷◌, Bool, true, false, Option, Some, None, cond, length, refl, ap, sym, subst, ◌∙◌, eq-eqb}
+use Rattle.std.proofs.Common.{◌≡◌, ℕ, ◌+◌, List, Bool, true, false, Option, Some, None, cond, length, refl, ap, sym, subst, ◌∙◌, eq-eqb}
 use Rattle.std.specs.Prelude.{◌==◌, Ok, Result, fold, is_some}
 use Rattle.std.specs.Option.{option_map, option_map_or}
 use Rattle.wl_geom.specs.declared.rect.Rect.{Rect}
@@ -22,6 +22,7 @@ use Rattle.wl_shell.specs.declared.acts.ShellAct.{ShellAct}
 use Rattle.wl_shell.specs.declared.acts.ShellAct.TheVariants.{Configure, Map, Unmap, Nothing}
 use Rattle.wl_shell.specs.declared.error.ShellError.{ShellError}
 use Rattle.wl_shell.specs.declared.stage.Stage.{Stage}
+use Rattle.wl_shell.proofs.Agreeing.{changed-same}
 use Rattle.wl_shell.proofs.Standing.{changes_stand}
 use Rattle.wl_named.specs.Named.{Makes}
 use Rattle.wl_surface.specs.Trees.{committed_in, destroyed_in, ended_in, links_with}

@@ -16,8 +16,6 @@ use Rattle.wl_state.specs.Request.{Buffer, SetWindowGeometry}
 use Rattle.wl_state.specs.State.{History, pending}
 use Rattle.wl_state.specs.Surface.{Surface, has_content, is_there}
 use Rattle.wl_surface.specs.Surfaces.{history_in, surface_at}
-use Rattle.wl_shell.specs.declared.acts.ShellAct.{ShellAct}
-use Rattle.wl_shell.specs.declared.acts.ShellAct.TheVariants.{Configure, Map, Unmap, Nothing}
 use Rattle.wl_shell.specs.declared.error.ShellError.{ShellError}
 use Rattle.wl_shell.specs.declared.error.ShellError.TheVariants as failed
 use Rattle.wl_shell.specs.declared.stage.Stage.{Stage}
@@ -28,7 +26,7 @@ use Rattle.wl_shell.proofs.Serials.{full-so, serials_of, waits-so}
 use Rattle.wl_shell.proofs.Shells.{shells_stand}
 use Rattle.wl_plain.specs.Ask.{AskSurface, EndObject, GetXdgSurface, DestroyXdgSurface, GetToplevel, Acknowledge, ConfigureAgain, Ignore}
 use Rattle.wl_plain.specs.Desktop.{Resident}
-use Rattle.wl_owning.specs.Owning.{IsOwned, IsXdg, Names, asks_by, asks_unless, by_id, by_number, configuring_if, effect_by, kept_id, shell_refusal}
+use Rattle.wl_owning.specs.Owning.{IsOwned, IsXdg, Names, asks_by, asks_unless, by_id, by_number, configuring_if, kept_id, shell_refusal}
 use Rattle.wl_plain.specs.Step.{configures_told, role_configured}
 use Rattle.wl_plain.specs.WlSurface.{refuse, refuse_limit, will_show}
 use Rattle.wl_plain.specs.XdgShell.{acknowledged_by, base_destroyed, configured_again, geometry_set, has_any, is_foreign, is_no_toplevel, role_of, toplevel_made, xdg_surface_destroyed}
