@@ -19,14 +19,16 @@ use Rattle.wl_tree_steps.proofs.Modes.{mode-keeps-all}
 use Rattle.wl_shell.specs.Agreement.{AreApart as AreToldApart}
 use Rattle.wl_shell.specs.Shell.{Configures, Effect, Maps, RoleObject, Shell, Stays, Unconfigured, Unmaps, XdgSurface, acknowledging, configuring, forgetting, in_stage, new_toplevel, on_commit}
 use Rattle.wl_shell.specs.Shell.{stage_of, unmapping, with_change as with_xdg_change, with_new as with_new_xdg, without_role, without_xdg, xdg_at, xdg_of}
+use Rattle.wl_shell.specs.Popups.{placing, with_effect, without_grab}
 use Rattle.wl_shell.specs.declared.stage.Stage.{Stage}
+use Rattle.wl_shell.proofs.Agreeing.{changed-same}
 use Rattle.wl_shell.specs.declared.stage.Stage.TheVariants as stage
 use Rattle.wl_scene.specs.Lent.{shows_buffer}
 use Rattle.wl_scene.specs.Stacking.{Owned, Standing, is_of, with_mapped, without_surface_of}
 use Rattle.wl_plain.specs.Ask.{Acknowledge, Ask, AskSurface, ConfigureAgain, CreateSurface, DestroyXdgSurface, EndObject, GetToplevel, GetXdgSurface, Ignore, Own}
 use Rattle.wl_plain.specs.Changing.{link_with_id, tree_committed, unlinked_at}
 use Rattle.wl_plain.specs.Demand.{AskFrame, Asks, CommitTree, Demand, EndSubsurface, EndSurface, EndToplevel, GetSubsurface, SetMode}
-use Rattle.wl_plain.specs.Demanding.{effect_of_commit}
+use Rattle.wl_plain.specs.Demanding.{effect_of_commit, effect_on_xdg}
 use Rattle.wl_plain.specs.Desktop.{Desktop, Resident}
 use Rattle.wl_plain.specs.Step.{asked_so_far, own_changed, toplevel_given}
 use Rattle.wl_plain.specs.WlSurface.{will_show}
@@ -35,13 +37,14 @@ use Rattle.wl_laws.specs.Soundness.{IsNoChild}
 use Rattle.wl_laws.proofs.Lists.Keys.{found-passes}
 use Rattle.wl_laws.proofs.Lists.Standings.{apart-left, mapped-another, mapped-apart, mapped-here, mapped-other, without-another, without-here, without-other}
 use Rattle.wl_laws.proofs.Soundness.Orderly.{IsAllowed}
-use Rattle.wl_records.specs.Toplevels.{AreToplevels}
+use Rattle.wl_records.specs.Toplevels.{AreToplevels, IsToplevel}
 use Rattle.wl_records.specs.Standing.{AreMapped, is_mapped, is_mapped_at}
+use Rattle.wl_records.proofs.Toplevels.Judged.{IsToplevelAt, found-toplevel}
 use Rattle.wl_records.proofs.Keeping.OwningXdg.{has_surface}
 use Rattle.wl_records.proofs.Keeping.StandingClients.{IsFound, left-else, left-none, stepped-else, stepped-here}
-use Rattle.wl_without_popups.specs.Simple.{changed_simply, effect_for, effect_of, effect_on, stacked_on, stacked_simply}
-use Rattle.wl_without_popups.proofs.Simple.{effect-same}
-use Rattle.wl_mapped.proofs.Fitting.{AllFit, Fits, FitsAt, acknowledging-as, all-but, all-same, fit-of, fits-bare, fits-idle, fits-mapped, in-stage, known, known_at, mapped-of, new-as, stepped-as}
+use Rattle.wl_without_popups.specs.Simple.{changed_simply, effect_on, stacked_on, stacked_simply}
+use Rattle.wl_without_popups.proofs.Simple.{effect-toplevel}
+use Rattle.wl_mapped.proofs.Fitting.{AllFit, Fits, FitsAt, acknowledging-as, all-but, all-same, fit-of, fits-bare, fits-idle, fits-mapped, in-stage, known, known_at, mapped-of, new-as, popup-stage, stepped-as}
 use Rattle.wl_mapped.proofs.Found.{bare-at, found-so, top-with}
 use Rattle.wl_mapped.proofs.Roots.{ShowAsBefore, all-show, committed-else, committed-here, destroyed-show, made-show, mode-shows, role-shows, unlinked-shows}
 use Rattle.wl_mapped.proofs.Turned.{demand-turned}
@@ -108,25 +111,27 @@ module _ (c : ℕ) (r : Resident) (d : Desktop) (is : IsRooted r) (fit : AllFit 
     shown : (b : Bool) → will_show r x.surface ≡ b → shows_now ≡ b
     shown b shows = committed-here r.owned.surfaces r.owned.shell is.once is.numbered is.roots x.surface (ap is_some found.of_surface) ∙ shows
 
+    abbrev stepped : (XdgSurface → XdgSurface) → Shell
+    stepped step = with_xdg_change x.id step r.owned.shell
+
     -- its xdg_surface stays as it is
-    same-shell : Fits (list_any (is_of c x.surface) d.standing) (known (xdg_of x.surface r.owned.shell)) shows_now → StandSo c (done r.owned.shell) d.standing
-    same-shell here = (finished r.owned.shell d.standing here (λ surface other. refl) (λ surface other. refl), apart)
+    same-shell : Fits (list_any (is_of c x.surface) d.standing) (known (xdg_of x.surface r.owned.shell)) shows_now → StandSo c (done (stepped (λ y. y))) d.standing
+    same-shell here =
+        subst (λ (shell : Shell). StandSo c (done shell) d.standing) (sym (changed-same x.id r.owned.shell))
+        (finished r.owned.shell d.standing here (λ surface other. refl) (λ surface other. refl), apart)
 
     not-mapped : is_mapped (Some x) ≡ false → list_any (is_of c x.surface) d.standing ≡ false
     not-mapped none = stands-as x found ∙ none
 
-    still-idle : known (Some x) ≡ (false, false) → StandSo c (done r.owned.shell) d.standing
+    still-idle : known (Some x) ≡ (false, false) → StandSo c (done (stepped (λ y. y))) d.standing
     still-idle idle = same-shell (fits-idle _ shows_now _ (not-mapped (ap (λ (k : Bool × Bool). k.0) idle)) (ap known found.of_surface ∙ idle))
 
-    still-bare : known (Some x) ≡ (false, true) → shows_now ≡ false → StandSo c (done r.owned.shell) d.standing
+    still-bare : known (Some x) ≡ (false, true) → shows_now ≡ false → StandSo c (done (stepped (λ y. y))) d.standing
     still-bare waits none = same-shell (fits-bare _ shows_now true _ (not-mapped (ap (λ (k : Bool × Bool). k.0) waits)) (ap known found.of_surface ∙ waits) none)
 
-    still-mapped : known (Some x) ≡ (true, false) → shows_now ≡ true → StandSo c (done r.owned.shell) d.standing
+    still-mapped : known (Some x) ≡ (true, false) → shows_now ≡ true → StandSo c (done (stepped (λ y. y))) d.standing
     still-mapped mapped shows =
         same-shell (fits-mapped _ shows_now _ (stands-as x found ∙ ap (λ (k : Bool × Bool). k.0) mapped) (ap known found.of_surface ∙ mapped) shows)
-
-    abbrev stepped : (XdgSurface → XdgSurface) → Shell
-    stepped step = with_xdg_change x.id step r.owned.shell
 
     else-stepped : (step : XdgSurface → XdgSurface) → ((y : XdgSurface) → (step y).surface ≡ y.surface) → (surface : ℕ) → x.surface ≢ surface
         → known (xdg_of surface (stepped step)) ≡ known (xdg_of surface r.owned.shell)
@@ -136,17 +141,17 @@ module _ (c : ℕ) (r : Resident) (d : Desktop) (is : IsRooted r) (fit : AllFit 
     here-stepped step keeps = ap known (stepped-here x step r.owned.shell found keeps)
 
     -- it is configured first
-    now-configured : (serial : ℕ) → stage_of x ≡ Some stage.Fresh → shows_now ≡ false → StandSo c (done (with_xdg_change x.id (configuring serial) (stepped (in_stage stage.Waiting)))) d.standing
-    now-configured serial at none =
-        let waiting = stepped (in_stage stage.Waiting) in
-        let same : (surface : ℕ) → known (xdg_of surface (with_xdg_change x.id (configuring serial) waiting)) ≡ known (xdg_of surface waiting) =
-        λ surface. stepped-as x.id surface (configuring serial) waiting (λ y. refl) (λ y. refl) in (
-          finished (with_xdg_change x.id (configuring serial) waiting) d.standing
-              (fits-bare _ shows_now true _ (not-mapped (ap is_mapped_at at))
-              (same x.surface ∙ here-stepped (in_stage stage.Waiting) (λ y. refl) ∙ in-stage stage.Fresh stage.Waiting x at) none)
-              (λ surface other. refl) (λ surface other. same surface ∙ else-stepped (in_stage stage.Waiting) (λ y. refl) surface other),
-          apart,
-        )
+    now-configured : (serial since : ℕ) → stage_of x ≡ Some stage.Fresh → shows_now ≡ false → StandSo c (done (stepped (λ y. with_effect serial since (λ popup. None) Configures y))) d.standing
+    now-configured serial since at none = (
+      finished (stepped step) d.standing
+          (fits-bare _ shows_now true _ (not-mapped (ap is_mapped_at at))
+          (here-stepped step (λ y. refl) ∙ ap known_at (popup-stage (placing (λ popup. None)) (in_stage stage.Waiting x)) ∙ in-stage stage.Fresh stage.Waiting x at) none)
+          (λ surface other. refl) (else-stepped step (λ y. refl)),
+      apart,
+    )
+      where
+        step : XdgSurface → XdgSurface
+        step y = with_effect serial since (λ popup. None) Configures y
 
     now-mapped : stage_of x ≡ Some stage.Ready → shows_now ≡ true → StandSo c (done (stepped (in_stage stage.Mapped))) (with_mapped d.mappings c x.surface d.standing)
     now-mapped at shows = (
@@ -157,14 +162,17 @@ module _ (c : ℕ) (r : Resident) (d : Desktop) (is : IsRooted r) (fit : AllFit 
       mapped-apart d.mappings c x.surface d.standing apart (not-mapped (ap is_mapped_at at)),
     )
 
-    now-unmapped : (since : ℕ) → stage_of x ≡ Some stage.Mapped → StandSo c (done (stepped (unmapping since))) (without_surface_of c x.surface d.standing)
-    now-unmapped since at = (
-      finished (stepped (unmapping since)) (without_surface_of c x.surface d.standing)
+    now-unmapped : (serial since : ℕ) → stage_of x ≡ Some stage.Mapped → StandSo c (done (stepped (λ y. with_effect serial since (λ popup. None) Unmaps y))) (without_surface_of c x.surface d.standing)
+    now-unmapped serial since at = (
+      finished (stepped step) (without_surface_of c x.surface d.standing)
           (fits-idle _ shows_now _ (without-here c x.surface d.standing)
-          (here-stepped (unmapping since) (λ y. refl) ∙ in-stage stage.Mapped stage.Fresh (forgetting since x) at))
-          (λ surface other. without-another c x.surface surface d.standing other) (else-stepped (unmapping since) (λ y. refl)),
+          (here-stepped step (λ y. refl) ∙ ap known_at (popup-stage without_grab (unmapping since x)) ∙ in-stage stage.Mapped stage.Fresh (forgetting since x) at))
+          (λ surface other. without-another c x.surface surface d.standing other) (else-stepped step (λ y. refl)),
       apart-left _ d.standing apart,
     )
+      where
+        step : XdgSurface → XdgSurface
+        step y = with_effect serial since (λ popup. None) Unmaps y
 
     abbrev Commits : Effect → Type 0
     Commits effect = StandSo c (effect_on x.surface effect (Some x) (tree_committed x.surface r)).owned (stacked_on effect c x.surface d).standing
@@ -172,18 +180,18 @@ module _ (c : ℕ) (r : Resident) (d : Desktop) (is : IsRooted r) (fit : AllFit 
     by-stage : (o : Option Stage) (b : Bool) → stage_of x ≡ o → will_show r x.surface ≡ b → (on_commit o b ≡ Unconfigured → ⊥) → Commits (on_commit o b)
     by-stage None false at shows other = still-idle (ap known_at at)
     by-stage None true at shows other = absurd (other refl)
-    by-stage (Some stage.Fresh) false at shows other = now-configured r.peer.serial at (shown false shows)
+    by-stage (Some stage.Fresh) false at shows other = now-configured r.peer.serial (asked_so_far x.surface (tree_committed x.surface r)) at (shown false shows)
     by-stage (Some stage.Fresh) true at shows other = absurd (other refl)
     by-stage (Some stage.Waiting) false at shows other = still-bare (ap known_at at) (shown false shows)
     by-stage (Some stage.Waiting) true at shows other = absurd (other refl)
     by-stage (Some stage.Ready) false at shows other = still-bare (ap known_at at) (shown false shows)
     by-stage (Some stage.Ready) true at shows other = now-mapped at (shown true shows)
-    by-stage (Some stage.Mapped) false at shows other = now-unmapped (asked_so_far x.surface (tree_committed x.surface r)) at
+    by-stage (Some stage.Mapped) false at shows other = now-unmapped r.peer.serial (asked_so_far x.surface (tree_committed x.surface r)) at
     by-stage (Some stage.Mapped) true at shows other = still-mapped (ap known_at at) (shown true shows)
 
   abbrev After : ℕ → Option XdgSurface → Type 0
   After id o =
-      let effect = effect_for (will_show r id) o in
+      let effect = effect_on_xdg (will_show r id) o in
       StandSo c (effect_on id effect o (tree_committed id r)).owned (stacked_on effect c id d).standing
 
   -- a surface without xdg_surface doesn't stand
@@ -207,9 +215,13 @@ module _ (c : ℕ) (r : Resident) (d : Desktop) (is : IsRooted r) (fit : AllFit 
       at None here = committed-none id here
       at (Some x) here =
           let same : x.surface ≡ id = eqb-true x.surface id (found-passes (has_surface id) r.owned.shell x here) in
-          subst (λ n. (effect_for (will_show r n) (Some x) ≡ Unconfigured → ⊥) → After n (Some x)) same
-          (by-stage x (found-so r.owned.shell is.apart (has_surface id) x here) (stage_of x) (will_show r x.surface) refl refl)
-          (λ u. well (effect-same r id is.toplevels ∙ ap (effect_for (will_show r id)) here ∙ u))
+          let top : IsToplevel x.role = subst IsToplevelAt here (found-toplevel (has_surface id) r.owned.shell is.toplevels) in
+          let table = effect-toplevel (will_show r x.surface) x top in
+          subst (λ n. (effect_on_xdg (will_show r n) (Some x) ≡ Unconfigured → ⊥) → After n (Some x)) same
+          (λ never.
+          subst (λ effect. StandSo c (effect_on x.surface effect (Some x) (tree_committed x.surface r)).owned (stacked_on effect c x.surface d).standing) (sym table)
+          (by-stage x (found-so r.owned.shell is.apart (has_surface id) x here) (stage_of x) (will_show r x.surface) refl refl (λ u. never (table ∙ u))))
+          (λ u. well (ap (effect_on_xdg (will_show r id)) here ∙ u))
 
   -- ---- the shell
 
@@ -285,7 +297,7 @@ module _ (c : ℕ) (r : Resident) (d : Desktop) (is : IsRooted r) (fit : AllFit 
   ask-stands (EndObject id) allowed = (fit, apart)
   ask-stands (GetXdgSurface id version base surface) allowed =
       with-shell (with_new_xdg id base surface r.owned.shell)
-      (λ other. new-as (record { id = id; base = base; surface = surface; role = None; serials = []; since = 0 }) other r.owned.shell refl)
+      (λ other. new-as (record { id = id; base = base; surface = surface; role = None; configures = []; since = 0 }) other r.owned.shell refl)
   ask-stands (DestroyXdgSurface id) allowed = xdg-destroyed id (bare-at r.owned.shell is.apart id allowed.1)
   ask-stands (GetToplevel id version xdg) allowed = toplevel-made id xdg (bare-at r.owned.shell is.apart xdg allowed.1)
   ask-stands (Acknowledge xdg serial) allowed =
@@ -337,7 +349,7 @@ on-other Unmaps c other surface id d apart = without-other c id other surface d.
 
 pub stacked-other : (c other surface : ℕ) (demand : Demand) (r : Resident) (d : Desktop) → c ≢ other
     → list_any (is_of other surface) (stacked_simply c demand r d).standing ≡ list_any (is_of other surface) d.standing
-stacked-other c other surface (CommitTree id) r d apart = on-other (effect_of r id) c other surface id d apart
+stacked-other c other surface (CommitTree id) r d apart = on-other (effect_of_commit r id) c other surface id d apart
 stacked-other c other surface (EndToplevel id xdg top) r d apart = without-other c top other surface d.standing apart
 stacked-other c other surface demand r d apart = refl
 
@@ -349,6 +361,6 @@ on-clients Maps c id d = refl
 on-clients Unmaps c id d = refl
 
 pub stacked-clients : (c : ℕ) (demand : Demand) (r : Resident) (d : Desktop) → (stacked_simply c demand r d).clients ≡ d.clients
-stacked-clients c (CommitTree id) r d = on-clients (effect_of r id) c id d
+stacked-clients c (CommitTree id) r d = on-clients (effect_of_commit r id) c id d
 stacked-clients c (EndToplevel id xdg top) r d = refl
 stacked-clients c demand r d = refl

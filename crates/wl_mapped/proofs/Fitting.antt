@@ -5,7 +5,8 @@ use Rattle.std.specs.List.{list_any}
 use Rattle.std.specs.Option.{option_map}
 use Rattle.std.proofs.lemmas.Bool.{eqb-false, eqb-true}
 use Rattle.wl_surface.specs.Surfaces.{history_in}
-use Rattle.wl_shell.specs.Shell.{RoleObject, Shell, XdgSurface, acknowledged, acknowledging, in_stage, stage_of, with_change as with_xdg_change, xdg_of}
+use Rattle.wl_shell.specs.Shell.{Popup, RoleObject, Shell, XdgSurface, acknowledged, acknowledging, in_stage, stage_of, with_change as with_xdg_change, xdg_of}
+use Rattle.wl_shell.specs.Popups.{popup_changed, with_popup_role}
 use Rattle.wl_shell.specs.declared.stage.Stage.{Stage}
 use Rattle.wl_shell.specs.declared.stage.Stage.TheVariants as stage
 use Rattle.wl_scene.specs.Lent.{shows_buffer}
@@ -146,6 +147,14 @@ acknowledging-as serial x = at x.role
     at (Some object) = by object.stage
 
 -- a role object that is in a stage is in another one then
+-- a popup's change is nothing to it
+pub popup-stage : (change : Popup → Popup) (x : XdgSurface) → stage_of (popup_changed change x) ≡ stage_of x
+popup-stage change x = at x.role
+  where
+    at : (role : Option RoleObject) → option_map (λ (object : RoleObject). object.stage) (option_map (with_popup_role change) role) ≡ option_map (λ (object : RoleObject). object.stage) role
+    at None = refl
+    at (Some object) = refl
+
 pub in-stage : (s t : Stage) (x : XdgSurface) → stage_of x ≡ Some s → known (Some (in_stage t x)) ≡ known_at (Some t)
 in-stage s t x e = at x.role e
   where

@@ -17,13 +17,14 @@ use Rattle.wl_shell.specs.Shell.{Configures, Effect, Maps, Stays, Unconfigured, 
 use Rattle.wl_plain.specs.Ask.{Ask, AskSurface, CreateSurface, GetToplevel}
 use Rattle.wl_plain.specs.Changing.{link_with_id, mode_set, tree_committed, unlinked_at}
 use Rattle.wl_plain.specs.Demand.{AskFrame, Asks, CommitTree, Demand, EndSubsurface, EndSurface, GetSubsurface, SetMode}
+use Rattle.wl_plain.specs.Demanding.{effect_of_commit}
 use Rattle.wl_plain.specs.Desktop.{Resident}
 use Rattle.wl_plain.specs.Step.{toplevel_given}
 use Rattle.wl_laws.proofs.Lists.Keys.{none-some, some-same}
 use Rattle.wl_laws.proofs.Lists.Surfaces.{has_id}
 use Rattle.wl_laws.proofs.Soundness.Moves.{Moves, moves-committed, moves-desynchronised, moves-those, moves-unlinked}
 use Rattle.wl_records.specs.Standing.{AreTurned, turns_well}
-use Rattle.wl_without_popups.specs.Simple.{changed_simply, effect_of, effect_on}
+use Rattle.wl_without_popups.specs.Simple.{changed_simply, effect_on}
 use Rattle.wl_mapped.proofs.Well.{IsWell}
 
 -- ---- one surface
@@ -137,7 +138,7 @@ pub demand-turned : (demand : Demand) (r : Resident) → AreTurned r.owned.surfa
 demand-turned (Asks ask) r is well = ask-turned ask r is well
 demand-turned (EndSurface id) r is well = destroyed-all id r.owned.surfaces is
 demand-turned (AskFrame id version surface) r is well = asked-all surface (Frame r.peer.requests) r.owned.surfaces refl is
-demand-turned (CommitTree id) r is well = effect-turned id (effect_of r id) (xdg_of id r.owned.shell) (tree_committed id r) (committed-all id r.owned.surfaces is)
+demand-turned (CommitTree id) r is well = effect-turned id (effect_of_commit r id) (xdg_of id r.owned.shell) (tree_committed id r) (committed-all id r.owned.surfaces is)
 demand-turned (GetSubsurface id version child parent) r is well = linked-all r.peer.requests child parent r.owned.surfaces is
 demand-turned (EndSubsurface id) r is well =
     moved-all r.owned.surfaces (unlinked_at (link_with_id id r) r.owned.surfaces) (moves-unlinked (link_with_id id r) r.owned.surfaces) is

@@ -77,7 +77,7 @@ module _ (r : Resident) where
       stays e = cc
   commit-well (Some x) object Stays here comes = some-well object Stays comes (λ e. cc)
   commit-well (Some x) object Unconfigured here comes = tt
-  commit-well (Some x) object Configures here comes = if-well (is_full x.serials) _ _ (λ full. tt) (λ room. some-well object Configures comes (λ e. cc))
+  commit-well (Some x) object Configures here comes = if-well (is_full x.configures) _ _ (λ full. tt) (λ room. some-well object Configures comes (λ e. cc))
   commit-well (Some x) object Maps here comes = some-well object Maps comes (λ e. cc)
   commit-well (Some x) object Unmaps here comes = some-well object Unmaps comes (λ e. cc)
 
@@ -138,12 +138,12 @@ module _ (r : Resident) where
   xdg-well (Some x) version (xdg.SetWindowGeometry a b width height) served =
       ask-well (is_some x.role) _ _ (λ there. ask-well (int_lt (pos 0) width && int_lt (pos 0) height) _ _ (λ fits. refl) (λ no_size. tt)) (λ none. tt)
   xdg-well (Some x) version (xdg.AckConfigure serial) served =
-      ask-well (is_some x.role) _ _ (λ there. ask-well (is_waiting serial x.serials) _ _ (λ waits. tt) (λ unknown. tt)) (λ none. tt)
+      ask-well (is_some x.role) _ _ (λ there. ask-well (is_waiting serial x.configures) _ _ (λ waits. tt) (λ unknown. tt)) (λ none. tt)
 
   state-well : (o : Option Xdg) → IsWellSo r (demands (state_asked o))
   state-well None = tt
   state-well (Some x) =
-      ask-well (option_map_or answers_states (stage_of x) false) _ _ (λ answers. ask-well (is_full x.serials) _ _ (λ full. tt) (λ room. tt)) (λ none. tt)
+      ask-well (option_map_or answers_states (stage_of x) false) _ _ (λ answers. ask-well (is_full x.configures) _ _ (λ full. tt) (λ room. tt)) (λ none. tt)
 
   gone-well : (object : ℕ) (o : Option Xdg) → IsWellSo r (toplevel_destroyed object o)
   gone-well object None = tt

@@ -107,7 +107,7 @@ module _ (r : Resident) where
   committed-froms : (o : Option Xdg) (object : ℕ) (effect : Effect) → Froms (committed_by o object effect)
   committed-froms None object effect = tt
   committed-froms (Some x) object Unconfigured = tt
-  committed-froms (Some x) object Configures = if-froms (is_full x.serials) _ _ tt tt
+  committed-froms (Some x) object Configures = if-froms (is_full x.configures) _ _ tt tt
   committed-froms (Some x) object Stays = tt
   committed-froms (Some x) object Maps = tt
   committed-froms (Some x) object Unmaps = tt
@@ -183,7 +183,7 @@ module _ (r : Resident) where
   geometry-froms x rect = if-asks (is_some x.role) _ _ (if-asks (int_lt (pos 0) rect.w && int_lt (pos 0) rect.h) _ _ tt tt) tt
 
   acknowledged-froms : (x : Xdg) (serial : ℕ) → AskFroms (acknowledged_by x serial)
-  acknowledged-froms x serial = if-asks (is_some x.role) _ _ (if-asks (is_waiting serial x.serials) _ _ tt tt) tt
+  acknowledged-froms x serial = if-asks (is_some x.role) _ _ (if-asks (is_waiting serial x.configures) _ _ tt tt) tt
 
   xdg-froms : (o : Option Xdg) (version : ℕ) (request : XdgSurfaceRequest) → Froms (xdg_asked r o version request)
   xdg-froms None version request = tt
@@ -197,7 +197,7 @@ module _ (r : Resident) where
 
   state-froms : (o : Option Xdg) → AskFroms (state_asked o)
   state-froms None = tt
-  state-froms (Some x) = if-asks (option_map_or answers_states (stage_of x) false) _ _ (if-asks (is_full x.serials) _ _ tt tt) tt
+  state-froms (Some x) = if-asks (option_map_or answers_states (stage_of x) false) _ _ (if-asks (is_full x.configures) _ _ tt tt) tt
 
   gone-froms : (object : ℕ) (o : Option Xdg) → Froms (toplevel_destroyed object o)
   gone-froms object None = tt

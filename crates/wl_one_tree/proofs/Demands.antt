@@ -15,6 +15,7 @@ use Rattle.wl_tree_laws.specs.Laws.{AreOnceLinked}
 use Rattle.wl_plain.specs.Ask.{Ask, AskSurface, CreateSurface, GetToplevel}
 use Rattle.wl_plain.specs.Changing.{tree_committed, unlinked_at}
 use Rattle.wl_plain.specs.Demand.{Demand, AskFrame, Asks, CommitTree, EndSubsurface, EndSurface, EndToplevel, GetSubsurface, SetMode}
+use Rattle.wl_plain.specs.Demanding.{effect_of_commit}
 use Rattle.wl_plain.specs.Desktop.{Desktop, Resident, Subsurface, client_at, owned_in, owned_of}
 use Rattle.wl_plain.specs.Step.{toplevel_given, with_peer}
 use Rattle.wl_plain.specs.WlSubsurface.{living, subsurface_at}
@@ -23,7 +24,7 @@ use Rattle.wl_tree_steps.specs.Requests.{CommitKeepsOthers, DestructionKeepsOthe
 use Rattle.wl_tree_steps.specs.Requests.{RequestKeepsAll, RoleKeepsAll}
 use Rattle.wl_tree_steps.specs.Standing.{AppliesNothing, ChangesBelow, NoStandingChanges, NoWindowChanges, StandingIsDistinct}
 use Rattle.wl_without_popups.specs.NoPopupsLaws.{WindowsAreToplevels}
-use Rattle.wl_without_popups.specs.Simple.{effect_of, effect_on, stacked_on}
+use Rattle.wl_without_popups.specs.Simple.{effect_on, stacked_on}
 use Rattle.wl_one_tree.specs.Changes.{ChangesAt, ChangesTree, IsDone, StaysPainted}
 use Rattle.wl_one_tree.specs.Laws.{OneTreeChanges}
 use Rattle.wl_one_tree.specs.Trees.{HasTrees, touched_by}
@@ -189,8 +190,8 @@ module _ (laws : Laws) (c : ℕ) (r : Resident) (p : Peer) (d e : Desktop) (had 
       (laws.request_keeps all tied surface (Frame p.requests)) done.stack
   changes-by (CommitTree surface) done =
       committed (CommitTree surface) done surface
-      (ap (λ (o : Owned). o.surfaces) done.own ∙ effect-surfaces surface (effect_of now surface) (xdg_of surface now.owned.shell) (tree_committed surface now))
-      (effect_of now surface) done.stack
+      (ap (λ (o : Owned). o.surfaces) done.own ∙ effect-surfaces surface (effect_of_commit now surface) (xdg_of surface now.owned.shell) (tree_committed surface now))
+      (effect_of_commit now surface) done.stack
   changes-by (GetSubsurface id version child parent) done = given (GetSubsurface id version child parent) done child parent (ap (λ (o : Owned). o.surfaces) done.own) done.stack
   changes-by (EndSubsurface id) done = ended (EndSubsurface id) done (subsurface_at id r) (ap (λ (o : Owned). o.surfaces) done.own) done.stack
   changes-by (SetMode link true) done =

@@ -10,14 +10,14 @@ use Rattle.wl_peer.specs.Peer.{Errs, LacksMemory, Peer, counted, with_rest}
 use Rattle.wl_peer.specs.Told.{display_error}
 use Rattle.wl_shell.specs.Shell.{Effect, Stays, Unconfigured, Configures, Maps, Unmaps}
 use Rattle.wl_plain.specs.Demand.{Demand, CommitTree, EndToplevel}
-use Rattle.wl_plain.specs.Demanding.{judge_all}
+use Rattle.wl_plain.specs.Demanding.{effect_of_commit, judge_all}
 use Rattle.wl_plain.specs.Desktop.{Desktop, Resident, become_by, client_at, client_in, owned_in, owned_of, status_in}
 use Rattle.wl_plain.specs.Happens.{wants_memory}
 use Rattle.wl_plain.specs.Step.{with_peer}
 use Rattle.wl_laws.proofs.Runs.Places.{client-become, other-become, status-become}
 use Rattle.wl_records.proofs.Toplevels.Back.{erred, lacking}
 use Rattle.wl_plain.specs.LeftOut.{served_now}
-use Rattle.wl_without_popups.specs.Simple.{AnswersSimply, Becomes, DoesSimply, TakesSimply, WantsOr, changed_simply, effect_of, stacked_on, stacked_simply}
+use Rattle.wl_without_popups.specs.Simple.{AnswersSimply, Becomes, DoesSimply, TakesSimply, WantsOr, changed_simply, stacked_on, stacked_simply}
 use Rattle.wl_without_popups.specs.SimpleLaws.{MessagesAreSimple}
 use Rattle.wl_one_tree.specs.Changes.{IsDemanded, IsDone}
 use Rattle.wl_one_tree.specs.Laws.{MessagesChangeOneTree, OneTreeChanges}
@@ -31,7 +31,7 @@ on-clients Maps c surface d = refl
 on-clients Unmaps c surface d = refl
 
 stacked-clients : (c : ℕ) (demand : Demand) (r : Resident) (d : Desktop) → (stacked_simply c demand r d).clients ≡ d.clients
-stacked-clients c (CommitTree surface) r d = on-clients (effect_of r surface) c surface d
+stacked-clients c (CommitTree surface) r d = on-clients (effect_of_commit r surface) c surface d
 stacked-clients c (EndToplevel id xdg surface) r d = refl
 stacked-clients c demand r d = refl
 

@@ -9,6 +9,7 @@ use Rattle.wl_shell.specs.Shell.{xdg_of}
 use Rattle.wl_scene.specs.Stacking.{Owned, Standing, is_of}
 use Rattle.wl_plain.specs.Changing.{link_with_id, tree_committed, unlinked_at}
 use Rattle.wl_plain.specs.Demand.{Demand, CommitTree, EndSubsurface, EndSurface, EndToplevel, SetMode}
+use Rattle.wl_plain.specs.Demanding.{effect_of_commit}
 use Rattle.wl_plain.specs.Desktop.{Resident, owned_in, owned_of}
 use Rattle.wl_plain.specs.Moments.{applied_between}
 use Rattle.wl_plain.specs.Step.{with_peer}
@@ -19,7 +20,7 @@ use Rattle.wl_told.specs.Windows.{BetweenIsApplied, IsAppliedTo}
 use Rattle.wl_tree_steps.specs.Standing.{standing_owner}
 use Rattle.wl_renamed_windows.specs.Marks.{IsAppliedByName}
 use Rattle.wl_renamed_windows.specs.Windows.{ShowsThoseThere, has_window}
-use Rattle.wl_without_popups.specs.Simple.{changed_simply, effect_of}
+use Rattle.wl_without_popups.specs.Simple.{changed_simply}
 use Rattle.wl_one_tree.specs.Laws.{NamesAreApart, NoSurfaceComes}
 use Rattle.wl_one_tree.specs.Telling.{TreeIsTold}
 use Rattle.wl_one_tree.specs.Trees.{touched_by, windows_if}
@@ -39,7 +40,7 @@ unlinked-comes (Some number) all surface there = sym (unlink-there number surfac
 touched-comes : (demand : Demand) (r : Resident) (id : ℕ) → touched_by demand r ≡ Some id → NoneComes r.owned.surfaces (changed_simply demand r).owned.surfaces
 touched-comes (CommitTree id) r touched e surface there =
     sym (commit-there id surface r.owned.surfaces)
-    ∙ (sym (ap (has_surface surface) (effect-surfaces id (effect_of r id) (xdg_of id r.owned.shell) (tree_committed id r))) ∙ there)
+    ∙ (sym (ap (has_surface surface) (effect-surfaces id (effect_of_commit r id) (xdg_of id r.owned.shell) (tree_committed id r))) ∙ there)
 touched-comes (EndSurface id) r touched e surface there = end-there id surface r.owned.surfaces there
 touched-comes (EndSubsurface id) r touched e surface there = unlinked-comes (link_with_id id r) r.owned.surfaces surface there
 touched-comes (SetMode link true) r touched e surface there = absurd (none-some touched e)

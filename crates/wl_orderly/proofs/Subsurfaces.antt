@@ -12,12 +12,13 @@ use Rattle.wl_state.specs.Request.{AddChild, Frame}
 use Rattle.wl_state.specs.Surface.{Surface, new_surface, with_role}
 use Rattle.wl_surface.specs.Surfaces.{Surfaces, surface_at, with_change, with_new}
 use Rattle.wl_surface.specs.Trees.{linked}
-use Rattle.wl_shell.specs.Shell.{Configures, Effect, Mapped, Maps, Stays, Unconfigured, Unmaps, Waiting, XdgSurface as Xdg, acknowledging, configuring, in_stage, new_toplevel, unmapping}
+use Rattle.wl_shell.specs.Shell.{Configures, Effect, Maps, Stays, Unconfigured, Unmaps, XdgSurface as Xdg, acknowledging, configuring, new_toplevel}
 use Rattle.wl_shell.specs.Shell.{with_change as with_xdg_change, without_role, xdg_at, xdg_of}
 use Rattle.wl_plain.specs.Ask.{Ask, Own, CreateSurface, AskSurface, EndObject, GetXdgSurface, DestroyXdgSurface, GetToplevel, Acknowledge, ConfigureAgain, Ignore}
 use Rattle.wl_plain.specs.Changing.{link_with_id, mode_set, subsurface_given, surface_ended, tree_committed, without_child}
 use Rattle.wl_plain.specs.Demand.{Demand, Asks, EndSurface, AskFrame, CommitTree, GetSubsurface, EndSubsurface, SetMode, GetPointer, MakeCursor, CreatePositioner, EndPositioner}
 use Rattle.wl_plain.specs.Demand.{SetPositioner, GetPopup, Grab, EndPopup, EndToplevel, Move}
+use Rattle.wl_plain.specs.Demanding.{effect_of_commit}
 use Rattle.wl_plain.specs.Desktop.{Resident, Subsurface}
 use Rattle.wl_plain.specs.Step.{asked_so_far, changed_by, toplevel_given}
 use Rattle.wl_plain.specs.WlSubsurface.{has_subsurface, is_of_child}
@@ -27,9 +28,9 @@ use Rattle.wl_laws.proofs.Lists.Standings.{any-last}
 use Rattle.wl_laws.proofs.Soundness.Moves.{destroyed-role, trees-asked, trees-committed, trees-desynchronised, trees-synchronised, trees-unlinked}
 use Rattle.wl_laws.proofs.Soundness.ObjectsKeys.{any-less, any-map, any-of-filter}
 use Rattle.wl_laws.proofs.Soundness.Orderly.{IsAllowed, IsAsked, role_in}
-use Rattle.wl_laws.proofs.Soundness.Roles.{KeepsShell, StaysChild, has_surface, no-child, role-else, role-now, role-still, shell-changed, shell-more, shell-same, shell-without}
+use Rattle.wl_laws.proofs.Soundness.Roles.{KeepsShell, StaysChild, has_surface, no-child, role-else, role-now, role-still, shell-changed, shell-same, shell-without}
 use Rattle.wl_laws.proofs.Soundness.Standing.{found-first}
-use Rattle.wl_without_popups.specs.Simple.{IsServed, changed_simply, effect_of, effect_on}
+use Rattle.wl_without_popups.specs.Simple.{IsServed, changed_simply, effect_on}
 
 pub record AreSubsurfaces (r : Resident) : Type 0 where
   pub roles : (surface : ℕ) → has_subsurface surface r ≡ true → role_of r surface ≡ Some AsSubsurface
@@ -87,7 +88,7 @@ asked (GetXdgSurface id version base surface) r ok are =
       has,
       λ role bare. (
         role,
-        new-elsewhere (has_surface other) r.owned.shell (record { id = id; base = base; surface = surface; role = None; serials = []; since = 0 })
+        new-elsewhere (has_surface other) r.owned.shell (record { id = id; base = base; surface = surface; role = None; configures = []; since = 0 })
             (ne_eqb surface other (λ same. foreign (role_of r surface) ok.1 (ap (role_of r) same ∙ role))) ∙ bare,
       ),
     )) are
@@ -186,14 +187,11 @@ joined id version child parent r there none are =
 
 effect-kept : (id : ℕ) (effect : Effect) (o : Option Xdg) (r : Resident) → AreSubsurfaces r → AreSubsurfaces (effect_on id effect o r)
 effect-kept id effect None r are = are
-effect-kept id Stays (Some x) r are = are
-effect-kept id Unconfigured (Some x) r are = are
-effect-kept id Configures (Some x) r are =
-    kept r (effect_on id Configures (Some x) r) (λ id. refl)
-    (shell-more r.owned.shell _ _ (shell-changed x.id (in_stage Waiting) r.owned.shell (λ y. refl)) (shell-changed x.id (configuring r.peer.serial) _ (λ y. refl))) refl are
-effect-kept id Maps (Some x) r are = kept r (effect_on id Maps (Some x) r) (λ id. refl) (shell-changed x.id (in_stage Mapped) r.owned.shell (λ y. refl)) refl are
-effect-kept id Unmaps (Some x) r are =
-    kept r (effect_on id Unmaps (Some x) r) (λ id. refl) (shell-changed x.id (unmapping (asked_so_far id r)) r.owned.shell (λ y. refl)) refl are
+effect-kept id Stays (Some x) r are = kept r (effect_on id Stays (Some x) r) (λ id. refl) (shell-changed x.id _ r.owned.shell (λ y. refl)) refl are
+effect-kept id Unconfigured (Some x) r are = kept r (effect_on id Unconfigured (Some x) r) (λ id. refl) (shell-changed x.id _ r.owned.shell (λ y. refl)) refl are
+effect-kept id Configures (Some x) r are = kept r (effect_on id Configures (Some x) r) (λ id. refl) (shell-changed x.id _ r.owned.shell (λ y. refl)) refl are
+effect-kept id Maps (Some x) r are = kept r (effect_on id Maps (Some x) r) (λ id. refl) (shell-changed x.id _ r.owned.shell (λ y. refl)) refl are
+effect-kept id Unmaps (Some x) r are = kept r (effect_on id Unmaps (Some x) r) (λ id. refl) (shell-changed x.id _ r.owned.shell (λ y. refl)) refl are
 
 mode-kept : (link : ℕ) (b : Bool) (r : Resident) → AreSubsurfaces r → AreSubsurfaces (mode_set link b r)
 mode-kept link true r are = kept r (mode_set link true r) (trees-synchronised link r.owned.surfaces).surfaces.roles (shell-same r.owned.shell) refl are
@@ -207,7 +205,7 @@ demanded-subsurfaces (EndSurface id) r there served ok are = destroyed id r are
 demanded-subsurfaces (AskFrame id version surface) r there served ok are =
     kept r (changed_simply (AskFrame id version surface) r) (trees-asked surface (Frame r.peer.requests) r.owned.surfaces).surfaces.roles (shell-same r.owned.shell) refl are
 demanded-subsurfaces (CommitTree surface) r there served ok are =
-    effect-kept surface (effect_of r surface) (xdg_of surface r.owned.shell) (tree_committed surface r)
+    effect-kept surface (effect_of_commit r surface) (xdg_of surface r.owned.shell) (tree_committed surface r)
     (kept r (tree_committed surface r) (trees-committed surface r.owned.surfaces).surfaces.roles (shell-same r.owned.shell) refl are)
 demanded-subsurfaces (GetSubsurface id version child parent) r there served ok are = joined id version child parent r (there child ok.1) ok.4 are
 demanded-subsurfaces (EndSubsurface id) r there served ok are =

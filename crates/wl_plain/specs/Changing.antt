@@ -15,11 +15,10 @@ use Rattle.wl_surface.specs.Surfaces.{Surfaces, history_in, with_change as with_
 use Rattle.wl_surface.specs.Trees.{committed_in, desynchronised_in, destroyed_in, linked, synchronised_in, unlinked}
 use Rattle.wl_state.specs.declared.role.Role.TheVariants.{Popup as AsPopup, Cursor as AsCursor}
 use Rattle.wl_surface.specs.Waiting.{Callback}
-use Rattle.wl_shell.specs.Popups.{dismissing, is_parent_of, is_toplevel, new_popup, orphaning, parent_allows, parent_of, placing, popup_at}
-use Rattle.wl_shell.specs.Popups.{popup_changed, popups_of, with_grab, without_grab}
+use Rattle.wl_shell.specs.Popups.{dismissing, is_parent_of, is_toplevel, new_popup, orphaning, parent_allows, parent_of, popup_at}
+use Rattle.wl_shell.specs.Popups.{popup_changed, popups_of, with_effect, with_grab}
 use Rattle.wl_shell.specs.Positioner.{Placed, Positioner, first_positioner, place}
-use Rattle.wl_shell.specs.Shell.{Effect, Stays, Unconfigured, Configures, Maps, Unmaps, Waiting, Mapped, Popup, XdgSurface, in_stage}
-use Rattle.wl_shell.specs.Shell.{next_serial, unmapping, with_change, without_role, xdg_at, xdg_of}
+use Rattle.wl_shell.specs.Shell.{Effect, Configures, Maps, Unmaps, Popup, XdgSurface, next_serial, with_change, without_role, xdg_at, xdg_of}
 use Rattle.wl_scene.specs.Pointer.{Pointer, Target}
 use Rattle.wl_scene.specs.Stacking.{Standing, is_of, with_mapped, without_surface_of}
 use Rattle.wl_scene.specs.Windows.{Place, Window}
@@ -29,7 +28,7 @@ use Rattle.wl_plain.specs.Demand.{EndToplevel, Move}
 use Rattle.wl_plain.specs.Demanding.{effect_of_commit}
 use Rattle.wl_plain.specs.Desktop.{Desktop, Resident, Subsurface}
 use Rattle.wl_plain.specs.Popups.{parent_corner}
-use Rattle.wl_plain.specs.Step.{asked_of, asked_so_far, changed_by, configured, letting_go, making, removing, with_peer, with_shell}
+use Rattle.wl_plain.specs.Step.{asked_of, asked_so_far, changed_by, letting_go, making, removing, with_peer, with_shell}
 use Rattle.wl_plain.specs.Step.{with_surfaces, xdg_changed}
 
 -- ---- surfaces
@@ -107,15 +106,23 @@ placed_at corner output positioner = place positioner (output_rect output) (corn
 abbrev pub placement_now : ℕ → Resident → Desktop → Popup → Option Placed
 placement_now c r d popup = placed_at (parent_corner d.standing c r.owned popup.parent) d.output popup.positioner
 
--- A popup is placed as it is configured; one that is unmapped holds no grab.
+-- the next serial is drawn
+abbrev pub drawing : Bool → Resident → Resident
+drawing true r = with_peer (record r.peer { serial = next_serial r.peer.serial }) r
+drawing false r = r
+
+abbrev pub is_configure : Effect → Bool
+is_configure Configures = true
+is_configure effect = false
+
+-- What a commit comes to is done to the xdg_surface of its surface, if there is one, and a configure draws the next serial.
+abbrev pub effect_placing : (Popup → Option Placed) → ℕ → Effect → Option XdgSurface → Resident → Resident
+effect_placing where_to surface effect None r = r
+effect_placing where_to surface effect (Some x) r =
+    drawing (is_configure effect) (xdg_changed x.id (with_effect r.peer.serial (asked_so_far surface r) where_to effect) r)
+
 abbrev pub effect_done : ℕ → ℕ → Effect → Option XdgSurface → Desktop → Resident → Resident
-effect_done c surface effect None d r = r
-effect_done c surface Stays (Some x) d r = r
-effect_done c surface Unconfigured (Some x) d r = r
-effect_done c surface Configures (Some x) d r =
-    configured x.id (xdg_changed x.id (λ x. popup_changed (placing (placement_now c r d)) (in_stage Waiting x)) r)
-effect_done c surface Maps (Some x) d r = xdg_changed x.id (in_stage Mapped) r
-effect_done c surface Unmaps (Some x) d r = xdg_changed x.id (λ x. popup_changed without_grab (unmapping (asked_so_far surface r) x)) r
+effect_done c surface effect x d r = effect_placing (placement_now c r d) surface effect x r
 
 -- wl_surface.commit: the surface is applied with all below it, unless it behaves synchronised
 abbrev pub tree_committed : ℕ → Resident → Resident
@@ -185,11 +192,6 @@ in_rising_order n (m ∷ ms) = if nat_lt n m then n ∷ m ∷ ms else m ∷ in_r
 abbrev pub has_focus : ℕ → Option Target → Bool
 has_focus c None = false
 has_focus c (Some t) = t.client == c
-
--- the next serial is drawn
-abbrev pub drawing : Bool → Resident → Resident
-drawing true r = with_peer (record r.peer { serial = next_serial r.peer.serial }) r
-drawing false r = r
 
 -- wl_seat.get_pointer: where the client has the focus, the new wl_pointer is told at once, with a serial
 abbrev pub pointer_given : ℕ → ℕ → ℕ → Resident → Desktop → Resident

@@ -65,7 +65,7 @@ effect_of_commit r surface = effect_on_xdg (will_show r surface) (xdg_of surface
 abbrev pub committed_by : Option Xdg → ℕ → Effect → Result Demand Refusal
 committed_by None object effect = Ok (CommitTree object)
 committed_by (Some x) object Unconfigured = refuses x.id unconfigured
-committed_by (Some x) object Configures = if is_full x.serials then past_limit else Ok (CommitTree object)
+committed_by (Some x) object Configures = if is_full x.configures then past_limit else Ok (CommitTree object)
 committed_by (Some x) object effect = Ok (CommitTree object)
 
 abbrev pub commit_demand : Resident → ℕ → Result Demand Refusal

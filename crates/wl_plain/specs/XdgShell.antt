@@ -74,7 +74,7 @@ geometry_set x rect =
 abbrev pub acknowledged_by : XdgSurface → ℕ → Result Ask Refusal
 acknowledged_by x serial =
     if is_some x.role
-    then (if is_waiting serial x.serials then Ok (Acknowledge x.id serial) else refuse x.id error.InvalidSerial)
+    then (if is_waiting serial x.configures then Ok (Acknowledge x.id serial) else refuse x.id error.InvalidSerial)
     else refuse x.id error.NotConstructed
 
 -- A request for another state (set_maximized, unset_maximized, set_fullscreen and unset_fullscreen) is answered where the toplevel was
@@ -82,7 +82,7 @@ acknowledged_by x serial =
 abbrev pub configured_again : XdgSurface → Result Ask Refusal
 configured_again x =
     if option_map_or answers_states (stage_of x) false
-    then (if is_full x.serials then refuse_limit else Ok (ConfigureAgain x.id))
+    then (if is_full x.configures then refuse_limit else Ok (ConfigureAgain x.id))
     else Ok Ignore
 
 abbrev pub state_asked : Option XdgSurface → Result Ask Refusal

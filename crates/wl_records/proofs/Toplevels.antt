@@ -8,4 +8,3 @@ pub mod Messages
 pub mod Releases
 pub mod Serves
 pub mod Simply
-pub mod Statuses

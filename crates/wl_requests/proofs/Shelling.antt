@@ -50,7 +50,7 @@ use Rattle.wl_owning.proofs.Keeping.Letting.{asked-keeps}
 use Rattle.wl_requests.proofs.Numbers.{left-from}
 use Rattle.wl_requests.proofs.Simply.{AnswersSimply, AnswersSo}
 use Rattle.wl_requests.proofs.Framing.{IsFramed, framed-names, one-more}
-use Rattle.wl_records.proofs.Toplevels.Simply.{Asking, told_simply}
+use Rattle.wl_records.proofs.Toplevels.Simply.{told_alone}
 use Rattle.wl_records.proofs.Toplevels.Releases.{requested-still}
 use Rattle.wl_owning.proofs.Keeping.OwningSurfaces.{surface-named, surface-read}
 use Rattle.wl_owning.proofs.Keeping.OwningNames.{names-other-gone, names-toplevel-gone, names-xdg-gone}
@@ -397,7 +397,7 @@ wants-told b told answers p after q same h = subst (λ (es : List Said). WantsOr
 -- a request of a surface that is no commit releases nothing
 pub asked-releases : (numbers : ById ℕ) (slots : Slots) (tied : Tied) (r : Resident) (id number : ℕ) (request : Request) → is_commit request ≡ false → AreKept numbers slots tied r.owned.surfaces
     → numbers id ≡ Some number
-    → told_simply (Asking (AskSurface id request)) r ≡ answers_to (AskSurface id request) r
+    → told_alone (AskSurface id request) r ≡ answers_to (AskSurface id request) r
 asked-releases numbers slots tied r id number request plain kept named =
     let there = surface-named numbers slots tied r.owned.surfaces kept id number named in
     let read = surface-read numbers slots tied r.owned.surfaces kept id number named ∙ there.1 in
@@ -407,7 +407,7 @@ asked-releases numbers slots tied r id number request plain kept named =
 -- the request is counted, and done
 pub counted-does : {A : Type 0} (old mid new : Kept A) (r : Resident) (ask : Resident → Ask) → IsResident old r → mid.client ≡ record old.client { requests = mid.client.requests }
     → mid.owned ≡ old.owned → mid.subsurfaces ≡ old.subsurfaces → IsPeer mid.client (counted r.peer)
-    → told_simply (Asking (ask (with_peer (counted r.peer) r))) (with_peer (counted r.peer) r) ≡ answers_to (ask (with_peer (counted r.peer) r)) (with_peer (counted r.peer) r)
+    → told_alone (ask (with_peer (counted r.peer) r)) (with_peer (counted r.peer) r) ≡ answers_to (ask (with_peer (counted r.peer) r)) (with_peer (counted r.peer) r)
     → Does ask mid new → AnswersSo (Ok (ask (with_peer (counted r.peer) r))) r old new
 counted-does old mid new r ask is only same kept peer told does =
     let one_more : Resident = with_peer (counted r.peer) r in

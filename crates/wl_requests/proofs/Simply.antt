@@ -16,7 +16,7 @@ use Rattle.wl_plain.specs.Replies.{releases, replies}
 use Rattle.wl_plain.specs.Stacked.{all_windows}
 use Rattle.wl_plain.specs.Step.{changed_by, takes_memory, with_peer}
 use Rattle.wl_records.proofs.Toplevels.Releases.{asked-told}
-use Rattle.wl_records.proofs.Toplevels.Simply.{Asking, told_simply as told_alone}
+use Rattle.wl_records.proofs.Toplevels.Simply.{told_alone}
 use Rattle.wl_without_popups.specs.NoPopups.{OwnsNoPopups}
 use Rattle.wl_plain.specs.LeftOut.{served_now}
 use Rattle.wl_without_popups.specs.Simple.{IsServed, answers_simply, changed_simply, told_simply}
@@ -39,7 +39,7 @@ AnswersSimply (Err refusal) r old new = (q : Peer) × Errs refusal r.peer q × I
 -- what is asked alone releases nothing unless it is of a surface
 abbrev pub ActsAlone : {A : Type 0} → Ask → Resident → Kept A → Kept A → Type 0
 ActsAlone ask r old new =
-    (q : Peer) × WantsOr (takes_memory ask) (Queues (told_alone (Asking ask) r) (changed_by ask r).peer q) r.peer q × IsLeft old new (changed_by ask r) q
+    (q : Peer) × WantsOr (takes_memory ask) (Queues (told_alone ask r) (changed_by ask r).peer q) r.peer q × IsLeft old new (changed_by ask r) q
 
 abbrev pub AnswersSo : {A : Type 0} → Result Ask Refusal → Resident → Kept A → Kept A → Type 0
 AnswersSo (Ok ask) r old new = ActsAlone ask (with_peer (counted r.peer) r) old new

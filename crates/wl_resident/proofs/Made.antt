@@ -12,9 +12,10 @@ use Rattle.wl_named.proofs.Linking.{desynchronises-named, destroys-named, unlink
 use Rattle.wl_renaming.specs.Renaming.{has_surface}
 use Rattle.wl_plain.specs.Changing.{tree_committed, unlinked_at}
 use Rattle.wl_plain.specs.Demand.{Demand}
+use Rattle.wl_plain.specs.Demanding.{effect_of_commit}
 use Rattle.wl_plain.specs.Desktop.{Desktop, Resident, client_at, owned_of}
 use Rattle.wl_plain.specs.Step.{with_peer}
-use Rattle.wl_without_popups.specs.Simple.{changed_simply, effect_of}
+use Rattle.wl_without_popups.specs.Simple.{changed_simply}
 use Rattle.wl_orderly.specs.Orderly.{OwnsOrderly}
 use Rattle.wl_one_tree.specs.Changes.{ChangesTree, IsDemanded, IsDone}
 use Rattle.wl_one_tree.specs.Trees.{touched_by}
@@ -74,7 +75,7 @@ module _ {A : Type 0} (v mid : Kept A) (r : Resident) (p : Peer) (is : IsResiden
   made-by (Commits number) demand (id, e, named) made =
       subst (λ (d : Demand). StandBy names new after (changed_simply d (with_peer p r)).owned.surfaces) (sym e)
       (subst (λ (x : Surfaces). StandBy names new after x)
-      (sym (effect-surfaces id (effect_of (with_peer p r) id) (xdg_of id r.owned.shell) (tree_committed id (with_peer p r))))
+      (sym (effect-surfaces id (effect_of_commit (with_peer p r) id) (xdg_of id r.owned.shell) (tree_committed id (with_peer p r))))
       (committed-by (kept_numbers v) slots tied all is.owns.surfaces id number named new after made))
   made-by (Destroys number) demand (id, e, named) made =
       subst (λ (d : Demand). StandBy names new after (changed_simply d (with_peer p r)).owned.surfaces) (sym e)

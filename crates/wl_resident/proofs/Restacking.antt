@@ -15,7 +15,7 @@ use Rattle.wl_scene.specs.Windows.{mapping_place}
 use Rattle.wl_windows.specs.declared.window.TreeWindow.{TreeWindow}
 use Rattle.wl_scene.specs.Stacking.{Stack, Standing, is_of as is_standing, mapped_on, with_mapped, without_surface_of}
 use Rattle.wl_plain.specs.Demand.{Demand, CommitTree, EndToplevel}
-use Rattle.wl_plain.specs.Demanding.{effect_of_commit}
+use Rattle.wl_plain.specs.Demanding.{effect_of_commit, effect_on_xdg}
 use Rattle.wl_plain.specs.WlSurface.{will_show}
 use Rattle.wl_plain.specs.Desktop.{Desktop, Resident, owned_in}
 use Rattle.wl_plain.specs.LeftOut.{served_now}
@@ -32,8 +32,7 @@ use Rattle.wl_one_tree.specs.Trees.{HasTrees, touched_by}
 use Rattle.wl_one_tree.proofs.Stacks.{find-none, none-lower}
 use Rattle.wl_tree_steps.proofs.Descents.{is-top, no-child-is-top}
 use Rattle.wl_turned.proofs.Turned.{none-at, out-turned, stays-turned, top-turned}
-use Rattle.wl_without_popups.specs.Simple.{effect_for, effect_of, stacked_on, stacked_simply}
-use Rattle.wl_without_popups.proofs.Simple.{effect-same}
+use Rattle.wl_without_popups.specs.Simple.{stacked_on, stacked_simply}
 use Rattle.wl_without_popups.proofs.Windows.{windows_are_toplevels}
 use Rattle.wl_surface.specs.Trees.{levels}
 use Rattle.wl_requests.specs.declared.residents.Resident.{Resident as Kept}
@@ -91,20 +90,20 @@ some-same a b e = ap (λ (o : Option ℕ). option_map_or (λ n. n) o a) e
 
 module _ {A : Type 0} (c : ℕ) (old : Kept A) (r : Resident) (p : Peer) (owns : OwnsOrderly r) (d : Desktop) (stacking : Stacking) where
   -- a surface without xdg_surface neither goes nor comes
-  has-xdg : (id : ℕ) (effect : Effect) → effect_of r id ≡ effect → (effect ≡ Stays → ⊥) → is_some (xdg_of id r.owned.shell) ≡ true
+  has-xdg : (id : ℕ) (effect : Effect) → effect_of_commit r id ≡ effect → (effect ≡ Stays → ⊥) → is_some (xdg_of id r.owned.shell) ≡ true
   has-xdg id effect e never = at (xdg_of id r.owned.shell) refl
     where
       at : (o : Option Xdg) → xdg_of id r.owned.shell ≡ o → is_some (xdg_of id r.owned.shell) ≡ true
-      at None none = absurd (never (sym e ∙ ap (effect_for (will_show r id)) none))
+      at None none = absurd (never (sym e ∙ ap (effect_on_xdg (will_show r id)) none))
       at (Some x) some = ap (λ (o : Option Xdg). is_some o) some
 
   commit-turns : (id : ℕ) → StacksBy old id (effect_of_commit r id) stacking → Turns c (numbers old) id r d (stacked_simply c (CommitTree id) (with_peer p r) d) stacking
-  commit-turns id h = at (effect_of r id) refl (subst (λ (effect : Effect). StacksBy old id effect stacking) (effect-same r id owns.no_popups.roles) h)
+  commit-turns id h = at (effect_of_commit r id) refl h
     where
-      comes : (effect : Effect) → effect_of r id ≡ effect → (stacked_simply c (CommitTree id) (with_peer p r) d).standing ≡ (stacked_on effect c id d).standing
+      comes : (effect : Effect) → effect_of_commit r id ≡ effect → (stacked_simply c (CommitTree id) (with_peer p r) d).standing ≡ (stacked_on effect c id d).standing
       comes effect e = ap (λ (f : Effect). (stacked_on f c id d).standing) e
 
-      at : (effect : Effect) → effect_of r id ≡ effect → StacksBy old id effect stacking → Turns c (numbers old) id r d (stacked_simply c (CommitTree id) (with_peer p r) d) stacking
+      at : (effect : Effect) → effect_of_commit r id ≡ effect → StacksBy old id effect stacking → Turns c (numbers old) id r d (stacked_simply c (CommitTree id) (with_peer p r) d) stacking
       at Stays e h = inl (h, comes Stays e)
       at Unconfigured e h = inl (h, comes Unconfigured e)
       at Configures e h = inl (h, comes Configures e)

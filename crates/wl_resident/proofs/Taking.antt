@@ -56,7 +56,7 @@ use Rattle.wl_wire.specs.declared.header.Split.{Split}
 use Rattle.wl_wire.specs.declared.header.Split.TheVariants.{Message as Whole, More, Bad}
 use Rattle.wl_wire.specs.Wire.{split_of}
 use Rattle.wl_without_popups.proofs.Served.{IsServedSo, judge-served}
-use Rattle.wl_without_popups.proofs.Simple.{changes_simply, effect-same, replies_simply}
+use Rattle.wl_without_popups.proofs.Simple.{changes_simply, replies_simply}
 use Rattle.wl_without_popups.specs.NoPopups.{OwnsNoPopups}
 use Rattle.wl_without_popups.specs.Simple.{Becomes, DoesSimply, IsServed, answers_simply, changed_simply, stacked_on, stacked_simply, told_simply}
 
@@ -70,7 +70,7 @@ Stacks c old demand r d after stacking =
     ⊎ ((id : ℕ) × (n : ℕ) × (old id ≡ Some n) × (stacking ≡ on.ToTop n)
     × (after ≡ record d { standing = with_mapped d.mappings c id d.standing; mappings = d.mappings + 1 }) × (demand ≡ CommitTree id) × (effect_of_commit r id ≡ Maps)))
 
-module _ {A : Type 0} (c : ℕ) (old : Kept A) (r : Resident) (p : Peer) (top : AreToplevels r.owned.shell) (d : Desktop) (stacking : Stacking) where
+module _ {A : Type 0} (c : ℕ) (old : Kept A) (r : Resident) (p : Peer) (d : Desktop) (stacking : Stacking) where
   abbrev StacksHere : Demand → Type 0
   StacksHere demand = Stacks c (numbers old) demand (with_peer p r) d (stacked_simply c demand (with_peer p r) d) stacking
 
@@ -78,7 +78,7 @@ module _ {A : Type 0} (c : ℕ) (old : Kept A) (r : Resident) (p : Peer) (top : 
   commit-stacks id h = at (effect_of_commit r id) refl h
     where
       comes : (effect : Effect) → effect_of_commit r id ≡ effect → stacked_simply c (CommitTree id) (with_peer p r) d ≡ stacked_on effect c id d
-      comes effect e = ap (λ (f : Effect). stacked_on f c id d) (sym (effect-same r id top) ∙ e)
+      comes effect e = ap (λ (f : Effect). stacked_on f c id d) e
 
       at : (effect : Effect) → effect_of_commit r id ≡ effect → StacksBy old id effect stacking → StacksHere (CommitTree id)
       at Stays e h = inl (h, comes Stays e)
@@ -409,7 +409,7 @@ module _ {A : Type 0} (c : ℕ) (others : ℕ → ById ℕ) (base d : Desktop) (
         lives = changed-lives c demand one_more d owns served lives;
         told = meets.1;
         left = meets.2;
-        stacks = stacks-so c old r (counted p) owns.roles d stacking demand stacks;
+        stacks = stacks-so c old r (counted p) d stacking demand stacks;
         knows = record { undone = knows.undone; mapped = λ id h. knows.mapped id (ap (λ (a : Demand). Ok a) h.0, h.1) };
       }) new now settled in
       (m.0, m.1, done-so done demand c (with_peer p r) d m.0 m.2, m.3)

@@ -20,9 +20,10 @@ use Rattle.wl_told.proofs.Links.{desync-tells, unlink-tells}
 use Rattle.wl_tree_steps.proofs.Damage.{applies-nothing}
 use Rattle.wl_plain.specs.Changing.{tree_committed, unlinked_at}
 use Rattle.wl_plain.specs.Demand.{Demand, EndToplevel}
+use Rattle.wl_plain.specs.Demanding.{effect_of_commit}
 use Rattle.wl_plain.specs.Desktop.{Resident}
 use Rattle.wl_plain.specs.Step.{with_peer}
-use Rattle.wl_without_popups.specs.Simple.{changed_simply, effect_of}
+use Rattle.wl_without_popups.specs.Simple.{changed_simply}
 use Rattle.wl_orderly.specs.Orderly.{OwnsOrderly}
 use Rattle.wl_one_tree.specs.Changes.{IsDemanded}
 use Rattle.wl_one_tree.specs.Telling.{TellsTrees}
@@ -76,7 +77,7 @@ module _ {A : Type 0} (v : Kept A) (r : Resident) (p : Peer) (is : IsResident v 
   told-by (Commits number) demand (id, e, named) told =
       subst (λ (d : Demand). TellsTrees names changes all (changed_simply d (with_peer p r)).owned.surfaces) (sym e)
       (subst (λ (x : Surfaces). TellsTrees names changes all x)
-      (sym (effect-surfaces id (effect_of (with_peer p r) id) (xdg_of id r.owned.shell) (tree_committed id (with_peer p r))))
+      (sym (effect-surfaces id (effect_of_commit (with_peer p r) id) (xdg_of id r.owned.shell) (tree_committed id (with_peer p r))))
       (commit-told-by-name A reads-surfaces commits-surface (commit-tells A) names all id changes by-names.renaming orderly.once (here id number named)
       (subst (λ n. IsCommitTold n (renamed names all) changes) (sym (number-of-name (kept_numbers v) id number named)) (told (renamed names all) by-names.stands))))
   told-by (Destroys number) demand (id, e, named) told =

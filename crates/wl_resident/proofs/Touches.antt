@@ -228,7 +228,7 @@ if-only demand false x y f g = g
 commit-only : (object : ℕ) (o : Option Xdg) (effect : Effect) → IsOnly (CommitTree object) (committed_by o object effect)
 commit-only object None effect = refl
 commit-only object (Some x) Unconfigured = tt
-commit-only object (Some x) Configures = if-only (CommitTree object) (is_full x.serials) past_limit _ tt refl
+commit-only object (Some x) Configures = if-only (CommitTree object) (is_full x.configures) past_limit _ tt refl
 commit-only object (Some x) Stays = refl
 commit-only object (Some x) Maps = refl
 commit-only object (Some x) Unmaps = refl

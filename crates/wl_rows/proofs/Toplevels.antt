@@ -516,7 +516,7 @@ waiting n =
       base = 5;
       surface = 6;
       role = Some (record { id = 8; kind = Toplevel; stage = Waiting });
-      serials = replicate n 1;
+      configures = replicate n (record { serial = 1; placement = None });
       since = 0;
     }
 

@@ -116,13 +116,22 @@ module _ (id : ℕ) (change : XdgSurface → XdgSurface) (keeps_id : (x : XdgSur
           let apart_id : y.id ≢ id = λ h. away (one-surface other surface shell y x apart e found (h ∙ sym same)) in
           ap (λ b. Some (cond b (change y) y)) (unequal y.id id apart_id)
 
+-- a change that is none
+pub changed-same : (id : ℕ) (shell : Shell) → with_change id (λ x. x) shell ≡ shell
+changed-same id [] = refl
+changed-same id (x ∷ xs) = ap (λ y. y ∷ with_change id (λ x. x) xs) (either (x.id == id)) ∙ ap (λ ys. x ∷ ys) (changed-same id xs)
+  where
+    either : (b : Bool) → cond b x x ≡ x
+    either true = refl
+    either false = refl
+
 -- the last of all, where none before it passes
 appended : (p : XdgSurface → Bool) (shell : Shell) (x : XdgSurface) → find p (shell ++ x ∷ []) ≡ option_or (find p shell) (if p x then Some x else None)
 appended p shell x = find-append p shell (x ∷ [])
 
 module _ (id base surface : ℕ) where
   abbrev pub newest : XdgSurface
-  newest = record { id = id; base = base; surface = surface; role = None; serials = []; since = 0 }
+  newest = record { id = id; base = base; surface = surface; role = None; configures = []; since = 0 }
 
   pub new-here : (shell : Shell) → xdg_of surface shell ≡ None → xdg_of surface (with_new id base surface shell) ≡ Some newest
   new-here shell none = appended (λ x. x.surface == surface) shell newest ∙ ap (λ o. option_or o (if surface == surface then Some newest else None)) none

@@ -1,11 +1,11 @@
 -- Moves one after the other end at the nearest place.
 use Rattle.std.proofs.Common.{◌≡◌, Bool, true, false, refl, ap, sym, ◌∙◌, arith}
-use Rattle.std.specs.Prelude.{ℤ, pos, ◌+ℤ◌, ◌-ℤ◌, neg_ℤ, int_lt, ◌&&◌, ◌||◌, not, if◌then◌else◌}
+use Rattle.std.specs.Prelude.{ℤ, pos, ◌+ℤ◌, ◌-ℤ◌, int_lt, ◌&&◌, not, if◌then◌else◌}
 use Rattle.std.specs.Int.{int_min, int_max}
 use Rattle.std.proofs.lemmas.Bool.{false≢true}
 use Rattle.std.proofs.lemmas.Int.{ints}
 use Rattle.wl_shell.specs.Moves.{Lying, cut, flip, lies_out, moved_to, slide, towards_end, towards_start, tried, turned}
-use Rattle.wl_shell.specs.Positioner.{Axis, flipped, is_constrained, nearest, part_within, placed_on, resized, slid, start_of}
+use Rattle.wl_shell.specs.Positioner.{Axis, flipped, is_constrained, nearest, part_within, placed_on, slid, start_of}
 
 abbrev lying : ℤ → ℤ → ℤ → Lying
 lying start size gravity = record { start = start; size = size; gravity = gravity }

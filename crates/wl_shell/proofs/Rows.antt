@@ -3,7 +3,8 @@ use Rattle.std.proofs.Common.{◌≡◌, ℕ, [], ◌∷◌, Option, Some, None,
 use Rattle.std.specs.Prelude.{ℤ, pos, negsuc}
 use Rattle.wl_geom.specs.declared.rect.Rect.{Rect}
 use Rattle.wl_shell.specs.Positioner.{Placed, Positioner, first_positioner, is_complete, place, rect_set}
-use Rattle.wl_shell.specs.Shell.{Fresh, Waiting, Ready, Mapped, Unconfigured, Configures, Maps, Unmaps, acknowledged, later_than, next_serial, on_commit}
+use Rattle.wl_shell.specs.Popups.{new_popup, with_effect}
+use Rattle.wl_shell.specs.Shell.{Configure, Fresh, Waiting, Ready, Mapped, Unconfigured, Configures, Maps, Unmaps, XdgSurface, acknowledged, later_than, next_serial, on_commit}
 
 abbrev rect : ℤ → ℤ → ℤ → ℤ → Rect
 rect x y w h = record { x = x; y = y; w = w; h = h }
@@ -78,9 +79,20 @@ row_unmapped = refl
 pub row_unconfigured : on_commit (Some Waiting) true ≡ Unconfigured
 row_unconfigured = refl
 
--- an acknowledgement of the second of three serials leaves the third
-pub row_later : later_than 2 (1 ∷ 2 ∷ 3 ∷ []) ≡ 3 ∷ []
+-- an acknowledgement of the second of three configures leaves the third
+abbrev unplaced : ℕ → Configure
+unplaced serial = record { serial = serial; placement = None }
+
+pub row_later : later_than 2 (unplaced 1 ∷ unplaced 2 ∷ unplaced 3 ∷ []) ≡ unplaced 3 ∷ []
 row_later = refl
+
+-- a configure that waits keeps where it placed its popup, and a commit that configures places it
+abbrev corner_popup : XdgSurface
+corner_popup = new_popup 8 5 (at_the_corner (pos 0, pos 0)) 0 0 (record { id = 7; base = 4; surface = 6; role = None; configures = []; since = 0 })
+
+pub row_placed : (with_effect 3 1 (λ popup. placed (pos 40) (pos 40) (pos 8) (pos 8)) Configures corner_popup).configures
+    ≡ record { serial = 3; placement = placed (pos 40) (pos 40) (pos 8) (pos 8) } ∷ []
+row_placed = refl
 
 pub row_last_serial : next_serial 4294967295 ≡ 1
 row_last_serial = refl

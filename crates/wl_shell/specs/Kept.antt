@@ -3,7 +3,8 @@ use Rattle.std.specs.Option.{option_map}
 use Rattle.std.specs.Map.{lookup}
 use Rattle.std.specs.Ordering.{nat_cmp, is_eq}
 use Rattle.std.specs.Prelude.{ℕ, pos, ◌≡◌, ◌≤◌, ◌==◌, ◌&&◌, ◌||◌, int_lt, Bool, true, false, if◌then◌else◌, is_some, Option, Some, None}
-use Rattle.std.specs.Prelude.{Result, Ok, Err, List, [], ◌∷◌, ◌++◌, length, drop, fold}
+use Rattle.std.specs.Prelude.{Result, Ok, Err, List, [], ◌∷◌, ◌++◌, length, drop, fold, map}
+use Rattle.std.specs.List.{list_any}
 use Rattle.wl_geom.specs.declared.rect.Rect.{Rect}
 use Rattle.wl_state.specs.State.{History, geometry, geometry_asked}
 use Rattle.wl_shell.specs.declared.acts.ShellAct.{ShellAct}
@@ -12,8 +13,9 @@ use Rattle.wl_shell.specs.declared.error.ShellError.{ShellError}
 use Rattle.wl_shell.specs.declared.error.ShellError.TheVariants as error
 use Rattle.wl_shell.specs.declared.stage.Stage.{Stage}
 use Rattle.wl_shell.specs.declared.xdg_surface.Toplevel.{Toplevel as KeptToplevel}
+use Rattle.wl_shell.specs.Popups.{is_toplevel}
 use Rattle.wl_shell.specs.Shell.{Effect, Stays, Unconfigured, Configures, Maps, Unmaps, Fresh, Waiting, Mapped, RoleObject, Toplevel}
-use Rattle.wl_shell.specs.Shell.{XdgSurface, answers_states, at_stage, is_full, is_waiting, later_than, on_commit, role_acknowledged}
+use Rattle.wl_shell.specs.Shell.{XdgSurface, answers_states, at_stage, is_full, on_commit, role_acknowledged}
 
 -- An xdg_surface: its id, the xdg_wm_base that made it, its role object, the serials that wait, the
 -- earliest first, and its window geometry: the last one that was asked, and the one that counts.
@@ -49,6 +51,15 @@ changing surface change kept = with_kept surface (option_map change (kept surfac
 abbrev pub is_of_base : ℕ → ℕ × Kept → Bool
 is_of_base base entry = entry.1.base == base
 
+-- of serials alone: what is_waiting and later_than are of configures
+abbrev pub serial_waits : ℕ → List ℕ → Bool
+serial_waits serial serials = list_any (λ other. other == serial) serials
+
+abbrev pub serials_after : ℕ → List ℕ → List ℕ
+serials_after serial [] = []
+serials_after serial (s ∷ ss) =
+    if serial_waits serial ss then serials_after serial ss else (if s == serial then ss else s ∷ serials_after serial ss)
+
 -- ---- what each call makes of it
 
 abbrev pub first_kept : ℕ → ℕ → Kept
@@ -65,7 +76,7 @@ abbrev pub kept_asking : Rect → Kept → Kept
 kept_asking rect k = record k { pending = Some rect }
 
 abbrev pub kept_acknowledging : ℕ → Kept → Kept
-kept_acknowledging serial k = record k { role = option_map role_acknowledged k.role; serials = later_than serial k.serials }
+kept_acknowledging serial k = record k { role = option_map role_acknowledged k.role; serials = serials_after serial k.serials }
 
 abbrev pub kept_configuring : ℕ → Kept → Kept
 kept_configuring serial k = record k { serials = k.serials ++ serial ∷ [] }
@@ -119,7 +130,7 @@ serials_in (Some k) = k.serials
 -- xdg_surface.ack_configure
 abbrev pub acknowledgement_answer : ℕ → Option Kept → Result Unit ShellError
 acknowledgement_answer serial k =
-    with_role_object k (if is_waiting serial (serials_in k) then Ok tt else Err error.InvalidSerial)
+    with_role_object k (if serial_waits serial (serials_in k) then Ok tt else Err error.InvalidSerial)
 
 -- xdg_surface.destroy
 abbrev pub destruction_answer : Option Kept → Result Unit ShellError
@@ -154,13 +165,14 @@ kept_configured false serial k = k
 
 -- ---- what it stands for
 
--- What is kept stands for an xdg_surface whose surface has this history. A window geometry can be asked, and counts, only while there is
--- a role object; without one nothing is said of it.
+-- What is kept stands for an xdg_surface whose surface has this history. A role object is a toplevel. A window geometry can be asked, and
+-- counts, only while there is a role object; without one nothing is said of it.
 pub record Stands (k : Kept) (x : XdgSurface) (h : History) : Type 0 where
   pub id : k.id ≡ x.id
   pub base : k.base ≡ x.base
   pub role : k.role ≡ x.role
-  pub serials : k.serials ≡ x.serials
+  pub toplevel : is_some x.role ≡ true → is_toplevel (Some x) ≡ true
+  pub serials : k.serials ≡ map (λ c. c.serial) x.configures
   pub pending : is_some x.role ≡ true → k.pending ≡ fold geometry_asked None (drop x.since h.requests)
   pub applied : is_some x.role ≡ true → k.applied ≡ geometry x.since h
   pub since_le : x.since ≤ length h.requests

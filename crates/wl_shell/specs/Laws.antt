@@ -4,20 +4,21 @@ use Rattle.std.specs.Prelude.{IfSome, IsSomeAnd}
 use Rattle.std.specs.List.{list_any}
 use Rattle.wl_geom.specs.declared.rect.Rect.{Rect}
 use Rattle.wl_shell.specs.Moves.{moved_to}
-use Rattle.wl_shell.specs.Positioner.{Axis, placed_on}
+use Rattle.wl_shell.specs.Positioner.{Axis, Placed, placed_on}
 use Rattle.wl_state.specs.Request.{Request, Commit, SetWindowGeometry}
 use Rattle.wl_state.specs.State.{History, apply, geometry_asked}
 use Rattle.wl_shell.specs.declared.acts.ShellAct.{ShellAct}
 use Rattle.wl_shell.specs.Agreement.{IsShell, with_history}
 use Rattle.wl_shell.specs.Kept.{Kept, Stands, changing, commit_answer, first_kept, kept_acknowledging, kept_after, kept_asking}
 use Rattle.wl_shell.specs.Kept.{kept_configuring, kept_toplevel, kept_without_role, with_kept}
-use Rattle.wl_shell.specs.Shell.{Shell, XdgSurface, acknowledging, configuring, is_waiting, later_than, new_toplevel, on_commit, stage_of}
-use Rattle.wl_shell.specs.Shell.{with_change, with_effect, with_new, without_role, without_xdg, xdg_at, xdg_of}
+use Rattle.wl_shell.specs.Popups.{with_effect}
+use Rattle.wl_shell.specs.Shell.{Configure, Popup, Shell, XdgSurface, acknowledging, configuring, is_waiting, later_than, new_toplevel}
+use Rattle.wl_shell.specs.Shell.{on_commit, stage_of, with_change, with_new, without_role, without_xdg, xdg_at, xdg_of}
 
 -- An acknowledgement of a serial that waits leaves fewer.
 abbrev pub AcknowledgementForgets : Type 0
-AcknowledgementForgets = (serial : ℕ) (serials : List ℕ) → is_waiting serial serials ≡ true
-    → length (later_than serial serials) < length serials
+AcknowledgementForgets = (serial : ℕ) (configures : List Configure) → is_waiting serial configures ≡ true
+    → length (later_than serial configures) < length configures
 
 -- Flipping, sliding and resizing, told one after the other, end at the definition's place, whichever side gravity slides to first.
 abbrev pub MovesAgree : Type 0
@@ -36,7 +37,7 @@ abbrev pub NewStands : Type 0
 NewStands =
     (id base surface : ℕ) (h : History)
     → h.cut ≤ length h.requests
-    → Stands (first_kept id base) (record { id = id; base = base; surface = surface; role = None; serials = []; since = 0 }) h
+    → Stands (first_kept id base) (record { id = id; base = base; surface = surface; role = None; configures = []; since = 0 }) h
 
 -- a new toplevel: no window geometry counts that was asked before
 abbrev pub ToplevelStands : Type 0
@@ -56,10 +57,11 @@ AcknowledgementStands = (serial : ℕ) (k : Kept) (x : XdgSurface) (h : History)
 -- A commit that isn't refused. It is asked and applied, and the answer says what it comes to.
 abbrev pub CommitStands : Type 0
 CommitStands =
-    (has_buffer : Bool) (serial : ℕ) (act : ShellAct) (k : Kept) (x : XdgSurface) (h : History)
+    (has_buffer : Bool) (serial : ℕ) (where_to : Popup → Option Placed) (act : ShellAct) (k : Kept) (x : XdgSurface) (h : History)
     → commit_answer has_buffer (Some k) ≡ Ok act
     → Stands k x h
-    → Stands (kept_after serial act k) (with_effect serial (length (one_more Commit h).requests) (on_commit (stage_of x) has_buffer) x)
+    → Stands (kept_after serial act k)
+    (with_effect serial (length (one_more Commit h).requests) where_to (on_commit (stage_of x) has_buffer) x)
     (apply (one_more Commit h))
 
 -- a configure is sent

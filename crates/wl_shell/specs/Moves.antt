@@ -1,6 +1,6 @@
 -- The adjustments of a popup's place as the standard tells them, one after the other (xdg-shell.xml,
 -- xdg_positioner.set_constraint_adjustment).
-use Rattle.std.specs.Prelude.{ℤ, pos, ◌+ℤ◌, ◌-ℤ◌, neg_ℤ, int_lt, ◌&&◌, not, Bool, if◌then◌else◌}
+use Rattle.std.specs.Prelude.{ℤ, pos, ◌+ℤ◌, ◌-ℤ◌, neg_ℤ, int_lt, ◌&&◌, Bool, if◌then◌else◌}
 use Rattle.std.specs.Int.{int_min, int_max}
 use Rattle.wl_shell.specs.Positioner.{Axis, flipped, is_constrained, part_within, start_of}
 

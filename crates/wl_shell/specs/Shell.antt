@@ -1,5 +1,5 @@
 -- The states of xdg surfaces (xdg-shell.xml, xdg_surface, xdg_toplevel and xdg_popup).
-use Rattle.std.specs.Option.{option_map}
+use Rattle.std.specs.Option.{option_and_then, option_map}
 use Rattle.std.specs.Prelude.{ℕ, ◌+◌, ◌==◌, nat_le, Bool, true, false, not, cond, if◌then◌else◌, Option, Some, None, List, [], ◌∷◌, ◌++◌}
 use Rattle.std.specs.Prelude.{length, find, map, filter}
 use Rattle.std.specs.List.{list_any}
@@ -40,14 +40,20 @@ pub record RoleObject : Type 0 where
   pub kind : Kind
   pub stage : Stage
 
--- An xdg_surface by its id: the xdg_wm_base that made it, its surface, its role object, if there is one, the serials of its configures that
--- weren't acknowledged, the earliest first, and the place in its surface's list from which on a window geometry counts.
+-- a configure that waits to be acknowledged: its serial, and where it placed the popup that it was for (xdg-shell.xml,
+-- xdg_surface.configure)
+pub record Configure : Type 0 where
+  pub serial : ℕ
+  pub placement : Option Placed
+
+-- An xdg_surface by its id: the xdg_wm_base that made it, its surface, its role object, if there is one, its configures that weren't
+-- acknowledged, the earliest first, and the place in its surface's list from which on a window geometry counts.
 pub record XdgSurface : Type 0 where
   pub id : ℕ
   pub base : ℕ
   pub surface : ℕ
   pub role : Option RoleObject
-  pub serials : List ℕ
+  pub configures : List Configure
   pub since : ℕ
 
 -- the xdg_surfaces of a client in order of creation
@@ -71,7 +77,7 @@ xdg_with object shell = find (λ x. is_role object x.role) shell
 
 abbrev pub with_new : ℕ → ℕ → ℕ → Shell → Shell
 with_new id base surface shell =
-    shell ++ record { id = id; base = base; surface = surface; role = None; serials = []; since = 0 } ∷ []
+    shell ++ record { id = id; base = base; surface = surface; role = None; configures = []; since = 0 } ∷ []
 
 abbrev pub without_xdg : ℕ → Shell → Shell
 without_xdg id shell = filter (λ x. not (x.id == id)) shell
@@ -98,7 +104,7 @@ pub data Effect : Type 0 where
   -- the role object's configure and that of the xdg_surface are sent
   Configures : Effect
   Maps : Effect
-  -- the window geometry is unset and the serials are forgotten
+  -- the window geometry is unset and the configures are forgotten
   Unmaps : Effect
 
 -- A commit by the stage of the role object, and whether the state that it would give has a buffer (xdg-shell.xml, xdg_surface: the initial
@@ -122,18 +128,19 @@ acknowledged stage.Waiting = Ready
 acknowledged stage.Ready = Ready
 acknowledged stage.Mapped = Mapped
 
--- An acknowledgement forgets its serial, the latest of that number, and those before it; no other serial may be acknowledged
+-- An acknowledgement forgets the latest configure of its serial and those before it; no other serial may be acknowledged
 -- (xdg-shell.xml, xdg_surface.ack_configure).
-abbrev pub is_waiting : ℕ → List ℕ → Bool
-is_waiting serial serials = list_any (λ other. other == serial) serials
+abbrev pub is_waiting : ℕ → List Configure → Bool
+is_waiting serial configures = list_any (λ c. c.serial == serial) configures
 
-abbrev pub later_than : ℕ → List ℕ → List ℕ
+abbrev pub later_than : ℕ → List Configure → List Configure
 later_than serial [] = []
-later_than serial (s ∷ ss) = if is_waiting serial ss then later_than serial ss else (if s == serial then ss else s ∷ later_than serial ss)
+later_than serial (c ∷ cs) =
+    if is_waiting serial cs then later_than serial cs else (if c.serial == serial then cs else c ∷ later_than serial cs)
 
 -- an xdg_surface has at most 64 configures that weren't acknowledged
-abbrev pub is_full : List ℕ → Bool
-is_full serials = nat_le 64 (length serials)
+abbrev pub is_full : {A : Type 0} → List A → Bool
+is_full configures = nat_le 64 (length configures)
 
 -- A configure is answered to a request for another state where one was configured before (xdg-shell.xml, xdg_toplevel.set_maximized).
 abbrev pub answers_states : Stage → Bool
@@ -148,34 +155,34 @@ next_serial serial = if serial == 4294967295 then 1 else serial + 1
 
 -- ---- what each change makes of an xdg_surface
 
--- a configure's serial waits to be acknowledged
-abbrev pub configuring : ℕ → XdgSurface → XdgSurface
-configuring serial x = record x { serials = x.serials ++ serial ∷ [] }
+-- where a popup was placed last; a toplevel is placed nowhere
+abbrev pub kind_placement : Kind → Option Placed
+kind_placement Toplevel = None
+kind_placement (IsPopup popup) = popup.placement
 
--- The serials are forgotten, and no window geometry counts that was asked before this place.
+abbrev pub placement_of : Option RoleObject → Option Placed
+placement_of role = option_and_then (λ object. kind_placement object.kind) role
+
+-- a configure waits to be acknowledged
+abbrev pub configuring : ℕ → XdgSurface → XdgSurface
+configuring serial x = record x { configures = x.configures ++ record { serial = serial; placement = placement_of x.role } ∷ [] }
+
+-- The configures are forgotten, and no window geometry counts that was asked before this place.
 abbrev pub forgetting : ℕ → XdgSurface → XdgSurface
-forgetting since x = record x { serials = []; since = since }
+forgetting since x = record x { configures = []; since = since }
 
 abbrev pub unmapping : ℕ → XdgSurface → XdgSurface
 unmapping since x = in_stage Fresh (forgetting since x)
 
 abbrev pub new_toplevel : ℕ → ℕ → XdgSurface → XdgSurface
-new_toplevel id since x = record x { role = Some (record { id = id; kind = Toplevel; stage = Fresh }); serials = []; since = since }
+new_toplevel id since x = record x { role = Some (record { id = id; kind = Toplevel; stage = Fresh }); configures = []; since = since }
 
--- a role object goes, and the serials with it
+-- a role object goes, and the configures with it
 abbrev pub without_role : XdgSurface → XdgSurface
-without_role x = record x { role = None; serials = [] }
+without_role x = record x { role = None; configures = [] }
 
 abbrev pub role_acknowledged : RoleObject → RoleObject
 role_acknowledged object = at_stage (acknowledged object.stage) object
 
 abbrev pub acknowledging : ℕ → XdgSurface → XdgSurface
-acknowledging serial x = record x { role = option_map role_acknowledged x.role; serials = later_than serial x.serials }
-
--- What a commit comes to. Its configure has this serial, and so many requests, the commit among them, were made of its surface.
-abbrev pub with_effect : ℕ → ℕ → Effect → XdgSurface → XdgSurface
-with_effect serial since Stays x = x
-with_effect serial since Unconfigured x = x
-with_effect serial since Configures x = configuring serial (in_stage Waiting x)
-with_effect serial since Maps x = in_stage Mapped x
-with_effect serial since Unmaps x = unmapping since x
+acknowledging serial x = record x { role = option_map role_acknowledged x.role; configures = later_than serial x.configures }

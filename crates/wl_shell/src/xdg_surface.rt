@@ -3,7 +3,7 @@
 ghost use Rattle.std.specs.Prelude.{◌≡◌, ◌≢◌, ◌<◌, ◌↔◌, ℕ, false, Option, Some, OnOk, OnErr, IfOk, IfSome, IfNone, IsTrue, drop, is_some, length, slice_index_or};
 ghost use Rattle.std.specs.Option.{option_map};
 ghost use Rattle.arrayvec.specs.ArrayVec.{array_vec_len};
-ghost use Rattle.wl_shell.specs.Shell.{is_full, is_waiting, later_than};
+ghost use Rattle.wl_shell.specs.Shell.{is_full};
 ghost use Rattle.wl_shell.specs.Kept.{acknowledgement_answer, commit_answer, configure_answer, destruction_answer, first_kept, geometry_answer, kept_acknowledging, kept_after, kept_asking, kept_configured, kept_configuring, kept_forgetting, kept_in_stage, kept_toplevel, kept_unmapping, kept_without_role, role_of, stage_in, toplevel_answer};
 ghost use Rattle.wl_shell.specs.declared.acts.Placed.{Placed};
 ghost use Rattle.wl_shell.specs.declared.acts.ShellAct.TheVariants.{Configure};

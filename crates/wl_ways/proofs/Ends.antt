@@ -17,7 +17,7 @@ use Rattle.wl_scene.specs.Stacking.{Standing, is_of, with_mapped, without_client
 use Rattle.wl_scene.specs.Windows.{mapping_place}
 use Rattle.wl_plain.specs.declared.answers.Done.{Done}
 use Rattle.wl_plain.specs.Demand.{Demand, CommitTree, EndToplevel}
-use Rattle.wl_plain.specs.Demanding.{judge_all}
+use Rattle.wl_plain.specs.Demanding.{effect_of_commit, judge_all}
 use Rattle.wl_plain.specs.Desktop.{Desktop, Resident, become, become_by, client_at, client_in, owned_of, resident_of, status_in, toplevels_of, with_client}
 use Rattle.wl_plain.specs.Framing.{FramesToldAt, FramesToldBy, done_due}
 use Rattle.wl_plain.specs.Happens.{wants_memory}
@@ -30,7 +30,7 @@ use Rattle.wl_laws.proofs.Runs.Forms.{LeavesAt}
 use Rattle.wl_laws.proofs.Runs.Places.{client-become, number-other, status-become}
 use Rattle.wl_records.proofs.Toplevels.Back.{settled-back}
 use Rattle.wl_records.proofs.Toplevels.Serves.{becomes-same}
-use Rattle.wl_without_popups.specs.Simple.{AnswersSimply, Becomes, DoesSimply, TakesSimply, WantsOr, changed_simply, effect_of, stacked_on, stacked_simply}
+use Rattle.wl_without_popups.specs.Simple.{AnswersSimply, Becomes, DoesSimply, TakesSimply, WantsOr, changed_simply, stacked_on, stacked_simply}
 use Rattle.wl_without_popups.proofs.Messages.{messages_are_simple}
 use Rattle.wl_orderly.specs.Orderly.{Orderly, OrderlyAt, OrderlyBy}
 use Rattle.wl_orderly.proofs.Clients.{orderly_has_no_popups}
@@ -86,7 +86,7 @@ commit-leaves Maps c surface d = record { clients = refl; standing = without-map
 commit-leaves Unmaps c surface d = record { clients = refl; standing = without-its c surface d.standing; output = refl }
 
 pub stacked-leaves : (c : ℕ) (demand : Demand) (r : Resident) (d : Desktop) → LeavesOthers c d (stacked_simply c demand r d)
-stacked-leaves c (CommitTree surface) r d = commit-leaves (effect_of r surface) c surface d
+stacked-leaves c (CommitTree surface) r d = commit-leaves (effect_of_commit r surface) c surface d
 stacked-leaves c (EndToplevel id xdg surface) r d = record { clients = refl; standing = without-its c surface d.standing; output = refl }
 stacked-leaves c demand r d = record { clients = refl; standing = refl; output = refl }
 

@@ -18,6 +18,7 @@ use Rattle.wl_plain.specs.Ask.{Ask, Own, CreateSurface, AskSurface, EndObject, G
 use Rattle.wl_plain.specs.Changing.{after_all, is_asked, link_with_id, mode_set, tree_committed, unlinked_at, without_callbacks, without_child}
 use Rattle.wl_plain.specs.Demand.{Demand, Asks, EndSurface, AskFrame, CommitTree, GetSubsurface, EndSubsurface, SetMode}
 use Rattle.wl_plain.specs.Demand.{EndToplevel}
+use Rattle.wl_plain.specs.Demanding.{effect_of_commit}
 use Rattle.wl_plain.specs.Desktop.{Resident, Subsurface}
 use Rattle.wl_plain.specs.Step.{changed_by, making, toplevel_given, with_surfaces}
 use Rattle.wl_plain.specs.WlSubsurface.{has_subsurface, is_of_child}
@@ -28,7 +29,7 @@ use Rattle.wl_laws.proofs.Soundness.ObjectsThere.{there-changed, there-committed
 use Rattle.wl_laws.proofs.Soundness.Orderly.{IsAllowed, IsAsked}
 use Rattle.wl_records.specs.Toplevels.{AreToplevels}
 use Rattle.wl_without_popups.specs.NoPopups.{OwnsNoPopups}
-use Rattle.wl_without_popups.specs.Simple.{IsServed, changed_simply, effect_of, effect_on}
+use Rattle.wl_without_popups.specs.Simple.{IsServed, changed_simply, effect_on}
 use Rattle.wl_without_popups.proofs.Held.{AreHeld, Left, Rest, bare-new, bare-of, held-at, held-callback}
 use Rattle.wl_without_popups.proofs.Held.{held-destroyed, held-left, held-subsurface, held-surface, held-there, held-without, other-left}
 use Rattle.wl_without_popups.proofs.Held.{own-held}
@@ -129,8 +130,8 @@ there-owns all r there apart owns =
 
 effect-owns : (id : ℕ) (effect : Effect) (o : Option Xdg) (r : Resident) → AreToplevels (effect_on id effect o r).owned.shell → OwnsNoPopups r → OwnsNoPopups (effect_on id effect o r)
 effect-owns id effect None r roles owns = owns
-effect-owns id Stays (Some x) r roles owns = owns
-effect-owns id Unconfigured (Some x) r roles owns = owns
+effect-owns id Stays (Some x) r roles owns = owns-by (effect_on id Stays (Some x) r) owns.apart roles owns.children owns.pointers (held-of r owns)
+effect-owns id Unconfigured (Some x) r roles owns = owns-by (effect_on id Unconfigured (Some x) r) owns.apart roles owns.children owns.pointers (held-of r owns)
 effect-owns id Configures (Some x) r roles owns = owns-by (effect_on id Configures (Some x) r) owns.apart roles owns.children owns.pointers (held-of r owns)
 effect-owns id Maps (Some x) r roles owns = owns-by (effect_on id Maps (Some x) r) owns.apart roles owns.children owns.pointers (held-of r owns)
 effect-owns id Unmaps (Some x) r roles owns = owns-by (effect_on id Unmaps (Some x) r) owns.apart roles owns.children owns.pointers (held-of r owns)
@@ -187,7 +188,7 @@ ended-subsurface-owns id r ok owns =
 
 commit-owns : (id : ℕ) (r : Resident) → OwnsNoPopups r → OwnsNoPopups (changed_simply (CommitTree id) r)
 commit-owns id r owns =
-    effect-owns id (effect_of r id) (xdg_of id r.owned.shell) (tree_committed id r) (tops-kept (CommitTree id) r owns.roles)
+    effect-owns id (effect_of_commit r id) (xdg_of id r.owned.shell) (tree_committed id r) (tops-kept (CommitTree id) r owns.roles)
     (there-owns (committed_in id r.owned.surfaces) r (there-committed id r.owned.surfaces) (apart-committed id r.owned.surfaces owns.apart) owns)
 
 pub demanded-owns : (demand : Demand) (r : Resident) → IsServed demand → IsAllowed r demand → OwnsNoPopups r → OwnsNoPopups (changed_simply demand r)

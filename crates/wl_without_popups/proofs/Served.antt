@@ -59,7 +59,7 @@ commit-served : (o : Option Xdg) (object : ℕ) (effect : Effect) → IsServedSo
 commit-served None object effect = tt
 commit-served (Some x) object Stays = tt
 commit-served (Some x) object Unconfigured = tt
-commit-served (Some x) object Configures = if-served (is_full x.serials) _ _ (λ full. tt) (λ room. tt)
+commit-served (Some x) object Configures = if-served (is_full x.configures) _ _ (λ full. tt) (λ room. tt)
 commit-served (Some x) object Maps = tt
 commit-served (Some x) object Unmaps = tt
 

@@ -1,42 +1,48 @@
 -- What is demanded of a client that has no popups is done simply.
 use Rattle.std.proofs.Common.{◌≡◌, ℕ, List, [], ◌∷◌, ◌++◌, Bool, true, false, Option, Some, None, cond, refl, ap, subst, sym, ◌∙◌, map, inl, inr}
-use Rattle.std.specs.Prelude.{◌==◌, ◌⊎◌}
+use Rattle.std.specs.Prelude.{◌==◌, ◌⊎◌, is_some}
 use Rattle.std.specs.Option.{option_map, option_map_or}
 use Rattle.wl_peer.specs.Told.{Said}
-use Rattle.wl_shell.specs.Popups.{is_parent_of, is_toplevel, is_toplevel_kind, orphan, orphaning, placing, popup_changed, with_popup, with_popup_role, without_grab}
-use Rattle.wl_shell.specs.Shell.{Effect, Stays, Unconfigured, Configures, Maps, Unmaps, Waiting, Kind, Toplevel, Popup, RoleObject, Shell, XdgSurface as Xdg, in_stage, on_commit, stage_of}
-use Rattle.wl_shell.specs.Shell.{unmapping, with_change, without_role, xdg_of}
+use Rattle.wl_shell.specs.Popups.{is_parent_of, is_toplevel, is_toplevel_kind, orphan, orphaning, placing, popup_changed, with_effect}
+use Rattle.wl_shell.specs.Positioner.{Placed}
+use Rattle.wl_shell.specs.Shell.{Effect, Stays, Unconfigured, Configures, Maps, Unmaps, Waiting, Kind, Toplevel, IsPopup, Popup, RoleObject, Shell, XdgSurface as Xdg, configuring, in_stage, on_commit, stage_of}
+use Rattle.wl_shell.specs.Shell.{with_change, without_role, xdg_of}
+use Rattle.wl_shell.proofs.Standing.{popup-still as popup-still-there}
 use Rattle.wl_scene.specs.Pointer.{first_pointer}
 use Rattle.wl_scene.specs.Windows.{Window}
-use Rattle.wl_plain.specs.Changing.{changed_for, commit_done, effect_done, placement_now, stacked_by, stacked_for, toplevel_ended, tree_committed, with_kept_move}
+use Rattle.wl_plain.specs.Changing.{changed_for, commit_done, drawing, effect_done, is_configure, placement_now, stacked_by, stacked_for, toplevel_ended, tree_committed, with_kept_move}
 use Rattle.wl_plain.specs.Demand.{Demand, Asks, EndSurface, AskFrame, CommitTree, GetSubsurface, EndSubsurface, SetMode, GetPointer, MakeCursor, CreatePositioner, EndPositioner}
 use Rattle.wl_plain.specs.Demand.{SetPositioner, GetPopup, Grab, EndPopup, EndToplevel, Move}
 use Rattle.wl_plain.specs.Demanding.{effect_of_commit, effect_on_xdg, is_dismissed}
 use Rattle.wl_plain.specs.Desktop.{Desktop, Resident}
 use Rattle.wl_plain.specs.Replies.{commit_told, configure_told, own_answers, releases}
 use Rattle.wl_plain.specs.Stacked.{all_windows}
-use Rattle.wl_plain.specs.Step.{asked_so_far, configured, configures_told, removing, role_configured, with_shell}
+use Rattle.wl_plain.specs.Step.{asked_so_far, configures_told, removing, role_configured, with_shell}
 use Rattle.wl_plain.specs.WlSurface.{will_show}
 use Rattle.wl_records.specs.Toplevels.{AreToplevels, IsToplevel}
 use Rattle.wl_records.proofs.Toplevels.Buffers.{nothing-after}
 use Rattle.wl_records.proofs.Toplevels.Changed.{none-dismissed, stage-top}
 use Rattle.wl_records.proofs.Toplevels.Judged.{IsToplevelAt, found-toplevel, none-popped}
-use Rattle.wl_records.proofs.Toplevels.Serves.{kept-still, none-done, top-effect as top-effect-there, tops-kept as tops-kept-there}
-use Rattle.wl_records.proofs.Toplevels.Simply.{Asking, DestroyToplevel}
-use Rattle.wl_without_popups.specs.Simple.{IsServed, answers_on, answers_simply, changed_simply, effect_for, effect_of, effect_on, stacked_on, stacked_simply}
+use Rattle.wl_records.proofs.Toplevels.Serves.{kept-still, none-done, top-effect, tops-gone, tops-kept as tops-kept-there}
+use Rattle.wl_without_popups.specs.Simple.{IsServed, answers_on, answers_simply, changed_simply, effect_on, stacked_on, stacked_simply}
 use Rattle.wl_without_popups.specs.SimpleLaws.{ChangesSimply, DoesNoMore, RepliesSimply, StacksSimply}
 
 -- ---- popups, where there are none
 
-kind-still : (change : Popup → Popup) (kind : Kind) → kind ≡ Toplevel → with_popup change kind ≡ kind
-kind-still change kind is = ap (with_popup change) is ∙ sym is
+top-if : (o : Option RoleObject) → IsToplevel o → is_some o ≡ true → option_map_or (λ (object : RoleObject). is_toplevel_kind object.kind) o false ≡ true
+top-if None top there = absurd (cc)
+top-if (Some object) top there = ap is_toplevel_kind top
 
-role-still : (change : Popup → Popup) (o : Option RoleObject) → IsToplevel o → option_map (with_popup_role change) o ≡ o
-role-still change None top = refl
-role-still change (Some object) top = ap (λ (k : Kind). Some (record object { kind = k })) (kind-still change object.kind top)
+pub if-top : (o : Option RoleObject) → (is_some o ≡ true → option_map_or (λ (object : RoleObject). is_toplevel_kind object.kind) o false ≡ true) → IsToplevel o
+if-top None top = tt
+if-top (Some object) top = at object.kind (top refl)
+  where
+    at : (kind : Kind) → is_toplevel_kind kind ≡ true → kind ≡ Toplevel
+    at Toplevel is = refl
+    at (IsPopup popup) is = absurd (cc)
 
 popup-still : (change : Popup → Popup) (x : Xdg) → IsToplevel x.role → popup_changed change x ≡ x
-popup-still change x top = ap (λ (o : Option RoleObject). record x { role = o }) (role-still change x.role top)
+popup-still change x top = popup-still-there change x (top-if x.role top)
 
 all-still : (change : Popup → Popup) (xs : Shell) → AreToplevels xs → map (popup_changed change) xs ≡ xs
 all-still change [] top = refl
@@ -54,31 +60,31 @@ change-same id f g same (x ∷ xs) top =
 
 -- ---- what a commit comes to
 
-effect-so : (shows : Bool) (o : Option Xdg) → IsToplevelAt o → effect_on_xdg shows o ≡ effect_for shows o
-effect-so shows None top = refl
-effect-so shows (Some x) top = ap (λ ps. cond (is_dismissed ps) Stays (on_commit (stage_of x) shows)) (none-popped x top)
+-- of a toplevel it is what the table says
+pub effect-toplevel : (shows : Bool) (x : Xdg) → IsToplevel x.role → effect_on_xdg shows (Some x) ≡ on_commit (stage_of x) shows
+effect-toplevel shows x top = ap (λ ps. cond (is_dismissed ps) Stays (on_commit (stage_of x) shows)) (none-popped x top)
 
-pub effect-same : (r : Resident) (surface : ℕ) → AreToplevels r.owned.shell → effect_of_commit r surface ≡ effect_of r surface
-effect-same r surface top = effect-so (will_show r surface) (xdg_of surface r.owned.shell) (found-toplevel (λ x. x.surface == surface) r.owned.shell top)
+-- where a popup is placed is nothing to it
+with-effect-same : (serial since : ℕ) (where_to other : Popup → Option Placed) (effect : Effect) (x : Xdg) → IsToplevel x.role
+    → with_effect serial since where_to effect x ≡ with_effect serial since other effect x
+with-effect-same serial since where_to other Stays x top = refl
+with-effect-same serial since where_to other Unconfigured x top = refl
+with-effect-same serial since where_to other Configures x top =
+    let waits : IsToplevel (in_stage Waiting x).role = stage-top Waiting x.role top in
+    ap (configuring serial) (popup-still (placing where_to) (in_stage Waiting x) waits ∙ sym (popup-still (placing other) (in_stage Waiting x) waits))
+with-effect-same serial since where_to other Maps x top = refl
+with-effect-same serial since where_to other Unmaps x top = refl
 
 effect-done : (c id : ℕ) (effect : Effect) (o : Option Xdg) (d : Desktop) (r : Resident) → AreToplevels r.owned.shell → effect_done c id effect o d r ≡ effect_on id effect o r
 effect-done c id effect None d r top = refl
-effect-done c id Stays (Some x) d r top = refl
-effect-done c id Unconfigured (Some x) d r top = refl
-effect-done c id Configures (Some x) d r top =
-    ap (λ shell. configured x.id (with_shell shell r))
-    (change-same x.id (λ x. popup_changed (placing (placement_now c r d)) (in_stage Waiting x)) (in_stage Waiting)
-    (λ y is. popup-still (placing (placement_now c r d)) (in_stage Waiting y) (stage-top Waiting y.role is)) r.owned.shell top)
-effect-done c id Maps (Some x) d r top = refl
-effect-done c id Unmaps (Some x) d r top =
-    ap (λ shell. with_shell shell r)
-    (change-same x.id (λ x. popup_changed without_grab (unmapping (asked_so_far id r) x)) (unmapping (asked_so_far id r))
-    (λ y is. popup-still without_grab (unmapping (asked_so_far id r) y) (stage-top _ y.role is)) r.owned.shell top)
+effect-done c id effect (Some x) d r top =
+    ap (λ shell. drawing (is_configure effect) (with_shell shell r))
+    (change-same x.id (with_effect r.peer.serial (asked_so_far id r) (placement_now c r d) effect) (with_effect r.peer.serial (asked_so_far id r) (λ popup. None) effect)
+    (λ y is. with-effect-same r.peer.serial (asked_so_far id r) (placement_now c r d) (λ popup. None) effect y is) r.owned.shell top)
 
 commit-same : (c id : ℕ) (r : Resident) (d : Desktop) → AreToplevels r.owned.shell → commit_done c id r d ≡ changed_simply (CommitTree id) r
 commit-same c id r d top =
-    let o = xdg_of id r.owned.shell in
-    ap (λ f. effect_done c id f o d (tree_committed id r)) (effect-same r id top) ∙ effect-done c id (effect_of r id) o d (tree_committed id r) top
+    effect-done c id (effect_of_commit r id) (xdg_of id r.owned.shell) d (tree_committed id r) top
 
 toplevel-same : (id xdg top : ℕ) (r : Resident) → AreToplevels r.owned.shell → toplevel_ended id xdg r ≡ changed_simply (EndToplevel id xdg top) r
 toplevel-same id xdg top r roles =
@@ -106,27 +112,19 @@ changes_simply c (EndPopup id xdg) r d owns served = absurd served
 
 -- ---- the role objects stay toplevels
 
-top-effect : (id : ℕ) (effect : Effect) (o : Option Xdg) (r : Resident) → AreToplevels r.owned.shell → AreToplevels (effect_on id effect o r).owned.shell
-top-effect id effect None r top = top
-top-effect id Stays (Some x) r top = top
-top-effect id Unconfigured (Some x) r top = top
-top-effect id Configures (Some x) r top = top-effect-there id Configures (Some x) r top
-top-effect id Maps (Some x) r top = top-effect-there id Maps (Some x) r top
-top-effect id Unmaps (Some x) r top = top-effect-there id Unmaps (Some x) r top
-
 mode-top : (link : ℕ) (b : Bool) (r : Resident) → AreToplevels r.owned.shell → AreToplevels (changed_simply (SetMode link b) r).owned.shell
 mode-top link true r top = top
 mode-top link false r top = top
 
 pub tops-kept : (demand : Demand) (r : Resident) → AreToplevels r.owned.shell → AreToplevels (changed_simply demand r).owned.shell
-tops-kept (Asks ask) r top = tops-kept-there (Asking ask) r top
+tops-kept (Asks ask) r top = tops-kept-there ask r top
 tops-kept (EndSurface id) r top = top
 tops-kept (AskFrame id version surface) r top = top
-tops-kept (CommitTree id) r top = top-effect id (effect_of r id) (xdg_of id r.owned.shell) (tree_committed id r) top
+tops-kept (CommitTree id) r top = top-effect (λ popup. None) id (effect_of_commit r id) (xdg_of id r.owned.shell) (tree_committed id r) top
 tops-kept (GetSubsurface id version child parent) r top = top
 tops-kept (EndSubsurface id) r top = top
 tops-kept (SetMode link synchronised) r top = mode-top link synchronised r top
-tops-kept (EndToplevel id xdg surface) r top = tops-kept-there (DestroyToplevel id xdg surface) r top
+tops-kept (EndToplevel id xdg surface) r top = tops-gone xdg r top
 tops-kept demand r top = top
 
 -- ---- what the client is told
@@ -151,8 +149,7 @@ answers-same c (Asks ask) r windows d top served = refl
 answers-same c (EndSurface id) r windows d top served = refl
 answers-same c (AskFrame id version surface) r windows d top served = refl
 answers-same c (CommitTree id) r windows d top served =
-    ap (λ f. commit_told c f (xdg_of id r.owned.shell) (tree_committed id r) d) (effect-same r id top)
-    ∙ commit-answers c id (effect_of r id) (xdg_of id r.owned.shell) r (tree_committed id r) d refl refl (found-toplevel (λ x. x.surface == id) r.owned.shell top)
+    commit-answers c id (effect_of_commit r id) (xdg_of id r.owned.shell) r (tree_committed id r) d refl refl (found-toplevel (λ x. x.surface == id) r.owned.shell top)
 answers-same c (GetSubsurface id version child parent) r windows d top served = refl
 answers-same c (EndSubsurface id) r windows d top served = refl
 answers-same c (SetMode link synchronised) r windows d top served = refl
@@ -189,13 +186,14 @@ role-there None x shows is top (inl e) = absurd ((role-none shows).0 (sym (ap (�
 role-there None x shows is top (inr e) = absurd ((role-none shows).1 (sym (ap (λ (p : Option RoleObject). on_commit (option_map (λ (object : RoleObject). object.stage) p) shows) is) ∙ e))
 role-there (Some object) x shows is top e = ap (λ (p : Option RoleObject). option_map_or (λ (object : RoleObject). is_toplevel_kind object.kind) p false) is ∙ ap is_toplevel_kind top
 
-is-mapped : (shows : Bool) (o : Option Xdg) → IsToplevelAt o → (effect_for shows o ≡ Maps) ⊎ (effect_for shows o ≡ Unmaps) → is_toplevel o ≡ true
+is-mapped : (shows : Bool) (o : Option Xdg) → IsToplevelAt o → (effect_on_xdg shows o ≡ Maps) ⊎ (effect_on_xdg shows o ≡ Unmaps) → is_toplevel o ≡ true
 is-mapped shows None top (inl e) = absurd (cc)
 is-mapped shows None top (inr e) = absurd (cc)
-is-mapped shows (Some x) top e = role-there x.role x shows refl top e
+is-mapped shows (Some x) top (inl e) = role-there x.role x shows refl top (inl (sym (effect-toplevel shows x top) ∙ e))
+is-mapped shows (Some x) top (inr e) = role-there x.role x shows refl top (inr (sym (effect-toplevel shows x top) ∙ e))
 
 -- what a commit maps or unmaps is a toplevel
-is-one : (shows : Bool) (o : Option Xdg) (effect : Effect) → IsToplevelAt o → effect_for shows o ≡ effect → (c id : ℕ) (d : Desktop)
+is-one : (shows : Bool) (o : Option Xdg) (effect : Effect) → IsToplevelAt o → effect_on_xdg shows o ≡ effect → (c id : ℕ) (d : Desktop)
     → stacked_by effect (is_toplevel o) c id d ≡ stacked_on effect c id d
 is-one shows o Stays top e c id d = refl
 is-one shows o Unconfigured top e c id d = refl
@@ -204,10 +202,9 @@ is-one shows o Maps top e c id d = ap (λ b. stacked_by Maps b c id d) (is-mappe
 is-one shows o Unmaps top e c id d = ap (λ b. stacked_by Unmaps b c id d) (is-mapped shows o top (inr e))
 
 stacked-commit : (c id : ℕ) (r : Resident) (d : Desktop) → AreToplevels r.owned.shell
-    → stacked_by (effect_of_commit r id) (is_toplevel (xdg_of id r.owned.shell)) c id d ≡ stacked_on (effect_of r id) c id d
+    → stacked_by (effect_of_commit r id) (is_toplevel (xdg_of id r.owned.shell)) c id d ≡ stacked_on (effect_of_commit r id) c id d
 stacked-commit c id r d top =
-    ap (λ f. stacked_by f (is_toplevel (xdg_of id r.owned.shell)) c id d) (effect-same r id top)
-    ∙ is-one (will_show r id) (xdg_of id r.owned.shell) (effect_of r id) (found-toplevel (λ x. x.surface == id) r.owned.shell top) refl c id d
+    is-one (will_show r id) (xdg_of id r.owned.shell) (effect_of_commit r id) (found-toplevel (λ x. x.surface == id) r.owned.shell top) refl c id d
 
 moved-plain : (c id serial : ℕ) (r : Resident) (windows : List Window) (d : Desktop)
     → stacked_for c (Move id serial) r windows (record d { pointer = first_pointer }) ≡ record d { pointer = first_pointer }
@@ -241,7 +238,7 @@ on-pointer Maps c id d = refl
 on-pointer Unmaps c id d = refl
 
 pub stacked-pointer : (c : ℕ) (demand : Demand) (r : Resident) (d : Desktop) → (stacked_simply c demand r d).pointer ≡ d.pointer
-stacked-pointer c (CommitTree id) r d = on-pointer (effect_of r id) c id d
+stacked-pointer c (CommitTree id) r d = on-pointer (effect_of_commit r id) c id d
 stacked-pointer c (EndToplevel id xdg top) r d = refl
 stacked-pointer c demand r d = refl
 

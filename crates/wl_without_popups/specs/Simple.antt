@@ -1,5 +1,5 @@
 -- What a message comes to where its client has no popups, and what becomes of the desktop where nobody points.
-use Rattle.std.specs.Prelude.{ℕ, ◌+◌, ◌-◌, ◌≡◌, ◌⊎◌, Bool, true, false, Option, Some, None, Result, Ok, Err, List, [], ◌∷◌, ◌++◌}
+use Rattle.std.specs.Prelude.{ℕ, ◌+◌, ◌-◌, ◌≡◌, ◌⊎◌, Bool, true, false, Option, None, Result, Ok, Err, List, [], ◌∷◌, ◌++◌}
 use Rattle.std.specs.Prelude.{map, take, drop}
 use Rattle.wl_wire.specs.Wire.{split_of}
 use Rattle.wl_wire.specs.declared.header.Split.{Split}
@@ -8,18 +8,16 @@ use Rattle.wl_peer.specs.declared.refusals.ErrorCode.TheVariants.{InvalidMethod}
 use Rattle.wl_peer.specs.declared.refusals.Refusal.{Refusal}
 use Rattle.wl_peer.specs.Peer.{Errs, LacksMemory, Peer, Queues, counted, with_rest}
 use Rattle.wl_peer.specs.Told.{Said, display_error, id_deleted}
-use Rattle.wl_shell.specs.Shell.{Effect, Stays, Unconfigured, Configures, Maps, Unmaps, Waiting, Mapped, XdgSurface as Xdg, in_stage}
-use Rattle.wl_shell.specs.Shell.{on_commit, stage_of, unmapping, without_role, xdg_of}
+use Rattle.wl_shell.specs.Shell.{Effect, Configures, Maps, Unmaps, XdgSurface as Xdg, without_role, xdg_of}
 use Rattle.wl_scene.specs.Stacking.{with_mapped, without_surface_of}
-use Rattle.wl_plain.specs.Changing.{callbacks_of, frame_asked, mode_set, subsurface_ended, subsurface_given, surface_ended, tree_committed}
+use Rattle.wl_plain.specs.Changing.{callbacks_of, effect_placing, frame_asked, mode_set, subsurface_ended, subsurface_given, surface_ended, tree_committed}
 use Rattle.wl_plain.specs.Demand.{Demand, Asks, EndSurface, AskFrame, CommitTree, GetSubsurface, EndSubsurface, SetMode, GetPointer}
 use Rattle.wl_plain.specs.Demand.{MakeCursor, CreatePositioner, EndPositioner, SetPositioner, GetPopup, Grab, EndPopup, EndToplevel}
-use Rattle.wl_plain.specs.Demanding.{judge_all}
+use Rattle.wl_plain.specs.Demanding.{effect_of_commit, judge_all}
 use Rattle.wl_plain.specs.Desktop.{Desktop, Resident, become}
 use Rattle.wl_plain.specs.Happens.{wants_memory}
 use Rattle.wl_plain.specs.Replies.{releases}
-use Rattle.wl_plain.specs.Step.{answers_to, asked_so_far, changed_by, configured, configures_told, removing, with_peer, xdg_changed}
-use Rattle.wl_plain.specs.WlSurface.{will_show}
+use Rattle.wl_plain.specs.Step.{answers_to, changed_by, configures_told, removing, with_peer, xdg_changed}
 use Rattle.wl_plain.specs.LeftOut.{served_now}
 
 -- what a request that is served may demand: nothing of popups, positioners and pointers
@@ -36,22 +34,9 @@ IsServed demand = Unit {0}
 
 -- ---- a commit
 
--- what a commit comes to for the shell: nothing of a surface without xdg_surface (xdg-shell.xml, xdg_surface)
-abbrev pub effect_for : Bool → Option Xdg → Effect
-effect_for shows None = Stays
-effect_for shows (Some x) = on_commit (stage_of x) shows
-
-abbrev pub effect_of : Resident → ℕ → Effect
-effect_of r surface = effect_for (will_show r surface) (xdg_of surface r.owned.shell)
-
 -- no popup is placed, and none has a grab
 abbrev pub effect_on : ℕ → Effect → Option Xdg → Resident → Resident
-effect_on surface effect None r = r
-effect_on surface Stays (Some x) r = r
-effect_on surface Unconfigured (Some x) r = r
-effect_on surface Configures (Some x) r = configured x.id (xdg_changed x.id (in_stage Waiting) r)
-effect_on surface Maps (Some x) r = xdg_changed x.id (in_stage Mapped) r
-effect_on surface Unmaps (Some x) r = xdg_changed x.id (unmapping (asked_so_far surface r)) r
+effect_on surface effect x r = effect_placing (λ popup. None) surface effect x r
 
 -- a toplevel that is mapped stands on top; one that is unmapped is taken out
 abbrev pub stacked_on : Effect → ℕ → ℕ → Desktop → Desktop
@@ -69,7 +54,7 @@ abbrev pub changed_simply : Demand → Resident → Resident
 changed_simply (Asks ask) r = changed_by ask r
 changed_simply (EndSurface id) r = surface_ended id r
 changed_simply (AskFrame id version surface) r = frame_asked id version surface r
-changed_simply (CommitTree surface) r = effect_on surface (effect_of r surface) (xdg_of surface r.owned.shell) (tree_committed surface r)
+changed_simply (CommitTree surface) r = effect_on surface (effect_of_commit r surface) (xdg_of surface r.owned.shell) (tree_committed surface r)
 changed_simply (GetSubsurface id version child parent) r = subsurface_given id version child parent r
 changed_simply (EndSubsurface id) r = subsurface_ended id r
 changed_simply (SetMode link synchronised) r = mode_set link synchronised r
@@ -78,7 +63,7 @@ changed_simply demand r = r
 
 -- what it does to the stack of toplevels
 abbrev pub stacked_simply : ℕ → Demand → Resident → Desktop → Desktop
-stacked_simply c (CommitTree surface) r d = stacked_on (effect_of r surface) c surface d
+stacked_simply c (CommitTree surface) r d = stacked_on (effect_of_commit r surface) c surface d
 stacked_simply c (EndToplevel id xdg surface) r d = record d { standing = without_surface_of c surface d.standing }
 stacked_simply c demand r d = d
 
@@ -86,7 +71,7 @@ stacked_simply c demand r d = d
 abbrev pub answers_simply : Demand → Resident → List Said
 answers_simply (Asks ask) r = answers_to ask r
 answers_simply (EndSurface id) r = id_deleted id ∷ map (λ callback. id_deleted callback.id) (callbacks_of id r)
-answers_simply (CommitTree surface) r = answers_on (effect_of r surface) surface r
+answers_simply (CommitTree surface) r = answers_on (effect_of_commit r surface) surface r
 answers_simply (EndSubsurface id) r = id_deleted id ∷ []
 answers_simply (EndToplevel id xdg surface) r = id_deleted id ∷ []
 answers_simply demand r = []

@@ -159,7 +159,7 @@ subsurface-named r object (Some l) is subsurface.SetDesync = tt
 committed-named : (r : Resident) (o : Option Xdg) (object : ℕ) (effect : Effect) → AllNamed r (committed_by o object effect)
 committed-named r None object effect = tt
 committed-named r (Some x) object Unconfigured = tt
-committed-named r (Some x) object Configures = either r (is_full x.serials) _ _ tt tt
+committed-named r (Some x) object Configures = either r (is_full x.configures) _ _ tt tt
 committed-named r (Some x) object Stays = tt
 committed-named r (Some x) object Maps = tt
 committed-named r (Some x) object Unmaps = tt
@@ -222,11 +222,11 @@ xdg-named r (Some x) version (xdg.GetPopup id parent positioner) =
 xdg-named r (Some x) version (xdg.SetWindowGeometry a b width height) =
     let it : Rect = rect a b width height in
     ask-either r (is_some x.role) _ _ (ask-either r (int_lt (pos 0) it.w && int_lt (pos 0) it.h) _ _ tt tt) tt
-xdg-named r (Some x) version (xdg.AckConfigure serial) = ask-either r (is_some x.role) _ _ (ask-either r (is_waiting serial x.serials) _ _ tt tt) tt
+xdg-named r (Some x) version (xdg.AckConfigure serial) = ask-either r (is_some x.role) _ _ (ask-either r (is_waiting serial x.configures) _ _ tt tt) tt
 
 state-named : (r : Resident) (o : Option Xdg) → AllNamed r (demands (state_asked o))
 state-named r None = tt
-state-named r (Some x) = ask-either r (option_map_or answers_states (stage_of x) false) _ _ (ask-either r (is_full x.serials) _ _ tt tt) tt
+state-named r (Some x) = ask-either r (option_map_or answers_states (stage_of x) false) _ _ (ask-either r (is_full x.configures) _ _ tt tt) tt
 
 moved-named : (r : Resident) (serial : ℕ) (o : Option Xdg) → AllNamed r (moved_by_pointer serial o)
 moved-named r serial None = tt

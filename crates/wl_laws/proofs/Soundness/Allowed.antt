@@ -40,7 +40,7 @@ use Rattle.wl_laws.proofs.Marks.Stacks.{or-left, or-right}
 committed-allowed : (r : Resident) (o : Option Xdg) (object : ℕ) (effect : Effect) → Allows r (committed_by o object effect)
 committed-allowed r None object effect = tt
 committed-allowed r (Some x) object Unconfigured = tt
-committed-allowed r (Some x) object Configures = either r (is_full x.serials) _ _ (λ e. tt) (λ e. tt)
+committed-allowed r (Some x) object Configures = either r (is_full x.configures) _ _ (λ e. tt) (λ e. tt)
 committed-allowed r (Some x) object Stays = tt
 committed-allowed r (Some x) object Maps = tt
 committed-allowed r (Some x) object Unmaps = tt

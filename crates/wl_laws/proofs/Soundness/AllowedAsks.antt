@@ -95,7 +95,7 @@ geometry-allowed r x rect =
     ask-either r (is_some x.role) _ _ (λ e. ask-either r (int_lt (pos 0) rect.w && int_lt (pos 0) rect.h) _ _ (λ f. tt) (λ f. tt)) (λ e. tt)
 
 acknowledged-allowed : (r : Resident) (x : Xdg) (serial : ℕ) → AllowsAsk r (acknowledged_by x serial)
-acknowledged-allowed r x serial = ask-either r (is_some x.role) _ _ (λ e. ask-either r (is_waiting serial x.serials) _ _ (λ f. tt) (λ f. tt)) (λ e. tt)
+acknowledged-allowed r x serial = ask-either r (is_some x.role) _ _ (λ e. ask-either r (is_waiting serial x.configures) _ _ (λ f. tt) (λ f. tt)) (λ e. tt)
 
 -- an xdg_surface of that id
 pub xdg-allowed : (r : Resident) (object version opcode : ℕ) (fields : List Field) (o : Option Xdg) → xdg_at object r.owned.shell ≡ o → IsHeardBy XdgSurface r object opcode fields
@@ -126,7 +126,7 @@ xdg-allowed r object version (suc (suc (suc (suc zero)))) fields (Some x) is hea
 xdg-allowed r object version (suc (suc (suc (suc (suc opcode))))) fields (Some x) is heard = absurd heard.kinds
 
 again-allowed : (r : Resident) (x : Xdg) → AllowsAsk r (configured_again x)
-again-allowed r x = ask-either r (option_map_or answers_states (stage_of x) false) _ _ (λ e. ask-either r (is_full x.serials) _ _ (λ f. tt) (λ f. tt)) (λ e. tt)
+again-allowed r x = ask-either r (option_map_or answers_states (stage_of x) false) _ _ (λ e. ask-either r (is_full x.configures) _ _ (λ f. tt) (λ f. tt)) (λ e. tt)
 
 pub state-allowed : (r : Resident) (o : Option Xdg) → AllowsAsk r (state_asked o)
 state-allowed r None = tt

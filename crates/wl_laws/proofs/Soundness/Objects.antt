@@ -36,7 +36,7 @@ use Rattle.wl_laws.proofs.Soundness.ObjectsHas.{Has, HasOf, has-made, has-of, ha
 use Rattle.wl_laws.proofs.Soundness.ObjectsKeys.{free-none, none-of-gone, objects-map}
 use Rattle.wl_laws.proofs.Soundness.ObjectsNew.{has-callback-more, has-object, has-object-gone, has-popup-more, has-subsurface-gone, has-subsurface-more, has-toplevel-more, has-xdg-gone, has-xdg-more}
 use Rattle.wl_laws.proofs.Soundness.ObjectsRoles.{has-popup-gone, has-toplevel-gone, only-mapped, only-popup, only-toplevel}
-use Rattle.wl_laws.proofs.Soundness.ObjectsShell.{BringsNoId, has-mapped, no-id-acknowledged, no-id-change, no-id-configured, no-id-dismissed, no-id-popup, no-id-stage, no-id-then, no-id-unmapped}
+use Rattle.wl_laws.proofs.Soundness.ObjectsShell.{BringsNoId, has-mapped, no-id-acknowledged, no-id-change, no-id-configured, no-id-dismissed, no-id-itself, no-id-popup, no-id-stage, no-id-then, no-id-unmapped}
 use Rattle.wl_laws.proofs.Soundness.ObjectsThere.{There, there-changed, there-committed, there-desynchronised, there-destroyed, there-linked, there-more, there-new, there-unlinked}
 use Rattle.wl_laws.proofs.Lists.Keys.{differ}
 
@@ -78,12 +78,13 @@ configured-has r id h = xdg-has r id (configuring r.peer.serial) (no-id-configur
 
 effect-has : (c surface : ℕ) (effect : Effect) (x : Option Xdg) (d : Desktop) (q : Resident) → HasOf q → HasOf (effect_done c surface effect x d q)
 effect-has c surface effect None d q h = h
-effect-has c surface Stays (Some x) d q h = h
-effect-has c surface Unconfigured (Some x) d q h = h
+effect-has c surface Stays (Some x) d q h = xdg-has q x.id (λ y. y) no-id-itself h
+effect-has c surface Unconfigured (Some x) d q h = xdg-has q x.id (λ y. y) no-id-itself h
 effect-has c surface Configures (Some x) d q h =
-    let change : Xdg → Xdg = λ x. popup_changed (placing (placement_now c q d)) (in_stage Waiting x) in
-    configured-has (xdg_changed x.id change q) x.id
-    (xdg-has q x.id change (no-id-then (in_stage Waiting) (popup_changed (placing (placement_now c q d))) (no-id-stage Waiting) (no-id-popup (placing (placement_now c q d)))) h)
+    let placed : Xdg → Xdg = λ y. popup_changed (placing (placement_now c q d)) (in_stage Waiting y) in
+    xdg-has q x.id (λ y. configuring q.peer.serial (placed y))
+    (no-id-then placed (configuring q.peer.serial) (no-id-then (in_stage Waiting) (popup_changed (placing (placement_now c q d))) (no-id-stage Waiting) (no-id-popup (placing (placement_now c q d))))
+    (no-id-configured q.peer.serial)) h
 effect-has c surface Maps (Some x) d q h = xdg-has q x.id (in_stage Mapped) (no-id-stage Mapped) h
 effect-has c surface Unmaps (Some x) d q h =
     xdg-has q x.id (λ x. popup_changed without_grab (unmapping (asked_so_far surface q) x))

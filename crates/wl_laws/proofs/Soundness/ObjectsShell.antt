@@ -80,6 +80,9 @@ no-id-acknowledged serial = record {
   popup = λ key x e. sym (role-popup key role_acknowledged (λ object. refl) (λ object. refl) x.role) ∙ e;
 }
 
+pub no-id-itself : BringsNoId (λ x. x)
+no-id-itself = record { id = λ x. refl; toplevel = λ key x e. e; popup = λ key x e. e }
+
 pub no-id-configured : (serial : ℕ) → BringsNoId (configuring serial)
 no-id-configured serial = record { id = λ x. refl; toplevel = λ key x e. e; popup = λ key x e. e }
 

@@ -240,7 +240,7 @@ roles-shelled id base surface r foreign none has =
     (λ n link live named. named) (new-apart has_surface r.owned.shell one (λ key is. ap (λ k. xdg_of k r.owned.shell) (sym (eqb-true surface key is)) ∙ none) has.apart) has
   where
     one : XdgSurface
-    one = record { id = id; base = base; surface = surface; role = None; serials = []; since = 0 }
+    one = record { id = id; base = base; surface = surface; role = None; configures = []; since = 0 }
 
 -- ---- a wl_subsurface comes
 
@@ -351,11 +351,10 @@ roles-destroyed surface r links has =
 
 roles-effect : (c surface : ℕ) (effect : Effect) (o : Option XdgSurface) (d : Desktop) (r : Resident) → HasRoles r → HasRoles (effect_done c surface effect o d r)
 roles-effect c surface effect None d r has = has
-roles-effect c surface Stays (Some x) d r has = has
-roles-effect c surface Unconfigured (Some x) d r has = has
+roles-effect c surface Stays (Some x) d r has = roles-shell r (with_change x.id (λ y. y) r.owned.shell) (shell-changed x.id (λ y. y) r.owned.shell (λ y. refl)) has
+roles-effect c surface Unconfigured (Some x) d r has = roles-shell r (with_change x.id (λ y. y) r.owned.shell) (shell-changed x.id (λ y. y) r.owned.shell (λ y. refl)) has
 roles-effect c surface Configures (Some x) d r has =
-    roles-trees r (effect_done c surface Configures (Some x) d r) (trees-same r.owned.surfaces)
-    (shell-more r.owned.shell _ _ (shell-changed x.id _ r.owned.shell (λ y. refl)) (shell-changed x.id (configuring r.peer.serial) _ (λ y. refl))) refl has
+    roles-trees r (effect_done c surface Configures (Some x) d r) (trees-same r.owned.surfaces) (shell-changed x.id _ r.owned.shell (λ y. refl)) refl has
 roles-effect c surface Maps (Some x) d r has = roles-shell r (with_change x.id (in_stage Mapped) r.owned.shell) (shell-changed x.id (in_stage Mapped) r.owned.shell (λ y. refl)) has
 roles-effect c surface Unmaps (Some x) d r has = roles-shell r _ (shell-changed x.id _ r.owned.shell (λ y. refl)) has
 

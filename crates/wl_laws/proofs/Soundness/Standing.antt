@@ -148,7 +148,7 @@ mapped-some P (Some x) is f = f x refl is
 pub mapped-new : (id base made surface : ℕ) (shell : Shell) → IsMapped (xdg_of surface shell) → IsMapped (xdg_of surface (with_new id base made shell))
 mapped-new id base made surface shell is =
     mapped-some (IsMapped (xdg_of surface (with_new id base made shell))) (xdg_of surface shell) is
-    (λ x found here. subst IsMapped (sym (found-first (λ x. x.surface == surface) shell (record { id = id; base = base; surface = made; role = None; serials = []; since = 0 }) x found)) here)
+    (λ x found here. subst IsMapped (sym (found-first (λ x. x.surface == surface) shell (record { id = id; base = base; surface = made; role = None; configures = []; since = 0 }) x found)) here)
 
 pub mapped-without : (id surface : ℕ) (shell : Shell) → AreApartBy (λ id x. x.id == id) shell → HasNoRole (xdg_at id shell) → IsMapped (xdg_of surface shell)
     → IsMapped (xdg_of surface (without_xdg id shell))
@@ -317,18 +317,19 @@ module _ (c surface : ℕ) (shell : Shell) (x : XdgSurface) (apart : AreApartBy 
       standing-on m c surface ss shell (with_change x.id (in_stage Mapped) shell)
       (λ here. no-mapping (is_dismissed (popped_of x)) shows (sym (effect-mapped shows x (subst IsMapped found here)) ∙ effect)) (now-mapped is) stays-mapped stands
 
+standing-still : (id : ℕ) (shell : Shell) (tops : List Standing) → StandsSo shell tops → StandsSo (with_change id (λ y. y) shell) tops
+standing-still id shell tops stands =
+    standing-same shell (with_change id (λ y. y) shell) tops (λ other here. mapped-changed id (λ y. y) shell other (λ y. refl) (λ y there same role. role) here) stands
+
 commit-effect :
     (c surface : ℕ) (r : Resident) (d : Desktop) (x : XdgSurface) (shows : Bool) → AreApartBy (λ id x. x.id == id) r.owned.shell → xdg_of surface r.owned.shell ≡ Some x
     → StandsSo r.owned.shell (toplevels_of c d)
     → (e : Effect) → effect_for_xdg shows x ≡ e → StandsSo (effect_done c surface e (Some x) d (tree_committed surface r)).owned.shell
     (toplevels_of c (stacked_by e (is_toplevel (Some x)) c surface d))
-commit-effect c surface r d x shows apart found stands Stays is = stands
-commit-effect c surface r d x shows apart found stands Unconfigured is = stands
+commit-effect c surface r d x shows apart found stands Stays is = standing-still x.id r.owned.shell (toplevels_of c d) stands
+commit-effect c surface r d x shows apart found stands Unconfigured is = standing-still x.id r.owned.shell (toplevels_of c d) stands
 commit-effect c surface r d x shows apart found stands Configures is =
-    standing-same r.owned.shell _ (toplevels_of c d)
-    (λ other here.
-    mapped-changed x.id (configuring r.peer.serial) _ other (λ y. refl) (λ y there same role. role)
-    (commit-waits c surface r.owned.shell x apart found shows _ other (λ y. refl) is here)) stands
+    standing-same r.owned.shell _ (toplevels_of c d) (λ other here. commit-waits c surface r.owned.shell x apart found shows _ other (λ y. refl) is here) stands
 commit-effect c surface r d x shows apart found stands Maps is = at (is_toplevel (Some x)) refl
   where
     at : (b : Bool) → is_toplevel (Some x) ≡ b → StandsSo (with_change x.id (in_stage Mapped) r.owned.shell) (toplevels_of c (stacked_by Maps b c surface d))

@@ -1,5 +1,5 @@
 -- What each thing that is asked changes of what a client owns, and of what is kept of it.
-use Rattle.std.proofs.Common.{◌≡◌, ℕ, ◌+◌, List, [], ◌∷◌, Bool, true, false, Option, Some, None, cond, length, refl, ap, sym, subst, ◌∙◌, eq-eqb}
+use Rattle.std.proofs.Common.{◌≡◌, ℕ, ◌+◌, List, Bool, true, false, Option, Some, None, cond, length, refl, ap, sym, subst, ◌∙◌, eq-eqb}
 use Rattle.std.specs.Prelude.{◌==◌, Ok, Result, fold, is_some}
 use Rattle.std.specs.Option.{option_map, option_map_or}
 use Rattle.wl_geom.specs.declared.rect.Rect.{Rect}
@@ -14,12 +14,15 @@ use Rattle.wl_shell.specs.Agreement.{with_history}
 use Rattle.wl_shell.specs.Kept.{Kept, Stands, changing, commit_answer, effect_answer, first_kept, kept_acknowledging, kept_after, kept_asking, kept_configuring, kept_toplevel, kept_without_role}
 use Rattle.wl_shell.specs.Kept.{stage_in, with_kept}
 use Rattle.wl_shell.specs.Laws.{one_more}
-use Rattle.wl_shell.specs.Shell.{Effect, Stays, Unconfigured, Configures, Maps, Unmaps, Fresh, Waiting, Mapped, RoleObject, Shell, XdgSurface, acknowledging, at_stage, configuring, in_stage, is_full}
-use Rattle.wl_shell.specs.Shell.{is_role, new_toplevel, on_commit, role_acknowledged, stage_of, with_change, with_effect, without_role, xdg_of}
+use Rattle.wl_shell.specs.Shell.{Effect, Stays, Unconfigured, Configures, Maps, Unmaps, Fresh, Waiting, Mapped, Popup, RoleObject, Shell, XdgSurface, acknowledging, at_stage, configuring, in_stage, is_full}
+use Rattle.wl_shell.specs.Shell.{is_role, new_toplevel, on_commit, role_acknowledged, stage_of, unmapping, with_change, without_role, xdg_of}
+use Rattle.wl_shell.specs.Popups.{placing, popup_changed, with_effect, with_popup_role, without_grab}
+use Rattle.wl_shell.specs.Positioner.{Placed}
 use Rattle.wl_shell.specs.declared.acts.ShellAct.{ShellAct}
 use Rattle.wl_shell.specs.declared.acts.ShellAct.TheVariants.{Configure, Map, Unmap, Nothing}
 use Rattle.wl_shell.specs.declared.error.ShellError.{ShellError}
 use Rattle.wl_shell.specs.declared.stage.Stage.{Stage}
+use Rattle.wl_shell.proofs.Agreeing.{changed-same}
 use Rattle.wl_shell.proofs.Standing.{changes_stand}
 use Rattle.wl_named.specs.Named.{Makes}
 use Rattle.wl_surface.specs.Trees.{committed_in, destroyed_in, ended_in, links_with}
@@ -33,7 +36,7 @@ use Rattle.wl_scene.specs.Stacking.{Owned}
 use Rattle.wl_plain.specs.Ask.{CreateSurface, AskSurface, GetXdgSurface, DestroyXdgSurface, GetToplevel, Acknowledge, ConfigureAgain}
 use Rattle.wl_plain.specs.Desktop.{Resident}
 use Rattle.wl_owning.specs.Owning.{IsOwned, IsXdg, KeepsRole, Names, effect_by, with_surface, with_toplevel, with_xdg}
-use Rattle.wl_plain.specs.Step.{asked_so_far, toplevel_given}
+use Rattle.wl_plain.specs.Step.{asked_so_far, toplevel_given, xdg_changed}
 use Rattle.wl_owning.proofs.Keeping.OwningChanges.{IsOwned-history, IsOwned-left, IsOwned-made, IsOwned-shelled}
 use Rattle.wl_owning.proofs.Keeping.OwningChanges.{IsOwned-stepped, IsOwned-toplevel, IsOwned-unshelled, IsOwned-untoplevel, agree-same, changing-none}
 use Rattle.wl_owning.proofs.Keeping.OwningChanges.{renumbered}
@@ -42,9 +45,11 @@ use Rattle.wl_owning.proofs.Keeping.OwningSurfaces.{AreKept-left, AreKept-then, 
 use Rattle.wl_owning.proofs.Keeping.OwningTies.{asked-by, committed-by, left-by, role-by}
 use Rattle.wl_owning.proofs.Keeping.Roots.{agree-child, agree-committed}
 use Rattle.wl_owning.proofs.Keeping.OwningXdg.{histories-changed, histories-same, xdg-of, xdg-of-none}
-use Rattle.wl_plain.specs.Changing.{tree_committed}
+use Rattle.wl_plain.specs.Changing.{drawing, is_configure, tree_committed}
 use Rattle.wl_plain.specs.Demand.{Asks, EndSurface, EndToplevel}
-use Rattle.wl_without_popups.specs.Simple.{changed_simply, effect_for, effect_on}
+use Rattle.wl_plain.specs.Demanding.{effect_on_xdg}
+use Rattle.wl_without_popups.specs.Simple.{changed_simply, effect_on}
+use Rattle.wl_without_popups.proofs.Simple.{effect-toplevel, if-top}
 
 -- ---- histories of a surface that changes
 
@@ -77,41 +82,33 @@ acknowledging-keeps serial = record { id = λ x. refl; surface = λ x. refl; rol
 configuring-keeps : (serial : ℕ) → KeepsRole (configuring serial)
 configuring-keeps serial = record { id = λ x. refl; surface = λ x. refl; role = λ object x. refl }
 
-effect-keeps : (serial since : ℕ) (effect : Effect) → KeepsRole (with_effect serial since effect)
-effect-keeps serial since Stays = itself-keeps
-effect-keeps serial since Unconfigured = itself-keeps
-effect-keeps serial since Configures = record { id = λ x. refl; surface = λ x. refl; role = λ object x. same-role (at_stage Waiting) object x.role (λ r. refl) }
-effect-keeps serial since Maps = stage-keeps Mapped
-effect-keeps serial since Unmaps = record { id = λ x. refl; surface = λ x. refl; role = λ object x. same-role (at_stage Fresh) object x.role (λ r. refl) }
+-- a popup's change leaves the role object's id
+popup-keeps : (change : Popup → Popup) → KeepsRole (popup_changed change)
+popup-keeps change = record { id = λ x. refl; surface = λ x. refl; role = λ object x. same-role (with_popup_role change) object x.role (λ r. refl) }
 
--- none changes
-changed-same : (id : ℕ) (shell : Shell) → with_change id (λ x. x) shell ≡ shell
-changed-same id [] = refl
-changed-same id (x ∷ xs) = ap (λ y. y ∷ with_change id (λ x. x) xs) (either (x.id == id)) ∙ ap (λ ys. x ∷ ys) (changed-same id xs)
-  where
-    either : (b : Bool) → cond b x x ≡ x
-    either true = refl
-    either false = refl
+effect-keeps : (serial since : ℕ) (where_to : Popup → Option Placed) (effect : Effect) → KeepsRole (with_effect serial since where_to effect)
+effect-keeps serial since where_to Stays = itself-keeps
+effect-keeps serial since where_to Unconfigured = itself-keeps
+effect-keeps serial since where_to Configures = record {
+  id = λ x. refl;
+  surface = λ x. refl;
+  role = λ object x. (popup-keeps (placing where_to)).role object (in_stage Waiting x) ∙ (stage-keeps Waiting).role object x;
+}
+effect-keeps serial since where_to Maps = stage-keeps Mapped
+effect-keeps serial since where_to Unmaps = record {
+  id = λ x. refl;
+  surface = λ x. refl;
+  role = λ object x. (popup-keeps without_grab).role object (unmapping since x) ∙ (stage-keeps Fresh).role object x;
+}
 
--- one changes twice
-changed-twice : (id : ℕ) (first second : XdgSurface → XdgSurface) (shell : Shell) → ((x : XdgSurface) → (first x).id ≡ x.id)
-    → with_change id second (with_change id first shell) ≡ with_change id (λ x. second (first x)) shell
-changed-twice id first second [] keeps = refl
-changed-twice id first second (x ∷ xs) keeps = ap (λ y. y ∷ with_change id second (with_change id first xs)) (both (x.id == id) refl)
-    ∙ ap (λ ys. cond (x.id == id) (second (first x)) x ∷ ys) (changed-twice id first second xs keeps)
-  where
-    both : (b : Bool) → (x.id == id) ≡ b → cond ((cond b (first x) x).id == id) (second (cond b (first x) x)) (cond b (first x) x) ≡ cond b (second (first x)) x
-    both true here = ap (λ c. cond c (second (first x)) (first x)) (ap (λ i. i == id) (keeps x) ∙ here)
-    both false here = ap (λ c. cond c (second x) x) here
+drawn-owned : (b : Bool) (r : Resident) → (drawing b r).owned ≡ r.owned
+drawn-owned true r = refl
+drawn-owned false r = refl
 
 -- what a commit comes to, as one change
 effect-owned : (id : ℕ) (effect : Effect) (x : XdgSurface) (r : Resident)
-    → (effect_on id effect (Some x) r).owned ≡ record r.owned { shell = with_change x.id (with_effect r.peer.serial (asked_so_far id r) effect) r.owned.shell }
-effect-owned id Stays x r = ap (λ (s : Shell). record r.owned { shell = s }) (sym (changed-same x.id r.owned.shell))
-effect-owned id Unconfigured x r = ap (λ (s : Shell). record r.owned { shell = s }) (sym (changed-same x.id r.owned.shell))
-effect-owned id Configures x r = ap (λ (s : Shell). record r.owned { shell = s }) (changed-twice x.id (in_stage Waiting) (configuring r.peer.serial) r.owned.shell (λ y. refl))
-effect-owned id Maps x r = refl
-effect-owned id Unmaps x r = refl
+    → (effect_on id effect (Some x) r).owned ≡ record r.owned { shell = with_change x.id (with_effect r.peer.serial (asked_so_far id r) (λ popup. None) effect) r.owned.shell }
+effect-owned id effect x r = drawn-owned (is_configure effect) (xdg_changed x.id (with_effect r.peer.serial (asked_so_far id r) (λ popup. None) effect) r)
 
 -- ---- what is asked
 
@@ -251,11 +248,11 @@ module _ (names : Names) (slots : Slots) (tied : Tied) (kept : ℕ → Option Ke
         let since : asked_so_far x.surface then ≡ length (one_more Commit h).requests =
         ap (λ (g : Option History). option_map_or (λ (h : History). length h.requests) g 0) (sym (histories x.surface has))
         ∙ ap (λ b. option_map_or (λ (h : History). length h.requests) (cond b (Some now) (history_in x.surface r.owned.surfaces)) 0) (eq-eqb x.surface x.surface refl) in
-        let stands : Stands (kept_after r.peer.serial act k) (with_effect r.peer.serial (asked_so_far x.surface then) effect x) now =
-        subst (λ n. Stands (kept_after r.peer.serial act k) (with_effect r.peer.serial n effect x) now) (sym since) (changes_stand.commit shows r.peer.serial act k x h answer one.stands) in
+        let stands : Stands (kept_after r.peer.serial act k) (with_effect r.peer.serial (asked_so_far x.surface then) (λ popup. None) effect x) now =
+        subst (λ n. Stands (kept_after r.peer.serial act k) (with_effect r.peer.serial n (λ popup. None) effect x) now) (sym since) (changes_stand.commit shows r.peer.serial (λ popup. None) act k x h answer one.stands) in
         subst (λ (o : Owned). IsOwned names new tying (changing number (kept_after r.peer.serial act) kept) o) (sym (effect-owned x.surface effect x then))
-        (IsOwned-stepped names slots tied kept r.owned is number k x h one (kept_after r.peer.serial act) (with_effect r.peer.serial (asked_so_far x.surface then) effect) now new tying all
-        (effect-keeps r.peer.serial (asked_so_far x.surface then) effect)
+        (IsOwned-stepped names slots tied kept r.owned is number k x h one (kept_after r.peer.serial act) (with_effect r.peer.serial (asked_so_far x.surface then) (λ popup. None) effect) now new tying all
+        (effect-keeps r.peer.serial (asked_so_far x.surface then) (λ popup. None) effect)
         (AreKept-then names.surfaces slots tied r.owned.surfaces is.surfaces new tying all (ids-committed x.surface r.owned.surfaces)
         (committed-by names.surfaces slots tied r.owned.surfaces is.surfaces x.surface number one.surface new tying makes))
         histories stands)
@@ -264,13 +261,13 @@ module _ (names : Names) (slots : Slots) (tied : Tied) (kept : ℕ → Option Ke
       → AreNumbered r.owned.surfaces.links → ((surface : ℕ) → is_some (xdg_of surface r.owned.shell) ≡ true → IsNoChild surface r.owned.surfaces)
       → names.surfaces id ≡ Some number → Makes slots tied new tying (committed_in number)
       → commit_answer shows (kept number) ≡ Ok act → after ≡ changing number (kept_after r.peer.serial act) kept
-      → IsOwned names new tying after (effect_on id (effect_for shows (xdg_of id r.owned.shell)) (xdg_of id r.owned.shell) (tree_committed id r)).owned
+      → IsOwned names new tying after (effect_on id (effect_on_xdg shows (xdg_of id r.owned.shell)) (xdg_of id r.owned.shell) (tree_committed id r)).owned
   owned-committed id number shows act new tying after once apart roots named makes answer keeps =
-      subst (λ (ks : ℕ → Option Kept). IsOwned names new tying ks (effect_on id (effect_for shows (xdg_of id r.owned.shell)) (xdg_of id r.owned.shell) (tree_committed id r)).owned) (sym keeps)
+      subst (λ (ks : ℕ → Option Kept). IsOwned names new tying ks (effect_on id (effect_on_xdg shows (xdg_of id r.owned.shell)) (xdg_of id r.owned.shell) (tree_committed id r)).owned) (sym keeps)
       (at (kept number) refl)
     where
       Done : Option XdgSurface → ℕ → Type 0
-      Done o i = IsOwned names new tying (changing number (kept_after r.peer.serial act) kept) (effect_on i (effect_for shows o) o (tree_committed i r)).owned
+      Done o i = IsOwned names new tying (changing number (kept_after r.peer.serial act) kept) (effect_on i (effect_on_xdg shows o) o (tree_committed i r)).owned
 
       at : (o : Option Kept) → kept number ≡ o → Done (xdg_of id r.owned.shell) id
       at None here =
@@ -287,11 +284,14 @@ module _ (names : Names) (slots : Slots) (tied : Tied) (kept : ℕ → Option Ke
       at (Some k) here =
           let xdg = xdg-of names slots tied kept r.owned is id number k named here in
           let done = committed-with number k xdg.0 xdg.1 xdg.2 shows act new tying once apart roots makes (ap (commit_answer shows) (sym here) ∙ answer) in
-          subst (λ (o : Option XdgSurface). Done o id) (sym xdg.3) (subst (λ i. Done (Some xdg.0) i) xdg.4 done)
+          subst (λ (o : Option XdgSurface). Done o id) (sym xdg.3)
+          (subst (λ i. Done (Some xdg.0) i) xdg.4
+          (subst (λ effect. IsOwned names new tying (changing number (kept_after r.peer.serial act) kept) (effect_on xdg.0.surface effect (Some xdg.0) (tree_committed xdg.0.surface r)).owned)
+          (sym (effect-toplevel shows xdg.0 (if-top xdg.0.role xdg.2.stands.toplevel))) done))
 
   -- what a commit comes to for the shell is what the shell answered
   pub answered-effect : (id number : ℕ) (shows : Bool) (act : ShellAct) → names.surfaces id ≡ Some number → commit_answer shows (kept number) ≡ Ok act
-      → effect_for shows (xdg_of id r.owned.shell) ≡ effect_by act
+      → effect_on_xdg shows (xdg_of id r.owned.shell) ≡ effect_by act
   answered-effect id number shows act named answer = at (kept number) refl
     where
       of-act : (a : ShellAct) → ◌≡◌ {A = Result ShellAct ShellError} (Ok a) (Ok act) → effect_by a ≡ effect_by act
@@ -305,10 +305,11 @@ module _ (names : Names) (slots : Slots) (tied : Tied) (kept : ℕ → Option Ke
       by-effect Maps serials full e answer = of-act Map answer
       by-effect Unmaps serials full e answer = of-act Unmap answer
 
-      at : (o : Option Kept) → kept number ≡ o → effect_for shows (xdg_of id r.owned.shell) ≡ effect_by act
-      at None here = ap (effect_for shows) (xdg-of-none names slots tied kept r.owned is id number named here) ∙ of-act Nothing (ap (commit_answer shows) (sym here) ∙ answer)
+      at : (o : Option Kept) → kept number ≡ o → effect_on_xdg shows (xdg_of id r.owned.shell) ≡ effect_by act
+      at None here = ap (effect_on_xdg shows) (xdg-of-none names slots tied kept r.owned is id number named here) ∙ of-act Nothing (ap (commit_answer shows) (sym here) ∙ answer)
       at (Some k) here =
           let xdg = xdg-of names slots tied kept r.owned is id number k named here in
-          ap (effect_for shows) xdg.3
+          ap (effect_on_xdg shows) xdg.3
+          ∙ effect-toplevel shows xdg.0 (if-top xdg.0.role xdg.2.stands.toplevel)
           ∙ ap (λ (role : Option RoleObject). on_commit (option_map (λ object. object.stage) role) shows) (sym xdg.2.stands.role)
           ∙ by-effect (on_commit (stage_in k) shows) k.serials (is_full k.serials) refl (ap (commit_answer shows) (sym here) ∙ answer)

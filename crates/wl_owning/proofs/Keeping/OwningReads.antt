@@ -16,18 +16,17 @@ use Rattle.wl_state.specs.Request.{Buffer, SetWindowGeometry}
 use Rattle.wl_state.specs.State.{History, pending}
 use Rattle.wl_state.specs.Surface.{Surface, has_content, is_there}
 use Rattle.wl_surface.specs.Surfaces.{history_in, surface_at}
-use Rattle.wl_shell.specs.declared.acts.ShellAct.{ShellAct}
-use Rattle.wl_shell.specs.declared.acts.ShellAct.TheVariants.{Configure, Map, Unmap, Nothing}
 use Rattle.wl_shell.specs.declared.error.ShellError.{ShellError}
 use Rattle.wl_shell.specs.declared.error.ShellError.TheVariants as failed
 use Rattle.wl_shell.specs.declared.stage.Stage.{Stage}
 use Rattle.wl_shell.specs.Kept.{Kept, acknowledgement_answer, commit_answer, configure_answer, destruction_answer, effect_answer, geometry_answer, making_refused, stage_configured, stage_in}
 use Rattle.wl_shell.specs.Kept.{toplevel_answer}
 use Rattle.wl_shell.specs.Shell.{Effect, Stays, Unconfigured, Configures, Maps, Unmaps, RoleObject, XdgSurface, answers_states, is_full, is_waiting, on_commit, stage_of, xdg_of}
+use Rattle.wl_shell.proofs.Serials.{full-so, serials_of, waits-so}
 use Rattle.wl_shell.proofs.Shells.{shells_stand}
 use Rattle.wl_plain.specs.Ask.{AskSurface, EndObject, GetXdgSurface, DestroyXdgSurface, GetToplevel, Acknowledge, ConfigureAgain, Ignore}
 use Rattle.wl_plain.specs.Desktop.{Resident}
-use Rattle.wl_owning.specs.Owning.{IsOwned, IsXdg, Names, asks_by, asks_unless, by_id, by_number, configuring_if, effect_by, kept_id, shell_refusal}
+use Rattle.wl_owning.specs.Owning.{IsOwned, IsXdg, Names, asks_by, asks_unless, by_id, by_number, configuring_if, kept_id, shell_refusal}
 use Rattle.wl_plain.specs.Step.{configures_told, role_configured}
 use Rattle.wl_plain.specs.WlSurface.{refuse, refuse_limit, will_show}
 use Rattle.wl_plain.specs.XdgShell.{acknowledged_by, base_destroyed, configured_again, geometry_set, has_any, is_foreign, is_no_toplevel, role_of, toplevel_made, xdg_surface_destroyed}
@@ -35,16 +34,18 @@ use Rattle.wl_plain.specs.XdgShell.{xdg_surface_made}
 use Rattle.wl_laws.proofs.Lists.Keys.{none-some, some-same}
 use Rattle.wl_owning.proofs.Keeping.OwningSurfaces.{surface-read}
 use Rattle.wl_owning.proofs.Keeping.OwningXdg.{xdg-of, xdg-of-none, xdg-there}
-use Rattle.wl_without_popups.specs.Simple.{effect_for, effect_of}
 use Rattle.wl_plain.specs.Demand.{EndSurface, CommitTree}
-use Rattle.wl_plain.specs.Demanding.{commit_demand, committed_by, effect_of_commit, surface_destroyed}
-use Rattle.wl_records.specs.Toplevels.{AreToplevels}
+use Rattle.wl_plain.specs.Demanding.{commit_demand, committed_by, effect_of_commit, effect_on_xdg, surface_destroyed}
 use Rattle.wl_plain.specs.WlSubsurface.{refuses}
-use Rattle.wl_without_popups.proofs.Simple.{effect-same}
+use Rattle.wl_without_popups.proofs.Simple.{effect-toplevel, if-top}
 
 there-mapped : {X : Type 0} (f : X → Buffer) (o : Option X) → is_there (option_map f o) ≡ is_some o
 there-mapped f None = refl
 there-mapped f (Some x) = refl
+
+-- as many serials are kept as configures wait
+full-kept : (k : Kept) (x : XdgSurface) → k.serials ≡ serials_of x.configures → is_full k.serials ≡ is_full x.configures
+full-kept k x same = ap (λ (serials : List ℕ). is_full serials) same ∙ full-so x.configures
 
 module _ (names : Names) (slots : Slots) (tied : Tied) (kept : ℕ → Option Kept) (r : Resident) (is : IsOwned names slots tied kept r.owned) where
   -- ---- a surface
@@ -82,62 +83,32 @@ module _ (names : Names) (slots : Slots) (tied : Tied) (kept : ℕ → Option Ke
 
   -- ---- a commit
 
-  pub effect-read : (id number : ℕ) → names.surfaces id ≡ Some number → effect_of r id ≡ option_map_or (λ k. on_commit (stage_in k) (will_show r id)) (kept number) Stays
-  effect-read id number named = at (kept number) refl
-    where
-      at : (o : Option Kept) → kept number ≡ o → effect_of r id ≡ option_map_or (λ k. on_commit (stage_in k) (will_show r id)) o Stays
-      at None here = ap (effect_for (will_show r id)) (xdg-of-none names slots tied kept r.owned is id number named here)
-      at (Some k) here =
-          let xdg = xdg-of names slots tied kept r.owned is id number k named here in
-          ap (effect_for (will_show r id)) xdg.3 ∙ ap (λ (role : Option RoleObject). on_commit (option_map (λ object. object.stage) role) (will_show r id)) (sym xdg.2.stands.role)
-
-  pub committed-by : (id number base object : ℕ) → AreToplevels r.owned.shell → names.surfaces id ≡ Some number
+  pub committed-by : (id number base object : ℕ) → names.surfaces id ≡ Some number
       → commit_demand r id ≡ asks_by (λ act. CommitTree id) (shell_refusal base (kept_id (kept number)) object) (commit_answer (will_show r id) (kept number))
-  committed-by id number base object top named = ap (λ effect. committed_by (xdg_of id r.owned.shell) id effect) (effect-same r id top) ∙ at (kept number) refl
+  committed-by id number base object named = at (kept number) refl
     where
-      by-effect : (x : XdgSurface) (effect : Effect) (full : Bool) → is_full x.serials ≡ full
-          → committed_by (Some x) id effect ≡ asks_by (λ act. CommitTree id) (shell_refusal base x.id object) (effect_answer effect x.serials)
-      by-effect x Stays full e = refl
-      by-effect x Unconfigured full e = refl
-      by-effect x Maps full e = refl
-      by-effect x Unmaps full e = refl
-      by-effect x Configures true e = rw e refl
-      by-effect x Configures false e = rw e refl
+      by-effect : (x : XdgSurface) (effect : Effect) (serials : List ℕ) (full : Bool) → is_full x.configures ≡ full → is_full serials ≡ full
+          → committed_by (Some x) id effect ≡ asks_by (λ act. CommitTree id) (shell_refusal base x.id object) (effect_answer effect serials)
+      by-effect x Stays serials full e f = refl
+      by-effect x Unconfigured serials full e f = refl
+      by-effect x Maps serials full e f = refl
+      by-effect x Unmaps serials full e f = refl
+      by-effect x Configures serials true e f = rw (e, f) refl
+      by-effect x Configures serials false e f = rw (e, f) refl
 
       at : (o : Option Kept) → kept number ≡ o
-          → committed_by (xdg_of id r.owned.shell) id (effect_for (will_show r id) (xdg_of id r.owned.shell)) ≡ asks_by (λ act. CommitTree id) (shell_refusal base (kept_id o) object)
-          (commit_answer (will_show r id) o)
-      at None here = ap (λ (o : Option XdgSurface). committed_by o id (effect_for (will_show r id) o)) (xdg-of-none names slots tied kept r.owned is id number named here)
+          → committed_by (xdg_of id r.owned.shell) id (effect_of_commit r id) ≡ asks_by (λ act. CommitTree id) (shell_refusal base (kept_id o) object) (commit_answer (will_show r id) o)
+      at None here = ap (λ (o : Option XdgSurface). committed_by o id (effect_on_xdg (will_show r id) o)) (xdg-of-none names slots tied kept r.owned is id number named here)
       at (Some k) here =
           let xdg = xdg-of names slots tied kept r.owned is id number k named here in
           let x = xdg.0 in
           let stands = xdg.2.stands in
-          ap (λ (o : Option XdgSurface). committed_by o id (effect_for (will_show r id) o)) xdg.3
-          ∙ by-effect x (on_commit (stage_of x) (will_show r id)) (is_full x.serials) refl
+          ap (λ (o : Option XdgSurface). committed_by o id (effect_on_xdg (will_show r id) o)) xdg.3
+          ∙ ap (λ effect. committed_by (Some x) id effect) (effect-toplevel (will_show r id) x (if-top x.role stands.toplevel))
+          ∙ by-effect x (on_commit (stage_of x) (will_show r id)) k.serials (is_full x.configures) refl (full-kept k x stands.serials)
           ∙ sym (ap (λ (i : ℕ). asks_by (λ act. CommitTree id) (shell_refusal base i object) (effect_answer (on_commit (stage_in k) (will_show r id)) k.serials)) stands.id
           ∙ ap (λ (role : Option RoleObject). asks_by (λ act. CommitTree id) (shell_refusal base x.id object)
-          (effect_answer (on_commit (option_map (λ object. object.stage) role) (will_show r id)) k.serials)) stands.role
-          ∙ ap (λ serials. asks_by (λ act. CommitTree id) (shell_refusal base x.id object) (effect_answer (on_commit (stage_of x) (will_show r id)) serials)) stands.serials)
-
-  -- an answer tells what it comes to
-  pub accepted-effect : (id number : ℕ) (act : ShellAct) → AreToplevels r.owned.shell → names.surfaces id ≡ Some number → commit_answer (will_show r id) (kept number) ≡ Ok act
-      → effect_of_commit r id ≡ effect_by act
-  accepted-effect id number act top named answer = effect-same r id top ∙ effect-read id number named ∙ at (kept number) answer
-    where
-      by : (effect : Effect) (serials : List ℕ) → effect_answer effect serials ≡ Ok act → effect ≡ effect_by act
-      by Stays serials e = let same : Nothing ≡ act = cc in ap effect_by same
-      by Unconfigured serials e = absurd (cc)
-      by Configures serials e = full (is_full serials) e
-        where
-          full : (b : Bool) → (if b then Err failed.TooMany else Ok (Configure None)) ≡ Ok act → Configures ≡ effect_by act
-          full true e = absurd (cc)
-          full false e = let same : Configure None ≡ act = cc in ap effect_by same
-      by Maps serials e = let same : Map ≡ act = cc in ap effect_by same
-      by Unmaps serials e = let same : Unmap ≡ act = cc in ap effect_by same
-
-      at : (o : Option Kept) → commit_answer (will_show r id) o ≡ Ok act → option_map_or (λ k. on_commit (stage_in k) (will_show r id)) o Stays ≡ effect_by act
-      at None e = let same : Nothing ≡ act = cc in ap effect_by same
-      at (Some k) e = by (on_commit (stage_in k) (will_show r id)) k.serials e
+          (effect_answer (on_commit (option_map (λ object. object.stage) role) (will_show r id)) k.serials)) stands.role)
 
   -- ---- xdg_wm_base
 
@@ -214,7 +185,7 @@ module _ (names : Names) (kept : ℕ → Option Kept) (r : Resident) (number : �
       at false c = refl
 
   pub acknowledged-by : (serial : ℕ) → acknowledged_by x serial ≡ asks_by {X = Unit {0}} (λ u. Acknowledge x.id serial) refusal (acknowledgement_answer serial (kept number))
-  acknowledged-by serial = rw (one.here, one.stands.role, one.stands.serials) (at (is_some x.role) (is_waiting serial x.serials))
+  acknowledged-by serial = rw (one.here, one.stands.role, one.stands.serials, waits-so serial x.configures) (at (is_some x.role) (is_waiting serial x.configures))
     where
       at : (b c : Bool) → (if b then (if c then Ok (Acknowledge x.id serial) else refuse x.id error.InvalidSerial) else refuse x.id error.NotConstructed)
           ≡ asks_by {X = Unit {0}} (λ u. Acknowledge x.id serial) refusal (if b then (if c then Ok tt else Err failed.InvalidSerial) else Err failed.NotConstructed)
@@ -223,7 +194,7 @@ module _ (names : Names) (kept : ℕ → Option Kept) (r : Resident) (number : �
       at false c = refl
 
   pub configured-by : configured_again x ≡ asks_by (λ sent. configuring_if sent x.id) refusal (configure_answer (kept number))
-  configured-by = rw (one.here, one.stands.role, one.stands.serials) (at (stage_of x))
+  configured-by = rw (one.here, one.stands.role) (at (stage_of x) k.serials (full-kept k x one.stands.serials))
     where
       by : (b c : Bool) → (if b then (if c then refuse_limit else Ok (ConfigureAgain x.id)) else Ok Ignore) ≡ asks_by (λ sent. configuring_if sent x.id) refusal
           (if b then (if c then Err failed.TooMany else Ok true) else Ok false)
@@ -231,10 +202,11 @@ module _ (names : Names) (kept : ℕ → Option Kept) (r : Resident) (number : �
       by true false = refl
       by false c = refl
 
-      at : (o : Option Stage) → (if option_map_or answers_states o false then (if is_full x.serials then refuse_limit else Ok (ConfigureAgain x.id)) else Ok Ignore)
-          ≡ asks_by (λ sent. configuring_if sent x.id) refusal (stage_configured o x.serials)
-      at None = refl
-      at (Some stage) = by (answers_states stage) (is_full x.serials)
+      at : (o : Option Stage) (serials : List ℕ) → is_full serials ≡ is_full x.configures
+          → (if option_map_or answers_states o false then (if is_full x.configures then refuse_limit else Ok (ConfigureAgain x.id)) else Ok Ignore)
+          ≡ asks_by (λ sent. configuring_if sent x.id) refusal (stage_configured o serials)
+      at None serials e = refl
+      at (Some stage) serials e = rw e (by (answers_states stage) (is_full x.configures))
 
   -- the configures of its role object, by what is kept
   pub configures-read : (serial : ℕ) → configures_told serial (Some x) ≡ role_configured serial k.id k.role

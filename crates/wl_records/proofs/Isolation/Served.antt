@@ -32,8 +32,7 @@ use Rattle.wl_laws.proofs.Runs.Forms.{Does, ServesAt, Answers as StepAnswers, Be
 use Rattle.wl_plain.specs.Step.{own_changed, with_peer}
 use Rattle.wl_peer.specs.Used.{has_used, keeps_store}
 use Rattle.wl_records.proofs.Isolation.OwnOnly.{as_own, judge-owns}
-use Rattle.wl_records.proofs.Toplevels.Simply.{Asking}
-use Rattle.wl_records.proofs.Toplevels.Statuses.{changed-status}
+use Rattle.wl_laws.proofs.Pieces.Behind.{ask-stream}
 use Rattle.wl_records.proofs.Toplevels.Buffers.{nothing-after}
 use Rattle.wl_records.proofs.Toplevels.Serves.{IsDone, becomes-same, becomes-whole, by-pointer, is-done, kept-still, none-done, nothing-between, settles-to}
 use Rattle.wl_laws.proofs.Runs.Places.{client-become, client-kept, client-twice}
@@ -139,8 +138,8 @@ module _ (c : ℕ) (there : Resident) (d : Desktop) (is : client_at c d ≡ Some
   does-alone action r q alive alone told =
       let made : Resident = own_changed action r in
       let new = become c made q d in
-      let first : IsDone (own_answers r.peer.output action) c made d new = is-done (own_answers r.peer.output action) c made there d new is still (changed-status (Asking (Own action)) r
-      ∙ alive) (q, told, refl) in
+      let first : IsDone (own_answers r.peer.output action) c made d new = is-done (own_answers r.peer.output action) c made there d new is still
+      (ap (λ (x : Resident). x.peer.status) (ask-stream (Own action) r r.peer.status r.peer.rest) ∙ alive) (q, told, refl) in
       let second : IsDone (replies own_only c (Asks (Own action)) r made (all_windows d) d) c made d new =
       subst (λ events. IsDone events c made d new) (sym (own-replies c action r made d (owned-alone action r alone))) first in
       subst (λ e. IsDone (replies own_only c (Asks (Own action)) r made (all_windows d) d) c made e new) (sym (kept-still d still)) second

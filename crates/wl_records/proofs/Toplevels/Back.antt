@@ -1,5 +1,5 @@
 -- What is left of ends, of settling and of what is told where nobody points.
-use Rattle.std.proofs.Common.{◌≡◌, ◌-◌, List, ◌∷◌, Bool, true, false, Option, None, ap, subst, sym, ◌∙◌, inl, inr, []}
+use Rattle.std.proofs.Common.{◌≡◌, List, ◌∷◌, Bool, true, false, Option, None, ap, subst, sym, ◌∙◌, inl, inr, []}
 use Rattle.wl_peer.specs.declared.cause.Cause.{Cause}
 use Rattle.wl_peer.specs.declared.cause.Cause.TheVariants.{Memory, Protocol, Slow}
 use Rattle.wl_peer.specs.declared.refusals.Refusal.{Refusal}

@@ -1,5 +1,5 @@
 -- What is told to a client that lives on leaves its objects.
-use Rattle.std.proofs.Common.{◌≡◌, ◌-◌, List, ◌∷◌, Bool, true, false, None, ap, sym, ◌∙◌, inl, inr, []}
+use Rattle.std.proofs.Common.{◌≡◌, List, ◌∷◌, Bool, true, false, None, ap, sym, ◌∙◌, inl, inr, []}
 use Rattle.wl_peer.specs.declared.cause.Cause.{Cause}
 use Rattle.wl_peer.specs.Peer.{Peer, Queues, QueuesOr, ended, has_room, queued}
 use Rattle.wl_peer.specs.Told.{Said}

@@ -7,24 +7,24 @@ use Rattle.std.proofs.lemmas.Bool.{or_left, or_right}
 use Rattle.wl_interface.specs.declared.interface.Interface.TheVariants.{WlBuffer}
 use Rattle.wl_proto.specs.Messages.{says}
 use Rattle.wl_peer.specs.Buffers.{Buffer as Made}
-use Rattle.wl_peer.specs.Told.{Said, said}
+use Rattle.wl_peer.specs.Told.{Said, id_deleted, said}
 use Rattle.wl_state.specs.Request.{Buffer, Request}
 use Rattle.wl_state.specs.State.{History, applied, committed, held, is_commit, values}
 use Rattle.wl_state.specs.Surface.{Surface, asking, listed, names, new_surface, shows, with_role}
 use Rattle.wl_surface.specs.Surfaces.{Surfaces, is_busy, surface_at, with_change}
 use Rattle.wl_state.specs.declared.role.Role.TheVariants.{Toplevel as AsToplevel}
 use Rattle.wl_state.proofs.Records.{applied-kept, held-kept}
-use Rattle.wl_shell.specs.Shell.{XdgSurface as Xdg, xdg_at}
+use Rattle.wl_shell.specs.Shell.{XdgSurface as Xdg, without_role, xdg_at}
 use Rattle.wl_plain.specs.Ask.{Ask, Own, CreateSurface, AskSurface, EndObject, GetXdgSurface, DestroyXdgSurface, GetToplevel, Acknowledge, ConfigureAgain, Ignore}
 use Rattle.wl_plain.specs.Desktop.{Resident}
 use Rattle.wl_laws.specs.Apart.{AreApartBy}
 use Rattle.wl_plain.specs.Releases.{is_released}
 use Rattle.wl_plain.specs.Replies.{buffers_busy, buffers_shown, by_object, is_same_buffer, releases}
-use Rattle.wl_plain.specs.Step.{changed_by, toplevel_given}
+use Rattle.wl_plain.specs.Step.{answers_to, changed_by, removing, toplevel_given, xdg_changed}
 use Rattle.wl_records.proofs.Toplevels.Buffers.{nothing-after}
 use Rattle.wl_records.proofs.Keeping.Letting.{each-more, each-once, listed-each, named-so, none-left, or-any}
 use Rattle.wl_laws.proofs.Lists.Keys.{any-found, found-any, found-map}
-use Rattle.wl_records.proofs.Toplevels.Simply.{Asking, DestroyToplevel, answers_simply, changed_simply, told_simply}
+use Rattle.wl_records.proofs.Toplevels.Simply.{told_alone}
 use Rattle.wl_laws.proofs.Marks.Stacks.{Each, each-map}
 
 -- ---- the buffers that are busy
@@ -111,24 +111,23 @@ only : (told more : List Said) → more ≡ [] → told ++ more ≡ told
 only told more none = ap (λ (es : List Said). told ++ es) none ∙ nothing-after told
 
 -- what is asked but of a surface leaves each busy buffer so
-pub asked-told : (ask : Ask) (r : Resident) → AreApartBy (λ key s. s.id == key) r.owned.surfaces.surfaces → answers_simply (Asking ask) r ++ releases r (changed_by ask r) ≡ told_simply (Asking ask) r
+pub asked-told : (ask : Ask) (r : Resident) → AreApartBy (λ key s. s.id == key) r.owned.surfaces.surfaces → answers_to ask r ++ releases r (changed_by ask r) ≡ told_alone ask r
 asked-told (AskSurface id request) r apart = refl
-asked-told (Own action) r apart = only (answers_simply (Asking (Own action)) r) (releases r (changed_by (Own action) r)) (still-released r (changed_by (Own action) r) refl)
+asked-told (Own action) r apart = only (answers_to (Own action) r) (releases r (changed_by (Own action) r)) (still-released r (changed_by (Own action) r) refl)
 asked-told (CreateSurface id version) r apart = none-released r (changed_by (CreateSurface id version) r) (λ n busy. any-more (λ s. shows n s.history) r.owned.surfaces.surfaces
     (new_surface id ∷ []) busy)
-asked-told (EndObject id) r apart = only (answers_simply (Asking (EndObject id)) r) (releases r (changed_by (EndObject id) r)) (still-released r (changed_by (EndObject id) r) refl)
+asked-told (EndObject id) r apart = only (answers_to (EndObject id) r) (releases r (changed_by (EndObject id) r)) (still-released r (changed_by (EndObject id) r) refl)
 asked-told (GetXdgSurface id version base surface) r apart = still-released r (changed_by (GetXdgSurface id version base surface) r) refl
-asked-told (DestroyXdgSurface id) r apart = only (answers_simply (Asking (DestroyXdgSurface id)) r) (releases r (changed_by (DestroyXdgSurface id) r))
+asked-told (DestroyXdgSurface id) r apart = only (answers_to (DestroyXdgSurface id) r) (releases r (changed_by (DestroyXdgSurface id) r))
     (still-released r (changed_by (DestroyXdgSurface id) r) refl)
 asked-told (GetToplevel id version xdg) r apart = none-released r (changed_by (GetToplevel id version xdg) r) (λ n busy. given-busy id xdg (xdg_at xdg r.owned.shell) r apart n busy)
 asked-told (Acknowledge xdg serial) r apart = still-released r (changed_by (Acknowledge xdg serial) r) refl
-asked-told (ConfigureAgain xdg) r apart = only (answers_simply (Asking (ConfigureAgain xdg)) r) (releases r (changed_by (ConfigureAgain xdg) r))
+asked-told (ConfigureAgain xdg) r apart = only (answers_to (ConfigureAgain xdg) r) (releases r (changed_by (ConfigureAgain xdg) r))
     (still-released r (changed_by (ConfigureAgain xdg) r) refl)
 asked-told Ignore r apart = still-released r (changed_by Ignore r) refl
 
-pub ended-told : (id xdg top : ℕ) (r : Resident) → answers_simply (DestroyToplevel id xdg top) r ++ releases r (changed_simply (DestroyToplevel id xdg top) r) ≡ told_simply
-    (DestroyToplevel id xdg top) r
-ended-told id xdg top r = only (answers_simply (DestroyToplevel id xdg top) r) _ (still-released r (changed_simply (DestroyToplevel id xdg top) r) refl)
+pub ended-told : (id xdg : ℕ) (r : Resident) → id_deleted id ∷ releases r (removing id (xdg_changed xdg without_role r)) ≡ id_deleted id ∷ []
+ended-told id xdg r = ap (λ (es : List Said). id_deleted id ∷ es) (still-released r (removing id (xdg_changed xdg without_role r)) refl)
 
 -- a request of a surface that is no commit leaves it what it shows
 still-shows : (request : Request) → is_commit request ≡ false → (n : ℕ) (s : Surface) → s.history.cut ≤ committed s.history.requests → committed s.history.requests ≤ length s.history.requests

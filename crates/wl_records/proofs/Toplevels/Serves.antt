@@ -1,24 +1,26 @@
 -- Clients whose role objects are toplevels keep that, and what becomes of a desktop where nobody points is its own change.
 use Rattle.std.proofs.Common.{◌≡◌, ℕ, List, ◌∷◌, ◌++◌, Bool, true, false, Option, Some, None, cond, refl, ap, subst, sym, ◌∙◌, map, inl, inr, []}
 use Rattle.std.specs.Prelude.{◌==◌, not, filter, flat_map}
+use Rattle.std.specs.Option.{option_map}
 use Rattle.wl_interface.specs.declared.interface.Interface.TheVariants.{XdgPopup}
 use Rattle.wl_proto.specs.Messages.{says}
 use Rattle.wl_peer.specs.declared.cause.Cause.{Cause}
 use Rattle.wl_peer.specs.declared.cause.Cause.TheVariants.{Memory, Slow}
 use Rattle.wl_peer.specs.Peer.{Peer, Queues, QueuesOr, ended, has_room, queued}
 use Rattle.wl_peer.specs.Told.{Said, said}
-use Rattle.wl_shell.specs.Popups.{is_among}
-use Rattle.wl_shell.specs.Shell.{Effect, Stays, Unconfigured, Configures, Maps, Unmaps, Fresh, Waiting, Mapped, RoleObject, Shell, XdgSurface as Xdg, acknowledging, configuring, in_stage}
-use Rattle.wl_shell.specs.Shell.{new_toplevel, unmapping, with_change, with_new, without_role, without_xdg, xdg_at, xdg_of}
+use Rattle.wl_shell.specs.Popups.{is_among, placing, with_effect, with_popup, with_popup_role, without_grab}
+use Rattle.wl_shell.specs.Positioner.{Placed}
+use Rattle.wl_shell.specs.Shell.{Effect, Stays, Unconfigured, Configures, Maps, Unmaps, Fresh, Waiting, Mapped, Popup, RoleObject, Shell, XdgSurface as Xdg, acknowledging, configuring, in_stage}
+use Rattle.wl_shell.specs.Shell.{new_toplevel, unmapping, with_change, with_new, without_role, without_xdg, xdg_at}
 use Rattle.wl_scene.specs.Pointer.{first_pointer}
 use Rattle.wl_scene.specs.Stacking.{without_client}
-use Rattle.wl_plain.specs.Ask.{Own, CreateSurface, AskSurface, EndObject, GetXdgSurface, DestroyXdgSurface, GetToplevel, Acknowledge, ConfigureAgain, Ignore}
-use Rattle.wl_plain.specs.Changing.{with_kept_move}
+use Rattle.wl_plain.specs.Ask.{Ask, Own, CreateSurface, AskSurface, EndObject, GetXdgSurface, DestroyXdgSurface, GetToplevel, Acknowledge, ConfigureAgain, Ignore}
+use Rattle.wl_plain.specs.Changing.{drawing, effect_placing, is_configure, with_kept_move}
 use Rattle.wl_plain.specs.Desktop.{Desktop, Resident, become, become_by, client_at, resident_of, with_client}
 use Rattle.wl_plain.specs.Replies.{dismissed_in, newest_first, popups_done}
 use Rattle.wl_plain.specs.Settling.{EndsAndSettles, QueuesTo, after_status, becomes, ended_at, pointer_without, unstruck}
-use Rattle.wl_plain.specs.Step.{toplevel_given, with_peer}
-use Rattle.wl_records.proofs.Toplevels.Simply.{Asking, AskingFrame, Becomes, CommitSurface, DestroySurface, DestroyToplevel, Simple, changed_simply, effect_on}
+use Rattle.wl_plain.specs.Step.{asked_so_far, changed_by, toplevel_given, with_peer, xdg_changed}
+use Rattle.wl_records.proofs.Toplevels.Simply.{Becomes}
 use Rattle.wl_records.specs.Toplevels.{AreToplevels, IsToplevel}
 use Rattle.wl_laws.proofs.Runs.Forms.{after_why, Becomes as StepBecomes}
 use Rattle.wl_records.proofs.Toplevels.Changed.{no-popups, stage-top}
@@ -54,34 +56,50 @@ top-acknowledged serial x o is top = subst (λ p. IsToplevel (acknowledging seri
     at None top = tt
     at (Some object) top = top
 
-pub top-effect : (id : ℕ) (effect : Effect) (o : Option Xdg) (r : Resident) → AreToplevels r.owned.shell → AreToplevels (effect_on id effect o r).owned.shell
-top-effect id effect None r top = top
-top-effect id Stays (Some x) r top = top
-top-effect id Unconfigured (Some x) r top = top
-top-effect id Configures (Some x) r top =
-    top-change x.id (configuring r.peer.serial) (λ y is. is) _ (top-change x.id (in_stage Waiting) (λ y is. stage-top Waiting y.role is) r.owned.shell top)
-top-effect id Maps (Some x) r top = top-change x.id (in_stage Mapped) (λ y is. stage-top Mapped y.role is) r.owned.shell top
-top-effect id Unmaps (Some x) r top = top-change x.id (unmapping _) (λ y is. stage-top Fresh y.role is) r.owned.shell top
+top-changed : (change : Popup → Popup) (o : Option RoleObject) → IsToplevel o → IsToplevel (option_map (with_popup_role change) o)
+top-changed change None top = tt
+top-changed change (Some object) top = ap (with_popup change) top
+
+top-effect-at : (serial since : ℕ) (where_to : Popup → Option Placed) (effect : Effect) (x : Xdg) → IsToplevel x.role → IsToplevel (with_effect serial since where_to effect x).role
+top-effect-at serial since where_to Stays x is = is
+top-effect-at serial since where_to Unconfigured x is = is
+top-effect-at serial since where_to Configures x is = top-changed (placing where_to) (in_stage Waiting x).role (stage-top Waiting x.role is)
+top-effect-at serial since where_to Maps x is = stage-top Mapped x.role is
+top-effect-at serial since where_to Unmaps x is = top-changed without_grab (unmapping since x).role (stage-top Fresh x.role is)
+
+pub top-effect : (where_to : Popup → Option Placed) (id : ℕ) (effect : Effect) (o : Option Xdg) (r : Resident) → AreToplevels r.owned.shell
+    → AreToplevels (effect_placing where_to id effect o r).owned.shell
+top-effect where_to id effect None r top = top
+top-effect where_to id effect (Some x) r top = at (is_configure effect)
+  where
+    changed : Resident
+    changed = xdg_changed x.id (with_effect r.peer.serial (asked_so_far id r) where_to effect) r
+
+    there : AreToplevels changed.owned.shell
+    there = top-change x.id (with_effect r.peer.serial (asked_so_far id r) where_to effect) (top-effect-at r.peer.serial (asked_so_far id r) where_to effect) r.owned.shell top
+
+    at : (b : Bool) → AreToplevels (drawing b changed).owned.shell
+    at true = there
+    at false = there
 
 pub top-given : (id xdg : ℕ) (o : Option Xdg) (r : Resident) → AreToplevels r.owned.shell → AreToplevels (toplevel_given id xdg o r).owned.shell
 top-given id xdg None r top = top
 top-given id xdg (Some x) r top = top-change xdg (new_toplevel id _) (λ y is. refl) r.owned.shell top
 
-pub tops-kept : (ask : Simple) (r : Resident) → AreToplevels r.owned.shell → AreToplevels (changed_simply ask r).owned.shell
-tops-kept (Asking (Own action)) r top = top
-tops-kept (Asking (CreateSurface id version)) r top = top
-tops-kept (DestroySurface id) r top = top
-tops-kept (AskingFrame id version surface) r top = top
-tops-kept (Asking (AskSurface id request)) r top = top
-tops-kept (CommitSurface id effect) r top = top-effect id effect (xdg_of id r.owned.shell) _ top
-tops-kept (Asking (EndObject id)) r top = top
-tops-kept (Asking (GetXdgSurface id version base surface)) r top = top-new id base surface r.owned.shell top
-tops-kept (Asking (DestroyXdgSurface id)) r top = top-without id r.owned.shell top
-tops-kept (Asking (GetToplevel id version xdg)) r top = top-given id xdg (xdg_at xdg r.owned.shell) r top
-tops-kept (Asking (Acknowledge xdg serial)) r top = top-change xdg (acknowledging serial) (λ y is. top-acknowledged serial y y.role refl is) r.owned.shell top
-tops-kept (Asking (ConfigureAgain xdg)) r top = top-change xdg (configuring r.peer.serial) (λ y is. is) r.owned.shell top
-tops-kept (DestroyToplevel id xdg surface) r top = top-change xdg without_role (λ y is. tt) r.owned.shell top
-tops-kept (Asking Ignore) r top = top
+pub tops-gone : (xdg : ℕ) (r : Resident) → AreToplevels r.owned.shell → AreToplevels (xdg_changed xdg without_role r).owned.shell
+tops-gone xdg r top = top-change xdg without_role (λ y is. tt) r.owned.shell top
+
+pub tops-kept : (ask : Ask) (r : Resident) → AreToplevels r.owned.shell → AreToplevels (changed_by ask r).owned.shell
+tops-kept (Own action) r top = top
+tops-kept (CreateSurface id version) r top = top
+tops-kept (AskSurface id request) r top = top
+tops-kept (EndObject id) r top = top
+tops-kept (GetXdgSurface id version base surface) r top = top-new id base surface r.owned.shell top
+tops-kept (DestroyXdgSurface id) r top = top-without id r.owned.shell top
+tops-kept (GetToplevel id version xdg) r top = top-given id xdg (xdg_at xdg r.owned.shell) r top
+tops-kept (Acknowledge xdg serial) r top = top-change xdg (acknowledging serial) (λ y is. top-acknowledged serial y y.role refl is) r.owned.shell top
+tops-kept (ConfigureAgain xdg) r top = top-change xdg (configuring r.peer.serial) (λ y is. is) r.owned.shell top
+tops-kept Ignore r top = top
 
 -- ---- the pointer isn't anywhere
 

@@ -28,7 +28,6 @@ use Rattle.wl_owning.proofs.Keeping.Ids.{waits-committed}
 use Rattle.wl_owning.proofs.Keeping.OwningAsks.{answered-effect, owned-committed}
 use Rattle.wl_owning.proofs.Keeping.Trees.{once-freed}
 use Rattle.wl_without_popups.specs.Simple.{answers_on, effect_on}
-use Rattle.wl_without_popups.proofs.Simple.{effect-same}
 use Rattle.wl_requests.specs.Residents.{IsLeft, drawn_by, told_by}
 use Rattle.wl_requests.specs.Touching.{Commits, IsMade}
 use Rattle.wl_requests.proofs.Calls.{commit-called}
@@ -102,7 +101,7 @@ returns-clause-applies g c = λ client r on names object kept shows only comes l
     meets-as _ _ client on (CommitTree object) r only.no_popups tt true (
     subst (λ (f : Effect). (q : Peer) × Queues (answers_on f object r ++ releases r (effect_on object f o after)) (effect_on object f o after).peer q
     × IsLeft v c.tell_releases.new.self (effect_on object f o after) q)
-    (sym (sym (effect-same r object only.no_popups.roles) ∙ comes)) (
+    (sym comes) (
       next.0,
       subst (λ (p : Peer). Queues (answers_on (effect_by act) object r ++ releases r made) p next.0)
           (sym (commit-peer names slots tied kept r owned object number named shows act after answer))

@@ -7,7 +7,8 @@ use Rattle.wl_peer.specs.declared.refusals.Refusal.{Refusal}
 use Rattle.wl_owning.specs.Owning.{asks_by, kept_base, kept_id, names_in, shell_refusal}
 use Rattle.wl_plain.specs.Step.{with_peer}
 use Rattle.wl_plain.specs.WlSurface.{will_show}
-use Rattle.wl_owning.proofs.Keeping.OwningReads.{accepted-effect, committed-by, pending-read}
+use Rattle.wl_owning.proofs.Keeping.OwningAsks.{answered-effect}
+use Rattle.wl_owning.proofs.Keeping.OwningReads.{committed-by, pending-read}
 use Rattle.wl_plain.specs.Demand.{Demand, CommitTree}
 use Rattle.wl_plain.specs.Demanding.{commit_demand}
 use Rattle.wl_requests.specs.Residents.{AnswersAs, StacksSo}
@@ -29,12 +30,12 @@ returns-in-Ok-clause-answers g c = λ named client r on is only.
     let will : shows ≡ will_show r object = c.is_some-has_buffer.ensures ∙ pending-read names v.owned.linked.surfaces v.owned.linked.family kept r is.owns object number c.pending_buffer.result
     named c.pending_buffer.ensures in
     let answer = sym c.on_commit.ensures.answer ∙ c.in-Ok.is in
-    let judged = committed-by names v.owned.linked.surfaces v.owned.linked.family kept r is.owns object number 0 0 only.no_popups.roles named
+    let judged = committed-by names v.owned.linked.surfaces v.owned.linked.family kept r is.owns object number 0 0 named
     ∙ ap (λ (b : Bool). asks_by (λ (a : ShellAct). CommitTree object) (shell_refusal 0 (kept_id (kept number)) 0) (commit_answer b (kept number))) (sym will)
     ∙ ap (asks_by (λ (a : ShellAct). CommitTree object) (shell_refusal 0 (kept_id (kept number)) 0)) answer in
     let serial : c.serial-serial.result ≡ r.peer.serial = c.serial-serial.ensures ∙ is.peer.serial in
     let shell = c.in-Ok.ensures.ok ∙ ap (λ (n : ℕ). changing number (kept_after n act) kept) serial in
-    let comes = accepted-effect names v.owned.linked.surfaces v.owned.linked.family kept r is.owns object number act only.no_popups.roles named
+    let comes = answered-effect names v.owned.linked.surfaces v.owned.linked.family kept r is.owns object number (will_show r object) act named
     (ap (λ (b : Bool). commit_answer b (kept number)) (sym will) ∙ answer) in
     let applied = c.apply-applied.ensures.applies client (with_peer (counted r.peer) r) on names object kept shows (counted-orderly r only) comes
     (sym is.peer.status ∙ is.lives) (c.count.ensures.counts r.peer is.peer) is.owns
@@ -61,7 +62,7 @@ returns-in-Err-clause-answers g c = rw c.of.ensures (λ named client r on is onl
     let same : kept_id (kept number) ≡ xdg = sym (c.xdg_surface_of-xdg_surface.ensures ∙ ap (λ b. kept_id (kept_of b number)) c.in-Err.ensures.err) in
     let judged = told-err (commit_demand r object) (λ (a : ShellAct). CommitTree object) (shell_refusal base (kept_id (kept number)) xdg) (commit_answer (will_show r object) (kept number))
     c.on_commit.result error
-    (committed-by names v.owned.linked.surfaces v.owned.linked.family kept r is.owns object number base xdg only.no_popups.roles named)
+    (committed-by names v.owned.linked.surfaces v.owned.linked.family kept r is.owns object number base xdg named)
     (c.on_commit.ensures.answer ∙ ap (λ (b : Bool). commit_answer b (kept number)) will) c.in-Err.is in
     refused-as _ _ client r on (commit_demand r object) (shell_refusal base xdg xdg error) (judged ∙ ap (λ i. Err (shell_refusal base i xdg error)) same)
     c.refuse_xdg_surface.ensures.ended
@@ -76,10 +77,10 @@ returns-in-Ok-clause-stacks g c = λ named r is only.
     let kept = kept_of v.owned.shell in
     let will : c.is_some-has_buffer.result ≡ will_show r object = c.is_some-has_buffer.ensures
     ∙ pending-read names v.owned.linked.surfaces v.owned.linked.family kept r is.owns object number c.pending_buffer.result named c.pending_buffer.ensures in
-    let judged = committed-by names v.owned.linked.surfaces v.owned.linked.family kept r is.owns object number 0 0 only.no_popups.roles named
+    let judged = committed-by names v.owned.linked.surfaces v.owned.linked.family kept r is.owns object number 0 0 named
     ∙ ap (λ (b : Bool). asks_by (λ (a : ShellAct). CommitTree object) (shell_refusal 0 (kept_id (kept number)) 0) (commit_answer b (kept number))) (sym will)
     ∙ ap (asks_by (λ (a : ShellAct). CommitTree object) (shell_refusal 0 (kept_id (kept number)) 0)) (sym c.on_commit.ensures.answer ∙ c.in-Ok.is) in
-    let comes = accepted-effect names v.owned.linked.surfaces v.owned.linked.family kept r is.owns object number c.in-Ok.act only.no_popups.roles named
+    let comes = answered-effect names v.owned.linked.surfaces v.owned.linked.family kept r is.owns object number (will_show r object) c.in-Ok.act named
     (ap (λ (b : Bool). commit_answer b (kept number)) (sym will)
     ∙ sym c.on_commit.ensures.answer ∙ c.in-Ok.is) in
     commit-stacks v r object number c.in-Ok.act (commit_demand r object) c.stacking_of.result named judged comes c.stacking_of.ensures
@@ -105,7 +106,7 @@ returns-in-Err-clause-stacks g c = λ named r is only.
     let same : kept_id (kept number) ≡ xdg = sym (c.xdg_surface_of-xdg_surface.ensures ∙ ap (λ b. kept_id (kept_of b number)) c.in-Err.ensures.err) in
     let judged = told-err (commit_demand r object) (λ (a : ShellAct). CommitTree object) (shell_refusal base (kept_id (kept number)) xdg) (commit_answer (will_show r object) (kept number))
     c.on_commit.result error
-    (committed-by names v.owned.linked.surfaces v.owned.linked.family kept r is.owns object number base xdg only.no_popups.roles named)
+    (committed-by names v.owned.linked.surfaces v.owned.linked.family kept r is.owns object number base xdg named)
     (c.on_commit.ensures.answer ∙ ap (λ (b : Bool). commit_answer b (kept number)) will) c.in-Err.is in
     subst (λ (j : Result Demand Refusal). StacksSo v r j c.of.result.stacking) (sym judged) tt
 

@@ -31,7 +31,7 @@ returns-clause-answers g c = λ named client r on is only.
     (λ k x h one its. (
       gone.0,
       wants-told true _ _ (counted r.peer) (changed_simply (EndToplevel c.args.object x.id x.surface) (with_peer (counted r.peer) r)).peer gone.0
-          (ended-told c.args.object x.id x.surface (with_peer (counted r.peer) r)) (inr gone.1),
+          (ended-told c.args.object x.id (with_peer (counted r.peer) r)) (inr gone.1),
       record {
         peer = gone.2;
         numbers = λ alive. keeps-toplevel v.client.objects c.remove.new.self.objects c.args.object None (toplevel-gone v.client c.count.new.self c.remove.new.self c.args.object c.args.surface
