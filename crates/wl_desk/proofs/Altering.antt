@@ -4,8 +4,8 @@ use Rattle.std.specs.Prelude.{◌==◌, filter, is_none, is_some, not}
 use Rattle.wl_peer.specs.declared.cause.Cause.{Cause}
 use Rattle.wl_peer.specs.declared.cause.Cause.TheVariants.{Gone}
 use Rattle.wl_peer.specs.Peer.{Peer, ended, left_by}
-use Rattle.wl_scene.specs.Pointer.{first_pointer}
-use Rattle.wl_scene.specs.Stacking.{Standing, without_client}
+use Rattle.wl_stacking.specs.Pointer.{first_pointer}
+use Rattle.wl_stacking.specs.Stacking.{Standing, without_client}
 use Rattle.wl_plain.specs.declared.answers.Done.{Done}
 use Rattle.wl_plain.specs.declared.answers.Done.TheVariants as gave
 use Rattle.wl_plain.specs.declared.answers.Stored.TheVariants as stored

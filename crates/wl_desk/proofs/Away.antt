@@ -5,8 +5,8 @@ use Rattle.std.specs.List.{list_any}
 use Rattle.std.proofs.lemmas.Bool.{eqb-true, or_left}
 use Rattle.std.proofs.lemmas.Int.{ints}
 use Rattle.wl_peer.specs.declared.cause.Cause.{Cause}
-use Rattle.wl_scene.specs.Stacking.{nothing_owned}
-use Rattle.wl_scene.specs.Windows.{Window, contains}
+use Rattle.wl_stacking.specs.Stacking.{nothing_owned}
+use Rattle.wl_stacking.specs.Windows.{Window, contains}
 use Rattle.wl_plain.specs.Desktop.{Desktop, Resident, client_at, owned_in, owned_of, status_in, status_of, toplevels_of}
 use Rattle.wl_plain.specs.Marks.{has_same_record, in_output, is_changed_at, is_kept_in}
 use Rattle.wl_plain.specs.Moments.{marks_at_least, marks_at_most}

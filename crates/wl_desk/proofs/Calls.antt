@@ -11,8 +11,9 @@ use Rattle.wl_client.specs.View.{ClientView}
 use Rattle.wl_peer.specs.declared.cause.Cause.{Cause}
 use Rattle.wl_client.specs.declared.outputs.Output.{Output}
 use Rattle.wl_paint.specs.Damage.{Damaged}
-use Rattle.wl_scene.specs.Stacking.{Stack, Standing, without_client}
-use Rattle.wl_scene.specs.Windows.{Window}
+use Rattle.wl_stacking.specs.Stacking.{Standing, without_client}
+use Rattle.wl_scene.specs.Kept.{Stack}
+use Rattle.wl_stacking.specs.Windows.{Window}
 use Rattle.wl_stacked.specs.declared.stacked.Stacked.{Stacked}
 use Rattle.wl_stacked.specs.Stacked.{without_client as without_client_of}
 use Rattle.wl_lending.specs.Stacked.{AreStacked}

@@ -6,8 +6,8 @@ use Rattle.std.proofs.lemmas.Bool.{eqb-false, eqb-true}
 use Rattle.std.proofs.lemmas.List.{get_or-set_other, get_or-set_same, length-set}
 use Rattle.wl_client.specs.View.{ClientView}
 use Rattle.wl_peer.specs.Objects.{ById}
-use Rattle.wl_scene.specs.Stacking.{Stack}
-use Rattle.wl_scene.specs.Windows.{Window}
+use Rattle.wl_scene.specs.Kept.{Stack}
+use Rattle.wl_stacking.specs.Windows.{Window}
 use Rattle.wl_stacked.specs.declared.stacked.Stacked.{Stacked}
 use Rattle.wl_lending.specs.Stacked.{AreStacked}
 use Rattle.wl_resident.specs.Agreement.{Matches, IsPlace, IsScene, IsSeat, numbers_in, numbers_of, with_numbers}

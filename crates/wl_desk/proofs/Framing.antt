@@ -6,7 +6,7 @@ use Rattle.wl_peer.specs.declared.cause.Cause.{Cause}
 use Rattle.wl_peer.specs.Told.{Output as Sides}
 use Rattle.wl_client.specs.declared.outputs.Output.{Output}
 use Rattle.wl_paint.specs.Damage.{Damaged, has}
-use Rattle.wl_scene.specs.Windows.{contains}
+use Rattle.wl_stacking.specs.Windows.{contains}
 use Rattle.wl_plain.specs.Desktop.{Desktop, Resident, client_at, status_in, status_of}
 use Rattle.wl_plain.specs.Framing.{FramesTold, FramesToldAt}
 use Rattle.wl_plain.specs.Moments.{marks_at_most}

@@ -14,7 +14,7 @@ use Rattle.wl_client.specs.declared.outputs.Output.{Output}
 use Rattle.wl_client.specs.declared.served.Served.{Served}
 use Rattle.wl_client.specs.declared.served.Served.TheVariants as served
 use Rattle.wl_paint.specs.Damage.{Damaged}
-use Rattle.wl_scene.specs.Windows.{Window}
+use Rattle.wl_stacking.specs.Windows.{Window}
 use Rattle.wl_lending.specs.Stacked.{AreStacked}
 use Rattle.wl_plain.specs.Act.{fed_of, peer_at, status_of}
 use Rattle.wl_plain.specs.Desktop.{Desktop, Resident, become, client_at, client_in, with_client, with_number}

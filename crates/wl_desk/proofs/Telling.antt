@@ -3,8 +3,8 @@ use Rattle.std.proofs.Common.{◌≡◌, ◌≢◌, ℕ, Bool, true, List, Optio
 use Rattle.std.specs.List.{list_any}
 use Rattle.std.specs.Prelude.{◌⊎◌, ◌==◌, filter, is_some, not}
 use Rattle.wl_peer.specs.declared.cause.Cause.{Cause}
-use Rattle.wl_scene.specs.Stacking.{windows_on}
-use Rattle.wl_scene.specs.Windows.{Window}
+use Rattle.wl_stacking.specs.Stacking.{windows_on}
+use Rattle.wl_stacking.specs.Windows.{Window}
 use Rattle.wl_plain.specs.Desktop.{Desktop, Resident, become_by, client_at, owned_in, owned_of, status_in, status_of}
 use Rattle.wl_plain.specs.Framing.{FramesToldAt, FramesToldBy, done_due}
 use Rattle.wl_laws.proofs.Marks.Stacks.{differ}

@@ -11,11 +11,11 @@ use Rattle.wl_peer.specs.declared.refusals.Refusal.{Refusal}
 use Rattle.wl_peer.specs.Peer.{Peer, counted, ended, has_room, queued, sent_by, stored_at, with_rest}
 use Rattle.wl_peer.specs.Plain.{refused}
 use Rattle.wl_peer.specs.Told.{Said, display_error}
-use Rattle.wl_scene.specs.Pointer.{is_down, is_press}
-use Rattle.wl_scene.specs.PointerActions.{PointerAction, PointerInput, actions}
-use Rattle.wl_scene.specs.PointerActions as pointer
-use Rattle.wl_scene.specs.Stacking.{raised}
-use Rattle.wl_scene.specs.Windows.{Place, Window}
+use Rattle.wl_stacking.specs.Pointer.{is_down, is_press}
+use Rattle.wl_stacking.specs.PointerActions.{PointerAction, PointerInput, actions}
+use Rattle.wl_stacking.specs.PointerActions as pointer
+use Rattle.wl_stacking.specs.Stacking.{raised}
+use Rattle.wl_stacking.specs.Windows.{Place, Window}
 use Rattle.wl_plain.specs.Changing.{changed_for, grab_holder, without_callbacks}
 use Rattle.wl_plain.specs.Demand.{Demand}
 use Rattle.wl_plain.specs.Demanding.{judge_all}

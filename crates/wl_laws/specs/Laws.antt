@@ -1,8 +1,8 @@
 -- Laws of the plain desktop.
 use Rattle.std.specs.Prelude.{ℕ, ◌≡◌, ℤ, [], ◌∷◌, ◌-ℤ◌, slice_get, List, Option, Some, IsTrue, true, false}
 use Rattle.std.specs.List.{list_any}
-use Rattle.wl_scene.specs.Stacking.{Standing, is_of, windows_on}
-use Rattle.wl_scene.specs.Windows.{Window, contains}
+use Rattle.wl_stacking.specs.Stacking.{Standing, is_of, windows_on}
+use Rattle.wl_stacking.specs.Windows.{Window, contains}
 use Rattle.wl_blend.specs.declared.color.Rgb.{Rgb}
 use Rattle.wl_plain.specs.Desktop.{Desktop, Resident, Showing, owned_in, resident_of}
 use Rattle.wl_plain.specs.Marks.{Applied, AreDistinct, at_least, at_most, has_same_record, in_output}

@@ -12,9 +12,9 @@ use Rattle.wl_peer.specs.declared.refusals.ErrorCode.TheVariants.{InvalidMethod}
 use Rattle.wl_peer.specs.declared.refusals.Refusal.{Refusal}
 use Rattle.wl_peer.specs.Peer.{Errs, Peer, ended, has_room}
 use Rattle.wl_peer.specs.Told.{Said, display_error, said, said_bytes}
-use Rattle.wl_shell.specs.Popups.{is_among}
-use Rattle.wl_shell.specs.Shell.{next_serial}
-use Rattle.wl_scene.specs.Stacking.{Standing}
+use Rattle.wl_xdg_state.specs.Popups.{is_among}
+use Rattle.wl_xdg_state.specs.Shell.{next_serial}
+use Rattle.wl_stacking.specs.Stacking.{Standing}
 use Rattle.wl_plain.specs.declared.answers.Done.{Done}
 use Rattle.wl_plain.specs.declared.answers.Done.TheVariants as gave
 use Rattle.wl_plain.specs.Demand.{Demand}

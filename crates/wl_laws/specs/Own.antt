@@ -4,9 +4,9 @@ use Rattle.std.specs.List.{list_any}
 use Rattle.wl_peer.specs.declared.cause.Cause.{Cause}
 use Rattle.wl_peer.specs.declared.cause.Cause.TheVariants.{Memory, Slow}
 use Rattle.wl_peer.specs.Peer.{Peer, ended}
-use Rattle.wl_shell.specs.Popups.{dismiss, popup_changed}
-use Rattle.wl_shell.specs.Shell.{Shell, XdgSurface}
-use Rattle.wl_scene.specs.Stacking.{Standing}
+use Rattle.wl_xdg_state.specs.Popups.{dismiss, popup_changed}
+use Rattle.wl_xdg_state.specs.Shell.{Shell, XdgSurface}
+use Rattle.wl_stacking.specs.Stacking.{Standing}
 use Rattle.wl_plain.specs.Desktop.{Desktop, Resident, client_at, resident_of, toplevels_of}
 use Rattle.wl_plain.specs.LeftOut.{LeftOut}
 use Rattle.wl_plain.specs.declared.answers.Done.{Done}

@@ -5,8 +5,8 @@ use Rattle.wl_peer.specs.Told.{Output}
 use Rattle.wl_state.specs.Request.{Child}
 use Rattle.wl_state.specs.State.{History, is_member, order}
 use Rattle.wl_surface.specs.Surfaces.{Link, Surfaces, history_in, link_at}
-use Rattle.wl_scene.specs.Stacking.{is_of}
-use Rattle.wl_scene.specs.Windows.{StackedPopup}
+use Rattle.wl_stacking.specs.Stacking.{is_of}
+use Rattle.wl_stacking.specs.Windows.{StackedPopup}
 use Rattle.wl_plain.specs.declared.answers.Done.{Done}
 use Rattle.wl_plain.specs.Desktop.{Desktop, empty, owned_in}
 use Rattle.wl_laws.specs.Laws.{AreApart}

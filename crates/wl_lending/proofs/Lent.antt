@@ -14,7 +14,7 @@ use Rattle.wl_surface.specs.Surfaces.{surface_at}
 use Rattle.wl_peer.specs.Objects.{ById}
 use Rattle.wl_client.specs.View.{ClientView}
 use Rattle.wl_paint.specs.Window.{Window as Lent, over as over-one}
-use Rattle.wl_scene.specs.Windows.{Window}
+use Rattle.wl_stacking.specs.Windows.{Window}
 use Rattle.wl_stacked.specs.declared.stacked.Stacked.{Stacked}
 use Rattle.wl_windows.specs.declared.window.TreeWindow.{TreeWindow}
 use Rattle.wl_plain.specs.Desktop.{Desktop, owned_in}

@@ -15,7 +15,7 @@ use Rattle.wl_state.specs.State.{History, Values, applied, height_of, width_of}
 use Rattle.wl_state.specs.declared.content.Attached.{Attached}
 use Rattle.wl_client.specs.View.{ClientView}
 use Rattle.wl_paint.specs.Window.{Window as Lent, in_window, over as over-one}
-use Rattle.wl_scene.specs.Windows.{Owner, Place, Window, contains, window_showing}
+use Rattle.wl_stacking.specs.Windows.{Owner, Place, Window, contains, window_showing}
 use Rattle.wl_windows.specs.declared.window.TreeWindow.{TreeWindow}
 use Rattle.wl_plain.specs.Desktop.{Desktop, Resident, client_at}
 use Rattle.wl_plain.specs.Scratch.{bytes_now, over, pixel_at}

@@ -5,9 +5,9 @@ use Rattle.std.specs.List.{AllByRecursion as Each}
 use Rattle.wl_state.specs.Request.{Buffer, Child, Itself, Member}
 use Rattle.wl_state.specs.State.{History, applied, counting, order, position}
 use Rattle.wl_surface.specs.Surfaces.{Link, Surfaces, history_in, link_at}
-use Rattle.wl_scene.specs.Stacking.{root_of}
-use Rattle.wl_scene.specs.Windows.{Owner, Place, Root, StackedPopup, Window, child_windows, corner_at, member_windows, owner_of}
-use Rattle.wl_scene.specs.Windows.{roots_of, shown_windows, surface_windows, tree, window_showing, window_with, windows_of}
+use Rattle.wl_stacking.specs.Stacking.{root_of}
+use Rattle.wl_stacking.specs.Windows.{Owner, Place, Root, StackedPopup, Window, child_windows, corner_at, member_windows, owner_of}
+use Rattle.wl_stacking.specs.Windows.{roots_of, shown_windows, surface_windows, tree, window_showing, window_with, windows_of}
 use Rattle.wl_plain.specs.Desktop.{Desktop, owned_in}
 use Rattle.wl_plain.specs.Popups.{stacked_popups}
 use Rattle.wl_plain.specs.Stacked.{all_windows}

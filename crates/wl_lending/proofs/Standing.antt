@@ -5,7 +5,7 @@ use Rattle.std.specs.List.{AllByRecursion as Each, list_all, list_any}
 use Rattle.std.proofs.lemmas.List.Elements.{recursion_from_All}
 use Rattle.std.proofs.lemmas.List.Folds.{list_any-append}
 use Rattle.wl_peer.specs.Objects.{ById}
-use Rattle.wl_scene.specs.Windows.{Window}
+use Rattle.wl_stacking.specs.Windows.{Window}
 use Rattle.wl_stacked.specs.declared.stacked.Stacked.{Stacked}
 use Rattle.wl_stacked.specs.Stacked.{in_place, is_of, replaced, stacked, without_tree}
 use Rattle.wl_stacked.proofs.Places.{placed-run}

@@ -9,7 +9,7 @@ use Rattle.wl_surface.specs.Surfaces.{Surfaces}
 use Rattle.wl_peer.specs.Objects.{ById}
 use Rattle.wl_client.specs.View.{ClientView}
 use Rattle.wl_paint.specs.Window.{AreOpaqueAsSaid, scratch as painted}
-use Rattle.wl_scene.specs.Windows.{contains}
+use Rattle.wl_stacking.specs.Windows.{contains}
 use Rattle.wl_stacked.specs.declared.stacked.Stacked.{Stacked}
 use Rattle.wl_plain.specs.Desktop.{Desktop, client_at, owned_in}
 use Rattle.wl_plain.specs.Scratch.{color_in, scratch}

@@ -2,7 +2,7 @@
 use Rattle.std.specs.Prelude.{ℕ, ◌≡◌, ◌==◌, ◌&&◌, Bool, List, [], ◌∷◌, Some}
 use Rattle.std.specs.List.{All}
 use Rattle.wl_peer.specs.Objects.{ById}
-use Rattle.wl_scene.specs.Windows.{Window}
+use Rattle.wl_stacking.specs.Windows.{Window}
 use Rattle.wl_windows.specs.Windows.{told_of}
 use Rattle.wl_windows.specs.declared.window.TreeWindow.{TreeWindow}
 use Rattle.wl_stacked.specs.declared.stacked.Stacked.{Stacked}

@@ -17,14 +17,14 @@ use Rattle.wl_tree_steps.proofs.Coming.{link-keeps-all}
 use Rattle.wl_tree_steps.proofs.Commits.{request-keeps-all}
 use Rattle.wl_tree_steps.proofs.Modes.{mode-keeps-all}
 use Rattle.wl_shell.specs.Agreement.{AreApart as AreToldApart}
-use Rattle.wl_shell.specs.Shell.{Configures, Effect, Maps, RoleObject, Shell, Stays, Unconfigured, Unmaps, XdgSurface, acknowledging, configuring, forgetting, in_stage, new_toplevel, on_commit}
-use Rattle.wl_shell.specs.Shell.{stage_of, unmapping, with_change as with_xdg_change, with_new as with_new_xdg, without_role, without_xdg, xdg_at, xdg_of}
-use Rattle.wl_shell.specs.Popups.{placing, with_effect, without_grab}
-use Rattle.wl_shell.specs.declared.stage.Stage.{Stage}
+use Rattle.wl_xdg_state.specs.Shell.{Configures, Effect, Maps, RoleObject, Shell, Stays, Unconfigured, Unmaps, XdgSurface, acknowledging, configuring, forgetting, in_stage, new_toplevel, on_commit}
+use Rattle.wl_xdg_state.specs.Shell.{stage_of, unmapping, with_change as with_xdg_change, with_new as with_new_xdg, without_role, without_xdg, xdg_at, xdg_of}
+use Rattle.wl_xdg_state.specs.Popups.{placing, with_effect, without_grab}
+use Rattle.wl_xdg_state.specs.declared.stage.Stage.{Stage}
 use Rattle.wl_shell.proofs.Agreeing.{changed-same}
-use Rattle.wl_shell.specs.declared.stage.Stage.TheVariants as stage
-use Rattle.wl_scene.specs.Lent.{shows_buffer}
-use Rattle.wl_scene.specs.Stacking.{Owned, Standing, is_of, with_mapped, without_surface_of}
+use Rattle.wl_xdg_state.specs.declared.stage.Stage.TheVariants as stage
+use Rattle.wl_stacking.specs.Stacking.{shows_buffer}
+use Rattle.wl_stacking.specs.Stacking.{Owned, Standing, is_of, with_mapped, without_surface_of}
 use Rattle.wl_plain.specs.Ask.{Acknowledge, Ask, AskSurface, ConfigureAgain, CreateSurface, DestroyXdgSurface, EndObject, GetToplevel, GetXdgSurface, Ignore, Own}
 use Rattle.wl_plain.specs.Changing.{link_with_id, tree_committed, unlinked_at}
 use Rattle.wl_plain.specs.Demand.{AskFrame, Asks, CommitTree, Demand, EndSubsurface, EndSurface, EndToplevel, GetSubsurface, SetMode}

@@ -5,12 +5,12 @@ use Rattle.std.specs.List.{list_any}
 use Rattle.std.specs.Option.{option_map}
 use Rattle.std.proofs.lemmas.Bool.{eqb-false, eqb-true}
 use Rattle.wl_surface.specs.Surfaces.{history_in}
-use Rattle.wl_shell.specs.Shell.{Popup, RoleObject, Shell, XdgSurface, acknowledged, acknowledging, in_stage, stage_of, with_change as with_xdg_change, xdg_of}
-use Rattle.wl_shell.specs.Popups.{popup_changed, with_popup_role}
-use Rattle.wl_shell.specs.declared.stage.Stage.{Stage}
-use Rattle.wl_shell.specs.declared.stage.Stage.TheVariants as stage
-use Rattle.wl_scene.specs.Lent.{shows_buffer}
-use Rattle.wl_scene.specs.Stacking.{Owned, Standing, is_of}
+use Rattle.wl_xdg_state.specs.Shell.{Popup, RoleObject, Shell, XdgSurface, acknowledged, acknowledging, in_stage, stage_of, with_change as with_xdg_change, xdg_of}
+use Rattle.wl_xdg_state.specs.Popups.{popup_changed, with_popup_role}
+use Rattle.wl_xdg_state.specs.declared.stage.Stage.{Stage}
+use Rattle.wl_xdg_state.specs.declared.stage.Stage.TheVariants as stage
+use Rattle.wl_stacking.specs.Stacking.{shows_buffer}
+use Rattle.wl_stacking.specs.Stacking.{Owned, Standing, is_of}
 use Rattle.wl_laws.proofs.Lists.Keys.{differ}
 use Rattle.wl_records.specs.Standing.{AreMapped, AreTurned, is_mapped, is_mapped_at, waits, waits_at}
 use Rattle.wl_records.proofs.Keeping.StandingClients.{one_stepped, stepped-found}

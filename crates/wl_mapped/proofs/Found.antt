@@ -2,7 +2,7 @@
 use Rattle.std.proofs.Common.{◌≡◌, ℕ, [], ◌∷◌, Bool, Option, Some, None, refl, eq-eqb}
 use Rattle.std.specs.Prelude.{◌==◌, find}
 use Rattle.wl_shell.specs.Agreement.{AreApart}
-use Rattle.wl_shell.specs.Shell.{Shell, XdgSurface as Xdg, is_role, xdg_at, xdg_with}
+use Rattle.wl_xdg_state.specs.Shell.{Shell, XdgSurface as Xdg, is_role, xdg_at, xdg_with}
 use Rattle.wl_laws.specs.Apart.{AreApartBy}
 use Rattle.wl_laws.proofs.Lists.Keys.{found-by}
 use Rattle.wl_laws.proofs.Soundness.Orderly.{HasId, HasNoRole, IsOn}

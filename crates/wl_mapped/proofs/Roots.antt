@@ -23,8 +23,8 @@ use Rattle.wl_tree_steps.proofs.Commits.{asked_more, commit-keeps-others, histor
 use Rattle.wl_tree_steps.proofs.Descents.{at-top, is-top, no-child-is-top}
 use Rattle.wl_tree_steps.proofs.Ends.{destruction-keeps-others, end-keeps-others}
 use Rattle.wl_tree_steps.proofs.Modes.{mode-keeps-others}
-use Rattle.wl_shell.specs.Shell.{Shell, XdgSurface, xdg_of}
-use Rattle.wl_scene.specs.Lent.{shows_buffer}
+use Rattle.wl_xdg_state.specs.Shell.{Shell, XdgSurface, xdg_of}
+use Rattle.wl_stacking.specs.Stacking.{shows_buffer}
 use Rattle.wl_plain.specs.Changing.{unlinked_at}
 use Rattle.wl_laws.specs.Apart.{AreApartBy}
 use Rattle.wl_laws.specs.Soundness.{IsNoChild}

@@ -11,7 +11,7 @@ use Rattle.wl_peer.specs.declared.refusals.Refusal.{Refusal}
 use Rattle.wl_peer.specs.Peer.{Errs, LacksMemory, Peer, Queues, counted, ended, sent_by, stored_at, with_rest}
 use Rattle.wl_peer.specs.Told.{Said, display_error}
 use Rattle.wl_surface.specs.Surfaces.{Link, link_at}
-use Rattle.wl_scene.specs.Pointer.{first_pointer}
+use Rattle.wl_stacking.specs.Pointer.{first_pointer}
 use Rattle.wl_plain.specs.declared.answers.Done.{Done}
 use Rattle.wl_plain.specs.Act.{IsClosed, IsSent, IsStored, Connect, Feed, Store, Leave, Tick, Send, Close, Motion, Button, closed_by}
 use Rattle.wl_plain.specs.Changing.{changed_for}

@@ -13,7 +13,7 @@ use Rattle.wl_surface.specs.Surfaces.{Surfaces, history_in, with_change, without
 use Rattle.wl_surface.specs.Trees.{committed_in, desynchronised_in, destroyed_in, ended_in, linked, links_with}
 use Rattle.wl_tree_laws.proofs.Coming.{history-without}
 use Rattle.wl_tree_steps.proofs.Commits.{asked_more, history-asked, role-keeps-all}
-use Rattle.wl_shell.specs.Shell.{Configures, Effect, Maps, Stays, Unconfigured, Unmaps, XdgSurface, xdg_at, xdg_of}
+use Rattle.wl_xdg_state.specs.Shell.{Configures, Effect, Maps, Stays, Unconfigured, Unmaps, XdgSurface, xdg_at, xdg_of}
 use Rattle.wl_plain.specs.Ask.{Ask, AskSurface, CreateSurface, GetToplevel}
 use Rattle.wl_plain.specs.Changing.{link_with_id, mode_set, tree_committed, unlinked_at}
 use Rattle.wl_plain.specs.Demand.{AskFrame, Asks, CommitTree, Demand, EndSubsurface, EndSurface, GetSubsurface, SetMode}

@@ -32,7 +32,7 @@ use Rattle.wl_peer.specs.ToplevelRequest as toplevel
 use Rattle.wl_state.specs.Request.{Request as Asked, Member, PlaceAbove, PlaceBelow}
 use Rattle.wl_surface.specs.Surfaces.{Link}
 use Rattle.wl_surface.specs.Trees.{is_bad_parent, is_too_deep}
-use Rattle.wl_shell.specs.Shell.{Effect, Stays, Unconfigured, Configures, Maps, Unmaps, XdgSurface as Xdg, answers_states, is_full, is_waiting, stage_of, xdg_at, xdg_of, xdg_with}
+use Rattle.wl_xdg_state.specs.Shell.{Effect, Stays, Unconfigured, Configures, Maps, Unmaps, XdgSurface as Xdg, answers_states, is_full, is_waiting, stage_of, xdg_at, xdg_of, xdg_with}
 use Rattle.wl_plain.specs.Ask.{Ask, AskSurface, owns}
 use Rattle.wl_plain.specs.Demand.{Asks, CommitTree, Demand}
 use Rattle.wl_plain.specs.Demanding.{base_demand, committed_by, demand_by, demand_of, demands, effect_of_commit, effect_on_xdg, judge_all, moved_by_pointer, own_demand, surface_demand}

@@ -14,8 +14,8 @@ use Rattle.wl_state.specs.declared.role.Role.{Role}
 use Rattle.wl_state.specs.Surface.{asking, with_role}
 use Rattle.wl_surface.specs.Surfaces.{Surfaces, is_used, with_change}
 use Rattle.wl_surface.specs.Waiting.{Callback}
-use Rattle.wl_shell.specs.Positioner.{Positioner}
-use Rattle.wl_shell.specs.Shell.{Effect, Stays, Unconfigured, Configures, Maps, Unmaps, XdgSurface, xdg_at, xdg_of}
+use Rattle.wl_xdg_state.specs.Positioner.{Positioner}
+use Rattle.wl_xdg_state.specs.Shell.{Effect, Stays, Unconfigured, Configures, Maps, Unmaps, XdgSurface, xdg_at, xdg_of}
 use Rattle.wl_plain.specs.Ask.{Ask, Own, CreateSurface, AskSurface, EndObject, GetXdgSurface, DestroyXdgSurface, GetToplevel, Acknowledge, ConfigureAgain, Ignore}
 use Rattle.wl_plain.specs.Changing.{callbacks_of, changed_for, drawing, effect_done, grab_allowed, grabbed, has_focus, in_rising_order, link_with_id, mode_set, popup_given_to, tree_committed}
 use Rattle.wl_plain.specs.Demand.{Demand, Asks, EndSurface, AskFrame, CommitTree, GetSubsurface, EndSubsurface, SetMode, GetPointer, MakeCursor, CreatePositioner, EndPositioner}

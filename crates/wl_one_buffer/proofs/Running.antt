@@ -12,7 +12,7 @@ use Rattle.wl_peer.specs.declared.refusals.ErrorCode.TheVariants.{InvalidMethod,
 use Rattle.wl_peer.specs.declared.refusals.Refusal.{Refusal}
 use Rattle.wl_peer.specs.Peer.{Errs, LacksMemory, Peer, QueuesOr, counted, ended, has_room, queued, sent_by, stored_at, stored_by, with_rest}
 use Rattle.wl_peer.specs.Told.{Output, Said, code_number, display_error, error_told}
-use Rattle.wl_scene.specs.Stacking.{Standing}
+use Rattle.wl_stacking.specs.Stacking.{Standing}
 use Rattle.wl_plain.specs.declared.answers.Done.{Done}
 use Rattle.wl_plain.specs.Act.{Act, Connect, Feed, Store, Leave, Tick, Send, Close, Motion, Button, IsClosed, IsSent, IsStored, closed_by, lowest, next_of}
 use Rattle.wl_plain.specs.Changing.{changed_for}

@@ -8,8 +8,8 @@ use Rattle.wl_state.specs.Surface.{asking}
 use Rattle.wl_state.specs.declared.role.Role.TheVariants.{Toplevel as AsToplevel}
 use Rattle.wl_surface.specs.Surfaces.{Link, Surfaces, link_at, with_change, with_new}
 use Rattle.wl_surface.specs.Trees.{committed_in, desynchronised_in, destroyed_in, in_mode, link_of, linked, released_in, unlinked, with_link}
-use Rattle.wl_shell.specs.Shell.{Effect, Stays, Unconfigured, Configures, Maps, Unmaps, XdgSurface as Xdg, xdg_at, xdg_of}
-use Rattle.wl_scene.specs.Stacking.{Owned, is_of, without_surface_of}
+use Rattle.wl_xdg_state.specs.Shell.{Effect, Stays, Unconfigured, Configures, Maps, Unmaps, XdgSurface as Xdg, xdg_at, xdg_of}
+use Rattle.wl_stacking.specs.Stacking.{Owned, is_of, without_surface_of}
 use Rattle.wl_tree_laws.specs.Hanging.{AreNumbered, AreTied}
 use Rattle.wl_tree_laws.specs.Laws.{AreOnceLinked}
 use Rattle.wl_plain.specs.Ask.{Ask, AskSurface, CreateSurface, GetToplevel}

@@ -10,8 +10,8 @@ use Rattle.std.proofs.lemmas.List.{length-map}
 use Rattle.std.proofs.lemmas.Map.Made.{length-le_from_is_member}
 use Rattle.wl_state.specs.Surface.{Surface}
 use Rattle.wl_surface.specs.Surfaces.{Surfaces}
-use Rattle.wl_scene.specs.Stacking.{Standing, is_of}
-use Rattle.wl_scene.specs.Windows.{Owner, Window}
+use Rattle.wl_stacking.specs.Stacking.{Standing, is_of}
+use Rattle.wl_stacking.specs.Windows.{Owner, Window}
 use Rattle.wl_plain.specs.Desktop.{Desktop, owned_in}
 use Rattle.wl_plain.specs.Marks.{AreDistinct, is_same_surface}
 use Rattle.wl_laws.proofs.Marks.Stacks.{Each}

@@ -7,7 +7,7 @@ use Rattle.wl_state.specs.Request.{Buffer, Member, Itself, Child}
 use Rattle.wl_state.specs.State.{History, applied, counting, order, position}
 use Rattle.wl_state.specs.Surface.{Surface, new_surface}
 use Rattle.wl_surface.specs.Surfaces.{Link, Surfaces, history_in, link_at, with_new}
-use Rattle.wl_scene.specs.Windows.{Owner, Place, Window, child_windows, corner_at, member_windows, shown_windows, surface_windows, tree}
+use Rattle.wl_stacking.specs.Windows.{Owner, Place, Window, child_windows, corner_at, member_windows, shown_windows, surface_windows, tree}
 
 -- Nothing was asked of the surface that comes.
 abbrev unasked : History

@@ -4,7 +4,7 @@ use Rattle.std.specs.Prelude.{◌≢◌, ◌⊎◌, int_le, pos, unsigned_abs}
 use Rattle.std.proofs.lemmas.Bool.{eqb-false, eqb-true}
 use Rattle.wl_state.specs.State.{History}
 use Rattle.wl_surface.specs.Surfaces.{Surfaces, history_in, with_new}
-use Rattle.wl_scene.specs.Stacking.{Owned, Standing, windows_on}
+use Rattle.wl_stacking.specs.Stacking.{Owned, Standing, windows_on}
 use Rattle.wl_plain.specs.Desktop.{Desktop, owned_in}
 use Rattle.wl_plain.specs.Moments.{applied_between, is_applied_by}
 use Rattle.wl_plain.specs.Stacked.{all_windows}

@@ -1,7 +1,7 @@
 -- What is marked of the tree that changes, and where nothing changes.
 use Rattle.std.proofs.Common.{List, [], refl, ap, ap₂, sym, subst, ◌∙◌}
 use Rattle.std.proofs.lemmas.List.{append-nil}
-use Rattle.wl_scene.specs.Windows.{Window}
+use Rattle.wl_stacking.specs.Windows.{Window}
 use Rattle.wl_plain.specs.Marks.{AreDistinct, at_least, at_most, in_output}
 use Rattle.wl_plain.specs.Moments.{applied_between}
 use Rattle.wl_plain.specs.Stacked.{all_windows}

@@ -8,7 +8,7 @@ use Rattle.wl_surface.specs.declared.applied.Change.{Change}
 use Rattle.wl_surface.specs.Surfaces.{Link, Surfaces, history_in, link_at}
 use Rattle.wl_surface.specs.Trees.{committed_in, desynchronised_in, destroyed_in, unlinked}
 use Rattle.wl_linked.specs.Linked.{IsLink}
-use Rattle.wl_scene.specs.Windows.{Owner, Window, tree}
+use Rattle.wl_stacking.specs.Windows.{Owner, Window, tree}
 use Rattle.wl_plain.specs.Marks.{Applied}
 use Rattle.wl_plain.specs.Moments.{is_applied_by}
 use Rattle.wl_laws.proofs.Lists.Keys.{some-same}

@@ -4,7 +4,7 @@ use Rattle.std.specs.Prelude.{◌+ℤ◌}
 use Rattle.wl_state.specs.Request.{Buffer, Member, Itself, Child}
 use Rattle.wl_state.specs.State.{History, applied, counting, height_of, order, position, width_of}
 use Rattle.wl_surface.specs.Surfaces.{Link, Surfaces, history_in, link_at}
-use Rattle.wl_scene.specs.Windows.{Owner, Place, Window, child_windows, corner_at, member_windows, shown_windows, surface_windows, tree, window_of, window_with}
+use Rattle.wl_stacking.specs.Windows.{Owner, Place, Window, child_windows, corner_at, member_windows, shown_windows, surface_windows, tree, window_of, window_with}
 use Rattle.wl_laws.proofs.Marks.Stacks.{Each}
 use Rattle.wl_laws.proofs.Soundness.Trees.{each-flat}
 

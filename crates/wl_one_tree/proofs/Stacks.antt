@@ -4,8 +4,8 @@ use Rattle.std.specs.Prelude.{◌⊎◌, find, not}
 use Rattle.std.specs.List.{list_any}
 use Rattle.std.proofs.Common.{inl, inr}
 use Rattle.std.proofs.lemmas.List.{append-nil}
-use Rattle.wl_scene.specs.Stacking.{Owned, Standing, is_of, windows_on, without_surface_of}
-use Rattle.wl_scene.specs.Windows.{Window}
+use Rattle.wl_stacking.specs.Stacking.{Owned, Standing, is_of, windows_on, without_surface_of}
+use Rattle.wl_stacking.specs.Windows.{Window}
 use Rattle.wl_laws.specs.Laws.{AreApart}
 use Rattle.wl_laws.proofs.Lists.Standings.{of-client, of-it, of-surface}
 use Rattle.wl_laws.proofs.Marks.Stacks.{Each, differ, or-left, or-right, unless}

@@ -5,8 +5,8 @@ use Rattle.std.specs.List.{All}
 use Rattle.std.proofs.lemmas.List.Elements.{All-from_recursion}
 use Rattle.wl_peer.specs.Peer.{Peer}
 use Rattle.wl_surface.specs.Surfaces.{Surfaces}
-use Rattle.wl_shell.specs.Shell.{xdg_of}
-use Rattle.wl_scene.specs.Stacking.{Owned, Standing, is_of}
+use Rattle.wl_xdg_state.specs.Shell.{xdg_of}
+use Rattle.wl_stacking.specs.Stacking.{Owned, Standing, is_of}
 use Rattle.wl_plain.specs.Changing.{link_with_id, tree_committed, unlinked_at}
 use Rattle.wl_plain.specs.Demand.{Demand, CommitTree, EndSubsurface, EndSurface, EndToplevel, SetMode}
 use Rattle.wl_plain.specs.Demanding.{effect_of_commit}

@@ -7,8 +7,8 @@ use Rattle.std.proofs.lemmas.List.{append-nil}
 use Rattle.std.proofs.lemmas.List.Folds.{list_any-append}
 use Rattle.wl_surface.specs.Surfaces.{Surfaces}
 use Rattle.wl_surface.specs.Trees.{descends_from, levels, link_of}
-use Rattle.wl_scene.specs.Stacking.{Standing, is_of, windows_on, with_mapped, without_surface_of}
-use Rattle.wl_scene.specs.Windows.{Window, mapping_place}
+use Rattle.wl_stacking.specs.Stacking.{Standing, is_of, windows_on, with_mapped, without_surface_of}
+use Rattle.wl_stacking.specs.Windows.{Window, mapping_place}
 use Rattle.wl_plain.specs.Desktop.{Desktop, owned_in}
 use Rattle.wl_plain.specs.Marks.{AreDistinct}
 use Rattle.wl_plain.specs.Moments.{applied_between}

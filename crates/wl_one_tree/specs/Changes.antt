@@ -4,7 +4,7 @@ use Rattle.wl_wire.specs.Wire.{split_of}
 use Rattle.wl_wire.specs.declared.header.Split.{Split}
 use Rattle.wl_wire.specs.declared.header.Split.TheVariants.{Message as Whole, More, Bad}
 use Rattle.wl_peer.specs.Peer.{Peer}
-use Rattle.wl_scene.specs.Windows.{Window}
+use Rattle.wl_stacking.specs.Windows.{Window}
 use Rattle.wl_plain.specs.Demand.{Demand}
 use Rattle.wl_plain.specs.Demanding.{judge_all}
 use Rattle.wl_plain.specs.Desktop.{Desktop, Resident, owned_in}

@@ -8,7 +8,7 @@ use Rattle.wl_surface.specs.Surfaces.{Link, Surfaces, link_at}
 use Rattle.wl_surface.specs.Trees.{committed_in, desynchronised_in, destroyed_in, ending, unlinked, with_link}
 use Rattle.wl_tree_laws.specs.Hanging.{AreNumbered}
 use Rattle.wl_tree_laws.specs.Laws.{AreOnceLinked}
-use Rattle.wl_scene.specs.Windows.{Owner, Place, tree}
+use Rattle.wl_stacking.specs.Windows.{Owner, Place, tree}
 use Rattle.wl_plain.specs.Desktop.{Desktop, owned_in}
 use Rattle.wl_plain.specs.Marks.{Applied}
 use Rattle.wl_plain.specs.Moments.{applied_between}

@@ -7,8 +7,8 @@ use Rattle.wl_peer.specs.Told.{Output}
 use Rattle.wl_surface.specs.Surfaces.{Link, Surfaces, link_at}
 use Rattle.wl_tree_laws.specs.Hanging.{AreNumbered, AreTied}
 use Rattle.wl_tree_laws.specs.Laws.{AreOnceLinked}
-use Rattle.wl_scene.specs.Stacking.{Standing, is_of}
-use Rattle.wl_scene.specs.Windows.{Window}
+use Rattle.wl_stacking.specs.Stacking.{Standing, is_of}
+use Rattle.wl_stacking.specs.Windows.{Window}
 use Rattle.wl_plain.specs.Demand.{Demand, CommitTree, EndSubsurface, EndSurface, EndToplevel, SetMode}
 use Rattle.wl_plain.specs.Desktop.{Desktop, Resident, empty, owned_in}
 use Rattle.wl_plain.specs.WlSubsurface.{link_of_subsurface}

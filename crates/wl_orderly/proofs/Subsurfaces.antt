@@ -12,8 +12,8 @@ use Rattle.wl_state.specs.Request.{AddChild, Frame}
 use Rattle.wl_state.specs.Surface.{Surface, new_surface, with_role}
 use Rattle.wl_surface.specs.Surfaces.{Surfaces, surface_at, with_change, with_new}
 use Rattle.wl_surface.specs.Trees.{linked}
-use Rattle.wl_shell.specs.Shell.{Configures, Effect, Maps, Stays, Unconfigured, Unmaps, XdgSurface as Xdg, acknowledging, configuring, new_toplevel}
-use Rattle.wl_shell.specs.Shell.{with_change as with_xdg_change, without_role, xdg_at, xdg_of}
+use Rattle.wl_xdg_state.specs.Shell.{Configures, Effect, Maps, Stays, Unconfigured, Unmaps, XdgSurface as Xdg, acknowledging, configuring, new_toplevel}
+use Rattle.wl_xdg_state.specs.Shell.{with_change as with_xdg_change, without_role, xdg_at, xdg_of}
 use Rattle.wl_plain.specs.Ask.{Ask, Own, CreateSurface, AskSurface, EndObject, GetXdgSurface, DestroyXdgSurface, GetToplevel, Acknowledge, ConfigureAgain, Ignore}
 use Rattle.wl_plain.specs.Changing.{link_with_id, mode_set, subsurface_given, surface_ended, tree_committed, without_child}
 use Rattle.wl_plain.specs.Demand.{Demand, Asks, EndSurface, AskFrame, CommitTree, GetSubsurface, EndSubsurface, SetMode, GetPointer, MakeCursor, CreatePositioner, EndPositioner}

@@ -7,9 +7,9 @@ use Rattle.wl_interface.specs.declared.interface.Interface.TheVariants.{XdgPopup
 use Rattle.wl_peer.specs.Objects.{Objects}
 use Rattle.wl_surface.specs.Surfaces.{Link}
 use Rattle.wl_tree_laws.specs.Hanging.{AreNumbered, AreTied}
-use Rattle.wl_shell.specs.Popups.{is_toplevel_kind}
-use Rattle.wl_shell.specs.Shell.{RoleObject, Shell, XdgSurface as Xdg, is_role, xdg_of}
-use Rattle.wl_scene.specs.Stacking.{Standing}
+use Rattle.wl_xdg_state.specs.Popups.{is_toplevel_kind}
+use Rattle.wl_xdg_state.specs.Shell.{RoleObject, Shell, XdgSurface as Xdg, is_role, xdg_of}
+use Rattle.wl_stacking.specs.Stacking.{Standing}
 use Rattle.wl_plain.specs.Desktop.{Resident, Subsurface}
 use Rattle.wl_plain.specs.WlSubsurface.{has_subsurface, is_of_child}
 use Rattle.wl_laws.specs.Apart.{AreApartBy, AreObjects}

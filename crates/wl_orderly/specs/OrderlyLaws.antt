@@ -5,7 +5,7 @@ use Rattle.wl_peer.specs.declared.cause.Cause.{Cause}
 use Rattle.wl_peer.specs.Peer.{Peer, counted, ended, with_rest}
 use Rattle.wl_peer.specs.Told.{Output}
 use Rattle.wl_surface.specs.Surfaces.{Link}
-use Rattle.wl_scene.specs.Stacking.{is_of}
+use Rattle.wl_stacking.specs.Stacking.{is_of}
 use Rattle.wl_plain.specs.declared.answers.Done.{Done}
 use Rattle.wl_plain.specs.Act.{Act}
 use Rattle.wl_plain.specs.Demand.{Demand}

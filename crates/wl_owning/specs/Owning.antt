@@ -17,13 +17,13 @@ use Rattle.wl_surface.specs.Surfaces.{Surfaces, history_in, surface_at}
 use Rattle.wl_tree_laws.specs.Hanging.{Hang}
 use Rattle.wl_renaming.specs.Renaming.{HasEnds, renamed}
 use Rattle.wl_shell.specs.Agreement.{IsShell}
-use Rattle.wl_shell.specs.Kept.{Kept, Stands}
-use Rattle.wl_shell.specs.declared.acts.ShellAct.{ShellAct}
-use Rattle.wl_shell.specs.declared.acts.ShellAct.TheVariants as act
-use Rattle.wl_shell.specs.declared.error.ShellError.{ShellError}
-use Rattle.wl_shell.specs.declared.error.ShellError.TheVariants as failed
-use Rattle.wl_shell.specs.Shell.{Effect, Stays, Configures, Maps, Unmaps, XdgSurface as Xdg, is_role, xdg_at, xdg_of, xdg_with}
-use Rattle.wl_scene.specs.Stacking.{Owned}
+use Rattle.wl_xdg_state.specs.Kept.{Kept, Stands}
+use Rattle.wl_xdg_state.specs.declared.acts.ShellAct.{ShellAct}
+use Rattle.wl_xdg_state.specs.declared.acts.ShellAct.TheVariants as act
+use Rattle.wl_xdg_state.specs.declared.error.ShellError.{ShellError}
+use Rattle.wl_xdg_state.specs.declared.error.ShellError.TheVariants as failed
+use Rattle.wl_xdg_state.specs.Shell.{Effect, Stays, Configures, Maps, Unmaps, XdgSurface as Xdg, is_role, xdg_at, xdg_of, xdg_with}
+use Rattle.wl_stacking.specs.Stacking.{Owned}
 use Rattle.wl_plain.specs.Ask.{Ask, ConfigureAgain, Ignore}
 use Rattle.wl_plain.specs.Step.{is_number}
 use Rattle.wl_laws.specs.Apart.{AreApartBy}

@@ -12,7 +12,7 @@ use Rattle.wl_proto.specs.Spelling.{event_size}
 use Rattle.wl_geom.specs.Region.{Change, Add, Subtract}
 use Rattle.wl_store.specs.Stores.{Stock, created, let_go, resized, store_at, used, write_refusal, written}
 use Rattle.wl_store.specs.declared.stores.StoreError.{StoreError}
-use Rattle.wl_shell.specs.Positioner.{Positioner}
+use Rattle.wl_xdg_state.specs.Positioner.{Positioner}
 use Rattle.wl_peer.specs.declared.cause.Cause.{Cause}
 use Rattle.wl_peer.specs.declared.cause.Cause.TheVariants.{Protocol, Memory, Slow, Gone}
 use Rattle.wl_peer.specs.declared.refusals.ErrorCode.TheVariants.{InvalidMethod, NoMemory}

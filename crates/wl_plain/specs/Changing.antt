@@ -15,13 +15,13 @@ use Rattle.wl_surface.specs.Surfaces.{Surfaces, history_in, with_change as with_
 use Rattle.wl_surface.specs.Trees.{committed_in, desynchronised_in, destroyed_in, linked, synchronised_in, unlinked}
 use Rattle.wl_state.specs.declared.role.Role.TheVariants.{Popup as AsPopup, Cursor as AsCursor}
 use Rattle.wl_surface.specs.Waiting.{Callback}
-use Rattle.wl_shell.specs.Popups.{dismissing, is_parent_of, is_toplevel, new_popup, orphaning, parent_allows, parent_of, popup_at}
-use Rattle.wl_shell.specs.Popups.{popup_changed, popups_of, with_effect, with_grab}
-use Rattle.wl_shell.specs.Positioner.{Placed, Positioner, first_positioner, place}
-use Rattle.wl_shell.specs.Shell.{Effect, Configures, Maps, Unmaps, Popup, XdgSurface, next_serial, with_change, without_role, xdg_at, xdg_of}
-use Rattle.wl_scene.specs.Pointer.{Pointer, Target}
-use Rattle.wl_scene.specs.Stacking.{Standing, is_of, with_mapped, without_surface_of}
-use Rattle.wl_scene.specs.Windows.{Place, Window}
+use Rattle.wl_xdg_state.specs.Popups.{dismissing, is_parent_of, is_toplevel, new_popup, orphaning, parent_allows, parent_of, popup_at}
+use Rattle.wl_xdg_state.specs.Popups.{popup_changed, popups_of, with_effect, with_grab}
+use Rattle.wl_xdg_state.specs.Positioner.{Placed, Positioner, first_positioner, place}
+use Rattle.wl_xdg_state.specs.Shell.{Effect, Configures, Maps, Unmaps, Popup, XdgSurface, next_serial, with_change, without_role, xdg_at, xdg_of}
+use Rattle.wl_stacking.specs.Pointer.{Pointer, Target}
+use Rattle.wl_stacking.specs.Stacking.{Standing, is_of, with_mapped, without_surface_of}
+use Rattle.wl_stacking.specs.Windows.{Place, Window}
 use Rattle.wl_plain.specs.Demand.{Demand, Asks, EndSurface, AskFrame, CommitTree, GetSubsurface, EndSubsurface, SetMode}
 use Rattle.wl_plain.specs.Demand.{GetPointer, MakeCursor, CreatePositioner, EndPositioner, SetPositioner, GetPopup, Grab, EndPopup}
 use Rattle.wl_plain.specs.Demand.{EndToplevel, Move}

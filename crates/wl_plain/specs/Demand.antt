@@ -1,6 +1,6 @@
 -- What an accepted message asks of the desktop where every request is served.
 use Rattle.std.specs.Prelude.{ℕ, Bool}
-use Rattle.wl_shell.specs.Positioner.{Positioner}
+use Rattle.wl_xdg_state.specs.Positioner.{Positioner}
 use Rattle.wl_plain.specs.Ask.{Ask}
 
 pub data Demand : Type 0 where

@@ -4,9 +4,9 @@ use Rattle.wl_peer.specs.Told.{Output}
 use Rattle.wl_peer.specs.declared.cause.Cause.{Cause}
 use Rattle.wl_peer.specs.Peer.{Peer, newcomer}
 use Rattle.wl_surface.specs.Waiting.{Callback}
-use Rattle.wl_scene.specs.Pointer.{Pointer, first_pointer}
-use Rattle.wl_scene.specs.Stacking.{Owned, Standing, nothing_owned, without_client}
-use Rattle.wl_scene.specs.Windows.{Window}
+use Rattle.wl_stacking.specs.Pointer.{Pointer, first_pointer}
+use Rattle.wl_stacking.specs.Stacking.{Owned, Standing, nothing_owned, without_client}
+use Rattle.wl_stacking.specs.Windows.{Window}
 
 -- a wl_subsurface by its id: the number of its link, and its surface, while that is there
 pub record Subsurface : Type 0 where

@@ -15,9 +15,9 @@ use Rattle.wl_peer.specs.Peer.{Errs, IsIdle, LacksMemory, Peer, counted, ended, 
 use Rattle.wl_peer.specs.Told.{Output, Said, display_error, id_deleted, said}
 use Rattle.wl_surface.specs.Frames.{frames_counting}
 use Rattle.wl_surface.specs.Waiting.{Callback}
-use Rattle.wl_scene.specs.Pointer.{Pointer, Target, is_down, is_press, without_button}
-use Rattle.wl_scene.specs.PointerActions.{GoTo, Went, Press, Release}
-use Rattle.wl_scene.specs.Windows.{Place}
+use Rattle.wl_stacking.specs.Pointer.{Pointer, Target, is_down, is_press, without_button}
+use Rattle.wl_stacking.specs.PointerActions.{GoTo, Went, Press, Release}
+use Rattle.wl_stacking.specs.Windows.{Place}
 use Rattle.wl_plain.specs.declared.answers.Done.{Done}
 use Rattle.wl_plain.specs.declared.answers.ConnectError.TheVariants.{Full, Memory}
 use Rattle.wl_plain.specs.declared.answers.Done.TheVariants as gave

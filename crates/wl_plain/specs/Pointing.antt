@@ -5,9 +5,9 @@ use Rattle.wl_interface.specs.declared.interface.Interface.TheVariants.{WlPointe
 use Rattle.wl_proto.specs.Messages.{says}
 use Rattle.wl_peer.specs.Told.{Said, said}
 use Rattle.wl_surface.specs.Surfaces.{history_in}
-use Rattle.wl_scene.specs.Pointer.{Target, fixed_from}
-use Rattle.wl_scene.specs.Stacking.{Standing, moved_to}
-use Rattle.wl_scene.specs.Windows.{Place, Window, moved}
+use Rattle.wl_stacking.specs.Pointer.{Target, fixed_from}
+use Rattle.wl_stacking.specs.Stacking.{Standing, moved_to}
+use Rattle.wl_stacking.specs.Windows.{Place, Window, moved}
 use Rattle.wl_plain.specs.Desktop.{Resident}
 use Rattle.wl_plain.specs.Popups.{standing_place}
 use Rattle.wl_plain.specs.Replies.{entered_at}

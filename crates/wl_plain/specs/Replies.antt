@@ -10,11 +10,11 @@ use Rattle.wl_state.specs.Request.{Buffer}
 use Rattle.wl_state.specs.State.{History, applied, held}
 use Rattle.wl_state.specs.Surface.{listed}
 use Rattle.wl_surface.specs.Surfaces.{Surfaces, is_busy}
-use Rattle.wl_shell.specs.Popups.{is_among, popups_of}
-use Rattle.wl_shell.specs.Positioner.{Placed}
-use Rattle.wl_shell.specs.Shell.{Effect, Configures, Kind, Toplevel, IsPopup, RoleObject, Shell, XdgSurface, xdg_of}
-use Rattle.wl_scene.specs.Pointer.{Target, fixed_from}
-use Rattle.wl_scene.specs.Windows.{Place, Window}
+use Rattle.wl_xdg_state.specs.Popups.{is_among, popups_of}
+use Rattle.wl_xdg_state.specs.Positioner.{Placed}
+use Rattle.wl_xdg_state.specs.Shell.{Effect, Configures, Kind, Toplevel, IsPopup, RoleObject, Shell, XdgSurface, xdg_of}
+use Rattle.wl_stacking.specs.Pointer.{Target, fixed_from}
+use Rattle.wl_stacking.specs.Windows.{Place, Window}
 use Rattle.wl_plain.specs.Changing.{callbacks_of, has_focus, placement_now, tree_committed}
 use Rattle.wl_plain.specs.Demand.{Demand, Asks, EndSurface, CommitTree, EndSubsurface, GetPointer, EndPositioner, EndPopup}
 use Rattle.wl_plain.specs.Demand.{EndToplevel}

@@ -9,7 +9,7 @@ use Rattle.wl_store.specs.declared.color.Argb.{Argb}
 use Rattle.wl_blend.specs.Blend.{blended}
 use Rattle.wl_blend.specs.declared.color.Rgb.{Rgb}
 use Rattle.wl_state.specs.Request.{Buffer}
-use Rattle.wl_scene.specs.Windows.{Window, contains}
+use Rattle.wl_stacking.specs.Windows.{Window, contains}
 use Rattle.wl_plain.specs.Desktop.{Desktop, Resident, Showing, client_at}
 use Rattle.wl_plain.specs.Stacked.{all_windows}
 

@@ -7,12 +7,12 @@ use Rattle.wl_peer.specs.declared.cause.Cause.TheVariants.{Memory, Slow}
 use Rattle.wl_peer.specs.Peer.{Peer, ended, has_room, queued}
 use Rattle.wl_peer.specs.Told.{Said}
 use Rattle.wl_surface.specs.Surfaces.{history_in}
-use Rattle.wl_shell.specs.Popups.{dismissing}
-use Rattle.wl_scene.specs.Pointer.{Pointer, Target}
-use Rattle.wl_scene.specs.PointerActions.{PointerAction, Leave, Enter, Motion, Button, Raise, MoveWindow, Dismiss}
-use Rattle.wl_scene.specs.PointerActions.{PointerInput, Settle, actions}
-use Rattle.wl_scene.specs.Stacking.{Standing, raised}
-use Rattle.wl_scene.specs.Windows.{Window}
+use Rattle.wl_xdg_state.specs.Popups.{dismissing}
+use Rattle.wl_stacking.specs.Pointer.{Pointer, Target}
+use Rattle.wl_stacking.specs.PointerActions.{PointerAction, Leave, Enter, Motion, Button, Raise, MoveWindow, Dismiss}
+use Rattle.wl_stacking.specs.PointerActions.{PointerInput, Settle, actions}
+use Rattle.wl_stacking.specs.Stacking.{Standing, raised}
+use Rattle.wl_stacking.specs.Windows.{Window}
 use Rattle.wl_plain.specs.Changing.{drawing}
 use Rattle.wl_plain.specs.Desktop.{Desktop, Resident, become, client_at, with_client}
 use Rattle.wl_plain.specs.Pointing.{button_told, entered_surface, has_pointers, left_surface, motion_told, moved_standing}

@@ -1,7 +1,7 @@
 -- The windows of a desktop where every request is served: toplevels with their subsurfaces and popups.
 use Rattle.std.specs.Prelude.{map}
-use Rattle.wl_scene.specs.Stacking.{root_of}
-use Rattle.wl_scene.specs.Windows.{windows}
+use Rattle.wl_stacking.specs.Stacking.{root_of}
+use Rattle.wl_stacking.specs.Windows.{windows}
 use Rattle.wl_plain.specs.Desktop.{Showing, owned_in}
 use Rattle.wl_plain.specs.Popups.{stacked_popups}
 

@@ -15,8 +15,8 @@ use Rattle.wl_state.specs.State.{History}
 use Rattle.wl_state.specs.Surface.{asking, buffers_of, with_role}
 use Rattle.wl_surface.specs.Surfaces.{Surfaces, history_in, is_used, with_change, with_new}
 use Rattle.wl_state.specs.declared.role.Role.TheVariants.{Toplevel as AsToplevel}
-use Rattle.wl_shell.specs.Shell.{RoleObject, Shell, XdgSurface as Xdg, acknowledging, configuring, new_toplevel, next_serial, xdg_at}
-use Rattle.wl_shell.specs.Shell.{without_xdg, with_change as with_xdg_change, with_new as with_new_xdg}
+use Rattle.wl_xdg_state.specs.Shell.{RoleObject, Shell, XdgSurface as Xdg, acknowledging, configuring, new_toplevel, next_serial, xdg_at}
+use Rattle.wl_xdg_state.specs.Shell.{without_xdg, with_change as with_xdg_change, with_new as with_new_xdg}
 use Rattle.wl_plain.specs.Ask.{Ask, Own, CreateSurface, AskSurface, EndObject, GetXdgSurface, DestroyXdgSurface, GetToplevel, Acknowledge}
 use Rattle.wl_plain.specs.Ask.{ConfigureAgain, Ignore}
 use Rattle.wl_plain.specs.Desktop.{Resident}

@@ -1,8 +1,8 @@
 -- The desktops that a step leads through: that of its own change, and one after each end and each settling of the focus, the last one last.
 use Rattle.std.specs.Prelude.{ℕ, zero, suc, ◌≡◌, ◌&&◌, Bool, true, false, if◌then◌else◌, Option, Some, None, List, [], ◌∷◌, ◌++◌}
-use Rattle.wl_scene.specs.Pointer.{hit_now, is_press}
-use Rattle.wl_scene.specs.Stacking.{Standing, is_of}
-use Rattle.wl_scene.specs.Windows.{Window}
+use Rattle.wl_stacking.specs.Pointer.{hit_now, is_press}
+use Rattle.wl_stacking.specs.Stacking.{Standing, is_of}
+use Rattle.wl_stacking.specs.Windows.{Window}
 use Rattle.wl_plain.specs.Desktop.{Desktop, client_at}
 use Rattle.wl_plain.specs.LeftOut.{LeftOut}
 use Rattle.wl_plain.specs.Settling.{Midstep, Settles, Strike, ended_all, ended_by, unstruck}

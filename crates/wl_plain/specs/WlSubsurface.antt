@@ -17,7 +17,7 @@ use Rattle.wl_surface.specs.Trees.{is_bad_parent, is_too_deep, link_of}
 use Rattle.wl_state.specs.declared.role.Role.{Role}
 use Rattle.wl_state.specs.declared.role.Role.TheVariants.{Toplevel as AsToplevel, Popup as AsPopup, Subsurface as AsSubsurface}
 use Rattle.wl_state.specs.declared.role.Role.TheVariants.{Cursor as AsCursor}
-use Rattle.wl_shell.specs.Shell.{xdg_of}
+use Rattle.wl_xdg_state.specs.Shell.{xdg_of}
 use Rattle.wl_plain.specs.Ask.{AskSurface, EndObject, Ignore}
 use Rattle.wl_plain.specs.Demand.{Demand, Asks, GetSubsurface, EndSubsurface, SetMode}
 use Rattle.wl_plain.specs.Desktop.{Resident, Subsurface}

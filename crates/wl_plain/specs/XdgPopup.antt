@@ -9,9 +9,9 @@ use Rattle.wl_peer.specs.declared.refusals.Refusal.{Refusal}
 use Rattle.wl_state.specs.declared.role.Role.{Role}
 use Rattle.wl_state.specs.declared.role.Role.TheVariants.{Toplevel as AsToplevel, Popup as AsPopup, Subsurface as AsSubsurface}
 use Rattle.wl_state.specs.declared.role.Role.TheVariants.{Cursor as AsCursor}
-use Rattle.wl_shell.specs.Popups.{Popped, is_parent, is_popup_mapped, popup_at}
-use Rattle.wl_shell.specs.Positioner.{Positioner, first_positioner, is_anchor_rect, is_complete, is_size, rect_set}
-use Rattle.wl_shell.specs.Shell.{XdgSurface, xdg_at, xdg_with}
+use Rattle.wl_xdg_state.specs.Popups.{Popped, is_parent, is_popup_mapped, popup_at}
+use Rattle.wl_xdg_state.specs.Positioner.{Positioner, first_positioner, is_anchor_rect, is_complete, is_size, rect_set}
+use Rattle.wl_xdg_state.specs.Shell.{XdgSurface, xdg_at, xdg_with}
 use Rattle.wl_plain.specs.Ask.{Ignore}
 use Rattle.wl_plain.specs.Demand.{Demand, Asks, EndPositioner, SetPositioner, GetPopup, Grab, EndPopup}
 use Rattle.wl_plain.specs.Desktop.{Resident}

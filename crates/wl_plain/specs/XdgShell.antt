@@ -11,7 +11,7 @@ use Rattle.wl_surface.specs.Surfaces.{history_in, surface_at}
 use Rattle.wl_state.specs.declared.role.Role.{Role}
 use Rattle.wl_state.specs.declared.role.Role.TheVariants.{Toplevel as AsToplevel, Popup as AsPopup, Subsurface as AsSubsurface}
 use Rattle.wl_state.specs.declared.role.Role.TheVariants.{Cursor as AsCursor}
-use Rattle.wl_shell.specs.Shell.{XdgSurface, answers_states, is_full, is_waiting, stage_of, xdg_of}
+use Rattle.wl_xdg_state.specs.Shell.{XdgSurface, answers_states, is_full, is_waiting, stage_of, xdg_of}
 use Rattle.wl_plain.specs.Ask.{Ask, AskSurface, EndObject, GetXdgSurface, DestroyXdgSurface, GetToplevel, Acknowledge, ConfigureAgain}
 use Rattle.wl_plain.specs.Ask.{Ignore}
 use Rattle.wl_plain.specs.Desktop.{Resident}

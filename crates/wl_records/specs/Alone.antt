@@ -1,8 +1,8 @@
 -- A client that owns nothing is served as it is by itself.
 use Rattle.std.specs.Prelude.{ℕ, ◌≡◌, List, Option, Some, None}
 use Rattle.wl_peer.specs.Peer.{Peer, Feeds as FeedsAlone}
-use Rattle.wl_scene.specs.Pointer.{first_pointer}
-use Rattle.wl_scene.specs.Stacking.{without_client}
+use Rattle.wl_stacking.specs.Pointer.{first_pointer}
+use Rattle.wl_stacking.specs.Stacking.{without_client}
 use Rattle.wl_plain.specs.Desktop.{Desktop, Resident, client_at, with_client}
 use Rattle.wl_laws.specs.Laws.{OwnsNothing}
 use Rattle.wl_plain.specs.LeftOut.{own_only}

@@ -4,11 +4,11 @@ use Rattle.std.specs.List.{list_all, list_any}
 use Rattle.wl_state.specs.Request.{Request, SetBufferTransform}
 use Rattle.wl_state.specs.State.{History}
 use Rattle.wl_surface.specs.Surfaces.{Surfaces, history_in}
-use Rattle.wl_shell.specs.declared.stage.Stage.{Stage}
-use Rattle.wl_shell.specs.declared.stage.Stage.TheVariants as stage
-use Rattle.wl_shell.specs.Shell.{XdgSurface, stage_of, xdg_of}
-use Rattle.wl_scene.specs.Lent.{shows_buffer}
-use Rattle.wl_scene.specs.Stacking.{Owned, Standing, is_of}
+use Rattle.wl_xdg_state.specs.declared.stage.Stage.{Stage}
+use Rattle.wl_xdg_state.specs.declared.stage.Stage.TheVariants as stage
+use Rattle.wl_xdg_state.specs.Shell.{XdgSurface, stage_of, xdg_of}
+use Rattle.wl_stacking.specs.Stacking.{shows_buffer}
+use Rattle.wl_stacking.specs.Stacking.{Owned, Standing, is_of}
 use Rattle.wl_plain.specs.Desktop.{Desktop, owned_in}
 use Rattle.wl_laws.specs.Laws.{AreApart}
 

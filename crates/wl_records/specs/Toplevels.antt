@@ -1,6 +1,6 @@
 -- Clients whose role objects are toplevels.
 use Rattle.std.specs.Prelude.{◌≡◌, Option, Some, None, ◌∷◌, []}
-use Rattle.wl_shell.specs.Shell.{RoleObject, Shell, Toplevel}
+use Rattle.wl_xdg_state.specs.Shell.{RoleObject, Shell, Toplevel}
 
 -- the role objects of a client are toplevels
 abbrev pub IsToplevel : Option RoleObject → Type 0

@@ -1,8 +1,8 @@
 -- Whether a toplevel of a client shows a point: popups are not looked for.
 use Rattle.std.specs.Prelude.{ℕ, ℤ, ◌==◌, ◌&&◌, Bool, List}
 use Rattle.std.specs.List.{list_any}
-use Rattle.wl_scene.specs.Windows.{Window, contains}
-use Rattle.wl_scene.specs.Stacking.{windows_on}
+use Rattle.wl_stacking.specs.Windows.{Window, contains}
+use Rattle.wl_stacking.specs.Stacking.{windows_on}
 use Rattle.wl_plain.specs.Desktop.{Desktop, owned_in}
 
 -- one of these windows is of a surface that passes, and contains the point

@@ -6,7 +6,7 @@ use Rattle.wl_store.specs.declared.transform.Transform.TheVariants.{Normal}
 use Rattle.wl_state.specs.Request.{AddChild, Attach, Buffer, Commit, Request, SetPosition}
 use Rattle.wl_state.specs.Surface.{Surface}
 use Rattle.wl_surface.specs.Surfaces.{Surfaces}
-use Rattle.wl_scene.specs.Windows.{Owner, Place, Window, tree}
+use Rattle.wl_stacking.specs.Windows.{Owner, Place, Window, tree}
 use Rattle.wl_plain.specs.Marks.{same_records}
 use Rattle.wl_renaming.specs.Renaming.{renamed}
 use Rattle.wl_repaint.specs.Repaint.{same_windows}

@@ -7,7 +7,7 @@ use Rattle.wl_state.specs.Request.{Buffer, Child, Itself, Member}
 use Rattle.wl_state.specs.State.{History, Values, applied, counting, order, position}
 use Rattle.wl_state.specs.Surface.{Surface}
 use Rattle.wl_surface.specs.Surfaces.{Link, Surfaces, history_in, link_at, surface_at}
-use Rattle.wl_scene.specs.Windows.{Owner, Place, Window, child_windows, corner_at, member_windows, shown_windows, surface_windows, tree, window_with}
+use Rattle.wl_stacking.specs.Windows.{Owner, Place, Window, child_windows, corner_at, member_windows, shown_windows, surface_windows, tree, window_with}
 use Rattle.wl_renaming.specs.Renaming.{has_surface}
 use Rattle.wl_renaming.proofs.Lists.{each-append}
 use Rattle.wl_renamed_windows.specs.Windows.{ShowsThoseThere, has_window}

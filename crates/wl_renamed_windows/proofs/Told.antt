@@ -9,7 +9,7 @@ use Rattle.std.proofs.lemmas.List.Elements.{recursion_from_All}
 use Rattle.std.proofs.lemmas.List.Folds.{list_all-map}
 use Rattle.wl_geom.specs.Rect.{in_span}
 use Rattle.wl_plain.specs.Marks.{Applied, has_same_record, int_eq, same_records}
-use Rattle.wl_scene.specs.Windows.{Window, contains}
+use Rattle.wl_stacking.specs.Windows.{Window, contains}
 use Rattle.wl_state.specs.State.{is_damaged}
 use Rattle.wl_surface.specs.declared.applied.Change.{Change}
 use Rattle.wl_tree_marks.specs.Laws.{has_root, is_in_any, is_struck_at}

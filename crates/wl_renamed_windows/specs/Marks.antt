@@ -4,7 +4,7 @@ use Rattle.std.specs.List.{All, list_any}
 use Rattle.wl_plain.specs.Marks.{Applied, at_least, at_most, in_output, same_records}
 use Rattle.wl_repaint.specs.Laws.{AreOfTree, ChangesOneTree, IsAppliedBy}
 use Rattle.wl_repaint.specs.Repaint.{marks, same_windows}
-use Rattle.wl_scene.specs.Windows.{Window}
+use Rattle.wl_stacking.specs.Windows.{Window}
 use Rattle.wl_state.specs.State.{is_damaged}
 use Rattle.wl_surface.specs.declared.applied.Change.{Change}
 use Rattle.wl_tree_marks.specs.Laws.{among, is_in_any, is_struck_at}

@@ -2,7 +2,7 @@
 use Rattle.std.specs.Prelude.{ℕ, ◌≡◌, ◌==◌, Bool, true, List, map}
 use Rattle.std.specs.List.{list_any}
 use Rattle.wl_renaming.specs.Renaming.{IsRenaming, has_surface, renamed}
-use Rattle.wl_scene.specs.Windows.{Owner, Place, Window, tree}
+use Rattle.wl_stacking.specs.Windows.{Owner, Place, Window, tree}
 use Rattle.wl_surface.specs.Surfaces.{Surfaces}
 use Rattle.wl_windows.specs.Windows.{told_of, told_tree}
 use Rattle.wl_windows.specs.declared.window.TreeWindow.{TreeWindow}

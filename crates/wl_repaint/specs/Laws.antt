@@ -2,7 +2,7 @@
 use Rattle.std.specs.Prelude.{ℕ, ℤ, ◌≡◌, pos, ◌==◌, nat_lt, ◌&&◌, ◌||◌, true, false, if◌then◌else◌, Option, List, ◌++◌, map}
 use Rattle.std.specs.List.{All, list_all, list_any}
 use Rattle.wl_plain.specs.Marks.{Applied, AreDistinct, at_least, at_most, in_output, same_records}
-use Rattle.wl_scene.specs.Windows.{Window}
+use Rattle.wl_stacking.specs.Windows.{Window}
 use Rattle.wl_state.specs.State.{is_damaged}
 use Rattle.wl_surface.specs.declared.applied.Change.{Change}
 use Rattle.wl_tree_marks.specs.Laws.{AreUndamaged, among, has_root, is_in_any, is_struck_at}

@@ -18,8 +18,8 @@ use Rattle.wl_surface.specs.Slots.{Slots, StandsAt}
 use Rattle.wl_surface.specs.Surfaces.{Surfaces}
 use Rattle.wl_surface.specs.Waiting.{AreUndue, Callback, IsNextDue, is_in}
 use Rattle.wl_surface.specs.Frames.{frames_counting}
-use Rattle.wl_shell.specs.Kept.{Book, kept_of}
-use Rattle.wl_scene.specs.Stacking.{Owned}
+use Rattle.wl_xdg_state.specs.Kept.{Book, kept_of}
+use Rattle.wl_stacking.specs.Stacking.{Owned}
 use Rattle.wl_plain.specs.Desktop.{Resident}
 use Rattle.wl_plain.specs.Framing.{done_due}
 use Rattle.wl_plain.specs.Happens.{callbacks_due, frame_told, frames_told}

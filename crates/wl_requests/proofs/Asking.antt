@@ -18,7 +18,7 @@ use Rattle.wl_proto.specs.declared.argument.NewId.{NewId}
 use Rattle.wl_peer.specs.Judgement.{is_free, judged_at}
 use Rattle.wl_peer.specs.Told.{code_number, display_error, error_told}
 use Rattle.wl_peer.specs.declared.cause.Cause.TheVariants.{Protocol}
-use Rattle.wl_shell.specs.Shell.{Effect, Maps, Unmaps}
+use Rattle.wl_xdg_state.specs.Shell.{Effect, Maps, Unmaps}
 use Rattle.wl_table.specs.Objects.{Held}
 use Rattle.wl_interface.specs.declared.interface.Interface.TheVariants.{WlSurface}
 use Rattle.wl_owning.specs.Owning.{targets_in}

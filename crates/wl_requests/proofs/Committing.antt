@@ -5,11 +5,11 @@ use Rattle.std.specs.Option.{option_and_then, option_map}
 use Rattle.wl_peer.specs.Peer.{Peer}
 use Rattle.wl_family.specs.Family.{Tied}
 use Rattle.wl_surface.specs.Slots.{Slots}
-use Rattle.wl_shell.specs.Kept.{Kept, changing, commit_answer, kept_after}
-use Rattle.wl_shell.specs.Shell.{Effect, Stays, Unconfigured, Configures, Maps, Unmaps, RoleObject, XdgSurface, Waiting, at_stage, xdg_of}
-use Rattle.wl_shell.specs.declared.acts.Placed.{Placed}
-use Rattle.wl_shell.specs.declared.acts.ShellAct.{ShellAct}
-use Rattle.wl_shell.specs.declared.acts.ShellAct.TheVariants.{Configure, Map, Unmap, Nothing}
+use Rattle.wl_xdg_state.specs.Kept.{Kept, changing, commit_answer, kept_after}
+use Rattle.wl_xdg_state.specs.Shell.{Effect, Stays, Unconfigured, Configures, Maps, Unmaps, RoleObject, XdgSurface, Waiting, at_stage, xdg_of}
+use Rattle.wl_xdg_state.specs.declared.acts.Placed.{Placed}
+use Rattle.wl_xdg_state.specs.declared.acts.ShellAct.{ShellAct}
+use Rattle.wl_xdg_state.specs.declared.acts.ShellAct.TheVariants.{Configure, Map, Unmap, Nothing}
 use Rattle.wl_plain.specs.Desktop.{Resident}
 use Rattle.wl_owning.specs.Owning.{IsOwned, Names, effect_by, kept_id}
 use Rattle.wl_requests.specs.Residents.{drawn_by, told_by, told_of}

@@ -20,7 +20,7 @@ use Rattle.wl_state.specs.Surface.{Surface, asking}
 use Rattle.wl_surface.specs.Surfaces.{Surfaces, surface_at}
 use Rattle.wl_state.specs.Frames.{frames_of}
 use Rattle.wl_surface.specs.declared.frames.Waiting.{Waiting}
-use Rattle.wl_shell.specs.Kept.{kept_of}
+use Rattle.wl_xdg_state.specs.Kept.{kept_of}
 use Rattle.wl_scene.specs.declared.owned.Owned.{Owned as Lent}
 use Rattle.wl_requests.specs.declared.residents.Resident.{Resident as Kept}
 use Rattle.wl_plain.specs.Ask.{AskSurface}

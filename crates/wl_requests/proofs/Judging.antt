@@ -23,8 +23,8 @@ use Rattle.wl_plain.specs.WlSubsurface.{has_subsurface, is_no_subsurface, is_of_
 use Rattle.wl_plain.specs.XdgShell.{role_of}
 use Rattle.wl_renaming.specs.Renaming.{has_surface, renamed}
 use Rattle.wl_renaming.proofs.Known.{keeps-refusals}
-use Rattle.wl_shell.specs.Kept.{kept_of}
-use Rattle.wl_shell.specs.Shell.{xdg_of}
+use Rattle.wl_xdg_state.specs.Kept.{kept_of}
+use Rattle.wl_xdg_state.specs.Shell.{xdg_of}
 use Rattle.wl_state.specs.Surface.{Surface}
 use Rattle.wl_state.specs.declared.role.Role.{Role}
 use Rattle.wl_state.specs.declared.role.Role.TheVariants as roles

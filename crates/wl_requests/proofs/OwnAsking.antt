@@ -45,7 +45,7 @@ use Rattle.wl_requests.proofs.Framing.{IsFramed, framed-names, no-more}
 use Rattle.wl_owning.proofs.Keeping.OwningNames.{names-with}
 use Rattle.wl_owning.proofs.Keeping.OwningSurfaces.{any-is}
 use Rattle.wl_store.specs.Stores.{Stock}
-use Rattle.wl_scene.specs.Stacking.{Owned}
+use Rattle.wl_stacking.specs.Stacking.{Owned}
 use Rattle.wl_scene.specs.declared.owned.Owned.{Owned as Lent}
 
 -- a message that is judged so passes, and is one of the client's own

@@ -20,7 +20,7 @@ use Rattle.wl_plain.specs.Desktop.{Desktop, Resident}
 use Rattle.wl_plain.specs.Step.{asked_of, changed_by, with_peer, with_surfaces}
 use Rattle.wl_plain.specs.WlSubsurface.{beside, placed_beside}
 use Rattle.wl_records.proofs.Toplevels.Releases.{none-released, requested-still}
-use Rattle.wl_shell.specs.Kept.{kept_of}
+use Rattle.wl_xdg_state.specs.Kept.{kept_of}
 use Rattle.wl_state.specs.Frames.{frames_of}
 use Rattle.wl_state.specs.Request.{Member, Request}
 use Rattle.wl_state.specs.State.{Values, asked, is_commit}

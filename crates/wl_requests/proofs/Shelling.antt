@@ -27,11 +27,11 @@ use Rattle.wl_state.specs.Surface.{Surface, with_role}
 use Rattle.wl_state.specs.declared.role.Role.{Role}
 use Rattle.wl_state.specs.declared.role.Role.TheVariants.{Toplevel as AsToplevel}
 use Rattle.wl_surface.specs.declared.error.SurfaceError.{SurfaceError}
-use Rattle.wl_shell.specs.Kept.{Kept as KeptXdg, changing, kept_of, making_refused}
-use Rattle.wl_shell.specs.Shell.{RoleObject, Shell, XdgSurface as Xdg, is_role, next_serial, xdg_at, xdg_with}
-use Rattle.wl_shell.specs.declared.error.ShellError.{ShellError}
-use Rattle.wl_shell.specs.declared.error.ShellError.TheVariants as failed
-use Rattle.wl_scene.specs.Stacking.{Owned}
+use Rattle.wl_xdg_state.specs.Kept.{Kept as KeptXdg, changing, kept_of, making_refused}
+use Rattle.wl_xdg_state.specs.Shell.{RoleObject, Shell, XdgSurface as Xdg, is_role, next_serial, xdg_at, xdg_with}
+use Rattle.wl_xdg_state.specs.declared.error.ShellError.{ShellError}
+use Rattle.wl_xdg_state.specs.declared.error.ShellError.TheVariants as failed
+use Rattle.wl_stacking.specs.Stacking.{Owned}
 use Rattle.wl_scene.specs.declared.owned.Owned.{Owned as Lent}
 use Rattle.wl_requests.specs.declared.residents.Resident.{Resident as Kept}
 use Rattle.wl_plain.specs.Ask.{Ask, AskSurface, GetToplevel}

@@ -12,10 +12,10 @@ use Rattle.wl_proto.specs.declared.xdg_surface.XdgSurfaceRequest.{XdgSurfaceRequ
 use Rattle.wl_proto.specs.declared.xdg_surface.XdgSurfaceRequest.TheVariants as requests
 use Rattle.wl_interface.specs.declared.interface.Interface.TheVariants.{XdgToplevel}
 use Rattle.wl_peer.specs.declared.refusals.Refusal.{Refusal}
-use Rattle.wl_shell.specs.Kept.{kept_of}
-use Rattle.wl_shell.specs.Shell.{Effect, XdgSurface as Xdg, xdg_at, xdg_of, xdg_with}
-use Rattle.wl_shell.specs.declared.acts.ShellAct.{ShellAct}
-use Rattle.wl_shell.specs.declared.acts.ShellAct.TheVariants.{Configure, Map, Unmap, Nothing}
+use Rattle.wl_xdg_state.specs.Kept.{kept_of}
+use Rattle.wl_xdg_state.specs.Shell.{Effect, XdgSurface as Xdg, xdg_at, xdg_of, xdg_with}
+use Rattle.wl_xdg_state.specs.declared.acts.ShellAct.{ShellAct}
+use Rattle.wl_xdg_state.specs.declared.acts.ShellAct.TheVariants.{Configure, Map, Unmap, Nothing}
 use Rattle.wl_plain.specs.Demand.{Demand, CommitTree}
 use Rattle.wl_plain.specs.Demanding.{demand_of, demands, effect_of_commit, moved_by_pointer, toplevel_asked, toplevel_demand, toplevel_destroyed, xdg_asked}
 use Rattle.wl_plain.specs.Desktop.{Resident}

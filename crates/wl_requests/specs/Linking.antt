@@ -12,7 +12,7 @@ use Rattle.wl_peer.specs.Objects.{ById}
 use Rattle.wl_plain.specs.Desktop.{Resident, Subsurface}
 use Rattle.wl_plain.specs.WlSubsurface.{subsurface_made}
 use Rattle.wl_requests.specs.declared.residents.Resident.{Resident as Kept}
-use Rattle.wl_shell.specs.Kept.{kept_of}
+use Rattle.wl_xdg_state.specs.Kept.{kept_of}
 use Rattle.wl_surface.specs.declared.error.SurfaceError.{SurfaceError}
 use Rattle.wl_surface.specs.declared.error.SurfaceError.TheVariants as error
 use Rattle.wl_surface.specs.Surfaces.{link_at}

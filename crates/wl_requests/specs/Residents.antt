@@ -16,10 +16,10 @@ use Rattle.wl_peer.specs.Peer.{Errs, LacksMemory, Peer, Queues, WantsOr, counted
 use Rattle.wl_peer.specs.declared.refusals.Refusal.{Refusal}
 use Rattle.wl_peer.specs.declared.refusals.ErrorCode.TheVariants.{InvalidMethod}
 use Rattle.wl_peer.specs.Told.{Said, display_error}
-use Rattle.wl_shell.specs.Kept.{Kept as KeptXdg, kept_of}
-use Rattle.wl_shell.specs.Shell.{Effect, Maps, Unmaps, next_serial}
-use Rattle.wl_shell.specs.declared.acts.ShellAct.{ShellAct}
-use Rattle.wl_shell.specs.declared.acts.ShellAct.TheVariants.{Configure, Map, Unmap}
+use Rattle.wl_xdg_state.specs.Kept.{Kept as KeptXdg, kept_of}
+use Rattle.wl_xdg_state.specs.Shell.{Effect, Maps, Unmaps, next_serial}
+use Rattle.wl_xdg_state.specs.declared.acts.ShellAct.{ShellAct}
+use Rattle.wl_xdg_state.specs.declared.acts.ShellAct.TheVariants.{Configure, Map, Unmap}
 use Rattle.wl_requests.specs.declared.residents.Resident.{Resident as Kept}
 use Rattle.wl_requests.specs.declared.xdg_toplevel.ToplevelAsked.{ToplevelAsked}
 use Rattle.wl_requests.specs.declared.xdg_toplevel.ToplevelAsked.TheVariants.{Destruction, Configure as AskedConfigure}

@@ -18,7 +18,7 @@ ghost use Rattle.wl_plain.specs.Releases.{let_if, same_number};
 ghost use Rattle.wl_plain.specs.Replies.{has_object};
 ghost use Rattle.wl_plain.specs.Step.{buffers_had, is_number, is_over, letting_go};
 ghost use Rattle.wl_proto.specs.Messages.{says};
-ghost use Rattle.wl_shell.specs.Popups.{is_among};
+ghost use Rattle.wl_xdg_state.specs.Popups.{is_among};
 ghost use Rattle.wl_state.specs.Kept.{buffer_of};
 ghost use Rattle.wl_state.specs.Surface.{Surface, listed};
 ghost use Rattle.wl_surface.specs.Slots.{had_at};

@@ -10,7 +10,7 @@ ghost use Rattle.wl_surface.specs.Slots.{is_transform};
 ghost use Rattle.wl_state.specs.Request.{Attach, Damage as DamageAsked, SetBufferTransform, SetInputRegion, SetOpaqueRegion};
 ghost use Rattle.wl_proto.specs.Messages.{wl_surface_request};
 ghost use Rattle.wl_proto.specs.declared.wl_surface.WlSurfaceRequest.TheVariants.{Commit, Destroy, Frame as FrameAsked, SetBufferTransform as TransformAsked};
-ghost use Rattle.wl_shell.specs.Kept.{Kept as KeptXdg, changing, commit_answer, kept_after, kept_of};
+ghost use Rattle.wl_xdg_state.specs.Kept.{Kept as KeptXdg, changing, commit_answer, kept_after, kept_of};
 ghost use Rattle.wl_plain.specs.Ask.{AskSurface};
 ghost use Rattle.wl_plain.specs.Demand.{CommitTree, EndSurface};
 ghost use Rattle.wl_plain.specs.Desktop.{Desktop, Resident as Plain};

@@ -5,7 +5,7 @@ ghost use Rattle.wl_client.specs.Agreement.{IsPeer};
 ghost use Rattle.wl_peer.specs.Peer.{Errs, Peer};
 ghost use Rattle.wl_proto.specs.Messages.{xdg_surface_request};
 ghost use Rattle.wl_proto.specs.declared.xdg_surface.XdgSurfaceRequest.TheVariants.{AckConfigure, Destroy, GetToplevel, SetWindowGeometry};
-ghost use Rattle.wl_shell.specs.Kept.{kept_of};
+ghost use Rattle.wl_xdg_state.specs.Kept.{kept_of};
 ghost use Rattle.wl_owning.specs.Owning.{kept_base, kept_id, shell_refusal};
 ghost use Rattle.wl_requests.specs.Residents.{AnswersDemand, IsFree, IsXdgSurface, NewIsFree};
 ghost use Rattle.wl_plain.specs.LeftOut.{served_now};

@@ -47,7 +47,7 @@ use Rattle.wl_requests.specs.Linking.{IsOnlyChild}
 use Rattle.wl_requests.specs.Messages.{IsAsked, IsKind, IsTouchOf, IsTouchOfAsked}
 use Rattle.wl_requests.specs.Residents.{IsResident, StacksBy, StacksSo}
 use Rattle.wl_requests.specs.Touching.{Touch, Commits, Destroys, Parts, Releases}
-use Rattle.wl_shell.specs.Shell.{Effect, Maps, XdgSurface as Xdg, xdg_of, xdg_with}
+use Rattle.wl_xdg_state.specs.Shell.{Effect, Maps, XdgSurface as Xdg, xdg_of, xdg_with}
 use Rattle.wl_wire.specs.declared.header.Split.{Split}
 use Rattle.wl_wire.specs.declared.header.Split.TheVariants.{Message as Whole, More, Bad}
 use Rattle.wl_wire.specs.Wire.{split_of}

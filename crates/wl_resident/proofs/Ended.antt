@@ -7,8 +7,8 @@ use Rattle.wl_linked.specs.Linked.{Stand}
 use Rattle.wl_paint.specs.Damage.{Damaged, has}
 use Rattle.wl_peer.specs.declared.cause.Cause.{Cause}
 use Rattle.wl_peer.specs.Objects.{ById}
-use Rattle.wl_scene.specs.Stacking.{Stack}
-use Rattle.wl_scene.specs.Windows.{Owner, Window}
+use Rattle.wl_scene.specs.Kept.{Stack}
+use Rattle.wl_stacking.specs.Windows.{Owner, Window}
 use Rattle.wl_surface.specs.Slots.{count}
 use Rattle.wl_surface.specs.Surfaces.{Surfaces}
 use Rattle.wl_surface.specs.declared.applied.Applied.{Applied}

@@ -15,11 +15,11 @@ use Rattle.wl_peer.specs.declared.cause.Cause.{Cause}
 use Rattle.wl_peer.specs.declared.cause.Cause.TheVariants.{Memory, Protocol, Slow}
 use Rattle.wl_peer.specs.declared.refusals.ErrorCode.TheVariants.{NoMemory}
 use Rattle.wl_peer.specs.declared.refusals.Refusal.{Refusal}
-use Rattle.wl_shell.specs.Kept.{Book, kept_of}
+use Rattle.wl_xdg_state.specs.Kept.{Book, kept_of}
 use Rattle.std.proofs.lemmas.List.Elements.{All-from_recursion}
 use Rattle.wl_renaming.specs.Renaming.{HasEnds}
 use Rattle.wl_requests.specs.declared.residents.Resident.{Resident as Kept}
-use Rattle.wl_scene.specs.Stacking.{nothing_owned}
+use Rattle.wl_stacking.specs.Stacking.{nothing_owned}
 use Rattle.wl_scene.specs.declared.owned.Owned.{Owned}
 use Rattle.wl_resident.specs.Agreement.{IsSeat}
 use Rattle.wl_plain.specs.Desktop.{Resident, resident_of}

@@ -6,8 +6,8 @@ use Rattle.wl_laws.proofs.Lists.Standings.{of-surface}
 use Rattle.wl_peer.specs.Objects.{ById}
 use Rattle.wl_renaming.specs.Renaming.{IsRenaming, renamed}
 use Rattle.wl_renamed_windows.specs.Windows.{IsNamedAlone}
-use Rattle.wl_scene.specs.Stacking.{Standing, is_of}
-use Rattle.wl_scene.specs.Windows.{Owner, Place}
+use Rattle.wl_stacking.specs.Stacking.{Standing, is_of}
+use Rattle.wl_stacking.specs.Windows.{Owner, Place}
 use Rattle.wl_surface.specs.Surfaces.{Surfaces}
 use Rattle.wl_windows.specs.Windows.{told_of, told_tree}
 use Rattle.wl_lending.specs.Stacked.{told_by}

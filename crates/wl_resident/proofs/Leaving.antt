@@ -7,8 +7,8 @@ use Rattle.wl_peer.specs.declared.cause.Cause.{Cause}
 use Rattle.wl_peer.specs.Objects.{ById}
 use Rattle.wl_peer.specs.Peer.{Peer}
 use Rattle.wl_surface.specs.Surfaces.{Surfaces}
-use Rattle.wl_scene.specs.Stacking.{Owned, Standing, root_of, without_client}
-use Rattle.wl_scene.specs.Windows.{Root, StackedPopup, Window, has_parent, owner_of, root_on, roots_of, stacked, stacked_on, tree, windows, windows_of}
+use Rattle.wl_stacking.specs.Stacking.{Owned, Standing, root_of, without_client}
+use Rattle.wl_stacking.specs.Windows.{Root, StackedPopup, Window, has_parent, owner_of, root_on, roots_of, stacked, stacked_on, tree, windows, windows_of}
 use Rattle.wl_plain.specs.Desktop.{Desktop, Resident, become_by, owned_in, owned_of, resident_of}
 use Rattle.wl_plain.specs.Popups.{stacked_popups}
 use Rattle.wl_plain.specs.Stacked.{all_windows}

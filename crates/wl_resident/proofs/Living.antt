@@ -11,7 +11,7 @@ use Rattle.wl_peer.specs.declared.refusals.Refusal.{Refusal}
 use Rattle.wl_peer.specs.Peer.{Peer, counted, with_rest}
 use Rattle.wl_plain.specs.Step.{with_peer}
 use Rattle.wl_peer.specs.Told.{display_error}
-use Rattle.wl_shell.specs.Shell.{Effect, Stays, Unconfigured, Configures, Maps, Unmaps}
+use Rattle.wl_xdg_state.specs.Shell.{Effect, Stays, Unconfigured, Configures, Maps, Unmaps}
 use Rattle.wl_surface.specs.declared.applied.Applied.{Applied}
 use Rattle.wl_plain.specs.Demand.{Demand, CommitTree, EndToplevel}
 use Rattle.wl_plain.specs.Demanding.{effect_of_commit, judge_all}

@@ -3,7 +3,7 @@ use Rattle.std.proofs.Common.{◌≡◌, ◌≤◌, ℕ, Option, Some, length, a
 use Rattle.wl_wire.specs.Wire.{split_of}
 use Rattle.wl_peer.specs.Peer.{Peer}
 use Rattle.wl_family.specs.Family.{Tied}
-use Rattle.wl_shell.specs.Shell.{xdg_of}
+use Rattle.wl_xdg_state.specs.Shell.{xdg_of}
 use Rattle.wl_surface.specs.Slots.{Slots, count}
 use Rattle.wl_surface.specs.Surfaces.{Link, Surfaces}
 use Rattle.wl_surface.specs.Trees.{desynchronised_in, destroyed_in, ended_in}

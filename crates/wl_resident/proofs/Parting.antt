@@ -18,8 +18,9 @@ use Rattle.wl_linked.specs.Linked.{Stand}
 use Rattle.wl_surface.specs.Slots.{count}
 use Rattle.wl_surface.specs.Surfaces.{Surfaces}
 use Rattle.wl_surface.specs.declared.applied.Applied.{Applied}
-use Rattle.wl_scene.specs.Stacking.{Stack, Standing}
-use Rattle.wl_scene.specs.Windows.{Owner, Window, contains}
+use Rattle.wl_stacking.specs.Stacking.{Standing}
+use Rattle.wl_scene.specs.Kept.{Stack}
+use Rattle.wl_stacking.specs.Windows.{Owner, Window, contains}
 use Rattle.wl_plain.specs.Demand.{Demand, EndToplevel}
 use Rattle.wl_plain.specs.Desktop.{Desktop, Resident, status_in}
 use Rattle.wl_plain.specs.Happens.{Serves}

@@ -9,11 +9,12 @@ use Rattle.wl_peer.specs.Objects.{ById}
 use Rattle.wl_peer.specs.Peer.{Peer}
 use Rattle.wl_family.specs.Family.{links_in, parents_of, root_by}
 use Rattle.wl_surface.specs.Surfaces.{history_in}
-use Rattle.wl_shell.specs.Shell.{Effect, Stays, Unconfigured, Configures, Maps, Unmaps, XdgSurface as Xdg, xdg_of}
-use Rattle.wl_scene.specs.Lent.{shows_buffer}
-use Rattle.wl_scene.specs.Windows.{mapping_place}
+use Rattle.wl_xdg_state.specs.Shell.{Effect, Stays, Unconfigured, Configures, Maps, Unmaps, XdgSurface as Xdg, xdg_of}
+use Rattle.wl_stacking.specs.Stacking.{shows_buffer}
+use Rattle.wl_stacking.specs.Windows.{mapping_place}
 use Rattle.wl_windows.specs.declared.window.TreeWindow.{TreeWindow}
-use Rattle.wl_scene.specs.Stacking.{Stack, Standing, is_of as is_standing, mapped_on, with_mapped, without_surface_of}
+use Rattle.wl_stacking.specs.Stacking.{Standing, is_of as is_standing, with_mapped, without_surface_of}
+use Rattle.wl_scene.specs.Kept.{Stack, mapped_on}
 use Rattle.wl_plain.specs.Demand.{Demand, CommitTree, EndToplevel}
 use Rattle.wl_plain.specs.Demanding.{effect_of_commit, effect_on_xdg}
 use Rattle.wl_plain.specs.WlSurface.{will_show}

@@ -20,8 +20,9 @@ use Rattle.wl_paint.specs.Damage.{Damaged, has}
 use Rattle.wl_plain.specs.Marks.{in_output}
 use Rattle.wl_repaint.specs.Repaint.{is_damaged_by, marks, window_has}
 use Rattle.wl_one_tree.specs.Telling.{TellsTrees}
-use Rattle.wl_scene.specs.Stacking.{Owned, Stack, Standing}
-use Rattle.wl_scene.specs.Windows.{Owner}
+use Rattle.wl_stacking.specs.Stacking.{Owned, Standing}
+use Rattle.wl_scene.specs.Kept.{Stack}
+use Rattle.wl_stacking.specs.Windows.{Owner}
 use Rattle.wl_plain.specs.Demand.{Demand, EndToplevel}
 use Rattle.wl_plain.specs.Desktop.{Desktop, Resident, client_at, owned_in, owned_of, status_in}
 use Rattle.wl_plain.specs.Happens.{Serves}

@@ -18,7 +18,8 @@ use Rattle.wl_resident.proofs.Scenes.{Has, none-stands, numbers-by, stack-by, st
 use Rattle.wl_resident.specs.Agreement.{IsScene, IsSeat, IsStack, with_numbers}
 use Rattle.wl_resident.specs.Seats.{IsBare, IsBased, IsRestacked}
 use Rattle.wl_resident.specs.View.{owned_view}
-use Rattle.wl_scene.specs.Stacking.{Stack, Standing, without_client}
+use Rattle.wl_stacking.specs.Stacking.{Standing, without_client}
+use Rattle.wl_scene.specs.Kept.{Stack}
 use Rattle.wl_surface.specs.declared.applied.Applied.{Applied}
 
 -- ---- the client's place in the desktop

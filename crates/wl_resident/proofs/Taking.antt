@@ -44,10 +44,11 @@ use Rattle.wl_resident.proofs.Sitting.{IsEmptied, IsRestackedIf, IsSameBut, IsSe
 use Rattle.wl_resident.specs.Agreement.{IsScene, IsSeat, IsStack, with_numbers}
 use Rattle.wl_resident.specs.Seats.{IsBased, IsRestacked, IsSeated}
 use Rattle.wl_resident.specs.View.{Pile, owned_view}
-use Rattle.wl_scene.specs.Stacking.{Owned, Stack, Standing, mapped_on, with_mapped, without_client, without_surface_of}
+use Rattle.wl_stacking.specs.Stacking.{Owned, Standing, with_mapped, without_client, without_surface_of}
+use Rattle.wl_scene.specs.Kept.{Stack, mapped_on}
 use Rattle.wl_shell.specs.Agreement.{IsKept}
-use Rattle.wl_shell.specs.Kept.{kept_of}
-use Rattle.wl_shell.specs.Shell.{Effect, Stays, Unconfigured, Configures, Maps, Unmaps, XdgSurface as Xdg, xdg_of}
+use Rattle.wl_xdg_state.specs.Kept.{kept_of}
+use Rattle.wl_xdg_state.specs.Shell.{Effect, Stays, Unconfigured, Configures, Maps, Unmaps, XdgSurface as Xdg, xdg_of}
 use Rattle.wl_stacked.specs.declared.stacked.Stacked.{Stacked}
 use Rattle.wl_surface.specs.declared.applied.Applied.{Applied}
 use Rattle.wl_surface.specs.Surfaces.{history_in}

@@ -12,9 +12,9 @@ use Rattle.wl_peer.specs.Peer.{Peer, Queues, ended, left_by as gone_by, sent_by,
 use Rattle.wl_peer.specs.declared.cause.Cause.{Cause}
 use Rattle.wl_peer.specs.declared.cause.Cause.TheVariants.{Gone}
 use Rattle.wl_table.specs.Objects.{Held}
-use Rattle.wl_shell.specs.Kept.{kept_of}
-use Rattle.wl_scene.specs.Stacking.{Owned as Owns, Standing, nothing_owned, root_of, without_client}
-use Rattle.wl_scene.specs.Windows.{Window, windows}
+use Rattle.wl_xdg_state.specs.Kept.{kept_of}
+use Rattle.wl_stacking.specs.Stacking.{Owned as Owns, Standing, nothing_owned, root_of, without_client}
+use Rattle.wl_stacking.specs.Windows.{Window, windows}
 use Rattle.wl_scene.specs.declared.owned.Owned.{Owned as Keeps}
 use Rattle.wl_plain.specs.Desktop.{Desktop, Resident, become, become_by, client_at, owned_in, owned_of, resident_of, with_client, with_number}
 use Rattle.wl_plain.specs.Framing.{FramesToldAt, FramesToldBy, done_due}

@@ -2,7 +2,7 @@
 use Rattle.std.proofs.Common.{◌≡◌, ℕ, List, [], Option, Some, true, refl, sym, subst}
 use Rattle.wl_wire.specs.Wire.{split_of}
 use Rattle.wl_peer.specs.Peer.{Peer}
-use Rattle.wl_shell.specs.Shell.{xdg_of}
+use Rattle.wl_xdg_state.specs.Shell.{xdg_of}
 use Rattle.wl_surface.specs.Surfaces.{Surfaces}
 use Rattle.wl_surface.specs.Trees.{ending, with_link}
 use Rattle.wl_surface.specs.declared.applied.Applied.{Applied}

@@ -34,8 +34,8 @@ use Rattle.wl_peer.specs.ToplevelRequest.{ToplevelRequest}
 use Rattle.wl_peer.specs.ToplevelRequest as toplevel
 use Rattle.wl_peer.specs.declared.refusals.Refusal.{Refusal}
 use Rattle.wl_peer.proofs.Requests.{of-wl_subsurface, of-wl_surface}
-use Rattle.wl_shell.specs.Kept.{kept_of}
-use Rattle.wl_shell.specs.Shell.{Effect, Stays, Unconfigured, Configures, Maps, Unmaps, XdgSurface as Xdg, is_full, xdg_at, xdg_of, xdg_with}
+use Rattle.wl_xdg_state.specs.Kept.{kept_of}
+use Rattle.wl_xdg_state.specs.Shell.{Effect, Stays, Unconfigured, Configures, Maps, Unmaps, XdgSurface as Xdg, is_full, xdg_at, xdg_of, xdg_with}
 use Rattle.wl_state.specs.Request.{Request as Asking, Member, PlaceAbove, PlaceBelow}
 use Rattle.wl_surface.specs.Surfaces.{Link}
 use Rattle.wl_surface.specs.Trees.{is_bad_parent, is_too_deep}

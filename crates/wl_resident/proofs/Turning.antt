@@ -9,8 +9,8 @@ use Rattle.wl_peer.specs.Peer.{Peer}
 use Rattle.wl_family.specs.Family.{links_in, parents_of, root_by}
 use Rattle.wl_surface.specs.Surfaces.{Surfaces}
 use Rattle.wl_surface.specs.declared.applied.Change.{Change}
-use Rattle.wl_scene.specs.Stacking.{Owned, Standing}
-use Rattle.wl_scene.specs.Windows.{Owner}
+use Rattle.wl_stacking.specs.Stacking.{Owned, Standing}
+use Rattle.wl_stacking.specs.Windows.{Owner}
 use Rattle.wl_plain.specs.Demand.{Demand}
 use Rattle.wl_plain.specs.Desktop.{Desktop, Resident, owned_in, owned_of}
 use Rattle.wl_plain.specs.Marks.{in_output}

@@ -12,7 +12,7 @@ use Rattle.wl_plain.specs.Marks.{at_least, at_most, in_output, same_records}
 use Rattle.wl_plain.specs.Moments.{applied_between, marks_at_least, marks_at_most}
 use Rattle.wl_records.specs.Touching.{any_window_at, has_window_at}
 use Rattle.wl_repaint.specs.Repaint.{window_has}
-use Rattle.wl_scene.specs.Windows.{Window, contains}
+use Rattle.wl_stacking.specs.Windows.{Window, contains}
 use Rattle.wl_tree_marks.specs.Laws.{among, has_root, is_in_any}
 use Rattle.wl_tree_marks.proofs.Lists.{any-each-more, any-first, any-second, any-three, each-all, each-first, each-second, either-of}
 use Rattle.wl_tree_marks.proofs.Records.{same-tested}

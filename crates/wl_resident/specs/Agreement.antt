@@ -5,8 +5,9 @@ use Rattle.wl_interface.specs.declared.interface.Interface.TheVariants.{WlSurfac
 use Rattle.wl_client.specs.Agreement.{IsPeer, output_of}
 use Rattle.wl_peer.specs.Objects.{ById, nothing}
 use Rattle.wl_client.specs.View.{ClientView}
-use Rattle.wl_shell.specs.Kept.{kept_of}
-use Rattle.wl_scene.specs.Stacking.{Stack, Standing}
+use Rattle.wl_xdg_state.specs.Kept.{kept_of}
+use Rattle.wl_stacking.specs.Stacking.{Standing}
+use Rattle.wl_scene.specs.Kept.{Stack}
 use Rattle.wl_plain.specs.Desktop.{Desktop, Resident, place}
 use Rattle.wl_laws.specs.Laws.{OwnsNothing}
 use Rattle.wl_owning.specs.Owning.{IsOwned, by_number, names_in, targets_in}

@@ -20,8 +20,9 @@ use Rattle.wl_requests.specs.declared.residents.Stacking.{Stacking}
 use Rattle.wl_requests.specs.declared.residents.Stacking.TheVariants.{Stays, ToTop, Out}
 use Rattle.wl_requests.specs.declared.xdg_toplevel.ToplevelAsked.TheVariants.{Destruction}
 use Rattle.wl_requests.specs.Linking.{IsChildOf}
-use Rattle.wl_scene.specs.Stacking.{Stack, Standing, is_of as is_standing}
-use Rattle.wl_scene.specs.Windows.{Owner, Window, tree}
+use Rattle.wl_stacking.specs.Stacking.{Standing, is_of as is_standing}
+use Rattle.wl_scene.specs.Kept.{Stack}
+use Rattle.wl_stacking.specs.Windows.{Owner, Window, tree}
 use Rattle.wl_stacked.specs.declared.stacked.Stacked.{Stacked}
 use Rattle.wl_stacked.specs.Stacked.{is_of, replaced, stacked, tree_of, without_tree}
 use Rattle.wl_surface.specs.declared.applied.Applied.{Applied}

@@ -6,7 +6,8 @@ use Rattle.wl_peer.specs.Peer.{Peer, ended}
 use Rattle.wl_peer.specs.declared.cause.Cause.{Cause}
 use Rattle.wl_linked.specs.Linked.{Stand}
 use Rattle.wl_surface.specs.Surfaces.{no_surfaces}
-use Rattle.wl_scene.specs.Stacking.{Stack, mapped_on, without_client, without_surface_of}
+use Rattle.wl_stacking.specs.Stacking.{without_client, without_surface_of}
+use Rattle.wl_scene.specs.Kept.{Stack, mapped_on}
 use Rattle.wl_scene.specs.declared.owned.Owned.{Owned}
 use Rattle.wl_stacked.specs.Stacked.{without_client as without_client_of}
 use Rattle.wl_lending.specs.Stacked.{AreStacked}

@@ -5,8 +5,8 @@ use Rattle.wl_client.specs.declared.outputs.Output.{Output}
 use Rattle.wl_paint.specs.Damage.{Damaged}
 use Rattle.wl_family.specs.Family.{Tied}
 use Rattle.wl_surface.specs.Slots.{Slots}
-use Rattle.wl_shell.specs.Kept.{Book}
-use Rattle.wl_scene.specs.Stacking.{Stack}
+use Rattle.wl_xdg_state.specs.Kept.{Book}
+use Rattle.wl_scene.specs.Kept.{Stack}
 use Rattle.wl_stacked.specs.declared.stacked.Stacked.{Stacked}
 use Rattle.wl_requests.specs.declared.residents.Resident.{Resident}
 use Rattle.wl_resident.specs.declared.screens.Screen.{Screen}

@@ -3,8 +3,9 @@
 ghost use Rattle.std.specs.Prelude.{◌≡◌, ◌++◌, ◌+◌, ◌≤◌, [], None, OnOk, find, length, map, vec_capacity, vec_len};
 ghost use Rattle.std.specs.Option.{option_map};
 ghost use Rattle.wl_linked.specs.Linked.{Stand};
-ghost use Rattle.wl_scene.specs.Stacking.{is_of, standing_of};
-ghost use Rattle.wl_scene.specs.Windows.{Owner};
+ghost use Rattle.wl_stacking.specs.Stacking.{is_of};
+ghost use Rattle.wl_scene.specs.Kept.{standing_of};
+ghost use Rattle.wl_stacking.specs.Windows.{Owner};
 ghost use Rattle.wl_surface.specs.Surfaces.{Surfaces as AskedOf};
 ghost use Rattle.wl_windows.specs.Windows.{told_of};
 ghost use Rattle.wl_resident.specs.Screens.{Fit, HasPlace, HasRoom, IsSameScreen, restacked_if, tree_kept, tree_on};

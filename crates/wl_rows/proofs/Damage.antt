@@ -6,7 +6,7 @@ use Rattle.wl_state.specs.Request.{Request, Damage}
 use Rattle.wl_state.specs.State.{is_damaged}
 use Rattle.wl_surface.specs.Surfaces.{with_change}
 use Rattle.wl_surface.specs.Trees.{applied_tree, behaves_synchronised, depth, descends_from, height}
-use Rattle.wl_scene.specs.Windows.{tree}
+use Rattle.wl_stacking.specs.Windows.{tree}
 use Rattle.wl_plain.specs.Desktop.{Desktop, Resident, client_at, with_client}
 use Rattle.wl_plain.specs.Moments.{marks_at_least_of}
 use Rattle.wl_plain.specs.Stacked.{all_windows}

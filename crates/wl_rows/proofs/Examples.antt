@@ -3,7 +3,7 @@ use Rattle.std.proofs.Common.{◌≡◌, ℕ, List, [], ◌∷◌, Some, None, t
 use Rattle.std.specs.Prelude.{ℤ, pos, Bool}
 use Rattle.wl_store.specs.declared.color.Format.TheVariants.{Xrgb8888}
 use Rattle.wl_state.specs.Request.{Buffer}
-use Rattle.wl_scene.specs.Windows.{Window}
+use Rattle.wl_stacking.specs.Windows.{Window}
 use Rattle.wl_plain.specs.Marks.{Applied, at_least, at_most}
 
 abbrev buffer : ℕ → Buffer

@@ -4,7 +4,7 @@ use Rattle.std.specs.Prelude.{ℤ, pos, negsuc, codes}
 use Rattle.wl_wire.specs.Wire.{Word, Number}
 use Rattle.wl_peer.specs.declared.cause.Cause.TheVariants.{Protocol}
 use Rattle.wl_surface.specs.Trees.{applied_tree, behaves_synchronised}
-use Rattle.wl_scene.specs.Windows.{tree}
+use Rattle.wl_stacking.specs.Windows.{tree}
 use Rattle.wl_plain.specs.Desktop.{Desktop}
 use Rattle.wl_rows.proofs.Steps.{asks, at, attach, buffer_release, commit, corners, create_buffer, create_surface, delete_id, done, event, sent, shown, start, status, tick, toplevel_configure, u32}
 use Rattle.wl_rows.proofs.Steps.{unsent, with_globals, with_pool, with_toplevel, xdg_configure}

@@ -9,7 +9,7 @@ use Rattle.wl_plain.specs.Act.{Close}
 use Rattle.wl_plain.specs.Desktop.{empty}
 use Rattle.wl_plain.specs.Happenings.{Happening, Single}
 use Rattle.wl_plain.specs.declared.answers.Done.TheVariants as gave
-use Rattle.wl_scene.specs.Windows.{tree}
+use Rattle.wl_stacking.specs.Windows.{tree}
 use Rattle.wl_session.specs.Events.{Event, Moment}
 use Rattle.wl_session.specs.Liars.{HoldsLiars, gives_back, nobody}
 use Rattle.wl_session.specs.Run.{AreInOrder, Film, IsBefore, in_runs}

@@ -3,7 +3,7 @@ use Rattle.std.proofs.Common.{◌≡◌, [], ◌∷◌, Option, Some, None, refl
 use Rattle.std.specs.Prelude.{pos}
 use Rattle.wl_peer.specs.declared.cause.Cause.TheVariants.{Memory, Slow}
 use Rattle.wl_surface.specs.Trees.{applied_tree, behaves_synchronised}
-use Rattle.wl_scene.specs.Windows.{tree}
+use Rattle.wl_stacking.specs.Windows.{tree}
 use Rattle.wl_laws.specs.Ample.{done_so, ends_and_settles, gone_to, settles, settles_ends}
 use Rattle.wl_plain.specs.Ask.{Ignore}
 use Rattle.wl_plain.specs.Demand.{Asks}

@@ -6,7 +6,7 @@ use Rattle.wl_wire.specs.Wire.{Field, Word, Number, Text, message_bytes}
 use Rattle.wl_peer.specs.declared.cause.Cause.{Cause}
 use Rattle.wl_peer.specs.Told.{Output}
 use Rattle.wl_blend.specs.declared.color.Rgb.{Rgb}
-use Rattle.wl_scene.specs.Windows.{Place, Window}
+use Rattle.wl_stacking.specs.Windows.{Place, Window}
 use Rattle.wl_laws.specs.Ample.{fed, happened}
 use Rattle.wl_plain.specs.Desktop.{Desktop, Resident, arrival, client_at, empty, with_client}
 use Rattle.wl_plain.specs.LeftOut.{nothing_left_out}

@@ -3,7 +3,7 @@ use Rattle.std.proofs.Common.{◌≡◌, [], ◌∷◌, ◌++◌, None, refl}
 use Rattle.std.specs.Prelude.{pos, codes}
 use Rattle.wl_wire.specs.Wire.{Word, Number}
 use Rattle.wl_surface.specs.Trees.{applied_tree, behaves_synchronised, depth, descends_from, height}
-use Rattle.wl_scene.specs.Windows.{tree}
+use Rattle.wl_stacking.specs.Windows.{tree}
 use Rattle.wl_plain.specs.Desktop.{Desktop}
 use Rattle.wl_rows.proofs.Steps.{asks, at, attach, bind, black, buffer_release, color, commit, corners, create_buffer, create_surface, damage, delete_id, done, green, red, sent, shown, start, status}
 use Rattle.wl_rows.proofs.Steps.{stores, tick, unsent}

@@ -6,7 +6,7 @@ use Rattle.wl_peer.specs.declared.cause.Cause.TheVariants.{Slow}
 use Rattle.wl_state.specs.Request.{Damage, Request}
 use Rattle.wl_surface.specs.Surfaces.{with_change}
 use Rattle.wl_surface.specs.Trees.{applied_tree, behaves_synchronised, depth, descends_from, height}
-use Rattle.wl_scene.specs.Windows.{tree}
+use Rattle.wl_stacking.specs.Windows.{tree}
 use Rattle.wl_plain.specs.Changing.{changed_for}
 use Rattle.wl_plain.specs.Demand.{CommitTree}
 use Rattle.wl_plain.specs.Desktop.{Desktop, Resident, client_at, with_client}

@@ -10,7 +10,7 @@ use Rattle.wl_peer.specs.Told.{Output}
 use Rattle.wl_store.specs.Stores.{size_of}
 use Rattle.wl_blend.specs.declared.color.Rgb.{Rgb}
 use Rattle.wl_surface.specs.Trees.{applied_tree, behaves_synchronised, depth, descends_from, height}
-use Rattle.wl_scene.specs.Windows.{Place, Window, tree}
+use Rattle.wl_stacking.specs.Windows.{Place, Window, tree}
 use Rattle.wl_plain.specs.Desktop.{Desktop, Resident, arrival, client_at, empty, with_client}
 use Rattle.wl_plain.specs.Moments.{marks_at_least}
 use Rattle.wl_laws.specs.Ample.{fed}
@@ -20,8 +20,8 @@ use Rattle.wl_plain.specs.Stacked.{all_windows}
 use Rattle.wl_plain.specs.Ask.{CreateSurface, ConfigureAgain}
 use Rattle.wl_plain.specs.WlSurface.{refuse_limit, surface_created}
 use Rattle.wl_plain.specs.XdgShell.{configured_again}
-use Rattle.wl_shell.specs.declared.stage.Stage.TheVariants.{Waiting}
-use Rattle.wl_shell.specs.Shell.{Toplevel, XdgSurface}
+use Rattle.wl_xdg_state.specs.declared.stage.Stage.TheVariants.{Waiting}
+use Rattle.wl_xdg_state.specs.Shell.{Toplevel, XdgSurface}
 
 -- two clients on an output of 64 by 64
 abbrev pub start : Desktop

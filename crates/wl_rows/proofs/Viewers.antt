@@ -9,7 +9,7 @@ use Rattle.wl_rows.proofs.Subsurfaces.{first}
 use Rattle.wl_rows.proofs.Through.{made_again, shown_again, without_child, without_link}
 use Rattle.wl_rows.proofs.Toplevels.{asks, attach, black, commit, green, one, red, rewritten, stores, three, three_ready, two}
 use Rattle.wl_surface.specs.Trees.{applied_tree, behaves_synchronised, depth, descends_from, height}
-use Rattle.wl_scene.specs.Windows.{tree}
+use Rattle.wl_stacking.specs.Windows.{tree}
 use Rattle.wl_session.specs.Promises.{feigns_at, hides_at, spoils_at}
 use Rattle.wl_session.specs.Run.{Film}
 use Rattle.wl_session.specs.Viewer.{seen}

@@ -10,7 +10,8 @@ use Rattle.wl_scene.specs.declared.owned.Owned.{Owned as Lent}
 use Rattle.wl_scene.specs.declared.scene.Toplevel.{Toplevel}
 use Rattle.wl_scene.specs.declared.window.Window.{Window as Told}
 use Rattle.wl_scene.specs.Lent.{shown_by, slots_lent, slots_of}
-use Rattle.wl_scene.specs.Stacking.{Owned, standing_of}
+use Rattle.wl_stacking.specs.Stacking.{Owned}
+use Rattle.wl_scene.specs.Kept.{standing_of}
 
 -- what is lent of a client, by a look at its place
 pub slots-at : {A : Type 0} (lent : List (Option (Lent A))) (c index : ℕ) (slot : Option (Lent A)) → 1 ≤ c → index ≡ c - 1 → true ≡ nat_lt index (length lent) → slot ≡ get_or lent index slot

@@ -2,7 +2,7 @@
 use Rattle.std.proofs.Common.{◌≡◌, ℕ, ℤ, ◌+ℤ◌, Option, Some, None, refl}
 use Rattle.std.specs.Option.{option_map}
 use Rattle.wl_scene.specs.Lent.{shown_with}
-use Rattle.wl_scene.specs.Stacking.{Standing}
+use Rattle.wl_stacking.specs.Stacking.{Standing}
 use Rattle.wl_scene.specs.declared.window.Window.{Window}
 use Rattle.wl_surface.specs.Slots.{IsCurrentAt}
 use Rattle.wl_state.specs.State.{within_bounds}

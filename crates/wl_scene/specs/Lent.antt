@@ -1,14 +1,12 @@
 -- What is lent of the clients to look at their windows, and what it stands for.
 use Rattle.std.specs.Prelude.{ℕ, zero, suc, ◌≡◌, Bool, true, false, Option, Some, None, List, [], slice_index_or}
-use Rattle.std.specs.List.{All}
 use Rattle.wl_state.specs.State.{History, applied, height_of, width_of}
-use Rattle.wl_state.specs.Surface.{is_there}
 use Rattle.wl_surface.specs.Surfaces.{history_in, surface_at}
 use Rattle.wl_surface.specs.Slots.{Slots, StandForAll, no_slots}
 use Rattle.wl_scene.specs.declared.owned.Owned.{Owned as Lent}
 use Rattle.wl_scene.specs.declared.window.Window.{Window as Told}
-use Rattle.wl_scene.specs.Stacking.{Owned, Standing}
-use Rattle.wl_scene.specs.Windows.{Window, corner_at}
+use Rattle.wl_stacking.specs.Stacking.{Owned, Standing}
+use Rattle.wl_stacking.specs.Windows.{Window, corner_at}
 
 -- what is kept of the surfaces of a client: nothing, where nothing is lent
 abbrev pub slots_of : {A : Type 0} → Option (Lent A) → Slots
@@ -24,18 +22,6 @@ slots_lent lent (suc index) = slots_of (slice_index_or lent index None)
 pub record Stands {A : Type 0} (lent : List (Option (Lent A))) (owned : ℕ → Owned) : Type 0 where
   pub surfaces : (c : ℕ) → StandForAll (slots_lent lent c) (λ number. surface_at number (owned c).surfaces)
   pub links : (c : ℕ) → (owned c).surfaces.links ≡ []
-
--- the surface is there and shows a buffer
-abbrev pub shows_buffer : Option History → Bool
-shows_buffer None = false
-shows_buffer (Some h) = is_there (applied h).buffer
-
-abbrev pub Shows : (ℕ → Owned) → Standing → Type 0
-Shows owned s = shows_buffer (history_in s.surface (owned s.client).surfaces) ≡ true
-
--- the surface of each of these toplevels does
-abbrev pub AllShow : (ℕ → Owned) → List Standing → Type 0
-AllShow owned standing = All (Shows owned) standing
 
 -- the same window as a program tells it
 abbrev pub told : Window → Told

@@ -1,6 +1,2 @@
-pub mod Laws
+pub mod Kept
 pub mod Lent
-pub mod Pointer
-pub mod PointerActions
-pub mod Stacking
-pub mod Windows

@@ -4,7 +4,7 @@ ghost use Rattle.std.specs.Prelude.{ℕ, ◌≡◌, option_copied};
 ghost use Rattle.wl_surface.specs.Slots.{IsCurrentAt};
 ghost use Rattle.wl_surface.specs.Surfaces.{surface_at};
 ghost use Rattle.wl_scene.specs.Lent.{Stands, slots_lent, slots_of};
-ghost use Rattle.wl_scene.specs.Stacking.{Owned as Asked};
+ghost use Rattle.wl_stacking.specs.Stacking.{Owned as Asked};
 
 use crate::scene::Surface;
 use std::alloc::Allocator;

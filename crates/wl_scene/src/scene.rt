@@ -1,8 +1,10 @@
 //! Which toplevels are mapped, and where they stand.
 
 ghost use Rattle.std.specs.Prelude.{ℕ, ◌≡◌, ◌==◌, ◌<◌, ◌++◌, ◌∷◌, [], IsOk, OnOk, OnErr, vec_capacity, Some, length, map, position, remove, slice_get, slice_index_or};
-ghost use Rattle.wl_scene.specs.Lent.{AllShow, Stands, shown_by, told};
-ghost use Rattle.wl_scene.specs.Stacking.{Owned as Asked, is_of, mapped_on, moved_to, raised, standing_of, windows_on, without_client, without_surface_of};
+ghost use Rattle.wl_scene.specs.Lent.{Stands, shown_by, told};
+ghost use Rattle.wl_stacking.specs.Stacking.{AllShow};
+ghost use Rattle.wl_stacking.specs.Stacking.{Owned as Asked, is_of, moved_to, raised, windows_on, without_client, without_surface_of};
+ghost use Rattle.wl_scene.specs.Kept.{mapped_on, standing_of};
 
 use crate::owned::Owned;
 use crate::window::{Window, window_of};
@@ -41,7 +43,7 @@ pub struct Scene<A: Allocator> {
 
 impl<A: Allocator> Model for Scene<A> {
     ghost use Rattle.std.specs.Prelude.{◌<◌, map};
-    ghost use Rattle.wl_scene.specs.Stacking.{Stack, standing_of};
+    ghost use Rattle.wl_scene.specs.Kept.{Stack, standing_of};
 
     ghost Value = { Stack };
 

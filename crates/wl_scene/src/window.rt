@@ -3,7 +3,8 @@
 ghost use Rattle.std.specs.Prelude.{ℕ, ◌≡◌, ◌+ℤ◌};
 ghost use Rattle.wl_state.specs.State.{within_bounds};
 ghost use Rattle.wl_scene.specs.Lent.{Stands, shown_by};
-ghost use Rattle.wl_scene.specs.Stacking.{Owned as Asked, standing_of};
+ghost use Rattle.wl_stacking.specs.Stacking.{Owned as Asked};
+ghost use Rattle.wl_scene.specs.Kept.{standing_of};
 
 use crate::owned::{Owned, current_at};
 use crate::scene::{Surface, Toplevel};

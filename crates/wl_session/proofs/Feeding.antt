@@ -7,7 +7,7 @@ use Rattle.wl_peer.specs.declared.cause.Cause.{Cause}
 use Rattle.wl_peer.specs.declared.cause.Cause.TheVariants.{Memory}
 use Rattle.wl_peer.specs.Peer.{Peer, ended, with_rest}
 use Rattle.wl_client.specs.View.{ClientView}
-use Rattle.wl_scene.specs.Stacking.{Owned, Standing, is_of, nothing_owned, without_client}
+use Rattle.wl_stacking.specs.Stacking.{Owned, Standing, is_of, nothing_owned, without_client}
 use Rattle.wl_resident.specs.Agreement.{IsPlace, Matches}
 use Rattle.wl_desk.specs.Agreeing.{Agrees}
 use Rattle.wl_plain.specs.Desktop.{Desktop, Resident, become, become_by, client_at, client_in, owned_in, owned_of, resident_of, with_client, with_number, status_in, status_of as ended_in}

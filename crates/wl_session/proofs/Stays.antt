@@ -10,7 +10,7 @@ use Rattle.wl_peer.specs.Told.{Output}
 use Rattle.wl_geom.specs.Region.{holds}
 use Rattle.wl_paint.specs.Damage.{has}
 use Rattle.wl_paint.specs.Frame.{Image, color_at}
-use Rattle.wl_scene.specs.Windows.{Window, contains}
+use Rattle.wl_stacking.specs.Windows.{Window, contains}
 use Rattle.wl_state.specs.State.{History}
 use Rattle.wl_surface.specs.Surfaces.{history_in}
 use Rattle.wl_lending.specs.Painting.{IsOpaqueAsSaid}

@@ -13,8 +13,8 @@ use Rattle.wl_state.specs.Request.{Buffer}
 use Rattle.wl_state.specs.State.{History, applied}
 use Rattle.wl_state.specs.Surface.{Surface, listed}
 use Rattle.wl_surface.specs.Surfaces.{Surfaces, history_in}
-use Rattle.wl_scene.specs.Stacking.{Owned, nothing_owned}
-use Rattle.wl_scene.specs.Windows.{Window, contains}
+use Rattle.wl_stacking.specs.Stacking.{Owned, nothing_owned}
+use Rattle.wl_stacking.specs.Windows.{Window, contains}
 use Rattle.std.proofs.lemmas.Bool.{eqb-false, eqb-true}
 use Rattle.wl_peer.specs.Peer.{Peer, stored_at}
 use Rattle.wl_plain.specs.Desktop.{Desktop, Resident, Showing, client_at, owned_in, owned_of, with_client}

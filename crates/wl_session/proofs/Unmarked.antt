@@ -4,7 +4,7 @@ use Rattle.std.specs.Prelude.{ℤ, ◌-ℤ◌, ◌==◌, ◌&&◌, ◌||◌, not
 use Rattle.std.specs.List.{list_any}
 use Rattle.std.proofs.lemmas.Bool.{eqb-true}
 use Rattle.wl_store.specs.declared.color.Argb.{Argb}
-use Rattle.wl_scene.specs.Windows.{contains}
+use Rattle.wl_stacking.specs.Windows.{contains}
 use Rattle.wl_plain.specs.Desktop.{Desktop, Showing}
 use Rattle.wl_laws.specs.Laws.{ColorsStay}
 use Rattle.wl_plain.specs.Marks.{has_same_record, is_changed_at, is_kept_in}

@@ -10,7 +10,7 @@ use Rattle.wl_store.specs.declared.color.Argb.{Argb}
 use Rattle.wl_state.specs.Request.{Buffer}
 use Rattle.wl_state.specs.State.{applied, held}
 use Rattle.wl_state.specs.Surface.{Surface, listed}
-use Rattle.wl_scene.specs.Windows.{Window, contains}
+use Rattle.wl_stacking.specs.Windows.{Window, contains}
 use Rattle.wl_plain.specs.Desktop.{Desktop, Resident, Showing, client_at, owned_in}
 use Rattle.wl_plain.specs.Happenings.{Happening, Message, Receive, Single, Starve}
 use Rattle.wl_plain.specs.Marks.{has_same_record}

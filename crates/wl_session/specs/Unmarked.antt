@@ -3,7 +3,7 @@
 use Rattle.std.specs.Prelude.{ℕ, ℤ, ◌≡◌, ◌&&◌, Bool, true, false}
 use Rattle.std.specs.List.{list_any}
 use Rattle.wl_blend.specs.declared.color.Rgb.{Rgb}
-use Rattle.wl_scene.specs.Windows.{Window, contains}
+use Rattle.wl_stacking.specs.Windows.{Window, contains}
 use Rattle.wl_plain.specs.Desktop.{Desktop, Showing}
 use Rattle.wl_plain.specs.Marks.{AreDistinct, in_output}
 use Rattle.wl_plain.specs.Moments.{marks_at_least_of}

@@ -9,7 +9,7 @@ use Rattle.std.specs.Ordering.{nat_cmp, is_eq}
 use Rattle.std.proofs.Math.Path.{fun_ext}
 use Rattle.std.proofs.lemmas.Bool.{eqb-true}
 use Rattle.std.proofs.lemmas.Bool.Decides.{nat_tests}
-use Rattle.wl_shell.specs.Kept.{Book, Kept, changing, is_of_base, kept_of, with_kept}
+use Rattle.wl_xdg_state.specs.Kept.{Book, Kept, changing, is_of_base, kept_of, with_kept}
 
 another : (surface other : ℕ) → (other == surface) ≡ false → is_eq (nat_cmp surface other) ≡ false
 another surface other apart = grind (arith, nat_tests)

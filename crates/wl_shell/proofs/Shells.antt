@@ -7,11 +7,11 @@ use Rattle.std.proofs.lemmas.Bool.{eqb-true}
 use Rattle.std.proofs.lemmas.Bool.Decides.{nat_tests}
 use Rattle.wl_state.specs.State.{History}
 use Rattle.wl_shell.specs.Agreement.{AreApart, IsKept}
-use Rattle.wl_shell.specs.Kept.{Kept, first_kept}
+use Rattle.wl_xdg_state.specs.Kept.{Kept, first_kept}
 use Rattle.wl_shell.specs.Laws.{BaseRead, GoneShell, ChangedShell, NewShell, OtherHistory, ShellsStand}
-use Rattle.wl_shell.specs.Shell.{Shell, XdgSurface, with_change, with_new, without_xdg, xdg_of}
+use Rattle.wl_xdg_state.specs.Shell.{Shell, XdgSurface, with_change, with_new, without_xdg, xdg_of}
 use Rattle.wl_shell.proofs.Agreeing.{changed-apart, changed-elsewhere, changed-here, differ, new-apart, new-elsewhere, new-here, newest, removed-apart, removed-elsewhere, removed-here}
-use Rattle.wl_shell.proofs.Standing.{new_stands}
+use Rattle.wl_xdg_state.proofs.Standing.{new_stands}
 
 pub absent : (o : Option XdgSurface) (h : Option History) → IsKept None o h → o ≡ None
 absent None h is = refl

@@ -1,98 +1,13 @@
--- Laws of the shell.
-use Rattle.std.specs.Prelude.{ℕ, ℤ, ◌≡◌, ◌<◌, ◌≤◌, Bool, List, [], ◌∷◌, ◌++◌, ◌==◌, ◌≢◌, length, true, false, None, Some, Option, Ok}
+-- Laws of the xdg_surfaces of a client: what is kept of all of them stands for them, after each change too.
+use Rattle.std.specs.Prelude.{ℕ, ◌≡◌, ◌≤◌, ◌==◌, ◌≢◌, length, true, false, None, Some, Option}
 use Rattle.std.specs.Prelude.{IfSome, IsSomeAnd}
 use Rattle.std.specs.List.{list_any}
-use Rattle.wl_geom.specs.declared.rect.Rect.{Rect}
-use Rattle.wl_shell.specs.Moves.{moved_to}
-use Rattle.wl_shell.specs.Positioner.{Axis, Placed, placed_on}
-use Rattle.wl_state.specs.Request.{Request, Commit, SetWindowGeometry}
-use Rattle.wl_state.specs.State.{History, apply, geometry_asked}
-use Rattle.wl_shell.specs.declared.acts.ShellAct.{ShellAct}
+use Rattle.wl_state.specs.State.{History}
 use Rattle.wl_shell.specs.Agreement.{IsShell, with_history}
-use Rattle.wl_shell.specs.Kept.{Kept, Stands, changing, commit_answer, first_kept, kept_acknowledging, kept_after, kept_asking}
-use Rattle.wl_shell.specs.Kept.{kept_configuring, kept_toplevel, kept_without_role, with_kept}
-use Rattle.wl_shell.specs.Popups.{with_effect}
-use Rattle.wl_shell.specs.Shell.{Configure, Popup, Shell, XdgSurface, acknowledging, configuring, is_waiting, later_than, new_toplevel}
-use Rattle.wl_shell.specs.Shell.{on_commit, stage_of, with_change, with_new, without_role, without_xdg, xdg_at, xdg_of}
-
--- An acknowledgement of a serial that waits leaves fewer.
-abbrev pub AcknowledgementForgets : Type 0
-AcknowledgementForgets = (serial : ℕ) (configures : List Configure) → is_waiting serial configures ≡ true
-    → length (later_than serial configures) < length configures
-
--- Flipping, sliding and resizing, told one after the other, end at the definition's place, whichever side gravity slides to first.
-abbrev pub MovesAgree : Type 0
-MovesAgree =
-    (may_flip may_slide may_resize : Bool) (first end : ℤ) (a : Axis)
-    → moved_to may_flip may_slide may_resize first end a ≡ placed_on may_flip may_slide may_resize first end a
-
--- ---- what is kept stands for what the definition says, after each change too
-
--- one request more of the surface
-abbrev pub one_more : Request → History → History
-one_more request h = record h { requests = h.requests ++ request ∷ [] }
-
--- a new xdg_surface
-abbrev pub NewStands : Type 0
-NewStands =
-    (id base surface : ℕ) (h : History)
-    → h.cut ≤ length h.requests
-    → Stands (first_kept id base) (record { id = id; base = base; surface = surface; role = None; configures = []; since = 0 }) h
-
--- a new toplevel: no window geometry counts that was asked before
-abbrev pub ToplevelStands : Type 0
-ToplevelStands = (id : ℕ) (k : Kept) (x : XdgSurface) (h : History) → Stands k x h
-    → Stands (kept_toplevel id k) (new_toplevel id (length h.requests) x) h
-
--- a window geometry is asked
-abbrev pub GeometryStands : Type 0
-GeometryStands = (rect : Rect) (k : Kept) (x : XdgSurface) (h : History) → Stands k x h
-    → Stands (kept_asking rect k) x (one_more (SetWindowGeometry rect) h)
-
--- a configure is acknowledged
-abbrev pub AcknowledgementStands : Type 0
-AcknowledgementStands = (serial : ℕ) (k : Kept) (x : XdgSurface) (h : History) → Stands k x h
-    → Stands (kept_acknowledging serial k) (acknowledging serial x) h
-
--- A commit that isn't refused. It is asked and applied, and the answer says what it comes to.
-abbrev pub CommitStands : Type 0
-CommitStands =
-    (has_buffer : Bool) (serial : ℕ) (where_to : Popup → Option Placed) (act : ShellAct) (k : Kept) (x : XdgSurface) (h : History)
-    → commit_answer has_buffer (Some k) ≡ Ok act
-    → Stands k x h
-    → Stands (kept_after serial act k)
-    (with_effect serial (length (one_more Commit h).requests) where_to (on_commit (stage_of x) has_buffer) x)
-    (apply (one_more Commit h))
-
--- a configure is sent
-abbrev pub ConfigureStands : Type 0
-ConfigureStands = (serial : ℕ) (k : Kept) (x : XdgSurface) (h : History) → Stands k x h
-    → Stands (kept_configuring serial k) (configuring serial x) h
-
--- the role object goes
-abbrev pub DestructionStands : Type 0
-DestructionStands = (k : Kept) (x : XdgSurface) (h : History) → Stands k x h → Stands (kept_without_role k) (without_role x) h
-
--- a request of another kind, which isn't applied
-abbrev pub OtherStands : Type 0
-OtherStands =
-    (request : Request) (k : Kept) (x : XdgSurface) (h : History)
-    → ((asked : Option Rect) → geometry_asked asked request ≡ asked)
-    → Stands k x h
-    → Stands k x (one_more request h)
-
--- each of these changes
-pub record ChangesStand : Type 0 where
-  pub made : NewStands
-  pub toplevel : ToplevelStands
-  pub geometry : GeometryStands
-  pub acknowledgement : AcknowledgementStands
-  pub commit : CommitStands
-  pub configure : ConfigureStands
-  pub destruction : DestructionStands
-  pub other : OtherStands
-
--- ---- and so does what is kept of all xdg_surfaces of a client
+use Rattle.wl_xdg_state.specs.Kept.{Kept, Stands, changing, first_kept}
+use Rattle.wl_xdg_state.specs.Kept.{with_kept}
+use Rattle.wl_xdg_state.specs.Shell.{Shell, XdgSurface}
+use Rattle.wl_xdg_state.specs.Shell.{with_change, with_new, without_xdg, xdg_at, xdg_of}
 
 -- a new xdg_surface of a surface that has none
 abbrev pub NewShell : Type 0

@@ -1,7 +1,2 @@
 pub mod Agreement
-pub mod Kept
 pub mod Laws
-pub mod Moves
-pub mod Popups
-pub mod Positioner
-pub mod Shell

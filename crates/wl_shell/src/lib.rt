@@ -1,35 +1,12 @@
-//! The shell's side of surfaces: the states of xdg surfaces, and where popups are placed.
+//! The xdg_surfaces of a client, by the numbers of their surfaces (xdg-shell.xml).
 #![tactic(auto)]
 
-ghost use Rattle.wl_shell.specs.Laws.{AcknowledgementForgets, ChangesStand, MovesAgree, ShellsStand};
+ghost use Rattle.wl_shell.specs.Laws.{ShellsStand};
 
-mod acts;
-mod error;
 mod shell;
-mod stage;
-mod xdg_surface;
 
-pub use acts::{Placed, ShellAct};
-pub use error::ShellError;
 pub use shell::Shell;
-pub use stage::Stage;
-pub use xdg_surface::{Toplevel, XdgSurface};
-
-/// An acknowledgement of a serial that waits leaves fewer.
-pub fn acknowledgement_forgets()
-    ensures { AcknowledgementForgets }
-{}
-
-/// A popup that is flipped, slid and resized, one after the other, ends at the place that the definition gives it (xdg-shell.xml,
-/// xdg_positioner.set_constraint_adjustment).
-pub fn moves_agree()
-    ensures { MovesAgree }
-{}
-
-/// What is kept of an xdg_surface stands for what the definition says of it, and does so after each call too.
-pub fn changes_stand()
-    ensures { ChangesStand }
-{}
+pub use wl_xdg_state::{Placed, ShellAct, ShellError, Stage, Toplevel, XdgSurface};
 
 /// What is kept of all xdg_surfaces of a client stands for them, and does so after each change of one.
 pub fn shells_stand()

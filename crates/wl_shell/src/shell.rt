@@ -3,14 +3,14 @@
 ghost use Rattle.std.specs.Prelude.{◌≡◌, ◌≢◌, [], ℕ, All, MatchOption, None, Some, OnOk, OnErr, IfErr, IfOk, IfSome, IsOkUnless, IsSomeAnd, Err};
 ghost use Rattle.std.specs.List.{list_any};
 ghost use Rattle.std.specs.Option.{option_copied};
-ghost use Rattle.wl_shell.specs.Kept.{acknowledgement_answer, changing, commit_answer, configure_answer, destruction_answer, first_kept, geometry_answer, is_of_base, kept_acknowledging, kept_after, kept_asking, kept_configured, kept_of, kept_toplevel, kept_without_role, making_refused, toplevel_answer, with_kept};
+ghost use Rattle.wl_xdg_state.specs.Kept.{acknowledgement_answer, changing, commit_answer, configure_answer, destruction_answer, first_kept, geometry_answer, is_of_base, kept_acknowledging, kept_after, kept_asking, kept_configured, kept_of, kept_toplevel, kept_without_role, making_refused, toplevel_answer, with_kept};
 
-use crate::{ShellAct, ShellError, XdgSurface};
 use std::alloc::Allocator;
 use std::collections::BTreeMap;
 use std::marker::Model;
 use wl_geom::Rect;
 use wl_surface::SurfaceNo;
+use wl_xdg_state::{ShellAct, ShellError, XdgSurface};
 
 /// The xdg_surfaces of a client, by the numbers of their surfaces (xdg-shell.xml). It is seen as what is kept of each.
 #[derive(Drop)]
@@ -19,7 +19,7 @@ pub struct Shell<A: Allocator> {
 }
 
 impl<A: Allocator> Model for Shell<A> {
-    ghost use Rattle.wl_shell.specs.Kept.{Book};
+    ghost use Rattle.wl_xdg_state.specs.Kept.{Book};
 
     ghost Value = { Book };
 

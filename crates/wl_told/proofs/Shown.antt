@@ -9,7 +9,7 @@ use Rattle.wl_state.specs.Request.{Buffer, Member, Itself, Child}
 use Rattle.wl_state.specs.State.{History, applied as counts, counting, height_of, order, position, width_of}
 use Rattle.wl_surface.specs.declared.applied.Change.{Change}
 use Rattle.wl_surface.specs.Surfaces.{Link, Surfaces, history_in, link_at}
-use Rattle.wl_scene.specs.Windows.{Owner, Place, Window, child_windows, corner_at, member_windows, shown_windows, surface_windows, tree, window_of, window_with}
+use Rattle.wl_stacking.specs.Windows.{Owner, Place, Window, child_windows, corner_at, member_windows, shown_windows, surface_windows, tree, window_of, window_with}
 use Rattle.wl_plain.specs.Moments.{history_of, is_applied_by}
 use Rattle.wl_plain.specs.Marks.{Applied}
 use Rattle.wl_repaint.specs.Laws.{IsAppliedBy}

@@ -5,7 +5,7 @@ use Rattle.wl_plain.specs.Desktop.{Desktop, owned_in}
 use Rattle.wl_plain.specs.Marks.{Applied}
 use Rattle.wl_plain.specs.Moments.{applied_between, is_applied_by}
 use Rattle.wl_repaint.specs.Laws.{IsAppliedBy}
-use Rattle.wl_scene.specs.Windows.{Owner, Place, tree}
+use Rattle.wl_stacking.specs.Windows.{Owner, Place, tree}
 use Rattle.wl_surface.specs.declared.applied.Change.{Change}
 use Rattle.wl_surface.specs.Surfaces.{Surfaces, history_in}
 use Rattle.wl_told.specs.Laws.{TellsApplied}

@@ -11,7 +11,7 @@ use Rattle.wl_peer.specs.Buffers.{Buffer as Made}
 use Rattle.wl_peer.specs.Told.{Said, said}
 use Rattle.wl_state.specs.Request.{Buffer}
 use Rattle.wl_surface.specs.Surfaces.{is_busy}
-use Rattle.wl_shell.specs.Popups.{is_among}
+use Rattle.wl_xdg_state.specs.Popups.{is_among}
 use Rattle.wl_plain.specs.Changing.{in_rising_order}
 use Rattle.wl_plain.specs.Desktop.{Resident}
 use Rattle.wl_plain.specs.Releases.{is_released}

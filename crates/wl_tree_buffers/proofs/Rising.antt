@@ -5,7 +5,7 @@ use Rattle.std.proofs.lemmas.List.Kept.{AllPairs-from_increasing}
 use Rattle.std.specs.List.Sorted.{IsStrictlyIncreasing}
 use Rattle.std.specs.List.{AllPairs}
 use Rattle.std.specs.Prelude.{◌==◌, ◌||◌, fold, nat_lt, slice_index_or}
-use Rattle.wl_shell.specs.Popups.{is_among}
+use Rattle.wl_xdg_state.specs.Popups.{is_among}
 use Rattle.wl_plain.specs.Changing.{in_rising_order}
 use Rattle.wl_laws.proofs.Marks.Stacks.{Each, differ, each-both, each-map, same-number}
 

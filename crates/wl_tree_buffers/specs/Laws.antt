@@ -9,7 +9,7 @@ use Rattle.wl_store.specs.Stores.{Stock}
 use Rattle.wl_state.specs.Request.{Buffer}
 use Rattle.wl_state.specs.Surface.{buffers_of}
 use Rattle.wl_surface.specs.Surfaces.{Surfaces, is_busy}
-use Rattle.wl_shell.specs.Popups.{is_among}
+use Rattle.wl_xdg_state.specs.Popups.{is_among}
 use Rattle.wl_peer.specs.Peer.{released}
 use Rattle.wl_peer.specs.Told.{said}
 use Rattle.wl_plain.specs.Changing.{after_all}

@@ -3,7 +3,7 @@ use Rattle.std.proofs.Common.{◌≡◌, ℕ, Bool, true, false, List, [], ◌�
 use Rattle.std.specs.Prelude.{ℤ, ◌-ℤ◌, ◌&&◌, ◌||◌, not}
 use Rattle.std.specs.List.{list_any}
 use Rattle.std.proofs.lemmas.Bool.{and_right}
-use Rattle.wl_scene.specs.Windows.{Window, contains}
+use Rattle.wl_stacking.specs.Windows.{Window, contains}
 use Rattle.wl_plain.specs.Marks.{Applied, AreDistinct, at_least, has_moved_past, in_output, is_before, is_changed_at, is_damaged_at, is_kept_in, is_restacked_at, shared_by}
 use Rattle.wl_laws.proofs.Marks.Stacks.{AreSame, Each, and-left, and-right, each-false, each-map, unless}
 use Rattle.wl_tree_marks.specs.Laws.{AreUndamaged, MarksDamageAlone, among, is_struck_at}

@@ -5,7 +5,7 @@ use Rattle.std.specs.List.{list_any}
 use Rattle.std.proofs.lemmas.Bool.{or_left, or_right}
 use Rattle.std.proofs.lemmas.Bool.Decides.{nat_tests}
 use Rattle.std.proofs.lemmas.List.Folds.{list_any-append}
-use Rattle.wl_scene.specs.Windows.{Window}
+use Rattle.wl_stacking.specs.Windows.{Window}
 use Rattle.wl_plain.specs.Marks.{AreDistinct, has_same_record, is_before, is_of_tree, is_same_surface, same_records}
 use Rattle.wl_laws.proofs.Marks.Stacks.{AreSame, Each, and-left, and-right, any-surface, before-cons, differ, each-map, fields, or-left, or-right, recorded, unless}
 use Rattle.wl_tree_marks.proofs.Lists.{any-first, either-of, none-second}

@@ -3,7 +3,7 @@ use Rattle.std.proofs.Common.{◌≡◌, ℕ, true, false, ◌++◌, ap, sym, �
 use Rattle.std.specs.Prelude.{◌==◌, ◌&&◌}
 use Rattle.std.specs.List.{list_all, list_any}
 use Rattle.std.proofs.lemmas.Bool.{eqb-true}
-use Rattle.wl_scene.specs.Windows.{Window}
+use Rattle.wl_stacking.specs.Windows.{Window}
 use Rattle.wl_plain.specs.Marks.{is_of_tree}
 use Rattle.wl_laws.proofs.Marks.Stacks.{and-left, and-right, each-map}
 use Rattle.wl_tree_marks.specs.Laws.{IsTreeOfRoot, has_root}

@@ -3,7 +3,7 @@ use Rattle.std.proofs.Common.{◌≡◌, ℕ, List, [], ◌∷◌, ◌++◌, Boo
 use Rattle.std.specs.Prelude.{replicate, ℤ, pos, ◌==◌, ◌&&◌, filter}
 use Rattle.wl_store.specs.declared.color.Format.TheVariants.{Argb8888}
 use Rattle.wl_geom.specs.Rect.{in_rect}
-use Rattle.wl_scene.specs.Windows.{Window}
+use Rattle.wl_stacking.specs.Windows.{Window}
 use Rattle.wl_plain.specs.Marks.{Applied, at_least, at_most}
 
 -- a window of this surface of client 1, in the tree of surface 6, whose corner stands there

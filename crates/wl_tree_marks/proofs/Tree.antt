@@ -3,7 +3,7 @@ use Rattle.std.proofs.Common.{◌≡◌, Bool, true, List, ◌++◌, sym, ◌∙
 use Rattle.std.specs.Prelude.{ℤ, ◌&&◌, ◌||◌, not}
 use Rattle.std.specs.List.{list_any}
 use Rattle.std.proofs.lemmas.Bool.{or_left, or_right}
-use Rattle.wl_scene.specs.Windows.{Window, contains}
+use Rattle.wl_stacking.specs.Windows.{Window, contains}
 use Rattle.wl_plain.specs.Marks.{Applied, AreDistinct, has_moved_past, has_same_record, in_output, is_before, is_changed_at, is_damaged_at, is_kept_in, is_restacked_at, is_same_surface, shared_by}
 use Rattle.wl_laws.proofs.Marks.Stacks.{Each, and-both, and-left, and-right, any-more, differ, each-map}
 use Rattle.wl_tree_marks.specs.Laws.{AreUndamaged, MarksTreeAlone, among, is_in_any, is_struck_at}

@@ -5,7 +5,7 @@ use Rattle.std.specs.List.{list_all, list_any}
 use Rattle.std.proofs.lemmas.Bool.{and_right, or_from, or_left, or_right}
 use Rattle.std.proofs.lemmas.List.Elements.{filter-append}
 use Rattle.std.proofs.lemmas.List.{append-nil}
-use Rattle.wl_scene.specs.Windows.{Window, contains}
+use Rattle.wl_stacking.specs.Windows.{Window, contains}
 use Rattle.wl_plain.specs.Marks.{at_least, has_changed_tree, in_output, is_allowed_at, is_of_tree, is_raised, same_records}
 use Rattle.wl_laws.proofs.Marks.Stacks.{Each, and-both, and-left, and-right, each-both, each-false, each-map}
 use Rattle.wl_tree_marks.specs.Laws.{IsOneTree, MarksNothingMore, MayMarkWholeTree, among, is_in_any}

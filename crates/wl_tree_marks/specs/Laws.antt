@@ -1,7 +1,7 @@
 -- Laws of what a step marks of which only one tree of surfaces changed: the windows below the tree and above it are the very same.
 use Rattle.std.specs.Prelude.{ℕ, ℤ, ◌≡◌, ◌-ℤ◌, ◌==◌, ◌&&◌, ◌||◌, Bool, true, false, Option, None, List, ◌++◌}
 use Rattle.std.specs.List.{list_all, list_any}
-use Rattle.wl_scene.specs.Windows.{Window, contains}
+use Rattle.wl_stacking.specs.Windows.{Window, contains}
 use Rattle.wl_plain.specs.Marks.{Applied, AreDistinct, at_least, at_most, in_output, is_of_tree, same_records}
 
 -- the windows of a tree, among those below it and those above it

@@ -2,8 +2,8 @@
 use Rattle.std.proofs.Common.{◌≡◌, ℕ, true, List, [], ◌∷◌, ◌++◌, refl, ap, sym, subst, ◌∙◌}
 use Rattle.std.specs.Prelude.{flat_map}
 use Rattle.std.specs.List.{list_any}
-use Rattle.wl_scene.specs.Stacking.{Owned, Standing, windows_on}
-use Rattle.wl_scene.specs.Windows.{Window}
+use Rattle.wl_stacking.specs.Stacking.{Owned, Standing, windows_on}
+use Rattle.wl_stacking.specs.Windows.{Window}
 use Rattle.wl_plain.specs.Marks.{AreDistinct, is_same_surface}
 use Rattle.wl_laws.specs.Laws.{AreApart}
 use Rattle.wl_laws.specs.Soundness.{AreOnce, AreTrees, IsNoChild}

@@ -4,7 +4,7 @@ use Rattle.wl_state.specs.Request.{Buffer, Child, Itself, Member, Request}
 use Rattle.wl_state.specs.State.{Values, offset, order, values}
 use Rattle.wl_surface.specs.Surfaces.{Surfaces, history_in}
 use Rattle.wl_surface.specs.Trees.{descends_from, levels}
-use Rattle.wl_scene.specs.Windows.{Owner, Place, Window, moved, tree, window_with}
+use Rattle.wl_stacking.specs.Windows.{Owner, Place, Window, moved, tree, window_with}
 use Rattle.wl_tree_laws.specs.Hanging.{kids_of}
 use Rattle.wl_tree_laws.specs.Laws.{AreOnceLinked}
 use Rattle.wl_tree_laws.specs.Stacks.{Kids}

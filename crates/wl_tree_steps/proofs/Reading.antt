@@ -5,7 +5,7 @@ use Rattle.std.specs.Option.{option_map}
 use Rattle.wl_state.specs.Request.{Buffer, Child, Itself, Member, Request}
 use Rattle.wl_state.specs.State.{History, applied, counting, offset, order, position, values}
 use Rattle.wl_surface.specs.Surfaces.{Link, Surfaces, link_at}
-use Rattle.wl_scene.specs.Windows.{Owner, Place, Window, child_windows, corner_at, member_windows, moved, shown_windows, surface_windows, window_with}
+use Rattle.wl_stacking.specs.Windows.{Owner, Place, Window, child_windows, corner_at, member_windows, moved, shown_windows, surface_windows, window_with}
 use Rattle.wl_tree_laws.specs.Hanging.{kid_of, kids_of}
 use Rattle.wl_tree_laws.specs.Stacks.{Kids}
 use Rattle.wl_laws.proofs.Marks.Stacks.{Each}

@@ -6,8 +6,8 @@ use Rattle.wl_state.specs.Request.{AddChild, Attach, Buffer, Commit, Request}
 use Rattle.wl_state.specs.Surface.{Surface}
 use Rattle.wl_surface.specs.Surfaces.{Surfaces}
 use Rattle.wl_surface.specs.Trees.{applied_tree, behaves_synchronised, committed_in, descends_from, desynchronised_in, destroyed_in, levels, unlinked}
-use Rattle.wl_scene.specs.Stacking.{Owned, Standing, windows_on}
-use Rattle.wl_scene.specs.Windows.{Window, tree}
+use Rattle.wl_stacking.specs.Stacking.{Owned, Standing, windows_on}
+use Rattle.wl_stacking.specs.Windows.{Window, tree}
 use Rattle.wl_plain.specs.Desktop.{Desktop, owned_in}
 use Rattle.wl_plain.specs.Moments.{applied_between}
 use Rattle.wl_tree_steps.specs.Standing.{applied_in, windows_in}

@@ -8,8 +8,8 @@ use Rattle.std.proofs.lemmas.List.{append-nil}
 use Rattle.wl_state.specs.State.{History}
 use Rattle.wl_surface.specs.Surfaces.{Surfaces, history_in}
 use Rattle.wl_surface.specs.Trees.{descends_from, levels, link_of}
-use Rattle.wl_scene.specs.Stacking.{Owned, Standing, is_of, windows_on}
-use Rattle.wl_scene.specs.Windows.{Window}
+use Rattle.wl_stacking.specs.Stacking.{Owned, Standing, is_of, windows_on}
+use Rattle.wl_stacking.specs.Windows.{Window}
 use Rattle.wl_laws.specs.Laws.{AreApart}
 use Rattle.wl_laws.proofs.Marks.Stacks.{Each, and-both, differ, each-both, each-false, each-map, equal-numbers, or-left, or-right, same-number, unless}
 use Rattle.wl_laws.proofs.Soundness.Trees.{all-there, each-append, or-none}

@@ -6,7 +6,7 @@ use Rattle.wl_state.specs.Request.{Buffer, Child, Itself, Member}
 use Rattle.wl_state.specs.State.{History, counting, is_member, offset, order, values}
 use Rattle.wl_surface.specs.Surfaces.{Link, Surfaces, history_in, link_at}
 use Rattle.wl_surface.specs.Trees.{descends_from}
-use Rattle.wl_scene.specs.Windows.{Owner, Place, moved, tree}
+use Rattle.wl_stacking.specs.Windows.{Owner, Place, moved, tree}
 use Rattle.wl_tree_laws.specs.Hanging.{kid_of, kids_of}
 use Rattle.wl_tree_laws.specs.Laws.{AreOnceLinked}
 use Rattle.wl_tree_laws.proofs.Placing.{live-found}

@@ -8,7 +8,7 @@ use Rattle.wl_surface.specs.Trees.{descends_from, levels, link_of}
 use Rattle.wl_tree_laws.specs.Laws.{AreOnceLinked}
 use Rattle.wl_tree_laws.specs.Hanging.{AreNumbered, kids_of}
 use Rattle.wl_tree_laws.specs.Stacks.{has_child}
-use Rattle.wl_scene.specs.Windows.{Owner, Place, tree}
+use Rattle.wl_stacking.specs.Windows.{Owner, Place, tree}
 use Rattle.wl_laws.specs.Soundness.{AreTrees, IsNoChild}
 
 -- what counts of what was asked of a surface (wayland.xml, wl_surface.commit)

@@ -7,8 +7,8 @@ use Rattle.wl_surface.specs.Surfaces.{Surfaces, history_in}
 use Rattle.wl_surface.specs.Trees.{descends_from, levels, link_of}
 use Rattle.wl_tree_laws.specs.Hanging.{AreNumbered}
 use Rattle.wl_tree_laws.specs.Laws.{AreOnceLinked}
-use Rattle.wl_scene.specs.Stacking.{Owned, Standing, is_of, windows_on}
-use Rattle.wl_scene.specs.Windows.{Owner, Window, tree}
+use Rattle.wl_stacking.specs.Stacking.{Owned, Standing, is_of, windows_on}
+use Rattle.wl_stacking.specs.Windows.{Owner, Window, tree}
 use Rattle.wl_plain.specs.Marks.{Applied, AreDistinct}
 use Rattle.wl_plain.specs.Moments.{is_applied_by}
 use Rattle.wl_laws.specs.Laws.{AreApart}

@@ -3,8 +3,8 @@ use Rattle.std.proofs.Common.{◌≡◌, ℕ, zero, suc, true, Option, Some, Non
 use Rattle.std.specs.List.{AllByRecursion as Each}
 use Rattle.std.proofs.lemmas.List.Elements.{All-from_recursion}
 use Rattle.wl_peer.specs.Objects.{ById}
-use Rattle.wl_scene.specs.Stacking.{Owned, Standing, windows_on}
-use Rattle.wl_scene.specs.Windows.{Window, surface_windows, tree}
+use Rattle.wl_stacking.specs.Stacking.{Owned, Standing, windows_on}
+use Rattle.wl_stacking.specs.Windows.{Window, surface_windows, tree}
 use Rattle.wl_state.specs.State.{History}
 use Rattle.wl_surface.specs.Surfaces.{Surfaces, history_in}
 use Rattle.wl_plain.specs.Desktop.{Desktop, owned_in}

@@ -4,8 +4,8 @@ use Rattle.std.specs.Prelude.{◌||◌, not, flat_map, fold}
 use Rattle.std.specs.List.{list_any}
 use Rattle.std.proofs.lemmas.List.Folds.{list_any-append}
 use Rattle.std.proofs.lemmas.Bool.{or_left, or_right}
-use Rattle.wl_scene.specs.Lent.{shows_buffer}
-use Rattle.wl_scene.specs.Windows.{Owner, Place, Window, corner_at, member_windows, shown_windows, surface_windows, tree, window_with}
+use Rattle.wl_stacking.specs.Stacking.{shows_buffer}
+use Rattle.wl_stacking.specs.Windows.{Owner, Place, Window, corner_at, member_windows, shown_windows, surface_windows, tree, window_with}
 use Rattle.wl_state.specs.Request.{Buffer, Child, Itself, Member, Request, AddChild, PlaceAbove, PlaceBelow}
 use Rattle.wl_state.specs.State.{History, above, applied, below, counting, is_member, order, ordered, placed, without}
 use Rattle.wl_surface.specs.Surfaces.{Surfaces, history_in}

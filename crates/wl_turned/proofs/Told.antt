@@ -9,8 +9,8 @@ use Rattle.wl_laws.proofs.Marks.Stacks.{same-number}
 use Rattle.std.proofs.lemmas.Bool.{or_left, or_right}
 use Rattle.wl_peer.specs.Objects.{ById}
 use Rattle.wl_surface.specs.Surfaces.{Surfaces}
-use Rattle.wl_scene.specs.Stacking.{Standing, is_of as is_standing}
-use Rattle.wl_scene.specs.Windows.{Owner, Window}
+use Rattle.wl_stacking.specs.Stacking.{Standing, is_of as is_standing}
+use Rattle.wl_stacking.specs.Windows.{Owner, Window}
 use Rattle.wl_plain.specs.Desktop.{Desktop, owned_in}
 use Rattle.wl_plain.specs.Stacked.{all_windows}
 use Rattle.wl_stacked.specs.declared.stacked.Stacked.{Stacked}

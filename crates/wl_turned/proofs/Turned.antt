@@ -5,9 +5,9 @@ use Rattle.std.specs.List.{AllByRecursion as Each, list_all, list_any}
 use Rattle.std.proofs.lemmas.List.Folds.{list_any-append}
 use Rattle.wl_lending.proofs.Truth.{and-left, differ, or-left, or-right, same-equal}
 use Rattle.wl_peer.specs.Objects.{ById}
-use Rattle.wl_scene.specs.Lent.{shows_buffer}
-use Rattle.wl_scene.specs.Stacking.{Owned, Standing, is_of as is_standing, windows_on}
-use Rattle.wl_scene.specs.Windows.{Owner, Window}
+use Rattle.wl_stacking.specs.Stacking.{shows_buffer}
+use Rattle.wl_stacking.specs.Stacking.{Owned, Standing, is_of as is_standing, windows_on}
+use Rattle.wl_stacking.specs.Windows.{Owner, Window}
 use Rattle.wl_surface.specs.Surfaces.{history_in}
 use Rattle.wl_plain.specs.Desktop.{Desktop, owned_in}
 use Rattle.wl_plain.specs.Stacked.{all_windows}

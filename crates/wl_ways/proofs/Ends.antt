@@ -12,9 +12,9 @@ use Rattle.wl_peer.specs.declared.refusals.ErrorCode.TheVariants.{InvalidMethod}
 use Rattle.wl_peer.specs.declared.refusals.Refusal.{Refusal}
 use Rattle.wl_peer.specs.Peer.{Errs, LacksMemory, Peer, counted, ended, with_rest}
 use Rattle.wl_peer.specs.Told.{display_error}
-use Rattle.wl_shell.specs.Shell.{Effect, Stays, Unconfigured, Configures, Maps, Unmaps}
-use Rattle.wl_scene.specs.Stacking.{Standing, is_of, with_mapped, without_client, without_surface_of}
-use Rattle.wl_scene.specs.Windows.{mapping_place}
+use Rattle.wl_xdg_state.specs.Shell.{Effect, Stays, Unconfigured, Configures, Maps, Unmaps}
+use Rattle.wl_stacking.specs.Stacking.{Standing, is_of, with_mapped, without_client, without_surface_of}
+use Rattle.wl_stacking.specs.Windows.{mapping_place}
 use Rattle.wl_plain.specs.declared.answers.Done.{Done}
 use Rattle.wl_plain.specs.Demand.{Demand, CommitTree, EndToplevel}
 use Rattle.wl_plain.specs.Demanding.{effect_of_commit, judge_all}

@@ -5,8 +5,8 @@ use Rattle.std.specs.List.{list_any}
 use Rattle.std.specs.Option.{option_map}
 use Rattle.std.proofs.lemmas.Bool.{eqb-false, or_left}
 use Rattle.std.proofs.lemmas.List.Elements.{filter-append}
-use Rattle.wl_scene.specs.Stacking.{Owned, Standing, windows_on, without_client}
-use Rattle.wl_scene.specs.Windows.{Window, contains}
+use Rattle.wl_stacking.specs.Stacking.{Owned, Standing, windows_on, without_client}
+use Rattle.wl_stacking.specs.Windows.{Window, contains}
 use Rattle.wl_surface.specs.Surfaces.{history_in}
 use Rattle.wl_plain.specs.Desktop.{Desktop, owned_in}
 use Rattle.wl_plain.specs.Marks.{at_least}

@@ -3,7 +3,7 @@ use Rattle.std.proofs.Common.{◌≡◌, ℕ, List, [], ◌∷◌, Bool, true, f
 use Rattle.std.specs.Prelude.{ℤ, ◌-ℤ◌, ◌&&◌, ◌||◌, filter, if◌then◌else◌, not}
 use Rattle.std.specs.List.{list_any}
 use Rattle.std.proofs.lemmas.Bool.{or_left, or_right}
-use Rattle.wl_scene.specs.Windows.{Window, contains}
+use Rattle.wl_stacking.specs.Windows.{Window, contains}
 use Rattle.wl_plain.specs.Marks.{Applied, AreDistinct, at_least, has_moved_past, has_same_record, is_before, is_changed_at, is_damaged_at, is_kept_in, is_restacked_at, is_same_surface}
 use Rattle.wl_plain.specs.Marks.{in_output, shared_by}
 use Rattle.wl_laws.proofs.Marks.Painted.{each-kept}

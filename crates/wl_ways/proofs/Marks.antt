@@ -3,7 +3,7 @@ use Rattle.std.proofs.Common.{◌≡◌, List, [], ◌∷◌, Bool, true, false,
 use Rattle.std.specs.Prelude.{ℤ, ◌⊎◌, ◌&&◌, ◌||◌}
 use Rattle.std.proofs.lemmas.Bool.{or_left, or_right}
 use Rattle.wl_peer.specs.Told.{Output}
-use Rattle.wl_scene.specs.Windows.{Window, contains}
+use Rattle.wl_stacking.specs.Windows.{Window, contains}
 use Rattle.wl_plain.specs.Desktop.{Desktop}
 use Rattle.wl_plain.specs.Marks.{at_least, in_output}
 use Rattle.wl_plain.specs.Moments.{applied_between, marks_at_least, marks_at_least_through, marks_at_most, marks_at_most_through}

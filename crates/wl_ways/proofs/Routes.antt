@@ -9,7 +9,7 @@ use Rattle.wl_peer.specs.declared.refusals.ErrorCode.TheVariants.{InvalidMethod}
 use Rattle.wl_peer.specs.declared.refusals.Refusal.{Refusal}
 use Rattle.wl_peer.specs.Peer.{Errs, LacksMemory, Peer, Queues, counted, ended, has_room, queued, with_rest}
 use Rattle.wl_peer.specs.Told.{Said, display_error}
-use Rattle.wl_scene.specs.Pointer.{first_pointer}
+use Rattle.wl_stacking.specs.Pointer.{first_pointer}
 use Rattle.wl_plain.specs.Changing.{changed_for}
 use Rattle.wl_plain.specs.Demand.{Demand}
 use Rattle.wl_plain.specs.Demanding.{judge_all}

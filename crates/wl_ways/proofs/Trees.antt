@@ -1,6 +1,6 @@
 -- The windows of an orderly desktop are those of trees of toplevels, and no surface has two.
 use Rattle.std.proofs.Common.{List, sym, subst}
-use Rattle.wl_scene.specs.Windows.{Window}
+use Rattle.wl_stacking.specs.Windows.{Window}
 use Rattle.wl_plain.specs.Desktop.{Desktop, owned_in}
 use Rattle.wl_plain.specs.Marks.{AreDistinct}
 use Rattle.wl_plain.specs.Stacked.{all_windows}

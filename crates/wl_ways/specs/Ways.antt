@@ -8,7 +8,7 @@ use Rattle.wl_peer.specs.declared.refusals.ErrorCode.TheVariants.{InvalidMethod}
 use Rattle.wl_peer.specs.declared.refusals.Refusal.{Refusal}
 use Rattle.wl_peer.specs.Peer.{Errs, LacksMemory, Peer, counted, with_rest}
 use Rattle.wl_peer.specs.Told.{display_error}
-use Rattle.wl_scene.specs.Stacking.{nothing_owned, without_client}
+use Rattle.wl_stacking.specs.Stacking.{nothing_owned, without_client}
 use Rattle.wl_plain.specs.Demand.{Demand}
 use Rattle.wl_plain.specs.Demanding.{judge_all}
 use Rattle.wl_plain.specs.Desktop.{Desktop, Resident, owned_in, status_in}

@@ -6,7 +6,7 @@ use Rattle.wl_store.specs.declared.transform.Transform.TheVariants.{Normal, Rota
 use Rattle.wl_state.specs.Request.{AddChild, Attach, Buffer, Commit, Itself, PlaceBelow, Request, SetBufferTransform, SetPosition}
 use Rattle.wl_state.specs.Surface.{Surface}
 use Rattle.wl_surface.specs.Surfaces.{Link, Surfaces}
-use Rattle.wl_scene.specs.Windows.{Owner, tree}
+use Rattle.wl_stacking.specs.Windows.{Owner, tree}
 use Rattle.wl_windows.specs.declared.window.TreeWindow.{TreeWindow}
 use Rattle.wl_windows.specs.Windows.{told_tree}
 

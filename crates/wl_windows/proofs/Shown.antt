@@ -2,7 +2,7 @@
 use Rattle.std.proofs.Common.{◌≡◌, ℕ, ℤ, ◌+ℤ◌, Option, Some, None, ap, sym, ◌∙◌, subst}
 use Rattle.std.specs.Prelude.{option_and_then}
 use Rattle.std.specs.Option.{option_map}
-use Rattle.wl_scene.specs.Windows.{Place, corner_at}
+use Rattle.wl_stacking.specs.Windows.{Place, corner_at}
 use Rattle.wl_state.specs.declared.content.Attached.{Attached}
 use Rattle.wl_state.specs.declared.state.Current.{Current}
 use Rattle.wl_state.specs.Kept.{IsCurrent, buffer_of}

@@ -11,8 +11,8 @@ use Rattle.wl_children.specs.declared.placed.Placed.{Placed}
 use Rattle.wl_children.specs.Stacks.{whole}
 use Rattle.wl_family.specs.Family.{Tied, stacks_in}
 use Rattle.wl_linked.specs.Linked.{Stand}
-use Rattle.wl_scene.specs.Windows.{Owner, Place, Window, child_windows, corner_at, shown_windows, surface_windows, tree}
-use Rattle.wl_scene.specs.Windows.{member_windows as asked_windows, window_with as asked_with}
+use Rattle.wl_stacking.specs.Windows.{Owner, Place, Window, child_windows, corner_at, shown_windows, surface_windows, tree}
+use Rattle.wl_stacking.specs.Windows.{member_windows as asked_windows, window_with as asked_with}
 use Rattle.wl_state.specs.Request.{Buffer, Child, Itself, Member}
 use Rattle.wl_state.specs.State.{History, Values, applied, counting, order, position}
 use Rattle.wl_surface.specs.Slots.{Slots}

@@ -3,7 +3,7 @@ use Rattle.std.specs.Prelude.{ℕ, ℤ, ◌+ℤ◌, ◌≡◌, List, [], ◌∷�
 use Rattle.wl_children.specs.declared.placed.Member.{Member}
 use Rattle.wl_children.specs.declared.placed.Member.TheVariants.{Itself, Child}
 use Rattle.wl_children.specs.declared.placed.Placed.{Placed}
-use Rattle.wl_scene.specs.Windows.{Owner, Place, Window, corner_at, tree}
+use Rattle.wl_stacking.specs.Windows.{Owner, Place, Window, corner_at, tree}
 use Rattle.wl_state.specs.Request.{Buffer}
 use Rattle.wl_state.specs.State.{History, Values, applied, height_of, width_of}
 use Rattle.wl_store.specs.Transform.{transform_of}

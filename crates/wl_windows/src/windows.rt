@@ -2,7 +2,7 @@
 
 ghost use Rattle.std.specs.Prelude.{◌≡◌, ◌≤◌, ◌+◌, ◌++◌, IsOk, OnErr, OnOk, flat_map, length, map, vec_capacity, vec_len};
 ghost use Rattle.wl_linked.specs.Linked.{Stand};
-ghost use Rattle.wl_scene.specs.Windows.{Owner, tree};
+ghost use Rattle.wl_stacking.specs.Windows.{Owner, tree};
 ghost use Rattle.wl_surface.specs.Surfaces.{Surfaces as Asked};
 ghost use Rattle.wl_windows.specs.Windows.{Continues, place_beside, placed_windows, told_of, told_tree};
 

@@ -1,8 +1,8 @@
 -- A client that has no wl_pointers and popups, and is left alone, is as it was.
 use Rattle.std.proofs.Common.{◌≡◌, ℕ, ◌+◌, List, [], true, false, Option, Some, None, refl, ap, sym, ◌∙◌, inl, inr}
 use Rattle.wl_peer.specs.declared.cause.Cause.{Cause}
-use Rattle.wl_shell.specs.Popups.{is_among}
-use Rattle.wl_scene.specs.Stacking.{Standing}
+use Rattle.wl_xdg_state.specs.Popups.{is_among}
+use Rattle.wl_stacking.specs.Stacking.{Standing}
 use Rattle.wl_plain.specs.declared.answers.Done.{Done}
 use Rattle.wl_plain.specs.Desktop.{Desktop, Resident, client_at, toplevels_of}
 use Rattle.wl_without_popups.specs.NoPopups.{NoPopups, OwnsNoPopupsAt, OwnsNoPopupsBy}

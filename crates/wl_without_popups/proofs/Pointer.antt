@@ -5,11 +5,11 @@ use Rattle.wl_peer.specs.declared.cause.Cause.{Cause}
 use Rattle.wl_peer.specs.Peer.{Peer}
 use Rattle.wl_peer.specs.Told.{Said}
 use Rattle.wl_surface.specs.Surfaces.{history_in}
-use Rattle.wl_shell.specs.Shell.{Shell}
-use Rattle.wl_scene.specs.Pointer.{Pointer, hit_now, is_down, is_press}
-use Rattle.wl_scene.specs.PointerActions.{move_of, raise_of}
-use Rattle.wl_scene.specs.Stacking.{Standing}
-use Rattle.wl_scene.specs.Windows.{Place}
+use Rattle.wl_xdg_state.specs.Shell.{Shell}
+use Rattle.wl_stacking.specs.Pointer.{Pointer, hit_now, is_down, is_press}
+use Rattle.wl_stacking.specs.PointerActions.{move_of, raise_of}
+use Rattle.wl_stacking.specs.Stacking.{Standing}
+use Rattle.wl_stacking.specs.Windows.{Place}
 use Rattle.wl_plain.specs.Changing.{drawing}
 use Rattle.wl_plain.specs.Desktop.{Desktop, Resident, client_at, toplevels_of}
 use Rattle.wl_records.specs.Toplevels.{AreToplevels}

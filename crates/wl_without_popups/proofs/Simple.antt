@@ -3,13 +3,13 @@ use Rattle.std.proofs.Common.{◌≡◌, ℕ, List, [], ◌∷◌, ◌++◌, Boo
 use Rattle.std.specs.Prelude.{◌==◌, ◌⊎◌, is_some}
 use Rattle.std.specs.Option.{option_map, option_map_or}
 use Rattle.wl_peer.specs.Told.{Said}
-use Rattle.wl_shell.specs.Popups.{is_parent_of, is_toplevel, is_toplevel_kind, orphan, orphaning, placing, popup_changed, with_effect}
-use Rattle.wl_shell.specs.Positioner.{Placed}
-use Rattle.wl_shell.specs.Shell.{Effect, Stays, Unconfigured, Configures, Maps, Unmaps, Waiting, Kind, Toplevel, IsPopup, Popup, RoleObject, Shell, XdgSurface as Xdg, configuring, in_stage, on_commit, stage_of}
-use Rattle.wl_shell.specs.Shell.{with_change, without_role, xdg_of}
-use Rattle.wl_shell.proofs.Standing.{popup-still as popup-still-there}
-use Rattle.wl_scene.specs.Pointer.{first_pointer}
-use Rattle.wl_scene.specs.Windows.{Window}
+use Rattle.wl_xdg_state.specs.Popups.{is_parent_of, is_toplevel, is_toplevel_kind, orphan, orphaning, placing, popup_changed, with_effect}
+use Rattle.wl_xdg_state.specs.Positioner.{Placed}
+use Rattle.wl_xdg_state.specs.Shell.{Effect, Stays, Unconfigured, Configures, Maps, Unmaps, Waiting, Kind, Toplevel, IsPopup, Popup, RoleObject, Shell, XdgSurface as Xdg, configuring, in_stage, on_commit, stage_of}
+use Rattle.wl_xdg_state.specs.Shell.{with_change, without_role, xdg_of}
+use Rattle.wl_xdg_state.proofs.Standing.{popup-still as popup-still-there}
+use Rattle.wl_stacking.specs.Pointer.{first_pointer}
+use Rattle.wl_stacking.specs.Windows.{Window}
 use Rattle.wl_plain.specs.Changing.{changed_for, commit_done, drawing, effect_done, is_configure, placement_now, stacked_by, stacked_for, toplevel_ended, tree_committed, with_kept_move}
 use Rattle.wl_plain.specs.Demand.{Demand, Asks, EndSurface, AskFrame, CommitTree, GetSubsurface, EndSubsurface, SetMode, GetPointer, MakeCursor, CreatePositioner, EndPositioner}
 use Rattle.wl_plain.specs.Demand.{SetPositioner, GetPopup, Grab, EndPopup, EndToplevel, Move}

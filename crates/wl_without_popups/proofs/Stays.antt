@@ -13,9 +13,9 @@ use Rattle.wl_peer.specs.declared.refusals.ErrorCode.TheVariants.{InvalidMethod}
 use Rattle.wl_peer.specs.declared.refusals.Refusal.{Refusal}
 use Rattle.wl_peer.specs.Peer.{Errs, LacksMemory, Peer, counted, ended, sent_by, stored_at, stored_by, with_rest}
 use Rattle.wl_peer.specs.Told.{Output, display_error}
-use Rattle.wl_shell.specs.Shell.{Effect, Stays, Unconfigured, Configures, Maps, Unmaps}
-use Rattle.wl_scene.specs.Pointer.{first_pointer}
-use Rattle.wl_scene.specs.Stacking.{Standing, is_of, without_client}
+use Rattle.wl_xdg_state.specs.Shell.{Effect, Stays, Unconfigured, Configures, Maps, Unmaps}
+use Rattle.wl_stacking.specs.Pointer.{first_pointer}
+use Rattle.wl_stacking.specs.Stacking.{Standing, is_of, without_client}
 use Rattle.wl_surface.specs.Frames.{frames_counting}
 use Rattle.wl_plain.specs.declared.answers.Done.{Done}
 use Rattle.wl_plain.specs.Act.{IsClosed, IsSent, IsStored, Connect, Feed, Store, Leave, Tick, Send, Close, Motion, Button, closed_by, lowest}

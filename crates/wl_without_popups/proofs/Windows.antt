@@ -2,8 +2,8 @@
 use Rattle.std.proofs.Common.{◌≡◌, ℕ, List, [], ◌∷◌, ◌++◌, Option, Some, None, refl, ap, ◌∙◌, map}
 use Rattle.std.specs.Prelude.{flat_map}
 use Rattle.wl_peer.specs.declared.cause.Cause.{Cause}
-use Rattle.wl_scene.specs.Stacking.{Owned, Standing, root_of, windows_on}
-use Rattle.wl_scene.specs.Windows.{Root, StackedPopup, owner_of, roots_of, tree, windows}
+use Rattle.wl_stacking.specs.Stacking.{Owned, Standing, root_of, windows_on}
+use Rattle.wl_stacking.specs.Windows.{Root, StackedPopup, owner_of, roots_of, tree, windows}
 use Rattle.wl_plain.specs.Desktop.{Desktop, Resident, client_at, owned_in, owned_of, toplevels_of}
 use Rattle.wl_plain.specs.Popups.{stacked_popup, stacked_popups}
 use Rattle.wl_records.specs.Toplevels.{AreToplevels}

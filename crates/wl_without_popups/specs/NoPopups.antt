@@ -4,8 +4,8 @@ use Rattle.wl_interface.specs.declared.interface.Interface.TheVariants.{WlCallba
 use Rattle.wl_peer.specs.declared.cause.Cause.{Cause}
 use Rattle.wl_peer.specs.Objects.{is_of}
 use Rattle.wl_surface.specs.Surfaces.{surface_at}
-use Rattle.wl_scene.specs.Pointer.{first_pointer}
-use Rattle.wl_scene.specs.Stacking.{Standing}
+use Rattle.wl_stacking.specs.Pointer.{first_pointer}
+use Rattle.wl_stacking.specs.Stacking.{Standing}
 use Rattle.wl_plain.specs.Desktop.{Desktop, Resident, client_at, resident_of, toplevels_of}
 use Rattle.wl_plain.specs.WlSubsurface.{is_of_child}
 use Rattle.wl_laws.specs.Apart.{AreApartBy, AreObjects}

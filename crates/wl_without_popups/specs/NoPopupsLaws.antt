@@ -1,7 +1,7 @@
 -- Where popups and the pointer aren't served, they leave no trace.
 use Rattle.std.specs.Prelude.{ℕ, ◌≡◌, ◌≢◌, false, Some}
 use Rattle.wl_peer.specs.Told.{Output}
-use Rattle.wl_scene.specs.Stacking.{windows_on}
+use Rattle.wl_stacking.specs.Stacking.{windows_on}
 use Rattle.wl_plain.specs.declared.answers.Done.{Done}
 use Rattle.wl_plain.specs.Act.{Act, is_tick}
 use Rattle.wl_plain.specs.Desktop.{Desktop, client_at, empty, owned_in, toplevels_of}

@@ -8,8 +8,8 @@ use Rattle.wl_peer.specs.declared.refusals.ErrorCode.TheVariants.{InvalidMethod}
 use Rattle.wl_peer.specs.declared.refusals.Refusal.{Refusal}
 use Rattle.wl_peer.specs.Peer.{Errs, LacksMemory, Peer, Queues, counted, with_rest}
 use Rattle.wl_peer.specs.Told.{Said, display_error, id_deleted}
-use Rattle.wl_shell.specs.Shell.{Effect, Configures, Maps, Unmaps, XdgSurface as Xdg, without_role, xdg_of}
-use Rattle.wl_scene.specs.Stacking.{with_mapped, without_surface_of}
+use Rattle.wl_xdg_state.specs.Shell.{Effect, Configures, Maps, Unmaps, XdgSurface as Xdg, without_role, xdg_of}
+use Rattle.wl_stacking.specs.Stacking.{with_mapped, without_surface_of}
 use Rattle.wl_plain.specs.Changing.{callbacks_of, effect_placing, frame_asked, mode_set, subsurface_ended, subsurface_given, surface_ended, tree_committed}
 use Rattle.wl_plain.specs.Demand.{Demand, Asks, EndSurface, AskFrame, CommitTree, GetSubsurface, EndSubsurface, SetMode, GetPointer}
 use Rattle.wl_plain.specs.Demand.{MakeCursor, CreatePositioner, EndPositioner, SetPositioner, GetPopup, Grab, EndPopup, EndToplevel}

@@ -1,7 +1,7 @@
 -- What a request that is served does where no client has popups and nobody points.
 use Rattle.std.specs.Prelude.{ℕ, ◌≡◌, ◌↔◌, Ok, Some, List, ◌++◌}
-use Rattle.wl_scene.specs.Pointer.{first_pointer}
-use Rattle.wl_scene.specs.Windows.{Window}
+use Rattle.wl_stacking.specs.Pointer.{first_pointer}
+use Rattle.wl_stacking.specs.Windows.{Window}
 use Rattle.wl_plain.specs.Changing.{changed_for, stacked_for}
 use Rattle.wl_plain.specs.Demand.{Demand}
 use Rattle.wl_plain.specs.Demanding.{judge_all}

@@ -5,8 +5,8 @@ use Rattle.std.specs.List.{list_any}
 use Rattle.std.proofs.lemmas.Bool.{eqb-true}
 use Rattle.wl_peer.specs.declared.cause.Cause.{Cause}
 use Rattle.wl_surface.specs.Surfaces.{Link, Surfaces}
-use Rattle.wl_scene.specs.Stacking.{Standing}
-use Rattle.wl_shell.specs.Shell.{xdg_of}
+use Rattle.wl_stacking.specs.Stacking.{Standing}
+use Rattle.wl_xdg_state.specs.Shell.{xdg_of}
 use Rattle.wl_tree_laws.specs.Hanging.{AreNumbered}
 use Rattle.wl_tree_laws.specs.Laws.{AreOnceLinked, is_live_of}
 use Rattle.wl_plain.specs.declared.answers.Done.{Done}

@@ -14,9 +14,9 @@ use Rattle.wl_peer.specs.Told.{Output, Said, display_error}
 use Rattle.wl_store.specs.Stores.{write_refusal}
 use Rattle.wl_store.specs.declared.stores.StoreError.{StoreError}
 use Rattle.wl_surface.specs.Surfaces.{Surfaces, no_surfaces}
-use Rattle.wl_scene.specs.Pointer.{hit_now, is_down, is_press}
-use Rattle.wl_scene.specs.Stacking.{Standing}
-use Rattle.wl_scene.specs.Windows.{Place}
+use Rattle.wl_stacking.specs.Pointer.{hit_now, is_down, is_press}
+use Rattle.wl_stacking.specs.Stacking.{Standing}
+use Rattle.wl_stacking.specs.Windows.{Place}
 use Rattle.wl_plain.specs.declared.answers.Done.{Done}
 use Rattle.wl_plain.specs.Act.{Act, Connect, Feed, Store, Leave, Tick, Send, Close, Motion, Button, IsClosed, IsSent, IsStored, closed_by, lowest}
 use Rattle.wl_plain.specs.Changing.{changed_for, drawing, without_callbacks}

@@ -6,7 +6,7 @@ use Rattle.wl_interface.specs.declared.interface.Interface.TheVariants.{WlSubsur
 use Rattle.wl_peer.specs.Objects.{is_of}
 use Rattle.wl_peer.specs.Told.{Output}
 use Rattle.wl_surface.specs.Surfaces.{Link, link_at, surface_at}
-use Rattle.wl_shell.specs.Shell.{xdg_of}
+use Rattle.wl_xdg_state.specs.Shell.{xdg_of}
 use Rattle.wl_tree_laws.specs.Hanging.{AreNumbered, AreTied}
 use Rattle.wl_tree_laws.specs.Laws.{AreOnceLinked}
 use Rattle.wl_plain.specs.declared.answers.Done.{Done}

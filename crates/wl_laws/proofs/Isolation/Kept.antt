@@ -10,9 +10,9 @@ use Rattle.wl_peer.specs.Peer.{Peer, has_room, queued, removed}
 use Rattle.wl_peer.specs.Told.{Said, said_bytes}
 use Rattle.wl_surface.specs.Frames.{frames_counting}
 use Rattle.wl_surface.specs.Waiting.{Callback}
-use Rattle.wl_shell.specs.Popups.{dismiss, dismissed_among, dismissed_with, is_among, popup_changed, with_popup, with_popup_role}
-use Rattle.wl_shell.specs.Shell.{Kind, Toplevel, IsPopup, RoleObject, Shell, XdgSurface}
-use Rattle.wl_scene.specs.Windows.{Place, Window}
+use Rattle.wl_xdg_state.specs.Popups.{dismiss, dismissed_among, dismissed_with, is_among, popup_changed, with_popup, with_popup_role}
+use Rattle.wl_xdg_state.specs.Shell.{Kind, Toplevel, IsPopup, RoleObject, Shell, XdgSurface}
+use Rattle.wl_stacking.specs.Windows.{Place, Window}
 use Rattle.wl_plain.specs.Changing.{drawing, without_callbacks}
 use Rattle.wl_plain.specs.Desktop.{Resident}
 use Rattle.wl_plain.specs.Pointing.{button_told, entered_surface, has_pointers, left_surface, motion_told}

@@ -4,7 +4,7 @@ use Rattle.std.specs.Prelude.{◌==◌, ◌&&◌, not, cond, filter}
 use Rattle.std.proofs.lemmas.Bool.{eqb-true}
 use Rattle.wl_peer.specs.declared.cause.Cause.{Cause}
 use Rattle.wl_peer.specs.Peer.{Peer}
-use Rattle.wl_scene.specs.Stacking.{Standing, is_of, with_mapped}
+use Rattle.wl_stacking.specs.Stacking.{Standing, is_of, with_mapped}
 use Rattle.wl_plain.specs.Desktop.{Desktop, Resident, become, become_by, client_at, toplevels_of}
 use Rattle.wl_laws.proofs.Runs.Places.{other-become}
 

@@ -6,11 +6,11 @@ use Rattle.wl_peer.specs.declared.cause.Cause.{Cause}
 use Rattle.wl_peer.specs.declared.cause.Cause.TheVariants.{Memory, Slow}
 use Rattle.wl_peer.specs.Peer.{ended, has_room}
 use Rattle.wl_peer.specs.Told.{Said, said_bytes}
-use Rattle.wl_scene.specs.Pointer.{Pointer, Target, hit_now, is_down, is_press, is_same, settled}
-use Rattle.wl_scene.specs.PointerActions.{PointerAction, PointerInput, actions, button_of, dismiss_of, enter_of, focus_or, is_hit_of, leave_of, motion_of, move_of, raise_of}
-use Rattle.wl_scene.specs.PointerActions as pointer
-use Rattle.wl_scene.specs.Stacking.{Standing, is_of, moved_to, raised}
-use Rattle.wl_scene.specs.Windows.{Place, Window}
+use Rattle.wl_stacking.specs.Pointer.{Pointer, Target, hit_now, is_down, is_press, is_same, settled}
+use Rattle.wl_stacking.specs.PointerActions.{PointerAction, PointerInput, actions, button_of, dismiss_of, enter_of, focus_or, is_hit_of, leave_of, motion_of, move_of, raise_of}
+use Rattle.wl_stacking.specs.PointerActions as pointer
+use Rattle.wl_stacking.specs.Stacking.{Standing, is_of, moved_to, raised}
+use Rattle.wl_stacking.specs.Windows.{Place, Window}
 use Rattle.wl_plain.specs.declared.answers.Done.{Done}
 use Rattle.wl_plain.specs.Changing.{drawing, grab_holder, without_callbacks}
 use Rattle.wl_plain.specs.Desktop.{Desktop, Resident, client_at, resident_of, toplevels_of}

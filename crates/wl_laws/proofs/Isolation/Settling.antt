@@ -5,10 +5,10 @@ use Rattle.std.proofs.lemmas.Bool.{eqb-true}
 use Rattle.wl_peer.specs.declared.cause.Cause.{Cause}
 use Rattle.wl_peer.specs.Peer.{ended}
 use Rattle.wl_peer.specs.Told.{Said}
-use Rattle.wl_scene.specs.Pointer.{Target}
-use Rattle.wl_scene.specs.PointerActions.{Leave, Enter}
-use Rattle.wl_scene.specs.Stacking.{Standing, without_client}
-use Rattle.wl_scene.specs.Windows.{Window}
+use Rattle.wl_stacking.specs.Pointer.{Target}
+use Rattle.wl_stacking.specs.PointerActions.{Leave, Enter}
+use Rattle.wl_stacking.specs.Stacking.{Standing, without_client}
+use Rattle.wl_stacking.specs.Windows.{Window}
 use Rattle.wl_plain.specs.Desktop.{Desktop, Resident, client_at, client_in, resident_of, with_number, toplevels_of}
 use Rattle.wl_plain.specs.Replies.{focus_window}
 use Rattle.wl_plain.specs.Settling.{Applies, EndsAndSettles, EndsFirst, Midstep, Settles, SettlesAll, SettlesEnds, Strike, Tells, TellsAt, TellsUnless, ended_all, ended_at}

@@ -9,8 +9,8 @@ use Rattle.wl_peer.specs.declared.cause.Cause.TheVariants.{Memory, Slow}
 use Rattle.wl_peer.specs.Peer.{Peer, has_room, queued}
 use Rattle.wl_peer.specs.Told.{Said, said, said_bytes}
 use Rattle.wl_surface.specs.Surfaces.{history_in}
-use Rattle.wl_shell.specs.Popups.{is_among}
-use Rattle.wl_scene.specs.Windows.{Place, Window}
+use Rattle.wl_xdg_state.specs.Popups.{is_among}
+use Rattle.wl_stacking.specs.Windows.{Place, Window}
 use Rattle.wl_plain.specs.Changing.{drawing}
 use Rattle.wl_plain.specs.Desktop.{Resident}
 use Rattle.wl_plain.specs.Pointing.{entered_surface, has_pointers, left_surface, to_pointers}

@@ -3,8 +3,8 @@ use Rattle.std.proofs.Common.{◌≡◌, ◌≢◌, ℕ, List, [], ◌∷◌, �
 use Rattle.std.specs.Prelude.{◌==◌, ◌||◌, not, filter}
 use Rattle.std.specs.List.{list_any}
 use Rattle.std.proofs.lemmas.Bool.{eqb-true}
-use Rattle.wl_scene.specs.Stacking.{Standing, is_of, with_mapped, without_client, without_surface_of}
-use Rattle.wl_scene.specs.Windows.{mapping_place}
+use Rattle.wl_stacking.specs.Stacking.{Standing, is_of, with_mapped, without_client, without_surface_of}
+use Rattle.wl_stacking.specs.Windows.{mapping_place}
 use Rattle.wl_laws.specs.Laws.{AreApart}
 use Rattle.wl_laws.proofs.Lists.Keys.{differ}
 use Rattle.wl_laws.proofs.Marks.Stacks.{and-both, and-left, and-right, equal-numbers, or-left, or-right, unless}

@@ -5,7 +5,7 @@ use Rattle.std.specs.List.{list_any}
 use Rattle.wl_geom.specs.Rect.{in_rect}
 use Rattle.wl_blend.specs.Blend.{blended}
 use Rattle.wl_blend.specs.declared.color.Rgb.{Rgb}
-use Rattle.wl_scene.specs.Windows.{Window, contains}
+use Rattle.wl_stacking.specs.Windows.{Window, contains}
 use Rattle.wl_plain.specs.Desktop.{Desktop, Showing}
 use Rattle.wl_laws.specs.Laws.{ColorsStay, ScratchStays}
 use Rattle.wl_plain.specs.Marks.{AreDistinct, has_moved_past, has_same_record, in_output, is_before, is_changed_at, is_damaged_at, is_kept_in, is_restacked_at, is_same_surface, shared_by}

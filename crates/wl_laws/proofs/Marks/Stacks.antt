@@ -4,7 +4,7 @@ use Rattle.std.specs.Prelude.{ℤ, ◌==◌, ◌&&◌, ◌||◌, if◌then◌els
 use Rattle.std.specs.List.{list_any}
 use Rattle.std.proofs.lemmas.Bool.{eqb-false, eqb-true}
 use Rattle.std.proofs.lemmas.Int.{ints}
-use Rattle.wl_scene.specs.Windows.{Window}
+use Rattle.wl_stacking.specs.Windows.{Window}
 use Rattle.wl_plain.specs.Marks.{AreDistinct, has_same_record, int_eq, is_before, is_same_surface}
 
 -- ---- truth

@@ -2,7 +2,7 @@
 use Rattle.std.proofs.Common.{◌≡◌, ℕ, Bool, true, false, List, [], ◌∷◌, refl, sym, ◌∙◌}
 use Rattle.std.specs.Prelude.{ℤ, ◌-ℤ◌, ◌&&◌, ◌||◌, not, if◌then◌else◌}
 use Rattle.std.specs.List.{list_any}
-use Rattle.wl_scene.specs.Windows.{Window, contains}
+use Rattle.wl_stacking.specs.Windows.{Window, contains}
 use Rattle.wl_plain.specs.Marks.{Applied, AreDistinct, at_least, has_moved_past, has_same_record, in_output, is_before, is_changed_at, is_damaged_at, is_kept_in, is_restacked_at, is_same_surface}
 use Rattle.wl_plain.specs.Marks.{shared_by}
 use Rattle.wl_laws.proofs.Marks.Painted.{contains-same, marked-none}

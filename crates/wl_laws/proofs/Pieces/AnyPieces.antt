@@ -3,7 +3,7 @@ use Rattle.std.proofs.Common.{◌≡◌, ℕ, zero, suc, List, ◌++◌, true, O
 use Rattle.wl_peer.specs.declared.cause.Cause.{Cause}
 use Rattle.wl_peer.specs.declared.cause.Cause.TheVariants.{Memory}
 use Rattle.wl_peer.specs.Peer.{IsIdle, ended}
-use Rattle.wl_scene.specs.Stacking.{without_client}
+use Rattle.wl_stacking.specs.Stacking.{without_client}
 use Rattle.wl_plain.specs.declared.answers.Done.{Done}
 use Rattle.wl_laws.specs.AnyPieces.{AnyPieces}
 use Rattle.wl_plain.specs.Desktop.{Desktop, Resident, client_at, resident_of, with_client}

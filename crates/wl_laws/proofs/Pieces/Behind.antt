@@ -7,7 +7,7 @@ use Rattle.wl_peer.specs.declared.actions.Action.TheVariants.{Sync, GetRegistry,
 use Rattle.wl_peer.specs.declared.actions.Action.TheVariants.{DestroyBuffer}
 use Rattle.wl_peer.specs.declared.cause.Cause.{Cause}
 use Rattle.wl_peer.specs.Peer.{Peer, changed, with_rest}
-use Rattle.wl_shell.specs.Shell.{XdgSurface as Xdg, xdg_at}
+use Rattle.wl_xdg_state.specs.Shell.{XdgSurface as Xdg, xdg_at}
 use Rattle.wl_plain.specs.Ask.{Ask, Own, CreateSurface, AskSurface, EndObject, GetXdgSurface, DestroyXdgSurface, GetToplevel, Acknowledge, ConfigureAgain, Ignore}
 use Rattle.wl_plain.specs.Desktop.{Resident}
 use Rattle.wl_peer.specs.Used.{has_used, keeps_store}

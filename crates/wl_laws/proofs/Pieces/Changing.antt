@@ -30,10 +30,10 @@ use Rattle.wl_peer.specs.Told.{Said, display_error}
 use Rattle.wl_surface.specs.Surfaces.{Link}
 use Rattle.wl_surface.specs.Trees.{destroyed_in}
 use Rattle.wl_surface.specs.Waiting.{Callback}
-use Rattle.wl_shell.specs.Popups.{is_toplevel, parent_allows, parent_of, popup_at}
-use Rattle.wl_shell.specs.Positioner.{Positioner}
-use Rattle.wl_shell.specs.Shell.{Effect, Stays, Unconfigured, Configures, Maps, Unmaps, Kind, Toplevel, IsPopup, RoleObject, XdgSurface as Xdg, xdg_at, xdg_of, xdg_with}
-use Rattle.wl_scene.specs.Windows.{Window}
+use Rattle.wl_xdg_state.specs.Popups.{is_toplevel, parent_allows, parent_of, popup_at}
+use Rattle.wl_xdg_state.specs.Positioner.{Positioner}
+use Rattle.wl_xdg_state.specs.Shell.{Effect, Stays, Unconfigured, Configures, Maps, Unmaps, Kind, Toplevel, IsPopup, RoleObject, XdgSurface as Xdg, xdg_at, xdg_of, xdg_with}
+use Rattle.wl_stacking.specs.Windows.{Window}
 use Rattle.wl_plain.specs.Changing.{after_all, callbacks_of, changed_for, drawing, effect_done, grab_allowed, grabbed, has_focus, in_rising_order, is_held_elsewhere, is_latest, mode_set}
 use Rattle.wl_plain.specs.Changing.{popup_given_to, stacked_by, stacked_for, tree_committed, with_kept_move, without_callbacks, without_child}
 use Rattle.wl_plain.specs.Demand.{Demand, Asks, EndSurface, AskFrame, CommitTree, GetSubsurface, EndSubsurface, SetMode, GetPointer, MakeCursor, CreatePositioner, EndPositioner}

@@ -4,8 +4,8 @@ use Rattle.std.specs.Prelude.{◌==◌, flat_map, if◌then◌else◌}
 use Rattle.std.proofs.lemmas.Bool.{eqb-false, eqb-true}
 use Rattle.wl_peer.specs.declared.cause.Cause.{Cause}
 use Rattle.wl_peer.specs.Peer.{Peer, with_rest}
-use Rattle.wl_scene.specs.Stacking.{Owned, Standing, geometry_in, root_of}
-use Rattle.wl_scene.specs.Windows.{Root, Window, owner_of, roots_of, tree, windows}
+use Rattle.wl_stacking.specs.Stacking.{Owned, Standing, geometry_in, root_of}
+use Rattle.wl_stacking.specs.Windows.{Root, Window, owner_of, roots_of, tree, windows}
 use Rattle.wl_plain.specs.Changing.{grab_holder, holder_from, holds_grab}
 use Rattle.wl_plain.specs.Desktop.{Desktop, Resident, client_at, client_in, owned_in, owned_of, place, with_client, with_number, with_place}
 use Rattle.wl_plain.specs.Popups.{stacked_popups}

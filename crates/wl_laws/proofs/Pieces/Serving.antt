@@ -12,8 +12,8 @@ use Rattle.wl_peer.specs.declared.refusals.Refusal.{Refusal}
 use Rattle.wl_peer.specs.Peer.{Errs, LacksMemory, Peer, QueuesOr, counted, ended, has_room, queued, with_rest}
 use Rattle.wl_peer.specs.Told.{Said, code_number, display_error, error_told}
 use Rattle.wl_peer.proofs.Pieces.{split-append, split-long, split-within}
-use Rattle.wl_scene.specs.Stacking.{without_client}
-use Rattle.wl_scene.specs.Windows.{Window}
+use Rattle.wl_stacking.specs.Stacking.{without_client}
+use Rattle.wl_stacking.specs.Windows.{Window}
 use Rattle.wl_plain.specs.Changing.{changed_for}
 use Rattle.wl_plain.specs.Demand.{Demand}
 use Rattle.wl_plain.specs.Demanding.{judge_all}

@@ -5,10 +5,10 @@ use Rattle.wl_peer.specs.declared.cause.Cause.{Cause}
 use Rattle.wl_peer.specs.Peer.{Peer, ended, has_room, queued, with_rest}
 use Rattle.wl_peer.specs.Told.{Said}
 use Rattle.wl_surface.specs.Surfaces.{history_in}
-use Rattle.wl_scene.specs.Pointer.{Target}
-use Rattle.wl_scene.specs.PointerActions.{Leave, Enter, focus_or}
-use Rattle.wl_scene.specs.Stacking.{without_client}
-use Rattle.wl_scene.specs.Windows.{Place, Window}
+use Rattle.wl_stacking.specs.Pointer.{Target}
+use Rattle.wl_stacking.specs.PointerActions.{Leave, Enter, focus_or}
+use Rattle.wl_stacking.specs.Stacking.{without_client}
+use Rattle.wl_stacking.specs.Windows.{Place, Window}
 use Rattle.wl_plain.specs.Changing.{drawing}
 use Rattle.wl_plain.specs.Desktop.{Desktop, Resident, client_at, resident_of, with_client}
 use Rattle.wl_plain.specs.Pointing.{entered_surface, has_pointers, left_surface}

@@ -5,10 +5,10 @@ use Rattle.wl_peer.specs.declared.cause.Cause.{Cause}
 use Rattle.wl_peer.specs.declared.cause.Cause.TheVariants.{Memory}
 use Rattle.wl_peer.specs.Peer.{Peer, ended, has_room, queued}
 use Rattle.wl_peer.specs.Told.{Said}
-use Rattle.wl_scene.specs.Pointer.{Target}
-use Rattle.wl_scene.specs.PointerActions.{PointerAction, Leave, Enter, Motion, Button, Raise, MoveWindow, Dismiss, PointerInput, Settle, actions}
-use Rattle.wl_scene.specs.Stacking.{raised}
-use Rattle.wl_scene.specs.Windows.{Window}
+use Rattle.wl_stacking.specs.Pointer.{Target}
+use Rattle.wl_stacking.specs.PointerActions.{PointerAction, Leave, Enter, Motion, Button, Raise, MoveWindow, Dismiss, PointerInput, Settle, actions}
+use Rattle.wl_stacking.specs.Stacking.{raised}
+use Rattle.wl_stacking.specs.Windows.{Window}
 use Rattle.wl_plain.specs.Changing.{drawing}
 use Rattle.wl_plain.specs.Desktop.{Desktop, Resident, client_at, resident_of, with_client, with_number}
 use Rattle.wl_plain.specs.Pointing.{button_told, entered_surface, has_pointers, left_surface, motion_told, moved_standing}

@@ -1,9 +1,9 @@
 -- As the focus is settled a surface is left, and one is entered, at most.
 use Rattle.std.proofs.Common.{◌≡◌, List, [], ◌++◌, Bool, true, false, Option, Some, None, ap, subst, sym}
 use Rattle.std.specs.Prelude.{if◌then◌else◌}
-use Rattle.wl_scene.specs.Pointer.{Pointer, Target, is_same, settled}
-use Rattle.wl_scene.specs.PointerActions.{Leave, Enter, enter_of, focus_or, leave_of}
-use Rattle.wl_scene.specs.Windows.{Window}
+use Rattle.wl_stacking.specs.Pointer.{Pointer, Target, is_same, settled}
+use Rattle.wl_stacking.specs.PointerActions.{Leave, Enter, enter_of, focus_or, leave_of}
+use Rattle.wl_stacking.specs.Windows.{Window}
 use Rattle.wl_plain.specs.Settling.{Applies, AppliesAll, Midstep, Settles}
 use Rattle.wl_plain.specs.Stacked.{all_windows}
 

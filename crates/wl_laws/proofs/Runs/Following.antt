@@ -4,10 +4,10 @@ use Rattle.std.specs.Prelude.{◌⊎◌}
 use Rattle.wl_peer.specs.declared.cause.Cause.{Cause}
 use Rattle.wl_peer.specs.Peer.{ended}
 use Rattle.wl_peer.specs.Told.{Said}
-use Rattle.wl_scene.specs.Pointer.{Target}
-use Rattle.wl_scene.specs.PointerActions.{Leave, Enter}
-use Rattle.wl_scene.specs.Stacking.{nothing_owned}
-use Rattle.wl_scene.specs.Windows.{Window}
+use Rattle.wl_stacking.specs.Pointer.{Target}
+use Rattle.wl_stacking.specs.PointerActions.{Leave, Enter}
+use Rattle.wl_stacking.specs.Stacking.{nothing_owned}
+use Rattle.wl_stacking.specs.Windows.{Window}
 use Rattle.wl_plain.specs.Changing.{drawing}
 use Rattle.wl_plain.specs.Desktop.{Desktop, Resident, client_at, owned_in, owned_of, resident_of, with_client}
 use Rattle.wl_plain.specs.Settling.{Applies, Midstep, Settles, Strike, Tells, TellsAt, TellsUnless, ended_all, ended_at, ended_by, unstruck, with_focus}

@@ -4,7 +4,7 @@ use Rattle.wl_wire.specs.declared.header.Split.{Split}
 use Rattle.wl_peer.specs.declared.cause.Cause.{Cause}
 use Rattle.wl_peer.specs.declared.refusals.Refusal.{Refusal}
 use Rattle.wl_peer.specs.Peer.{Peer}
-use Rattle.wl_scene.specs.Windows.{Place}
+use Rattle.wl_stacking.specs.Windows.{Place}
 use Rattle.wl_plain.specs.declared.answers.Done.{Done}
 use Rattle.wl_plain.specs.Demand.{Demand}
 use Rattle.wl_plain.specs.Desktop.{Desktop, Resident}

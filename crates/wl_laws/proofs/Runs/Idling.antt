@@ -13,13 +13,13 @@ use Rattle.wl_peer.specs.Peer.{IsIdle, IsIdleAt, Peer, counted, ended, has_room,
 use Rattle.wl_peer.specs.Plain.{or_slow as refused_or, refused}
 use Rattle.wl_peer.specs.Told.{Said, display_error, error_told}
 use Rattle.wl_surface.specs.Waiting.{Callback}
-use Rattle.wl_scene.specs.PointerActions.{PointerAction, Leave, Enter, Motion, Button, Raise, MoveWindow, Dismiss, PointerInput, Settle, actions}
-use Rattle.wl_scene.specs.Windows.{Window}
+use Rattle.wl_stacking.specs.PointerActions.{PointerAction, Leave, Enter, Motion, Button, Raise, MoveWindow, Dismiss, PointerInput, Settle, actions}
+use Rattle.wl_stacking.specs.Windows.{Window}
 use Rattle.wl_laws.specs.Ample.{acts, answered, applied, applied_all, became, done, ends_and_settles, ends_first, or_slow, queued_to, served, served_all, served_at, served_by, settles, settles_all}
 use Rattle.wl_laws.specs.Ample.{taken, tells, tells_at, tells_unless}
-use Rattle.wl_shell.specs.Popups.{is_toplevel}
-use Rattle.wl_shell.specs.Positioner.{Positioner}
-use Rattle.wl_shell.specs.Shell.{Effect, Stays, Unconfigured, Configures, Maps, Unmaps, XdgSurface, xdg_at, xdg_of}
+use Rattle.wl_xdg_state.specs.Popups.{is_toplevel}
+use Rattle.wl_xdg_state.specs.Positioner.{Positioner}
+use Rattle.wl_xdg_state.specs.Shell.{Effect, Stays, Unconfigured, Configures, Maps, Unmaps, XdgSurface, xdg_at, xdg_of}
 use Rattle.wl_plain.specs.Changing.{callbacks_of, changed_for, drawing, effect_done, grab_allowed, grabbed, has_focus, in_rising_order, mode_set, popup_given_to, stacked_by, stacked_for}
 use Rattle.wl_plain.specs.Changing.{tree_committed}
 use Rattle.wl_plain.specs.Demand.{Demand, Asks, EndSurface, AskFrame, CommitTree, GetSubsurface, EndSubsurface, SetMode, GetPointer, MakeCursor, CreatePositioner, EndPositioner}

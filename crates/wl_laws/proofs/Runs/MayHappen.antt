@@ -12,10 +12,10 @@ use Rattle.wl_peer.specs.Peer.{Errs, Peer, QueuesOr, counted, ended, has_room, q
 use Rattle.wl_store.specs.Stores.{write_refusal}
 use Rattle.wl_peer.specs.Plain.{or_slow as refused_or, refused}
 use Rattle.wl_peer.specs.Told.{Said, code_number, display_error, error_told}
-use Rattle.wl_scene.specs.Pointer.{is_down, is_press}
-use Rattle.wl_scene.specs.PointerActions.{PointerAction, PointerInput, actions}
-use Rattle.wl_scene.specs.PointerActions as pointer
-use Rattle.wl_scene.specs.Windows.{Place, Window}
+use Rattle.wl_stacking.specs.Pointer.{is_down, is_press}
+use Rattle.wl_stacking.specs.PointerActions.{PointerAction, PointerInput, actions}
+use Rattle.wl_stacking.specs.PointerActions as pointer
+use Rattle.wl_stacking.specs.Windows.{Place, Window}
 use Rattle.wl_laws.specs.Ample.{acts, answered, applied, applied_all, became, buttons, changes_at, connects_at, done, ends_and_settles, ends_first, fed_at, fed_by, frames_to, happened}
 use Rattle.wl_laws.specs.Ample.{held_so, left_at, left_by, moved_to, or_slow, pressed_if, queued_to, released_if, served_all, served_at, served_by}
 use Rattle.wl_laws.specs.Ample.{settles, settles_all, settles_ends, shown, taken, tells, tells_at, tells_unless}

@@ -3,9 +3,9 @@ use Rattle.std.proofs.Common.{◌≡◌, ℕ, zero, suc, ◌≤◌, List, [], �
 use Rattle.std.specs.Prelude.{fold}
 use Rattle.wl_peer.specs.Peer.{Peer, removed}
 use Rattle.wl_surface.specs.Waiting.{Callback}
-use Rattle.wl_scene.specs.Pointer.{is_down, is_press}
-use Rattle.wl_scene.specs.PointerActions.{PointerInput, Settle, GoTo, Went, Press, Release}
-use Rattle.wl_scene.specs.Windows.{Place}
+use Rattle.wl_stacking.specs.Pointer.{is_down, is_press}
+use Rattle.wl_stacking.specs.PointerActions.{PointerInput, Settle, GoTo, Went, Press, Release}
+use Rattle.wl_stacking.specs.Windows.{Place}
 use Rattle.wl_plain.specs.Changing.{grab_holder, without_callbacks}
 use Rattle.wl_plain.specs.Desktop.{Desktop, Resident}
 use Rattle.wl_plain.specs.Settling.{Acts, EndsAndSettles, Midstep, Settles, SettlesEnds, unstruck}

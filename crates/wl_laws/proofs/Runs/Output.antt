@@ -9,12 +9,12 @@ use Rattle.wl_peer.specs.declared.cause.Cause.TheVariants.{Gone, Memory}
 use Rattle.wl_peer.specs.declared.refusals.Refusal.{Refusal}
 use Rattle.wl_peer.specs.Peer.{Peer, LacksMemory, counted, ended}
 use Rattle.wl_peer.specs.Told.{Said}
-use Rattle.wl_shell.specs.Popups.{is_toplevel}
-use Rattle.wl_shell.specs.Shell.{Effect, Stays, Unconfigured, Configures, Maps, Unmaps, xdg_of}
-use Rattle.wl_scene.specs.Pointer.{is_down, is_press}
-use Rattle.wl_scene.specs.PointerActions.{PointerAction, PointerInput, actions}
-use Rattle.wl_scene.specs.PointerActions as pointer
-use Rattle.wl_scene.specs.Windows.{Place, Window}
+use Rattle.wl_xdg_state.specs.Popups.{is_toplevel}
+use Rattle.wl_xdg_state.specs.Shell.{Effect, Stays, Unconfigured, Configures, Maps, Unmaps, xdg_of}
+use Rattle.wl_stacking.specs.Pointer.{is_down, is_press}
+use Rattle.wl_stacking.specs.PointerActions.{PointerAction, PointerInput, actions}
+use Rattle.wl_stacking.specs.PointerActions as pointer
+use Rattle.wl_stacking.specs.Windows.{Place, Window}
 use Rattle.wl_plain.specs.declared.answers.Done.{Done}
 use Rattle.wl_plain.specs.Changing.{changed_for, grab_holder, stacked_by, stacked_for}
 use Rattle.wl_plain.specs.Demand.{Demand, Asks, EndSurface, AskFrame, CommitTree, GetSubsurface, EndSubsurface, SetMode, GetPointer, MakeCursor, CreatePositioner, EndPositioner}

@@ -8,7 +8,7 @@ use Rattle.wl_peer.specs.declared.cause.Cause.{Cause}
 use Rattle.wl_peer.specs.declared.cause.Cause.TheVariants.{Gone}
 use Rattle.wl_peer.specs.declared.refusals.Refusal.{Refusal}
 use Rattle.wl_peer.specs.Peer.{LacksMemory, Peer, counted, ended}
-use Rattle.wl_scene.specs.Pointer.{is_down, is_press}
+use Rattle.wl_stacking.specs.Pointer.{is_down, is_press}
 use Rattle.wl_plain.specs.declared.answers.Done.{Done}
 use Rattle.wl_plain.specs.Demand.{Demand}
 use Rattle.wl_plain.specs.Desktop.{Desktop, Resident, client_at}

@@ -15,9 +15,9 @@ use Rattle.wl_peer.specs.Requests.{toplevel_request, rect}
 use Rattle.wl_state.specs.Request.{Member, PlaceAbove, PlaceBelow}
 use Rattle.wl_surface.specs.Surfaces.{Link, link_at}
 use Rattle.wl_surface.specs.Trees.{is_bad_parent, is_too_deep}
-use Rattle.wl_shell.specs.Popups.{Popped, is_parent, is_popup_mapped, popup_at}
-use Rattle.wl_shell.specs.Positioner.{Positioner, is_anchor_rect, is_size}
-use Rattle.wl_shell.specs.Shell.{Effect, Stays, Unconfigured, Configures, Maps, Unmaps, XdgSurface as Xdg, is_full, xdg_at, xdg_of, xdg_with}
+use Rattle.wl_xdg_state.specs.Popups.{Popped, is_parent, is_popup_mapped, popup_at}
+use Rattle.wl_xdg_state.specs.Positioner.{Positioner, is_anchor_rect, is_size}
+use Rattle.wl_xdg_state.specs.Shell.{Effect, Stays, Unconfigured, Configures, Maps, Unmaps, XdgSurface as Xdg, is_full, xdg_at, xdg_of, xdg_with}
 use Rattle.wl_plain.specs.Demand.{Demand}
 use Rattle.wl_plain.specs.Demanding.{committed_by, demand_by, demand_of, effect_of_commit, judge_all, moved_by_pointer, surface_demand, toplevel_asked, toplevel_destroyed}
 use Rattle.wl_plain.specs.Desktop.{Resident, Subsurface}

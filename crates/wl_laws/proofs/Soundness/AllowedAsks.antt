@@ -14,8 +14,8 @@ use Rattle.wl_peer.specs.declared.refusals.Refusal.{Refusal}
 use Rattle.wl_peer.specs.Judgement.{action_of}
 use Rattle.wl_peer.specs.Requests.{number_in, word_in, base_request, compositor_request, request_in, xdg_request, rect}
 use Rattle.wl_peer.specs.Peer.{known_of}
-use Rattle.wl_shell.specs.Positioner.{is_complete}
-use Rattle.wl_shell.specs.Shell.{XdgSurface as Xdg, answers_states, is_full, is_waiting, stage_of, xdg_at, xdg_of}
+use Rattle.wl_xdg_state.specs.Positioner.{is_complete}
+use Rattle.wl_xdg_state.specs.Shell.{XdgSurface as Xdg, answers_states, is_full, is_waiting, stage_of, xdg_at, xdg_of}
 use Rattle.wl_plain.specs.Ask.{Ask, owns}
 use Rattle.wl_plain.specs.Demand.{Demand}
 use Rattle.wl_plain.specs.Demanding.{base_demand, compositor_demand, demands, own_demand, xdg_asked}

@@ -7,9 +7,9 @@ use Rattle.std.proofs.lemmas.Bool.{eqb-true}
 use Rattle.wl_state.specs.Request.{Buffer}
 use Rattle.wl_state.specs.State.{History, applied, counting}
 use Rattle.wl_surface.specs.Surfaces.{Surfaces, history_in}
-use Rattle.wl_scene.proofs.Lone.{no-child, order-once}
-use Rattle.wl_scene.specs.Stacking.{Owned, Standing, is_of, root_of, windows_on}
-use Rattle.wl_scene.specs.Windows.{Owner, Place, Window, corner_at, member_windows, owner_of, shown_windows, surface_windows, tree, window_of, window_showing, window_with}
+use Rattle.wl_stacking.proofs.Lone.{no-child, order-once}
+use Rattle.wl_stacking.specs.Stacking.{Owned, Standing, is_of, root_of, windows_on}
+use Rattle.wl_stacking.specs.Windows.{Owner, Place, Window, corner_at, member_windows, owner_of, shown_windows, surface_windows, tree, window_of, window_showing, window_with}
 use Rattle.wl_plain.specs.Desktop.{owned_in}
 use Rattle.wl_laws.specs.Laws.{AreApart, WindowsAreDistinct}
 use Rattle.wl_plain.specs.Marks.{AreDistinct, is_same_surface}

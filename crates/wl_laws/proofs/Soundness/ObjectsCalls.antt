@@ -9,7 +9,7 @@ use Rattle.wl_peer.specs.Objects.{Objects, interface_number, is_of}
 use Rattle.wl_peer.specs.Peer.{Peer, removed}
 use Rattle.wl_surface.specs.Surfaces.{Surfaces}
 use Rattle.wl_surface.specs.Waiting.{Callback}
-use Rattle.wl_shell.specs.Shell.{Shell}
+use Rattle.wl_xdg_state.specs.Shell.{Shell}
 use Rattle.wl_plain.specs.Desktop.{Subsurface}
 use Rattle.wl_laws.specs.Apart.{AreApartBy}
 use Rattle.wl_laws.proofs.Soundness.ObjectsHas.{Has, has_callback, has_popup, has_sub, has_toplevel, has_xdg}

@@ -8,7 +8,7 @@ use Rattle.wl_interface.specs.declared.interface.Interface.TheVariants.{WlCallba
 use Rattle.wl_peer.specs.Objects.{Object, Objects, interface_number, is_of, with_id}
 use Rattle.wl_surface.specs.Surfaces.{Surfaces, surface_at}
 use Rattle.wl_surface.specs.Waiting.{Callback}
-use Rattle.wl_shell.specs.Shell.{Shell, XdgSurface as Xdg}
+use Rattle.wl_xdg_state.specs.Shell.{Shell, XdgSurface as Xdg}
 use Rattle.wl_plain.specs.Desktop.{Resident, Subsurface}
 use Rattle.wl_laws.specs.Apart.{AreObjects}
 use Rattle.wl_laws.proofs.Soundness.Orderly.{HasObjects, is_popup_at, is_toplevel_at}

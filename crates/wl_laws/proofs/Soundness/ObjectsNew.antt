@@ -10,9 +10,9 @@ use Rattle.wl_peer.specs.Objects.{Object, Objects, interface_number, is_of, with
 use Rattle.wl_peer.specs.Peer.{object_at_version}
 use Rattle.wl_surface.specs.Surfaces.{Surfaces}
 use Rattle.wl_surface.specs.Waiting.{Callback}
-use Rattle.wl_shell.specs.Popups.{new_popup}
-use Rattle.wl_shell.specs.Positioner.{Positioner}
-use Rattle.wl_shell.specs.Shell.{Shell, XdgSurface as Xdg, new_toplevel, with_change, with_new, without_xdg, xdg_at}
+use Rattle.wl_xdg_state.specs.Popups.{new_popup}
+use Rattle.wl_xdg_state.specs.Positioner.{Positioner}
+use Rattle.wl_xdg_state.specs.Shell.{Shell, XdgSurface as Xdg, new_toplevel, with_change, with_new, without_xdg, xdg_at}
 use Rattle.wl_plain.specs.Desktop.{Subsurface}
 use Rattle.wl_laws.specs.Apart.{AreApartBy, AreObjects}
 use Rattle.wl_laws.proofs.Soundness.ObjectsHas.{Has, has-calls, has-gone, has-made, has-shell, has-subsurfaces, has_callback, has_popup, has_sub, has_toplevel, has_xdg, no-callback, no-popup}

@@ -6,8 +6,8 @@ use Rattle.wl_interface.specs.declared.interface.Interface.TheVariants.{XdgTople
 use Rattle.wl_peer.specs.Objects.{Objects, is_of, with_id}
 use Rattle.wl_surface.specs.Surfaces.{Surfaces}
 use Rattle.wl_surface.specs.Waiting.{Callback}
-use Rattle.wl_shell.specs.Popups.{is_toplevel_kind}
-use Rattle.wl_shell.specs.Shell.{RoleObject, Shell, XdgSurface as Xdg, is_role, with_change, without_role, xdg_with}
+use Rattle.wl_xdg_state.specs.Popups.{is_toplevel_kind}
+use Rattle.wl_xdg_state.specs.Shell.{RoleObject, Shell, XdgSurface as Xdg, is_role, with_change, without_role, xdg_with}
 use Rattle.wl_plain.specs.Desktop.{Subsurface}
 use Rattle.wl_laws.proofs.Soundness.Orderly.{HasId, is_popup_at, is_toplevel_at}
 use Rattle.wl_laws.proofs.Soundness.ObjectsHas.{Has, has-gone, has_popup, has_toplevel, no-callback, no-popup, no-subsurface, no-toplevel, no-xdg}

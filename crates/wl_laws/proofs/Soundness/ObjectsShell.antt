@@ -6,9 +6,9 @@ use Rattle.wl_peer.specs.Objects.{Objects}
 use Rattle.wl_surface.specs.Surfaces.{Surfaces}
 use Rattle.wl_surface.specs.Waiting.{Callback}
 use Rattle.wl_interface.specs.declared.interface.Interface.TheVariants.{XdgSurface, XdgToplevel, XdgPopup}
-use Rattle.wl_shell.specs.Popups.{dismiss, dismissed_among, is_among, is_toplevel_kind, popup_changed, with_popup, with_popup_role}
-use Rattle.wl_shell.specs.declared.stage.Stage.{Stage}
-use Rattle.wl_shell.specs.Shell.{Kind, Toplevel, IsPopup, Popup, RoleObject, Shell, XdgSurface as Xdg, acknowledging, at_stage, configuring, in_stage, role_acknowledged, unmapping, without_role}
+use Rattle.wl_xdg_state.specs.Popups.{dismiss, dismissed_among, is_among, is_toplevel_kind, popup_changed, with_popup, with_popup_role}
+use Rattle.wl_xdg_state.specs.declared.stage.Stage.{Stage}
+use Rattle.wl_xdg_state.specs.Shell.{Kind, Toplevel, IsPopup, Popup, RoleObject, Shell, XdgSurface as Xdg, acknowledging, at_stage, configuring, in_stage, role_acknowledged, unmapping, without_role}
 use Rattle.wl_plain.specs.Desktop.{Subsurface}
 use Rattle.wl_laws.proofs.Soundness.Orderly.{is_popup_at, is_toplevel_at}
 use Rattle.wl_laws.proofs.Soundness.ObjectsHas.{Has, has-shell, has_popup, has_toplevel, has_xdg}

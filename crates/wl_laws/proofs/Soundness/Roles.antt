@@ -8,10 +8,10 @@ use Rattle.wl_state.specs.Surface.{Surface, with_role, new_surface}
 use Rattle.wl_surface.specs.Surfaces.{Link, Surfaces, surface_at, with_new as with_new_surface, with_change as with_surface_change}
 use Rattle.wl_state.specs.declared.role.Role.{Role}
 use Rattle.wl_state.specs.declared.role.Role.TheVariants.{Subsurface as AsSubsurface, Toplevel as AsToplevel, Popup as AsPopup, Cursor as AsCursor}
-use Rattle.wl_shell.specs.Popups.{Popped, dismiss, dismissed_among, dismissed_with, dismissing, is_among, is_parent_of, new_popup, orphan, orphaning, popup_changed, with_grab}
-use Rattle.wl_shell.specs.Shell.{Shell, XdgSurface, with_change, without_xdg, xdg_at, xdg_of, new_toplevel, with_new, Configures, Effect, Mapped, Maps, Stays, Unconfigured, Unmaps, acknowledging}
-use Rattle.wl_shell.specs.Shell.{configuring, in_stage, without_role}
-use Rattle.wl_scene.specs.Stacking.{Owned}
+use Rattle.wl_xdg_state.specs.Popups.{Popped, dismiss, dismissed_among, dismissed_with, dismissing, is_among, is_parent_of, new_popup, orphan, orphaning, popup_changed, with_grab}
+use Rattle.wl_xdg_state.specs.Shell.{Shell, XdgSurface, with_change, without_xdg, xdg_at, xdg_of, new_toplevel, with_new, Configures, Effect, Mapped, Maps, Stays, Unconfigured, Unmaps, acknowledging}
+use Rattle.wl_xdg_state.specs.Shell.{configuring, in_stage, without_role}
+use Rattle.wl_stacking.specs.Stacking.{Owned}
 use Rattle.wl_plain.specs.Desktop.{Resident, Subsurface, Desktop}
 use Rattle.wl_laws.specs.Apart.{AreApartBy}
 use Rattle.wl_laws.specs.Soundness.{IsLive}
@@ -22,7 +22,7 @@ use Rattle.wl_laws.proofs.Soundness.Orderly.{HasRoles, KeepsLinks, KeepsTrees, r
 use Rattle.wl_laws.proofs.Lists.Keys.{apart-left, apart-map, found-map, none-left, differ, found-fails, found-passes, new-apart, new-elsewhere, any-found, found-any}
 use Rattle.wl_plain.specs.Changing.{popup_given_to, link_with_id, subsurface_ended, subsurface_given, surface_ended, without_child, changed_for, commit_done, drawing, effect_done, frame_asked}
 use Rattle.wl_plain.specs.Changing.{grab_allowed, grabbed, has_focus, in_rising_order, mode_set, pointer_given, popup_given, toplevel_ended, tree_committed}
-use Rattle.wl_shell.specs.Positioner.{Positioner}
+use Rattle.wl_xdg_state.specs.Positioner.{Positioner}
 use Rattle.wl_plain.specs.WlPointer.{is_no_cursor}
 use Rattle.wl_laws.proofs.Lists.Surfaces.{has_id}
 use Rattle.wl_laws.proofs.Lists.Surfaces.{changed-found}

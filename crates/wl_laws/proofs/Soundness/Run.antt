@@ -9,9 +9,9 @@ use Rattle.wl_peer.specs.declared.cause.Cause.TheVariants.{Gone}
 use Rattle.wl_peer.specs.Objects.{is_of}
 use Rattle.wl_peer.specs.Peer.{Peer, ended, newcomer, object_at_version, sent_by, stored_at, stored_by}
 use Rattle.wl_peer.specs.Told.{Output}
-use Rattle.wl_scene.specs.Pointer.{hit_now, is_down, is_press}
-use Rattle.wl_scene.specs.Stacking.{Standing}
-use Rattle.wl_scene.specs.Windows.{Place}
+use Rattle.wl_stacking.specs.Pointer.{hit_now, is_down, is_press}
+use Rattle.wl_stacking.specs.Stacking.{Standing}
+use Rattle.wl_stacking.specs.Windows.{Place}
 use Rattle.wl_plain.specs.declared.answers.Done.{Done}
 use Rattle.wl_plain.specs.Desktop.{Desktop, Resident, arrival, client_at, client_in, empty, place, with_client, with_number, with_place, toplevels_of}
 use Rattle.wl_plain.specs.LeftOut.{LeftOut}

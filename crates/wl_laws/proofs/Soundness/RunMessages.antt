@@ -10,8 +10,8 @@ use Rattle.wl_peer.specs.declared.refusals.ErrorCode.TheVariants.{InvalidMethod,
 use Rattle.wl_peer.specs.declared.refusals.Refusal.{Refusal}
 use Rattle.wl_peer.specs.Peer.{Errs, LacksMemory, Peer, QueuesOr, counted, ended, has_room, queued, with_rest}
 use Rattle.wl_peer.specs.Told.{code_number, display_error, error_told}
-use Rattle.wl_scene.specs.Stacking.{Standing}
-use Rattle.wl_scene.specs.Windows.{Window}
+use Rattle.wl_stacking.specs.Stacking.{Standing}
+use Rattle.wl_stacking.specs.Windows.{Window}
 use Rattle.wl_plain.specs.declared.answers.Done.{Done}
 use Rattle.wl_plain.specs.Changing.{changed_for, stacked_for}
 use Rattle.wl_plain.specs.Demand.{Demand}

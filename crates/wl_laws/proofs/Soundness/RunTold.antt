@@ -9,9 +9,9 @@ use Rattle.wl_peer.specs.Told.{Said}
 use Rattle.wl_surface.specs.Frames.{frames_counting}
 use Rattle.wl_surface.specs.Surfaces.{Link, no_surfaces}
 use Rattle.wl_surface.specs.Waiting.{Callback}
-use Rattle.wl_shell.specs.Popups.{Popped, dismissing}
-use Rattle.wl_shell.specs.Shell.{Shell}
-use Rattle.wl_scene.specs.Stacking.{Standing}
+use Rattle.wl_xdg_state.specs.Popups.{Popped, dismissing}
+use Rattle.wl_xdg_state.specs.Shell.{Shell}
+use Rattle.wl_stacking.specs.Stacking.{Standing}
 use Rattle.wl_plain.specs.Changing.{drawing, without_callbacks}
 use Rattle.wl_plain.specs.Desktop.{Desktop, Resident, client_at, resident_of, toplevels_of}
 use Rattle.wl_plain.specs.Pointing.{button_told, entered_surface, has_pointers, left_surface, motion_told}

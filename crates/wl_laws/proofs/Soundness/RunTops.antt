@@ -3,8 +3,8 @@ use Rattle.std.proofs.Common.{◌≡◌, ℕ, List, [], ◌∷◌, ◌++◌, Boo
 use Rattle.std.specs.Prelude.{◌+◌, ◌==◌, ◌&&◌, if◌then◌else◌}
 use Rattle.std.specs.List.{list_any}
 use Rattle.wl_peer.specs.declared.cause.Cause.{Cause}
-use Rattle.wl_scene.specs.Stacking.{Standing, is_of, moved_to, raised}
-use Rattle.wl_scene.specs.Windows.{Place}
+use Rattle.wl_stacking.specs.Stacking.{Standing, is_of, moved_to, raised}
+use Rattle.wl_stacking.specs.Windows.{Place}
 use Rattle.wl_plain.specs.Desktop.{Resident}
 use Rattle.wl_laws.specs.Laws.{AreApart}
 use Rattle.wl_laws.specs.Own.{StandTheSame}

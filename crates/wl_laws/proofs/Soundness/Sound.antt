@@ -5,9 +5,9 @@ use Rattle.std.specs.List.{list_any}
 use Rattle.std.proofs.lemmas.Bool.{eqb-true}
 use Rattle.wl_peer.specs.declared.cause.Cause.{Cause}
 use Rattle.wl_surface.specs.Surfaces.{Link, Surfaces}
-use Rattle.wl_shell.specs.Popups.{Popped, by_number, popped_kind, popped_of, popped_role, popups_of}
-use Rattle.wl_shell.specs.Shell.{Kind, RoleObject, Shell, Toplevel, IsPopup, XdgSurface, xdg_of}
-use Rattle.wl_scene.specs.Stacking.{Owned, Standing, is_of}
+use Rattle.wl_xdg_state.specs.Popups.{Popped, by_number, popped_kind, popped_of, popped_role, popups_of}
+use Rattle.wl_xdg_state.specs.Shell.{Kind, RoleObject, Shell, Toplevel, IsPopup, XdgSurface, xdg_of}
+use Rattle.wl_stacking.specs.Stacking.{Owned, Standing, is_of}
 use Rattle.wl_plain.specs.Desktop.{Desktop, Resident, client_at, owned_in, owned_of, toplevels_of}
 use Rattle.wl_laws.specs.Laws.{AreApart}
 use Rattle.wl_laws.specs.Apart.{AreApartBy}

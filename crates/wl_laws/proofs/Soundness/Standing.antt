@@ -5,14 +5,14 @@ use Rattle.std.specs.List.{list_any}
 use Rattle.std.specs.Option.{option_map, option_map_or}
 use Rattle.std.proofs.lemmas.Bool.{eqb-true, ne_eqb, or_left, or_right}
 use Rattle.std.proofs.lemmas.List.Elements.{filter-append}
-use Rattle.wl_shell.specs.Popups.{Popped, dismiss, dismissed_among, dismissed_with, dismissing, is_among, is_parent_of, is_toplevel, is_toplevel_kind, new_popup, orphan, orphaning, popped_of}
-use Rattle.wl_shell.specs.Popups.{popup_changed, with_grab, with_popup, with_popup_role, without_grab}
-use Rattle.wl_shell.specs.declared.stage.Stage.{Stage}
-use Rattle.wl_shell.specs.Shell.{Configures, Effect, IsPopup, Kind, Mapped, Maps, Popup, RoleObject, Shell, Stays, Toplevel, Unconfigured, Unmaps, XdgSurface, at_stage, in_stage, on_commit}
-use Rattle.wl_shell.specs.Shell.{with_change, with_new, without_xdg, xdg_at, xdg_of, configuring, unmapping, acknowledged, acknowledging, is_role, new_toplevel, role_acknowledged, without_role}
-use Rattle.wl_shell.specs.Shell.{xdg_with}
-use Rattle.wl_scene.specs.Stacking.{Standing, is_of, with_mapped, without_surface_of, Owned}
-use Rattle.wl_scene.specs.Windows.{mapping_place, Window}
+use Rattle.wl_xdg_state.specs.Popups.{Popped, dismiss, dismissed_among, dismissed_with, dismissing, is_among, is_parent_of, is_toplevel, is_toplevel_kind, new_popup, orphan, orphaning, popped_of}
+use Rattle.wl_xdg_state.specs.Popups.{popup_changed, with_grab, with_popup, with_popup_role, without_grab}
+use Rattle.wl_xdg_state.specs.declared.stage.Stage.{Stage}
+use Rattle.wl_xdg_state.specs.Shell.{Configures, Effect, IsPopup, Kind, Mapped, Maps, Popup, RoleObject, Shell, Stays, Toplevel, Unconfigured, Unmaps, XdgSurface, at_stage, in_stage, on_commit}
+use Rattle.wl_xdg_state.specs.Shell.{with_change, with_new, without_xdg, xdg_at, xdg_of, configuring, unmapping, acknowledged, acknowledging, is_role, new_toplevel, role_acknowledged, without_role}
+use Rattle.wl_xdg_state.specs.Shell.{xdg_with}
+use Rattle.wl_stacking.specs.Stacking.{Standing, is_of, with_mapped, without_surface_of, Owned}
+use Rattle.wl_stacking.specs.Windows.{mapping_place, Window}
 use Rattle.wl_plain.specs.Changing.{commit_done, effect_done, stacked_by, tree_committed, grabbed, popup_given_to, changed_for, drawing, grab_allowed, has_focus, in_rising_order, stacked_for}
 use Rattle.wl_plain.specs.Changing.{toplevel_ended}
 use Rattle.wl_plain.specs.Demanding.{effect_for_xdg, is_dismissed, effect_of_commit, effect_on_xdg}
@@ -25,7 +25,7 @@ use Rattle.wl_laws.proofs.Lists.Standings.{any-last, apart-left, mapped-apart, n
 use Rattle.wl_laws.proofs.Marks.Stacks.{and-both, and-right, any-more, equal-numbers, unless}
 use Rattle.wl_plain.specs.WlSurface.{will_show}
 use Rattle.wl_plain.specs.Step.{asked_so_far, changed_by, toplevel_given}
-use Rattle.wl_shell.specs.Positioner.{Positioner}
+use Rattle.wl_xdg_state.specs.Positioner.{Positioner}
 use Rattle.wl_peer.specs.Objects.{Object, interface_number, is_of as is_object_of}
 use Rattle.wl_interface.specs.declared.interface.Interface.TheVariants.{XdgPopup, XdgToplevel}
 use Rattle.wl_plain.specs.Ask.{Ask, Own, CreateSurface, AskSurface, EndObject, GetXdgSurface, DestroyXdgSurface, GetToplevel, Acknowledge, ConfigureAgain, Ignore}

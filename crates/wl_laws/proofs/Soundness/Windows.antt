@@ -5,8 +5,8 @@ use Rattle.std.specs.List.{list_any}
 use Rattle.std.specs.Option.{option_map_or}
 use Rattle.std.proofs.lemmas.Bool.{eqb-true}
 use Rattle.wl_surface.specs.Surfaces.{Surfaces}
-use Rattle.wl_scene.specs.Stacking.{Owned, Standing, is_of, root_of}
-use Rattle.wl_scene.specs.Windows.{Root, StackedPopup, Window, owner_of, root_on, roots_of, stacked, stacked_on, tree, windows_of}
+use Rattle.wl_stacking.specs.Stacking.{Owned, Standing, is_of, root_of}
+use Rattle.wl_stacking.specs.Windows.{Root, StackedPopup, Window, owner_of, root_on, roots_of, stacked, stacked_on, tree, windows_of}
 use Rattle.wl_plain.specs.Desktop.{Desktop, owned_in}
 use Rattle.wl_laws.specs.Laws.{AreApart}
 use Rattle.wl_plain.specs.Marks.{AreDistinct, is_same_surface}

@@ -9,7 +9,7 @@ use Rattle.std.specs.List.Sorted.{IsStrictlyIncreasing}
 use Rattle.wl_interface.specs.declared.interface.Interface.TheVariants.{WlBuffer}
 use Rattle.wl_proto.specs.Messages.{says}
 use Rattle.wl_peer.specs.Told.{said}
-use Rattle.wl_shell.specs.Popups.{is_among}
+use Rattle.wl_xdg_state.specs.Popups.{is_among}
 use Rattle.wl_state.specs.Request.{Buffer}
 use Rattle.wl_state.specs.State.{applied, held, pending}
 use Rattle.wl_state.specs.Surface.{Surface, buffers_of, listed, names, shows}

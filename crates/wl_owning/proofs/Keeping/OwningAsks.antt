@@ -11,19 +11,19 @@ use Rattle.wl_state.specs.Surface.{Surface, asking, new_surface, with_role}
 use Rattle.wl_surface.specs.Surfaces.{Surfaces, history_in, surface_at, with_change as with_surface_change}
 use Rattle.wl_state.specs.declared.role.Role.TheVariants.{Toplevel as AsToplevel}
 use Rattle.wl_shell.specs.Agreement.{with_history}
-use Rattle.wl_shell.specs.Kept.{Kept, Stands, changing, commit_answer, effect_answer, first_kept, kept_acknowledging, kept_after, kept_asking, kept_configuring, kept_toplevel, kept_without_role}
-use Rattle.wl_shell.specs.Kept.{stage_in, with_kept}
-use Rattle.wl_shell.specs.Laws.{one_more}
-use Rattle.wl_shell.specs.Shell.{Effect, Stays, Unconfigured, Configures, Maps, Unmaps, Fresh, Waiting, Mapped, Popup, RoleObject, Shell, XdgSurface, acknowledging, at_stage, configuring, in_stage, is_full}
-use Rattle.wl_shell.specs.Shell.{is_role, new_toplevel, on_commit, role_acknowledged, stage_of, unmapping, with_change, without_role, xdg_of}
-use Rattle.wl_shell.specs.Popups.{placing, popup_changed, with_effect, with_popup_role, without_grab}
-use Rattle.wl_shell.specs.Positioner.{Placed}
-use Rattle.wl_shell.specs.declared.acts.ShellAct.{ShellAct}
-use Rattle.wl_shell.specs.declared.acts.ShellAct.TheVariants.{Configure, Map, Unmap, Nothing}
-use Rattle.wl_shell.specs.declared.error.ShellError.{ShellError}
-use Rattle.wl_shell.specs.declared.stage.Stage.{Stage}
+use Rattle.wl_xdg_state.specs.Kept.{Kept, Stands, changing, commit_answer, effect_answer, first_kept, kept_acknowledging, kept_after, kept_asking, kept_configuring, kept_toplevel, kept_without_role}
+use Rattle.wl_xdg_state.specs.Kept.{stage_in, with_kept}
+use Rattle.wl_xdg_state.specs.Laws.{one_more}
+use Rattle.wl_xdg_state.specs.Shell.{Effect, Stays, Unconfigured, Configures, Maps, Unmaps, Fresh, Waiting, Mapped, Popup, RoleObject, Shell, XdgSurface, acknowledging, at_stage, configuring, in_stage, is_full}
+use Rattle.wl_xdg_state.specs.Shell.{is_role, new_toplevel, on_commit, role_acknowledged, stage_of, unmapping, with_change, without_role, xdg_of}
+use Rattle.wl_xdg_state.specs.Popups.{placing, popup_changed, with_effect, with_popup_role, without_grab}
+use Rattle.wl_xdg_state.specs.Positioner.{Placed}
+use Rattle.wl_xdg_state.specs.declared.acts.ShellAct.{ShellAct}
+use Rattle.wl_xdg_state.specs.declared.acts.ShellAct.TheVariants.{Configure, Map, Unmap, Nothing}
+use Rattle.wl_xdg_state.specs.declared.error.ShellError.{ShellError}
+use Rattle.wl_xdg_state.specs.declared.stage.Stage.{Stage}
 use Rattle.wl_shell.proofs.Agreeing.{changed-same}
-use Rattle.wl_shell.proofs.Standing.{changes_stand}
+use Rattle.wl_xdg_state.proofs.Standing.{changes_stand}
 use Rattle.wl_named.specs.Named.{Makes}
 use Rattle.wl_surface.specs.Trees.{committed_in, destroyed_in, ended_in, links_with}
 use Rattle.wl_tree_laws.specs.Hanging.{AreNumbered}
@@ -32,7 +32,7 @@ use Rattle.wl_tree_steps.proofs.Commits.{commit-keeps-others}
 use Rattle.wl_tree_steps.proofs.Ends.{destruction-keeps-others}
 use Rattle.wl_laws.specs.Soundness.{IsNoChild}
 use Rattle.wl_tree_laws.specs.Stacks.{is_about_children}
-use Rattle.wl_scene.specs.Stacking.{Owned}
+use Rattle.wl_stacking.specs.Stacking.{Owned}
 use Rattle.wl_plain.specs.Ask.{CreateSurface, AskSurface, GetXdgSurface, DestroyXdgSurface, GetToplevel, Acknowledge, ConfigureAgain}
 use Rattle.wl_plain.specs.Desktop.{Resident}
 use Rattle.wl_owning.specs.Owning.{IsOwned, IsXdg, KeepsRole, Names, effect_by, with_surface, with_toplevel, with_xdg}

@@ -12,11 +12,11 @@ use Rattle.wl_state.specs.State.{History}
 use Rattle.wl_state.specs.Surface.{Surface, new_surface}
 use Rattle.wl_surface.specs.Surfaces.{Surfaces, history_in, surface_at, with_new}
 use Rattle.wl_shell.specs.Agreement.{IsKept, IsShell, with_history}
-use Rattle.wl_shell.specs.Kept.{Kept, Stands, changing, first_kept, with_kept}
-use Rattle.wl_shell.specs.Shell.{RoleObject, Shell, XdgSurface, is_role, with_change, without_xdg, xdg_at, xdg_of, xdg_with, with_new as with_new_xdg}
+use Rattle.wl_xdg_state.specs.Kept.{Kept, Stands, changing, first_kept, with_kept}
+use Rattle.wl_xdg_state.specs.Shell.{RoleObject, Shell, XdgSurface, is_role, with_change, without_xdg, xdg_at, xdg_of, xdg_with, with_new as with_new_xdg}
 use Rattle.wl_shell.proofs.Agreeing.{newest}
 use Rattle.wl_shell.proofs.Shells.{shells_stand}
-use Rattle.wl_scene.specs.Stacking.{Owned}
+use Rattle.wl_stacking.specs.Stacking.{Owned}
 use Rattle.wl_owning.specs.Owning.{AreKept, IsOwned, IsXdg, KeepsRole, Names, by_id, by_number, number_of, with_surface, with_toplevel, with_xdg}
 use Rattle.wl_laws.specs.Apart.{AreApartBy}
 use Rattle.wl_laws.proofs.Lists.Keys.{apart-left, apart-map, changed-apart, changed-elsewhere, changed-gone, changed-here, differ, found-map, gone, left-elsewhere, new-apart, new-elsewhere}

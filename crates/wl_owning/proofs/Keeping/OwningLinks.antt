@@ -26,11 +26,11 @@ use Rattle.wl_named.specs.Named.{MakesBy, StandBy}
 use Rattle.wl_named.proofs.Linking.{desynchronises-named, moves-named, places-named, synchronises-named, unlinks-named}
 use Rattle.wl_named.proofs.Named.{links-named}
 use Rattle.wl_shell.specs.Agreement.{with_history}
-use Rattle.wl_shell.specs.Kept.{Kept}
-use Rattle.wl_shell.specs.Laws.{one_more}
-use Rattle.wl_shell.specs.Shell.{xdg_of}
-use Rattle.wl_shell.proofs.Standing.{changes_stand}
-use Rattle.wl_scene.specs.Stacking.{Owned}
+use Rattle.wl_xdg_state.specs.Kept.{Kept}
+use Rattle.wl_xdg_state.specs.Laws.{one_more}
+use Rattle.wl_xdg_state.specs.Shell.{xdg_of}
+use Rattle.wl_xdg_state.proofs.Standing.{changes_stand}
+use Rattle.wl_stacking.specs.Stacking.{Owned}
 use Rattle.wl_laws.specs.Soundness.{IsNoChild}
 use Rattle.wl_owning.specs.Owning.{AreKept, IsOwned, Names, number_in}
 use Rattle.wl_owning.proofs.Keeping.Ids.{ids-changed, ids-desynchronised, ids-linked, ids-unlinked}

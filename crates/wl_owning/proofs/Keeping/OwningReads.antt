@@ -16,13 +16,13 @@ use Rattle.wl_state.specs.Request.{Buffer, SetWindowGeometry}
 use Rattle.wl_state.specs.State.{History, pending}
 use Rattle.wl_state.specs.Surface.{Surface, has_content, is_there}
 use Rattle.wl_surface.specs.Surfaces.{history_in, surface_at}
-use Rattle.wl_shell.specs.declared.error.ShellError.{ShellError}
-use Rattle.wl_shell.specs.declared.error.ShellError.TheVariants as failed
-use Rattle.wl_shell.specs.declared.stage.Stage.{Stage}
-use Rattle.wl_shell.specs.Kept.{Kept, acknowledgement_answer, commit_answer, configure_answer, destruction_answer, effect_answer, geometry_answer, making_refused, stage_configured, stage_in}
-use Rattle.wl_shell.specs.Kept.{toplevel_answer}
-use Rattle.wl_shell.specs.Shell.{Effect, Stays, Unconfigured, Configures, Maps, Unmaps, RoleObject, XdgSurface, answers_states, is_full, is_waiting, on_commit, stage_of, xdg_of}
-use Rattle.wl_shell.proofs.Serials.{full-so, serials_of, waits-so}
+use Rattle.wl_xdg_state.specs.declared.error.ShellError.{ShellError}
+use Rattle.wl_xdg_state.specs.declared.error.ShellError.TheVariants as failed
+use Rattle.wl_xdg_state.specs.declared.stage.Stage.{Stage}
+use Rattle.wl_xdg_state.specs.Kept.{Kept, acknowledgement_answer, commit_answer, configure_answer, destruction_answer, effect_answer, geometry_answer, making_refused, stage_configured, stage_in}
+use Rattle.wl_xdg_state.specs.Kept.{toplevel_answer}
+use Rattle.wl_xdg_state.specs.Shell.{Effect, Stays, Unconfigured, Configures, Maps, Unmaps, RoleObject, XdgSurface, answers_states, is_full, is_waiting, on_commit, stage_of, xdg_of}
+use Rattle.wl_xdg_state.proofs.Serials.{full-so, serials_of, waits-so}
 use Rattle.wl_shell.proofs.Shells.{shells_stand}
 use Rattle.wl_plain.specs.Ask.{AskSurface, EndObject, GetXdgSurface, DestroyXdgSurface, GetToplevel, Acknowledge, ConfigureAgain, Ignore}
 use Rattle.wl_plain.specs.Desktop.{Resident}

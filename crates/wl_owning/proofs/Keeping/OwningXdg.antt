@@ -11,10 +11,10 @@ use Rattle.wl_state.specs.State.{History}
 use Rattle.wl_state.specs.Surface.{Surface, new_surface}
 use Rattle.wl_surface.specs.Surfaces.{Surfaces, history_in, surface_at, with_change, with_new}
 use Rattle.wl_shell.specs.Agreement.{AreApart, IsKept, with_history}
-use Rattle.wl_shell.specs.Kept.{Kept, Stands, changing, with_kept}
-use Rattle.wl_shell.specs.Shell.{Shell, XdgSurface, is_role, xdg_at, xdg_of, xdg_with}
+use Rattle.wl_xdg_state.specs.Kept.{Kept, Stands, changing, with_kept}
+use Rattle.wl_xdg_state.specs.Shell.{Shell, XdgSurface, is_role, xdg_at, xdg_of, xdg_with}
 use Rattle.wl_shell.proofs.Agreeing.{found-surface}
-use Rattle.wl_scene.specs.Stacking.{Owned}
+use Rattle.wl_stacking.specs.Stacking.{Owned}
 use Rattle.wl_owning.specs.Owning.{IsOwned, IsXdg, Names, by_id, number_of}
 use Rattle.wl_laws.specs.Apart.{AreApartBy}
 use Rattle.wl_laws.proofs.Lists.Keys.{found-by, found-map, found-none, found-passes, new-elsewhere, new-here, none-some, some-same}

@@ -17,7 +17,7 @@ use Rattle.wl_tree_steps.specs.Laws.{KeepsOthers}
 use Rattle.wl_tree_steps.proofs.Commits.{asked_more, commit-keeps-others, history-asked}
 use Rattle.wl_tree_steps.proofs.Descents.{at-top, is-top, no-child-is-top}
 use Rattle.wl_shell.specs.Agreement.{with_history}
-use Rattle.wl_shell.specs.Shell.{Shell, xdg_of}
+use Rattle.wl_xdg_state.specs.Shell.{Shell, xdg_of}
 use Rattle.wl_laws.specs.Soundness.{IsLive, IsNoChild}
 use Rattle.wl_laws.proofs.Lists.Keys.{differ}
 use Rattle.wl_owning.proofs.Keeping.OwningChanges.{AgreeFor}

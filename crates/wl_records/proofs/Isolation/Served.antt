@@ -15,8 +15,8 @@ use Rattle.wl_peer.specs.Judgement.{judge as judge_alone}
 use Rattle.wl_peer.specs.Peer.{Errs, LacksMemory, Peer, Queues, changed, counted, ended, known_of, with_rest, Answers as AnswersAlone, FeedsAt as FeedsAloneAt, Reaches as ReachesAlone}
 use Rattle.wl_peer.specs.Peer.{Serves as ServesAlone, Stops as StopsAlone, Takes as TakesAlone, WantsOr as WantsOrAlone, answers_to as own_answers, takes_memory as own_takes_memory}
 use Rattle.wl_surface.specs.Surfaces.{no_surfaces, is_used}
-use Rattle.wl_scene.specs.Pointer.{first_pointer}
-use Rattle.wl_scene.specs.Stacking.{Standing, without_client}
+use Rattle.wl_stacking.specs.Pointer.{first_pointer}
+use Rattle.wl_stacking.specs.Stacking.{Standing, without_client}
 use Rattle.wl_plain.specs.Ask.{Own}
 use Rattle.wl_plain.specs.Desktop.{Desktop, Resident, become, become_by, client_at, resident_of, with_client, with_number}
 use Rattle.wl_records.specs.Alone.{IsAllThatChanges, IsAlone, ServedAlone}

@@ -3,7 +3,7 @@ use Rattle.std.proofs.Common.{ℕ, ◌∷◌, Bool, ap, sym, ◌∙◌, []}
 use Rattle.std.specs.Prelude.{◌==◌}
 use Rattle.std.proofs.lemmas.Bool.{eqb-true}
 use Rattle.wl_shell.specs.Agreement.{AreApart}
-use Rattle.wl_shell.specs.Shell.{Shell, XdgSurface, xdg_at, xdg_of}
+use Rattle.wl_xdg_state.specs.Shell.{Shell, XdgSurface, xdg_at, xdg_of}
 use Rattle.wl_laws.specs.Apart.{AreApartBy}
 
 -- the tests by id, by surface and by role object

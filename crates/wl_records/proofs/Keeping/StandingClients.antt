@@ -4,7 +4,7 @@ use Rattle.std.specs.Prelude.{◌==◌}
 use Rattle.std.specs.Option.{option_map}
 use Rattle.std.proofs.lemmas.Bool.{ne_eqb}
 use Rattle.wl_shell.specs.Agreement.{AreApart}
-use Rattle.wl_shell.specs.Shell.{Shell, XdgSurface, xdg_at, xdg_of, without_xdg, with_change as with_xdg_change}
+use Rattle.wl_xdg_state.specs.Shell.{Shell, XdgSurface, xdg_at, xdg_of, without_xdg, with_change as with_xdg_change}
 use Rattle.wl_laws.proofs.Lists.Keys.{changed-elsewhere, found-map, left-elsewhere, left-here}
 use Rattle.wl_records.proofs.Keeping.OwningXdg.{has_surface, has_xdg, ids-apart, surfaces-apart}
 

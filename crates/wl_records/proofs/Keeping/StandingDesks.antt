@@ -5,7 +5,7 @@ use Rattle.std.specs.List.{list_any}
 use Rattle.std.proofs.lemmas.Bool.{eqb-true, eqb-false}
 use Rattle.wl_peer.specs.declared.cause.Cause.{Cause}
 use Rattle.wl_peer.specs.Peer.{Peer}
-use Rattle.wl_scene.specs.Stacking.{Owned, Standing, is_of, nothing_owned, without_client}
+use Rattle.wl_stacking.specs.Stacking.{Owned, Standing, is_of, nothing_owned, without_client}
 use Rattle.wl_plain.specs.Desktop.{Desktop, Resident, become, become_by, client_at, client_in, owned_in, owned_of, resident_of, with_number}
 use Rattle.wl_laws.specs.Laws.{AreApart}
 use Rattle.wl_records.specs.Standing.{AreMapped, MappedStand}

@@ -2,7 +2,7 @@
 use Rattle.std.proofs.Common.{◌≡◌, ℕ, zero, suc, ◌+◌, List, ◌∷◌, Option, Some, None, refl, ap, sym, subst, ◌∙◌, arith, inl, inr, []}
 use Rattle.std.specs.Prelude.{replicate}
 use Rattle.wl_peer.specs.Told.{Output}
-use Rattle.wl_scene.specs.Stacking.{nothing_owned}
+use Rattle.wl_stacking.specs.Stacking.{nothing_owned}
 use Rattle.wl_plain.specs.declared.answers.Done.{Done}
 use Rattle.wl_plain.specs.Desktop.{Desktop, Resident, arrival, client_at, client_in, empty, owned_of, place, with_client, with_number}
 use Rattle.wl_records.specs.Standing.{AreMapped, MappedStand}

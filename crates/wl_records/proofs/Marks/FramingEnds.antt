@@ -4,7 +4,7 @@ use Rattle.std.specs.Prelude.{◌==◌, ◌||◌, nat_lt}
 use Rattle.std.proofs.lemmas.Bool.{eqb-true}
 use Rattle.wl_peer.specs.declared.cause.Cause.{Cause}
 use Rattle.wl_peer.specs.Peer.{ended}
-use Rattle.wl_scene.specs.Stacking.{without_client}
+use Rattle.wl_stacking.specs.Stacking.{without_client}
 use Rattle.wl_plain.specs.Desktop.{Desktop, Resident, client_at, resident_of, with_client, with_number, with_place}
 use Rattle.wl_plain.specs.Settling.{Strike, ended_all, ended_at, ended_by, in_order, is_struck, pointer_without, struck_by}
 use Rattle.wl_laws.proofs.Runs.Forms.{after_why}

@@ -5,7 +5,7 @@ use Rattle.wl_peer.specs.declared.cause.Cause.TheVariants.{Memory, Protocol, Slo
 use Rattle.wl_peer.specs.declared.refusals.Refusal.{Refusal}
 use Rattle.wl_peer.specs.Peer.{Errs, LacksMemory, Peer, Queues, QueuesOr, ended, has_room, queued}
 use Rattle.wl_peer.specs.Told.{Said, code_number, error_told}
-use Rattle.wl_scene.specs.Pointer.{first_pointer}
+use Rattle.wl_stacking.specs.Pointer.{first_pointer}
 use Rattle.wl_plain.specs.Desktop.{Desktop}
 use Rattle.wl_plain.specs.Settling.{EndsAndSettles, EndsFirst, Midstep, QueuesFirst, QueuesTo, SettlesAll, unstruck}
 use Rattle.wl_records.proofs.Toplevels.Serves.{ended_why}

@@ -2,10 +2,10 @@
 use Rattle.std.proofs.Common.{◌≡◌, ◌∷◌, ◌++◌, Bool, Option, Some, None, refl, ap, ◌∙◌, map, []}
 use Rattle.std.specs.Prelude.{flat_map, fold}
 use Rattle.std.specs.Option.{option_map}
-use Rattle.wl_shell.specs.Popups.{Popped, by_number, dismissed_after, dismissed_among, dismissing, popped_of}
-use Rattle.wl_shell.specs.Popups.{popups_of}
-use Rattle.wl_shell.specs.declared.stage.Stage.{Stage}
-use Rattle.wl_shell.specs.Shell.{RoleObject, Shell, at_stage}
+use Rattle.wl_xdg_state.specs.Popups.{Popped, by_number, dismissed_after, dismissed_among, dismissing, popped_of}
+use Rattle.wl_xdg_state.specs.Popups.{popups_of}
+use Rattle.wl_xdg_state.specs.declared.stage.Stage.{Stage}
+use Rattle.wl_xdg_state.specs.Shell.{RoleObject, Shell, at_stage}
 use Rattle.wl_records.specs.Toplevels.{AreToplevels, IsToplevel}
 use Rattle.wl_records.proofs.Toplevels.Judged.{none-popped}
 

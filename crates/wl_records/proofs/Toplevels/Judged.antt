@@ -1,8 +1,8 @@
 -- Nothing popped up is among the xdg_surfaces of a client whose role objects are toplevels.
 use Rattle.std.proofs.Common.{◌≡◌, ◌∷◌, Bool, true, false, Option, Some, None, refl, ap, []}
 use Rattle.std.specs.Prelude.{find, cond}
-use Rattle.wl_shell.specs.Popups.{popped_kind, popped_of, popped_role}
-use Rattle.wl_shell.specs.Shell.{Kind, Toplevel, RoleObject, Shell, XdgSurface as Xdg}
+use Rattle.wl_xdg_state.specs.Popups.{popped_kind, popped_of, popped_role}
+use Rattle.wl_xdg_state.specs.Shell.{Kind, Toplevel, RoleObject, Shell, XdgSurface as Xdg}
 use Rattle.wl_records.specs.Toplevels.{AreToplevels, IsToplevel}
 
 -- ---- a commit

@@ -14,7 +14,7 @@ use Rattle.wl_state.specs.Surface.{Surface, asking, listed, names, new_surface, 
 use Rattle.wl_surface.specs.Surfaces.{Surfaces, is_busy, surface_at, with_change}
 use Rattle.wl_state.specs.declared.role.Role.TheVariants.{Toplevel as AsToplevel}
 use Rattle.wl_state.proofs.Records.{applied-kept, held-kept}
-use Rattle.wl_shell.specs.Shell.{XdgSurface as Xdg, without_role, xdg_at}
+use Rattle.wl_xdg_state.specs.Shell.{XdgSurface as Xdg, without_role, xdg_at}
 use Rattle.wl_plain.specs.Ask.{Ask, Own, CreateSurface, AskSurface, EndObject, GetXdgSurface, DestroyXdgSurface, GetToplevel, Acknowledge, ConfigureAgain, Ignore}
 use Rattle.wl_plain.specs.Desktop.{Resident}
 use Rattle.wl_laws.specs.Apart.{AreApartBy}

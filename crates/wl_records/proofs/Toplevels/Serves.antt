@@ -8,12 +8,12 @@ use Rattle.wl_peer.specs.declared.cause.Cause.{Cause}
 use Rattle.wl_peer.specs.declared.cause.Cause.TheVariants.{Memory, Slow}
 use Rattle.wl_peer.specs.Peer.{Peer, Queues, QueuesOr, ended, has_room, queued}
 use Rattle.wl_peer.specs.Told.{Said, said}
-use Rattle.wl_shell.specs.Popups.{is_among, placing, with_effect, with_popup, with_popup_role, without_grab}
-use Rattle.wl_shell.specs.Positioner.{Placed}
-use Rattle.wl_shell.specs.Shell.{Effect, Stays, Unconfigured, Configures, Maps, Unmaps, Fresh, Waiting, Mapped, Popup, RoleObject, Shell, XdgSurface as Xdg, acknowledging, configuring, in_stage}
-use Rattle.wl_shell.specs.Shell.{new_toplevel, unmapping, with_change, with_new, without_role, without_xdg, xdg_at}
-use Rattle.wl_scene.specs.Pointer.{first_pointer}
-use Rattle.wl_scene.specs.Stacking.{without_client}
+use Rattle.wl_xdg_state.specs.Popups.{is_among, placing, with_effect, with_popup, with_popup_role, without_grab}
+use Rattle.wl_xdg_state.specs.Positioner.{Placed}
+use Rattle.wl_xdg_state.specs.Shell.{Effect, Stays, Unconfigured, Configures, Maps, Unmaps, Fresh, Waiting, Mapped, Popup, RoleObject, Shell, XdgSurface as Xdg, acknowledging, configuring, in_stage}
+use Rattle.wl_xdg_state.specs.Shell.{new_toplevel, unmapping, with_change, with_new, without_role, without_xdg, xdg_at}
+use Rattle.wl_stacking.specs.Pointer.{first_pointer}
+use Rattle.wl_stacking.specs.Stacking.{without_client}
 use Rattle.wl_plain.specs.Ask.{Ask, Own, CreateSurface, AskSurface, EndObject, GetXdgSurface, DestroyXdgSurface, GetToplevel, Acknowledge, ConfigureAgain, Ignore}
 use Rattle.wl_plain.specs.Changing.{drawing, effect_placing, is_configure, with_kept_move}
 use Rattle.wl_plain.specs.Desktop.{Desktop, Resident, become, become_by, client_at, resident_of, with_client}

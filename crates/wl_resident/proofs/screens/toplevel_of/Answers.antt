@@ -3,7 +3,8 @@ use Rattle.std.specs.List.{find}
 use Rattle.std.specs.Option.{option_map}
 use Rattle.std.proofs.lemmas.Iterator.{YieldsList-from_slice}
 use Rattle.std.proofs.lemmas.Iterator.Search.{find_from_yields_List}
-use Rattle.wl_scene.specs.Stacking.{Standing, is_of, standing_of}
+use Rattle.wl_stacking.specs.Stacking.{Standing, is_of}
+use Rattle.wl_scene.specs.Kept.{standing_of}
 use Rattle.wl_resident.proofs.Toplevels.{find-standing}
 use Rattle.wl_resident.proofs.screens.toplevel_of.Goals as goal
 

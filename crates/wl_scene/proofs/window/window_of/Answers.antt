@@ -1,5 +1,5 @@
 use Rattle.std.proofs.Common.{rules, ◌∙◌}
-use Rattle.wl_scene.specs.Stacking.{standing_of}
+use Rattle.wl_scene.specs.Kept.{standing_of}
 use Rattle.wl_scene.proofs.Shown.{absent, present}
 use Rattle.wl_scene.proofs.window.window_of.Goals as goal
 

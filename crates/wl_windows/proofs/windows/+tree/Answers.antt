@@ -3,7 +3,7 @@ use Rattle.std.specs.Prelude.{vec_capacity, vec_len}
 use Rattle.std.proofs.lemmas.List.{take_all}
 use Rattle.std.proofs.lemmas.Result.{on_ok_weaker}
 use Rattle.wl_linked.specs.Linked.{Stand}
-use Rattle.wl_scene.specs.Windows.{Owner}
+use Rattle.wl_stacking.specs.Windows.{Owner}
 use Rattle.wl_surface.specs.Surfaces.{Surfaces as Asked}
 use Rattle.wl_windows.specs.Windows.{place_beside, placed_windows, told_tree}
 use Rattle.wl_windows.proofs.Trees.{continues-next, failed-not, more-behind, next-fits, same-fits, told-alone, told-hidden, told-nothing, told-stack}

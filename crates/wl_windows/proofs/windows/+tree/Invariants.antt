@@ -1,7 +1,7 @@
 use Rattle.std.proofs.Common.{◌≡◌, ◌≤◌, ◌+◌, ◌*◌, ◌++◌, flat_map, take}
 use Rattle.std.specs.Prelude.{vec_capacity}
 use Rattle.wl_linked.specs.Linked.{Stand}
-use Rattle.wl_scene.specs.Windows.{Owner}
+use Rattle.wl_stacking.specs.Windows.{Owner}
 use Rattle.wl_surface.specs.Surfaces.{Surfaces as Asked}
 use Rattle.wl_windows.specs.Windows.{Continues, placed_windows, told_tree}
 use Rattle.wl_windows.proofs.windows.+tree.Given as goal

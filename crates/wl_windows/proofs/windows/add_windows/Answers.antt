@@ -2,7 +2,7 @@ use Rattle.std.proofs.Common.{◌≡◌, ◌++◌, map, arith, to_z, of_z, w32}
 use Rattle.std.proofs.lemmas.Int.{ints}
 use Rattle.std.proofs.lemmas.Result.{on_ok_weaker}
 use Rattle.wl_linked.specs.Linked.{Stand}
-use Rattle.wl_scene.specs.Windows.{Owner, tree}
+use Rattle.wl_stacking.specs.Windows.{Owner, tree}
 use Rattle.wl_surface.specs.Surfaces.{Surfaces as Asked}
 use Rattle.wl_windows.specs.Windows.{told_of}
 use Rattle.wl_windows.proofs.Trees.{root-told}

@@ -1,7 +1,7 @@
 use Rattle.wl_proto.specs.declared.xdg_surface.XdgSurfaceRequest.TheVariants as xdg
 use Rattle.std.proofs.Common.{ap, inr, refl, subst, sym}
 use Rattle.wl_peer.specs.Peer.{counted}
-use Rattle.wl_shell.specs.Kept.{acknowledgement_answer, kept_of}
+use Rattle.wl_xdg_state.specs.Kept.{acknowledgement_answer, kept_of}
 use Rattle.wl_plain.specs.Ask.{Acknowledge}
 use Rattle.wl_owning.specs.Owning.{IsOwned, Names, names_in, shell_refusal}
 use Rattle.wl_plain.specs.Step.{changed_by, with_peer}

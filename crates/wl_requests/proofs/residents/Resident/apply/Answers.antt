@@ -10,8 +10,8 @@ use Rattle.wl_peer.specs.Peer.{Peer, Queues}
 use Rattle.wl_peer.specs.Told.{Said, said}
 use Rattle.wl_proto.specs.Messages.{says}
 use Rattle.wl_interface.specs.declared.interface.Interface.TheVariants.{WlBuffer}
-use Rattle.wl_shell.specs.Kept.{Kept, changing, kept_after, kept_of}
-use Rattle.wl_shell.specs.Shell.{Effect, xdg_of}
+use Rattle.wl_xdg_state.specs.Kept.{Kept, changing, kept_after, kept_of}
+use Rattle.wl_xdg_state.specs.Shell.{Effect, xdg_of}
 use Rattle.wl_scene.specs.declared.owned.Owned.{Owned as Lent}
 use Rattle.wl_state.specs.Kept.{buffer_of}
 use Rattle.wl_surface.specs.Surfaces.{Surfaces}

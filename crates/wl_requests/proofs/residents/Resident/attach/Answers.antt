@@ -1,6 +1,6 @@
 use Rattle.std.proofs.Common.{refl, inr, w32, List, subst, sym}
 use Rattle.std.proofs.lemmas.Int.{to_z-of_z}
-use Rattle.wl_shell.specs.Kept.{kept_of}
+use Rattle.wl_xdg_state.specs.Kept.{kept_of}
 use Rattle.wl_state.specs.Request.{Attach}
 use Rattle.wl_surface.specs.Surfaces.{surface_at}
 use Rattle.wl_surface.specs.declared.frames.Waiting.{Waiting}

@@ -1,8 +1,8 @@
 use Rattle.std.proofs.Common.{◌≡◌, ℕ, Bool, Result, refl, ap, subst, sym, ◌∙◌}
 use Rattle.std.specs.Prelude.{Err, is_some}
 use Rattle.wl_peer.specs.Peer.{counted}
-use Rattle.wl_shell.specs.Kept.{changing, commit_answer, kept_after, kept_of}
-use Rattle.wl_shell.specs.declared.acts.ShellAct.{ShellAct}
+use Rattle.wl_xdg_state.specs.Kept.{changing, commit_answer, kept_after, kept_of}
+use Rattle.wl_xdg_state.specs.declared.acts.ShellAct.{ShellAct}
 use Rattle.wl_peer.specs.declared.refusals.Refusal.{Refusal}
 use Rattle.wl_owning.specs.Owning.{asks_by, kept_base, kept_id, names_in, shell_refusal}
 use Rattle.wl_plain.specs.Step.{with_peer}

@@ -4,8 +4,8 @@ use Rattle.std.specs.Prelude.{Some, true, false, ℕ, Option, Result}
 use Rattle.wl_peer.specs.Peer.{Queues, counted}
 use Rattle.wl_peer.specs.Told.{Said}
 use Rattle.wl_client.specs.View.{ClientView}
-use Rattle.wl_shell.specs.Kept.{Kept as KeptXdg, changing, configure_answer, kept_configured, kept_configuring, kept_of}
-use Rattle.wl_shell.specs.Shell.{XdgSurface as Xdg, is_role, next_serial, xdg_with}
+use Rattle.wl_xdg_state.specs.Kept.{Kept as KeptXdg, changing, configure_answer, kept_configured, kept_configuring, kept_of}
+use Rattle.wl_xdg_state.specs.Shell.{XdgSurface as Xdg, is_role, next_serial, xdg_with}
 use Rattle.wl_interface.specs.declared.interface.Interface.TheVariants.{WlSurface}
 use Rattle.wl_owning.specs.Owning.{IsOwned, IsXdg, Names, kept_id, names_in, shell_refusal, targets_in}
 use Rattle.wl_owning.specs.Subsurfaces.{AreOfSurfaces}

@@ -6,7 +6,7 @@ use Rattle.wl_peer.specs.Objects.{entry_at_version}
 use Rattle.wl_owning.proofs.Keeping.OwningNames.{names-other-made}
 use Rattle.wl_interface.specs.declared.interface.Interface.TheVariants.{WlRegion}
 use Rattle.wl_peer.specs.Peer.{counted}
-use Rattle.wl_shell.specs.Kept.{kept_of}
+use Rattle.wl_xdg_state.specs.Kept.{kept_of}
 use Rattle.wl_owning.specs.Owning.{IsOwned, Names}
 use Rattle.wl_plain.specs.Step.{changed_by, with_peer}
 use Rattle.wl_requests.proofs.Numbers.{keeps-names}

@@ -2,7 +2,7 @@ use Rattle.std.proofs.Common.{ℕ, Some, refl, inl, subst, sym, List, ap}
 use Rattle.wl_interface.specs.declared.interface.Interface.TheVariants.{WlSurface}
 use Rattle.wl_peer.specs.Peer.{counted}
 use Rattle.wl_peer.specs.Objects.{ById}
-use Rattle.wl_shell.specs.Kept.{kept_of}
+use Rattle.wl_xdg_state.specs.Kept.{kept_of}
 use Rattle.std.specs.Prelude.{Result}
 use Rattle.wl_peer.specs.declared.refusals.Refusal.{Refusal}
 use Rattle.wl_plain.specs.Ask.{Ask, CreateSurface}

@@ -1,7 +1,7 @@
 use Rattle.std.proofs.Common.{inl, refl}
 use Rattle.wl_interface.specs.declared.interface.Interface.TheVariants.{XdgWmBase}
 use Rattle.wl_peer.specs.declared.refusals.ErrorCode.TheVariants.{DefunctSurfaces}
-use Rattle.wl_shell.specs.Kept.{kept_of}
+use Rattle.wl_xdg_state.specs.Kept.{kept_of}
 use Rattle.wl_plain.specs.Ask.{EndObject}
 use Rattle.wl_plain.specs.Desktop.{Resident}
 use Rattle.wl_owning.specs.Owning.{names_in}

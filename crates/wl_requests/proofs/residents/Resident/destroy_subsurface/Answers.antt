@@ -10,7 +10,7 @@ use Rattle.wl_peer.specs.Peer.{Peer, Queues, counted}
 use Rattle.wl_peer.specs.Told.{Said, id_deleted, said}
 use Rattle.wl_proto.specs.Messages.{says}
 use Rattle.wl_scene.specs.declared.owned.Owned.{Owned as Lent}
-use Rattle.wl_shell.specs.Kept.{kept_of}
+use Rattle.wl_xdg_state.specs.Kept.{kept_of}
 use Rattle.wl_state.specs.Kept.{buffer_of}
 use Rattle.wl_surface.specs.Surfaces.{Surfaces}
 use Rattle.wl_surface.specs.Trees.{unlinked}

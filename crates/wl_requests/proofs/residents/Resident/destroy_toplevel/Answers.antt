@@ -3,9 +3,9 @@ use Rattle.wl_plain.specs.Demand.{EndToplevel}
 use Rattle.wl_records.proofs.Toplevels.Releases.{ended-told}
 use Rattle.wl_without_popups.proofs.Served.{IsServedSo}
 use Rattle.wl_without_popups.specs.Simple.{changed_simply}
-use Rattle.wl_shell.specs.Shell.{XdgSurface as Xdg, xdg_with}
+use Rattle.wl_xdg_state.specs.Shell.{XdgSurface as Xdg, xdg_with}
 use Rattle.std.proofs.Common.{ℕ, Option, None, Some, true, inr, ap, refl}
-use Rattle.wl_shell.specs.Kept.{kept_of}
+use Rattle.wl_xdg_state.specs.Kept.{kept_of}
 use Rattle.wl_peer.specs.Peer.{counted}
 use Rattle.wl_owning.specs.Owning.{names_in, Names}
 use Rattle.wl_plain.specs.Step.{with_peer}

@@ -2,7 +2,7 @@ use Rattle.wl_proto.specs.declared.xdg_surface.XdgSurfaceRequest.TheVariants as 
 use Rattle.std.proofs.Common.{◌≡◌, ap, inr, subst, sym, ◌∙◌, refl}
 use Rattle.std.specs.Prelude.{Ok, None}
 use Rattle.wl_peer.specs.Peer.{counted}
-use Rattle.wl_shell.specs.Kept.{destruction_answer, kept_of}
+use Rattle.wl_xdg_state.specs.Kept.{destruction_answer, kept_of}
 use Rattle.wl_plain.specs.Ask.{DestroyXdgSurface}
 use Rattle.wl_owning.specs.Owning.{IsOwned, names_in, shell_refusal, with_xdg, Names}
 use Rattle.wl_plain.specs.Step.{changed_by, with_peer}

@@ -3,7 +3,7 @@ use Rattle.std.specs.Prelude.{Some}
 use Rattle.wl_interface.specs.declared.interface.Interface.TheVariants.{WlCallback}
 use Rattle.wl_peer.specs.Peer.{counted}
 use Rattle.wl_table.specs.declared.entry.Entry.{Entry}
-use Rattle.wl_shell.specs.Kept.{kept_of}
+use Rattle.wl_xdg_state.specs.Kept.{kept_of}
 use Rattle.wl_state.specs.Request.{Frame}
 use Rattle.wl_plain.specs.Demand.{AskFrame}
 use Rattle.wl_owning.specs.Owning.{names_in}

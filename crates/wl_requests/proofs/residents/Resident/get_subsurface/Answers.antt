@@ -12,7 +12,7 @@ use Rattle.wl_peer.specs.declared.refusals.Refusal.{Refusal}
 use Rattle.wl_plain.specs.Demand.{Demand, GetSubsurface}
 use Rattle.wl_plain.specs.Step.{with_peer}
 use Rattle.wl_plain.specs.WlSubsurface.{subsurface_made}
-use Rattle.wl_shell.specs.Kept.{kept_of}
+use Rattle.wl_xdg_state.specs.Kept.{kept_of}
 use Rattle.wl_surface.specs.Slots.{Numbered}
 use Rattle.wl_surface.specs.Waiting.{counted_at, frames_at}
 use Rattle.wl_surface.specs.declared.frames.Waiting.{Waiting}

@@ -3,7 +3,7 @@ use Rattle.std.proofs.Common.{◌≡◌, ap, refl, sym, ◌∙◌, List, subst}
 use Rattle.std.specs.Prelude.{Some}
 use Rattle.wl_interface.specs.declared.interface.Interface.TheVariants.{WlSurface, XdgToplevel}
 use Rattle.wl_peer.specs.Peer.{counted}
-use Rattle.wl_shell.specs.Kept.{kept_of, toplevel_answer}
+use Rattle.wl_xdg_state.specs.Kept.{kept_of, toplevel_answer}
 use Rattle.wl_plain.specs.Ask.{GetToplevel}
 use Rattle.wl_owning.specs.Owning.{names_in, shell_refusal, Names, targets_in}
 use Rattle.wl_owning.specs.Subsurfaces.{AreOfSurfaces}

@@ -2,8 +2,8 @@ use Rattle.std.proofs.Common.{ap, inl, refl, ◌∙◌}
 use Rattle.std.specs.Prelude.{Some, Err}
 use Rattle.wl_interface.specs.declared.interface.Interface.TheVariants.{XdgSurface}
 use Rattle.wl_peer.specs.Peer.{counted}
-use Rattle.wl_shell.specs.Kept.{kept_of, making_refused}
-use Rattle.wl_shell.specs.declared.error.ShellError.{ShellError}
+use Rattle.wl_xdg_state.specs.Kept.{kept_of, making_refused}
+use Rattle.wl_xdg_state.specs.declared.error.ShellError.{ShellError}
 use Rattle.wl_plain.specs.Ask.{GetXdgSurface}
 use Rattle.wl_owning.specs.Owning.{asks_unless, names_in, shell_refusal, Names}
 use Rattle.wl_plain.specs.Step.{changed_by, with_peer}

@@ -6,7 +6,7 @@ use Rattle.wl_owning.specs.Owning.{names_in}
 use Rattle.wl_owning.proofs.Keeping.OwningLinks.{owned-above}
 use Rattle.wl_plain.specs.WlSubsurface.{demand_by_link, placed_beside}
 use Rattle.wl_proto.specs.declared.wl_subsurface.WlSubsurfaceRequest.TheVariants as subsurface
-use Rattle.wl_shell.specs.Kept.{kept_of}
+use Rattle.wl_xdg_state.specs.Kept.{kept_of}
 use Rattle.wl_state.specs.Request.{PlaceAbove}
 use Rattle.wl_requests.proofs.Beside.{placed-kept}
 use Rattle.wl_requests.proofs.Linking.{link-of-child, no-link-of}

@@ -5,7 +5,7 @@ use Rattle.wl_client.specs.Agreement.{IsPeer}
 use Rattle.wl_owning.specs.Freed.{freed_of}
 use Rattle.wl_plain.specs.Desktop.{Resident}
 use Rattle.wl_plain.specs.Replies.{has_object}
-use Rattle.wl_shell.specs.Popups.{is_among}
+use Rattle.wl_xdg_state.specs.Popups.{is_among}
 use Rattle.wl_state.specs.Kept.{buffer_of}
 use Rattle.wl_requests.proofs.residents.Resident.released.Given as goal
 

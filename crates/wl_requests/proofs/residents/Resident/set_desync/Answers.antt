@@ -9,7 +9,7 @@ use Rattle.wl_peer.specs.declared.refusals.Refusal.{Refusal}
 use Rattle.wl_proto.specs.Messages.{says}
 use Rattle.wl_proto.specs.declared.wl_subsurface.WlSubsurfaceRequest.TheVariants.{SetDesync}
 use Rattle.wl_scene.specs.declared.owned.Owned.{Owned as Lent}
-use Rattle.wl_shell.specs.Kept.{kept_of}
+use Rattle.wl_xdg_state.specs.Kept.{kept_of}
 use Rattle.wl_state.specs.Kept.{buffer_of}
 use Rattle.wl_surface.specs.Trees.{desynchronised_in}
 use Rattle.wl_plain.specs.Changing.{mode_set}

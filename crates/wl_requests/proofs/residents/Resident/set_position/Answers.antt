@@ -5,7 +5,7 @@ use Rattle.wl_owning.proofs.Keeping.OwningLinks.{owned-moved}
 use Rattle.wl_peer.specs.Peer.{counted}
 use Rattle.wl_plain.specs.WlSubsurface.{demand_by_link}
 use Rattle.wl_proto.specs.declared.wl_subsurface.WlSubsurfaceRequest.TheVariants as subsurface
-use Rattle.wl_shell.specs.Kept.{kept_of}
+use Rattle.wl_xdg_state.specs.Kept.{kept_of}
 use Rattle.wl_state.specs.Request.{SetPosition}
 use Rattle.wl_requests.proofs.Linking.{link-of-child, no-link-of}
 use Rattle.wl_requests.proofs.Placing.{asked-so, ignored-so, lacked-so}

@@ -2,7 +2,7 @@ use Rattle.wl_proto.specs.declared.xdg_surface.XdgSurfaceRequest.TheVariants as 
 use Rattle.std.proofs.Common.{ap, inr, refl, subst, sym, true}
 use Rattle.wl_peer.specs.Peer.{counted}
 use Rattle.wl_state.specs.Request.{SetWindowGeometry}
-use Rattle.wl_shell.specs.Kept.{geometry_answer, kept_of}
+use Rattle.wl_xdg_state.specs.Kept.{geometry_answer, kept_of}
 use Rattle.wl_plain.specs.Ask.{AskSurface}
 use Rattle.wl_owning.specs.Owning.{IsOwned, Names, names_in, shell_refusal}
 use Rattle.wl_plain.specs.Step.{changed_by, with_peer}

@@ -1,8 +1,8 @@
 use Rattle.std.proofs.Common.{List, refl, subst, sym, ◌∙◌}
 use Rattle.wl_peer.specs.Peer.{Queues}
 use Rattle.wl_peer.specs.Told.{Said}
-use Rattle.wl_shell.specs.Kept.{kept_of}
-use Rattle.wl_shell.specs.Shell.{next_serial}
+use Rattle.wl_xdg_state.specs.Kept.{kept_of}
+use Rattle.wl_xdg_state.specs.Shell.{next_serial}
 use Rattle.wl_requests.specs.Residents.{drawn_by}
 use Rattle.wl_requests.proofs.Committing.{told-none, told-some, told-still}
 use Rattle.wl_requests.proofs.Shelling.{drawn}

@@ -12,7 +12,7 @@ use Rattle.wl_owning.specs.Owning.{names_in}
 use Rattle.wl_plain.specs.Step.{with_peer}
 use Rattle.wl_plain.specs.WlSubsurface.{refuses}
 use Rattle.wl_plain.specs.WlSurface.{buffer_named, region_named, transform_set}
-use Rattle.wl_shell.specs.Shell.{xdg_of}
+use Rattle.wl_xdg_state.specs.Shell.{xdg_of}
 use Rattle.wl_requests.specs.declared.residents.Resident.{Resident as Kept}
 use Rattle.wl_requests.specs.declared.residents.Stacking.TheVariants.{Stays}
 use Rattle.wl_requests.specs.Residents.{StacksSo}

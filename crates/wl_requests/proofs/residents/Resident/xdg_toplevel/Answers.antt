@@ -1,8 +1,8 @@
 use Rattle.std.proofs.Common.{◌≡◌, ℕ, Option, Some, subst, sym, ◌∙◌, ap}
 use Rattle.std.specs.Prelude.{Ok, Result}
 use Rattle.wl_peer.specs.declared.refusals.Refusal.{Refusal}
-use Rattle.wl_shell.specs.Kept.{kept_of}
-use Rattle.wl_shell.specs.Shell.{XdgSurface as Xdg, xdg_with}
+use Rattle.wl_xdg_state.specs.Kept.{kept_of}
+use Rattle.wl_xdg_state.specs.Shell.{XdgSurface as Xdg, xdg_with}
 use Rattle.wl_requests.specs.declared.residents.Stacking.TheVariants.{Out, Stays}
 use Rattle.wl_plain.specs.Ask.{Ignore}
 use Rattle.wl_plain.specs.Demanding.{toplevel_asked, toplevel_demand}

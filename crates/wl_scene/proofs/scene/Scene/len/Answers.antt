@@ -2,7 +2,7 @@ use Rattle.std.proofs.Common.{ap, sym, ◌∙◌, length}
 use Rattle.std.proofs.lemmas.List.{length-map}
 use Rattle.wl_scene.proofs.Lone.{windows-counted}
 use Rattle.wl_scene.proofs.scene.Scene.len.Goals as goal
-use Rattle.wl_scene.specs.Stacking.{standing_of}
+use Rattle.wl_scene.specs.Kept.{standing_of}
 
 pub returns-clause-windows : goal.returns-clause-windows
 returns-clause-windows g c = λ owned stands show.

@@ -2,7 +2,7 @@ use Rattle.std.proofs.Common.{rules, ◌≡◌, sym, ap, ◌∙◌, ◌++◌, �
 use Rattle.std.specs.List.{position, remove}
 use Rattle.wl_scene.proofs.Stacks.{is_at, nobody, raised-absent, raised-found, written-whole}
 use Rattle.wl_scene.proofs.scene.Scene.raise.Goals as goal
-use Rattle.wl_scene.specs.Stacking.{standing_of}
+use Rattle.wl_scene.specs.Kept.{standing_of}
 
 pub returns-in_default-clause-standing : goal.returns-in_default-clause-standing
 returns-in_default-clause-standing g c =

@@ -3,7 +3,7 @@ use Rattle.std.proofs.lemmas.Fn.{filter_same}
 use Rattle.std.specs.Prelude.{◌==◌, not}
 use Rattle.wl_scene.proofs.Stacks.{map-filter}
 use Rattle.wl_scene.proofs.scene.Scene.unmap_all.Goals as goal
-use Rattle.wl_scene.specs.Stacking.{standing_of}
+use Rattle.wl_scene.specs.Kept.{standing_of}
 
 pub returns-clause-standing : goal.returns-clause-standing
 returns-clause-standing g c =

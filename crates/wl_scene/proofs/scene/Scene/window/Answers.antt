@@ -5,7 +5,7 @@ use Rattle.std.specs.List.{slice_get}
 use Rattle.wl_scene.proofs.Lends.{shown-at}
 use Rattle.wl_scene.proofs.Lone.{windows-told}
 use Rattle.wl_scene.proofs.scene.Scene.window.Goals as goal
-use Rattle.wl_scene.specs.Stacking.{standing_of}
+use Rattle.wl_scene.specs.Kept.{standing_of}
 
 pub returns-clause-shown : goal.returns-clause-shown
 returns-clause-shown g c = λ owned stands.

@@ -1,0 +1,5 @@
+pub mod Laws
+pub mod Pointer
+pub mod PointerActions
+pub mod Stacking
+pub mod Windows

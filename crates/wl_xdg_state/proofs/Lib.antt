@@ -1,0 +1,5 @@
+pub mod Moves
+pub mod Rows
+pub mod Serials
+pub mod Standing
+pub mod Waiting

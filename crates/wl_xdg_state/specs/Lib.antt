@@ -1,0 +1,6 @@
+pub mod Kept
+pub mod Laws
+pub mod Moves
+pub mod Popups
+pub mod Positioner
+pub mod Shell
