@@ -73,8 +73,11 @@ abbrev pub applied_all : List Window → List PointerAction → Midstep → Mids
 applied_all windows [] m = m
 applied_all windows (action ∷ later) m = applied_all windows later (applied windows action m)
 
+abbrev pub acts_on : List Window → PointerInput → Midstep → Midstep
+acts_on windows input m = applied_all windows (actions input m.desktop.pointer windows) m
+
 abbrev pub acts : PointerInput → Midstep → Midstep
-acts input m = applied_all (all_windows m.desktop) (actions input m.desktop.pointer (all_windows m.desktop)) m
+acts input m = acts_on (all_windows m.desktop) input m
 
 -- ---- the focus is settled, and clients end
 

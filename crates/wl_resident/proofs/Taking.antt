@@ -25,7 +25,6 @@ use Rattle.wl_plain.specs.LeftOut.{served_now}
 use Rattle.wl_plain.specs.Replies.{releases, replies}
 use Rattle.wl_plain.specs.Stacked.{all_windows}
 use Rattle.wl_plain.specs.Step.{with_peer}
-use Rattle.wl_records.specs.Toplevels.{AreToplevels}
 use Rattle.wl_records.specs.Standing.{MappedStand, is_mapped}
 use Rattle.wl_requests.proofs.Framing.{no-more, told-requests}
 use Rattle.wl_requests.proofs.Simply.{counted-orderly}
