@@ -121,6 +121,7 @@ effect_placing where_to surface effect None r = r
 effect_placing where_to surface effect (Some x) r =
     drawing (is_configure effect) (xdg_changed x.id (with_effect r.peer.serial (asked_so_far surface r) where_to effect) r)
 
+-- a popup is placed where it is placed now
 abbrev pub effect_done : ℕ → ℕ → Effect → Option XdgSurface → Desktop → Resident → Resident
 effect_done c surface effect x d r = effect_placing (placement_now c r d) surface effect x r
 

@@ -13,41 +13,42 @@ use Rattle.wl_rows.proofs.Popups.{popped as placed}
 
 -- ---- a press beside all windows, while the popup has the focus and a button is down
 
-abbrev held : Desktop
-held = press 5 272 (sent 2 on_popup)
+-- each of a desktop where the pointer is on the popup
+abbrev held : Desktop → Desktop
+held d = press 5 272 (sent 2 d)
 
-pub row_held : unsent 2 held ≡ button 13 8 5 1
+pub row_held : unsent 2 (held on_popup) ≡ button 13 8 5 1
 unfolding tree applied_tree behaves_synchronised geometry_corner_at
 row_held = refl
 
-abbrev held_beside : Desktop
-held_beside = motion 6 (pos 50) (pos 5) (sent 2 held)
+abbrev held_beside : Desktop → Desktop
+held_beside d = motion 6 (pos 50) (pos 5) (sent 2 (held d))
 
-pub row_held_beside : unsent 2 held_beside ≡ event 13 2 20 (u32 6 ++ fixed 42 ++ 0 ∷ 253 ∷ 255 ∷ 255 ∷ [])
+pub row_held_beside : unsent 2 (held_beside on_popup) ≡ event 13 2 20 (u32 6 ++ fixed 42 ++ 0 ∷ 253 ∷ 255 ∷ 255 ∷ [])
 unfolding tree applied_tree behaves_synchronised geometry_corner_at
 row_held_beside = refl
 
 -- the popup is dismissed, its surface is told of the button, and is left
-abbrev held_pressed : Desktop
-held_pressed = press 7 273 (sent 2 held_beside)
+abbrev held_pressed : Desktop → Desktop
+held_pressed d = press 7 273 (sent 2 (held_beside d))
 
-pub row_held_pressed : unsent 2 held_pressed ≡ event 17 1 8 [] ++ event 13 3 24 (u32 9 ++ u32 7 ++ 17 ∷ 1 ∷ 0 ∷ 0 ∷ u32 1) ++ leave 13 10 14
+pub row_held_pressed : unsent 2 (held_pressed on_popup) ≡ event 17 1 8 [] ++ event 13 3 24 (u32 9 ++ u32 7 ++ 17 ∷ 1 ∷ 0 ∷ 0 ∷ u32 1) ++ leave 13 10 14
 unfolding tree applied_tree behaves_synchronised geometry_corner_at
 row_held_pressed = refl
 
-pub row_held_pressed-other : unsent 1 held_pressed ≡ []
+pub row_held_pressed-other : unsent 1 (held_pressed on_popup) ≡ []
 unfolding tree applied_tree behaves_synchronised geometry_corner_at
 row_held_pressed-other = refl
 
 -- then nothing has the focus until the last release
-abbrev held_released : Desktop
-held_released = release 9 272 (motion 8 (pos 45) (pos 45) (sent 2 held_pressed))
+abbrev held_released : Desktop → Desktop
+held_released d = release 9 272 (motion 8 (pos 45) (pos 45) (sent 2 (held_pressed d)))
 
-pub row_held_released : unsent 2 held_released ≡ []
+pub row_held_released : unsent 2 (held_released on_popup) ≡ []
 unfolding tree applied_tree behaves_synchronised geometry_corner_at
 row_held_released = refl
 
-pub row_held_released-last : unsent 2 (release 10 273 held_released) ≡ enter 13 11 6 13 13
+pub row_held_released-last : unsent 2 (release 10 273 (held_released on_popup)) ≡ enter 13 11 6 13 13
 unfolding tree applied_tree behaves_synchronised geometry_corner_at
 row_held_released-last = refl
 
