@@ -44,7 +44,8 @@ use Rattle.wl_records.proofs.Keeping.OwningXdg.{has_surface}
 use Rattle.wl_records.proofs.Keeping.StandingClients.{IsFound, left-else, left-none, stepped-else, stepped-here}
 use Rattle.wl_without_popups.specs.Simple.{changed_simply, effect_on, stacked_on, stacked_simply}
 use Rattle.wl_without_popups.proofs.Simple.{effect-toplevel}
-use Rattle.wl_mapped.proofs.Fitting.{AllFit, Fits, FitsAt, acknowledging-as, all-but, all-same, fit-of, fits-bare, fits-idle, fits-mapped, in-stage, known, known_at, mapped-of, new-as, popup-stage, stepped-as}
+use Rattle.wl_mapped.proofs.Fitting.{AllFit, Fits, FitsAt, acknowledging-as, all-but, all-same, fit-of, fits-bare, fits-idle, fits-mapped, in-stage, known, known_at, mapped-of, new-as, popup-stage}
+use Rattle.wl_mapped.proofs.Fitting.{stepped-as}
 use Rattle.wl_mapped.proofs.Found.{bare-at, found-so, top-with}
 use Rattle.wl_mapped.proofs.Roots.{ShowAsBefore, all-show, committed-else, committed-here, destroyed-show, made-show, mode-shows, role-shows, unlinked-shows}
 use Rattle.wl_mapped.proofs.Turned.{demand-turned}

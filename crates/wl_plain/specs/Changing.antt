@@ -18,7 +18,8 @@ use Rattle.wl_surface.specs.Waiting.{Callback}
 use Rattle.wl_xdg_state.specs.Popups.{dismissing, is_parent_of, is_toplevel, new_popup, orphaning, parent_allows, parent_of, popup_at}
 use Rattle.wl_xdg_state.specs.Popups.{popup_changed, popups_of, with_effect, with_grab}
 use Rattle.wl_xdg_state.specs.Positioner.{Placed, Positioner, first_positioner, place}
-use Rattle.wl_xdg_state.specs.Shell.{Effect, Configures, Maps, Unmaps, Popup, XdgSurface, next_serial, with_change, without_role, xdg_at, xdg_of}
+use Rattle.wl_xdg_state.specs.Shell.{Effect, Configures, Maps, Unmaps, Popup, XdgSurface, next_serial, with_change, without_role, xdg_at}
+use Rattle.wl_xdg_state.specs.Shell.{xdg_of}
 use Rattle.wl_stacking.specs.Pointer.{Pointer, Target}
 use Rattle.wl_stacking.specs.Stacking.{Standing, is_of, with_mapped, without_surface_of}
 use Rattle.wl_stacking.specs.Windows.{Place, Window}

@@ -15,7 +15,8 @@ use Rattle.wl_peer.specs.Judgement.{action_of, judged_at}
 use Rattle.wl_peer.specs.Peer.{known_of}
 use Rattle.wl_state.specs.Request.{Attach, Damage, SetOpaqueRegion, SetInputRegion}
 use Rattle.wl_xdg_state.specs.Popups.{Popped, popped_of}
-use Rattle.wl_xdg_state.specs.Shell.{Effect, Stays, Unconfigured, Configures, XdgSurface as Xdg, is_full, on_commit, stage_of, xdg_at, xdg_of}
+use Rattle.wl_xdg_state.specs.Shell.{Effect, Stays, Unconfigured, Configures, XdgSurface as Xdg, is_full, on_commit, stage_of, xdg_at}
+use Rattle.wl_xdg_state.specs.Shell.{xdg_of}
 use Rattle.wl_xdg_state.specs.Shell.{xdg_with}
 use Rattle.wl_plain.specs.Ask.{Ask, AskSurface, Ignore, owns}
 use Rattle.wl_plain.specs.Demand.{Demand, Asks, EndSurface, AskFrame, CommitTree, CreatePositioner, EndToplevel, Move}

@@ -5,7 +5,8 @@ use Rattle.std.specs.Option.{option_map, option_map_or}
 use Rattle.wl_peer.specs.Told.{Said}
 use Rattle.wl_xdg_state.specs.Popups.{is_parent_of, is_toplevel, is_toplevel_kind, orphan, orphaning, placing, popup_changed, with_effect}
 use Rattle.wl_xdg_state.specs.Positioner.{Placed}
-use Rattle.wl_xdg_state.specs.Shell.{Effect, Stays, Unconfigured, Configures, Maps, Unmaps, Waiting, Kind, Toplevel, IsPopup, Popup, RoleObject, Shell, XdgSurface as Xdg, configuring, in_stage, on_commit, stage_of}
+use Rattle.wl_xdg_state.specs.Shell.{Effect, Stays, Unconfigured, Configures, Maps, Unmaps, Waiting, Kind, Toplevel, IsPopup, Popup, RoleObject, Shell, XdgSurface as Xdg, configuring, in_stage}
+use Rattle.wl_xdg_state.specs.Shell.{on_commit, stage_of}
 use Rattle.wl_xdg_state.specs.Shell.{with_change, without_role, xdg_of}
 use Rattle.wl_xdg_state.proofs.Standing.{popup-still as popup-still-there}
 use Rattle.wl_stacking.specs.Pointer.{first_pointer}

@@ -10,7 +10,8 @@ use Rattle.wl_peer.specs.Peer.{Errs, LacksMemory, Peer, Queues, counted, with_re
 use Rattle.wl_peer.specs.Told.{Said, display_error, id_deleted}
 use Rattle.wl_xdg_state.specs.Shell.{Effect, Configures, Maps, Unmaps, XdgSurface as Xdg, without_role, xdg_of}
 use Rattle.wl_stacking.specs.Stacking.{with_mapped, without_surface_of}
-use Rattle.wl_plain.specs.Changing.{callbacks_of, effect_placing, frame_asked, mode_set, subsurface_ended, subsurface_given, surface_ended, tree_committed}
+use Rattle.wl_plain.specs.Changing.{callbacks_of, effect_placing, frame_asked, mode_set, subsurface_ended, subsurface_given, surface_ended}
+use Rattle.wl_plain.specs.Changing.{tree_committed}
 use Rattle.wl_plain.specs.Demand.{Demand, Asks, EndSurface, AskFrame, CommitTree, GetSubsurface, EndSubsurface, SetMode, GetPointer}
 use Rattle.wl_plain.specs.Demand.{MakeCursor, CreatePositioner, EndPositioner, SetPositioner, GetPopup, Grab, EndPopup, EndToplevel}
 use Rattle.wl_plain.specs.Demanding.{effect_of_commit, judge_all}
@@ -54,7 +55,8 @@ abbrev pub changed_simply : Demand → Resident → Resident
 changed_simply (Asks ask) r = changed_by ask r
 changed_simply (EndSurface id) r = surface_ended id r
 changed_simply (AskFrame id version surface) r = frame_asked id version surface r
-changed_simply (CommitTree surface) r = effect_on surface (effect_of_commit r surface) (xdg_of surface r.owned.shell) (tree_committed surface r)
+changed_simply (CommitTree surface) r =
+    effect_on surface (effect_of_commit r surface) (xdg_of surface r.owned.shell) (tree_committed surface r)
 changed_simply (GetSubsurface id version child parent) r = subsurface_given id version child parent r
 changed_simply (EndSubsurface id) r = subsurface_ended id r
 changed_simply (SetMode link synchronised) r = mode_set link synchronised r

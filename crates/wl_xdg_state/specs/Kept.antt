@@ -165,8 +165,8 @@ kept_configured false serial k = k
 
 -- ---- what it stands for
 
--- What is kept stands for an xdg_surface whose surface has this history. Its role object, if it has one, is a toplevel. A window geometry can
--- be asked, and counts, only while there is a role object; without one nothing is said of it.
+-- What is kept stands for an xdg_surface whose surface has this history. Its role object, if it has one, is a toplevel. A window geometry
+-- can be asked, and counts, only while there is a role object; without one nothing is said of it.
 pub record Stands (k : Kept) (x : XdgSurface) (h : History) : Type 0 where
   pub id : k.id ≡ x.id
   pub base : k.base ≡ x.base

@@ -5,7 +5,8 @@ use Rattle.wl_state.specs.Request.{Buffer, Member, Itself, Child}
 use Rattle.wl_state.specs.State.{History, applied, counting, height_of, order, position, width_of}
 use Rattle.wl_surface.specs.Surfaces.{Link, history_in, link_at}
 use Rattle.wl_stacking.specs.Stacking.{Owned, root_of}
-use Rattle.wl_stacking.specs.Windows.{Owner, Place, Root, StackedPopup, Window, child_windows, corner_at, member_windows, owner_of, roots_of, shown_windows, surface_windows, tree, window_with, windows}
+use Rattle.wl_stacking.specs.Windows.{Owner, Place, Root, StackedPopup, Window, child_windows, corner_at, member_windows, owner_of, roots_of, shown_windows, surface_windows, tree, window_with}
+use Rattle.wl_stacking.specs.Windows.{windows}
 use Rattle.wl_stacking.specs.Windows.{windows_of}
 use Rattle.wl_plain.specs.Desktop.{Desktop, owned_in}
 use Rattle.wl_plain.specs.Popups.{stacked_popups}

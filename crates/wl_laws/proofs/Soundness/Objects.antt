@@ -36,7 +36,8 @@ use Rattle.wl_laws.proofs.Soundness.ObjectsHas.{Has, HasOf, has-made, has-of, ha
 use Rattle.wl_laws.proofs.Soundness.ObjectsKeys.{free-none, none-of-gone, objects-map}
 use Rattle.wl_laws.proofs.Soundness.ObjectsNew.{has-callback-more, has-object, has-object-gone, has-popup-more, has-subsurface-gone, has-subsurface-more, has-toplevel-more, has-xdg-gone, has-xdg-more}
 use Rattle.wl_laws.proofs.Soundness.ObjectsRoles.{has-popup-gone, has-toplevel-gone, only-mapped, only-popup, only-toplevel}
-use Rattle.wl_laws.proofs.Soundness.ObjectsShell.{BringsNoId, has-mapped, no-id-acknowledged, no-id-change, no-id-configured, no-id-dismissed, no-id-itself, no-id-popup, no-id-stage, no-id-then, no-id-unmapped}
+use Rattle.wl_laws.proofs.Soundness.ObjectsShell.{BringsNoId, has-mapped, no-id-acknowledged, no-id-change, no-id-configured, no-id-dismissed, no-id-itself, no-id-popup, no-id-stage, no-id-then}
+use Rattle.wl_laws.proofs.Soundness.ObjectsShell.{no-id-unmapped}
 use Rattle.wl_laws.proofs.Soundness.ObjectsThere.{There, there-changed, there-committed, there-desynchronised, there-destroyed, there-linked, there-more, there-new, there-unlinked}
 use Rattle.wl_laws.proofs.Lists.Keys.{differ}
 

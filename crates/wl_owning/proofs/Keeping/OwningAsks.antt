@@ -14,7 +14,8 @@ use Rattle.wl_shell.specs.Agreement.{with_history}
 use Rattle.wl_xdg_state.specs.Kept.{Kept, Stands, changing, commit_answer, effect_answer, first_kept, kept_acknowledging, kept_after, kept_asking, kept_configuring, kept_toplevel, kept_without_role}
 use Rattle.wl_xdg_state.specs.Kept.{stage_in, with_kept}
 use Rattle.wl_xdg_state.specs.Laws.{one_more}
-use Rattle.wl_xdg_state.specs.Shell.{Effect, Stays, Unconfigured, Configures, Maps, Unmaps, Fresh, Waiting, Mapped, Popup, RoleObject, Shell, XdgSurface, acknowledging, at_stage, configuring, in_stage, is_full}
+use Rattle.wl_xdg_state.specs.Shell.{Effect, Stays, Unconfigured, Configures, Maps, Unmaps, Fresh, Waiting, Mapped, Popup, RoleObject, Shell, XdgSurface, acknowledging, at_stage, configuring}
+use Rattle.wl_xdg_state.specs.Shell.{in_stage, is_full}
 use Rattle.wl_xdg_state.specs.Shell.{is_role, new_toplevel, on_commit, role_acknowledged, stage_of, unmapping, with_change, without_role, xdg_of}
 use Rattle.wl_xdg_state.specs.Popups.{placing, popup_changed, with_effect, with_popup_role, without_grab}
 use Rattle.wl_xdg_state.specs.Positioner.{Placed}
@@ -249,9 +250,11 @@ module _ (names : Names) (slots : Slots) (tied : Tied) (kept : ℕ → Option Ke
         ap (λ (g : Option History). option_map_or (λ (h : History). length h.requests) g 0) (sym (histories x.surface has))
         ∙ ap (λ b. option_map_or (λ (h : History). length h.requests) (cond b (Some now) (history_in x.surface r.owned.surfaces)) 0) (eq-eqb x.surface x.surface refl) in
         let stands : Stands (kept_after r.peer.serial act k) (with_effect r.peer.serial (asked_so_far x.surface then) (λ popup. None) effect x) now =
-        subst (λ n. Stands (kept_after r.peer.serial act k) (with_effect r.peer.serial n (λ popup. None) effect x) now) (sym since) (changes_stand.commit shows r.peer.serial (λ popup. None) act k x h answer one.stands) in
+        subst (λ n. Stands (kept_after r.peer.serial act k) (with_effect r.peer.serial n (λ popup. None) effect x) now) (sym since)
+        (changes_stand.commit shows r.peer.serial (λ popup. None) act k x h answer one.stands) in
         subst (λ (o : Owned). IsOwned names new tying (changing number (kept_after r.peer.serial act) kept) o) (sym (effect-owned x.surface effect x then))
-        (IsOwned-stepped names slots tied kept r.owned is number k x h one (kept_after r.peer.serial act) (with_effect r.peer.serial (asked_so_far x.surface then) (λ popup. None) effect) now new tying all
+        (IsOwned-stepped names slots tied kept r.owned is number k x h one (kept_after r.peer.serial act)
+        (with_effect r.peer.serial (asked_so_far x.surface then) (λ popup. None) effect) now new tying all
         (effect-keeps r.peer.serial (asked_so_far x.surface then) (λ popup. None) effect)
         (AreKept-then names.surfaces slots tied r.owned.surfaces is.surfaces new tying all (ids-committed x.surface r.owned.surfaces)
         (committed-by names.surfaces slots tied r.owned.surfaces is.surfaces x.surface number one.surface new tying makes))
