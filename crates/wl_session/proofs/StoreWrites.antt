@@ -88,23 +88,24 @@ same-buffer before after w v f same s t =
     ap (value-in w.buffer) buffers
 
 abbrev point_at : Window → ℤ → ℤ → ℕ × ℕ
-point_at w x y = buffer_point (transform_of w.transform) w.width w.height (unsigned_abs (x -ℤ w.corner.x)) (unsigned_abs (y -ℤ w.corner.y))
+point_at w x y = scaled w.scale (buffer_point (transform_of w.transform) w.width w.height (unsigned_abs (x -ℤ w.corner.x)) (unsigned_abs (y -ℤ w.corner.y)))
 
 bytes-same : (w : Window) (r : Option Resident) → bytes_now w r ≡ bytes_by w.buffer.store r
 bytes-same w None = refl
 bytes-same w (Some r) = refl
 
-points-same : (x y : ℤ) (t t' width width' height height' : ℕ) (cx cx' cy cy' : ℤ) → t ≡ t' → width ≡ width' → height ≡ height' → cx ≡ cx' → cy ≡ cy'
-    → buffer_point (transform_of t) width height (unsigned_abs (x -ℤ cx)) (unsigned_abs (y -ℤ cy)) ≡ buffer_point (transform_of t') width' height' (unsigned_abs (x -ℤ cx')) (unsigned_abs (y -ℤ cy'))
-points-same x y t t' width width' height height' cx cx' cy cy' a b c d e = rw (a, b, c, d, e) refl
+points-same : (x y : ℤ) (s s' t t' width width' height height' : ℕ) (cx cx' cy cy' : ℤ) → s ≡ s' → t ≡ t' → width ≡ width' → height ≡ height' → cx ≡ cx' → cy ≡ cy'
+    → scaled s (buffer_point (transform_of t) width height (unsigned_abs (x -ℤ cx)) (unsigned_abs (y -ℤ cy)))
+    ≡ scaled s' (buffer_point (transform_of t') width' height' (unsigned_abs (x -ℤ cx')) (unsigned_abs (y -ℤ cy')))
+points-same x y s s' t t' width width' height height' cx cx' cy cy' z a b c d e = rw (z, a, b, c, d, e) refl
 
 color-is : (d : Desktop) (w v : Window) (x y : ℤ) → Fields w v → w.buffer ≡ v.buffer → color_in d w x y ≡ pixel_at (bytes_in d v.owner.client v.buffer.store) v.buffer (point_at v x y)
 color-is d w v x y f b =
     ap (λ (bytes : List ℕ). pixel_at bytes w.buffer (point_at w x y)) (bytes-same w (client_at w.owner.client d))
     ∙ ap (λ c. pixel_at (bytes_in d c w.buffer.store) w.buffer (point_at w x y)) f.client
     ∙ ap (λ (a : Buffer). pixel_at (bytes_in d v.owner.client a.store) a (point_at w x y)) b
-    ∙ ap (λ (p : ℕ × ℕ). pixel_at (bytes_in d v.owner.client v.buffer.store) v.buffer p) (points-same x y w.transform v.transform w.width v.width w.height v.height w.corner.x v.corner.x w.corner.y
-    v.corner.y f.transform f.width f.height f.x f.y)
+    ∙ ap (λ (p : ℕ × ℕ). pixel_at (bytes_in d v.owner.client v.buffer.store) v.buffer p) (points-same x y w.scale v.scale w.transform v.transform w.width v.width w.height v.height w.corner.x v.corner.x w.corner.y
+    v.corner.y f.scale f.transform f.width f.height f.x f.y)
 
 -- ---- a busy buffer keeps its colours
 
@@ -142,7 +143,7 @@ not-rewritten false b same e f g = absurd (differ f)
 not-rewritten true false same e f g = absurd (differ g)
 
 self : (v : Window) → Fields v v
-self v = record { client = refl; surface = refl; x = refl; y = refl; width = refl; height = refl; transform = refl }
+self v = record { client = refl; surface = refl; x = refl; y = refl; width = refl; height = refl; transform = refl; scale = refl }
 
 nothing-shown : (v : Window) (o : Owned) (h : History) → o ≡ nothing_owned → history_in v.surface o.surfaces ≡ Some h → ⊥
 nothing-shown v o h e f = none (subst (λ (a : Owned). history_in v.surface a.surfaces ≡ Some h) e f) where
