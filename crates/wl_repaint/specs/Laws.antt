@@ -9,8 +9,8 @@ use Rattle.wl_tree_marks.specs.Laws.{AreUndamaged, among, has_root, is_in_any, i
 use Rattle.wl_windows.specs.Windows.{told_of}
 use Rattle.wl_repaint.specs.Repaint.{marks, same_windows}
 
--- The windows `was` and `is` are of the tree with this root of this client, each transform is a number of wl_output.transform, and no buffer
--- is scaled.
+-- The windows `was` and `is` are of the tree with this root of this client, each transform is a number of wl_output.transform, and none of
+-- their buffers is scaled.
 pub record AreOfTree (client root : ℕ) (was is : List Window) : Type 0 where
   pub rooted : list_all (has_root client root) (was ++ is) ≡ true
   pub numbered : list_all (λ w. nat_lt w.transform 8) (was ++ is) ≡ true

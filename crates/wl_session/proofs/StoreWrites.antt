@@ -108,8 +108,8 @@ color-is d w v x y f b =
     ap (λ (bytes : List ℕ). pixel_at bytes w.buffer (point_at w x y)) (bytes-same w (client_at w.owner.client d))
     ∙ ap (λ c. pixel_at (bytes_in d c w.buffer.store) w.buffer (point_at w x y)) f.client
     ∙ ap (λ (a : Buffer). pixel_at (bytes_in d v.owner.client a.store) a (point_at w x y)) b
-    ∙ ap (λ (p : ℕ × ℕ). pixel_at (bytes_in d v.owner.client v.buffer.store) v.buffer p) (points-same x y w.scale v.scale w.transform v.transform w.width v.width w.height v.height w.corner.x v.corner.x w.corner.y
-    v.corner.y f.scale f.transform f.width f.height f.x f.y)
+    ∙ ap (λ (p : ℕ × ℕ). pixel_at (bytes_in d v.owner.client v.buffer.store) v.buffer p) (points-same x y w.scale v.scale w.transform v.transform w.width v.width w.height v.height
+    w.corner.x v.corner.x w.corner.y v.corner.y f.scale f.transform f.width f.height f.x f.y)
 
 -- ---- a busy buffer keeps its colours
 

@@ -24,8 +24,8 @@ pub record Owner : Type 0 where
   pub root : ℕ
   pub toplevel : ℕ
 
--- A window: a surface with the buffer that it shows, where its upper left corner stands in the output, its size, both in surface coordinates,
--- the transform and the scale of its buffer, and its applied regions.
+-- A window: a surface with the buffer that it shows, where its upper left corner stands in the output, its size in surface coordinates, the
+-- transform and the scale of its buffer, and its applied regions.
 pub record Window : Type 0 where
   pub owner : Owner
   pub surface : ℕ
