@@ -14,15 +14,16 @@ use Rattle.wl_state.specs.Kept.{Kept, Stands, buffer_of, counting_of}
 use Rattle.wl_state.specs.Request.{Buffer}
 use Rattle.wl_state.specs.State.{History, Values, applied}
 use Rattle.wl_state.specs.declared.content.Attached.{Attached}
+use Rattle.wl_state.proofs.Scales.{applied-unscaled}
 use Rattle.wl_client.specs.View.{ClientView}
 use Rattle.wl_paint.specs.Window.{Window as Lent, color_in as color-lent, in_window, is_said_opaque}
 use Rattle.wl_stacking.specs.Windows.{Owner, Place, Window, contains, window_showing}
 use Rattle.wl_windows.specs.declared.window.TreeWindow.{TreeWindow}
 use Rattle.wl_plain.specs.Desktop.{Desktop, Resident, client_at}
-use Rattle.wl_plain.specs.Scratch.{color_in, pixel_at}
+use Rattle.wl_plain.specs.Scratch.{bytes_now, color_in, pixel_at}
 use Rattle.wl_lending.specs.Lent.{picture_shown, window_kept}
 use Rattle.wl_lending.proofs.Colors.{has-bytes, no_color}
-use Rattle.wl_lending.proofs.Over.{buffer-in, bytes_from, bytes_or, lent_as, lent_window, now-from, point, shown-from, window}
+use Rattle.wl_lending.proofs.Over.{buffer-in, bytes_from, bytes_or, lent_as, lent_window, now-from, point, scaled-one, shown-from, shows-unscaled, window}
 use Rattle.wl_lending.proofs.Truth.{and-both, and-left, and-right, differ}
 
 abbrev pub IsSo : Desktop → ℤ → ℤ → Window → Type 0
@@ -88,16 +89,20 @@ module _ (x y : ℤ) (owner : Owner) (surface : ℕ) (corner : Place) (t : ℕ) 
 
 module _ (x y : ℤ) (d : Desktop) (client : Option ClientView) (owner : Owner) (surface : ℕ) (same : option_map (λ (v : ClientView). v.stores) client ≡ option_map (λ (r : Resident). r.peer.stores)
     (client_at owner.client d)) where
-  said-there : (corner : Place) (v : Values) (area : Area) (o : Option Attached) (b : Buffer) → option_map buffer_of o ≡ Some b → Covers area.rects v.opaque
+  said-there : (corner : Place) (v : Values) (area : Area) (o : Option Attached) (b : Buffer) → v.scale ≡ 1 → option_map buffer_of o ≡ Some b → Covers area.rects v.opaque
       → IsSo d x y (window_showing owner surface corner v b) → IsLentSo x y (lent_window corner area (picture_shown client (transform_of v.transform) o))
-  said-there corner v area None b e covers so = absurd (cc)
-  said-there corner v area (Some a) b e covers so =
+  said-there corner v area None b plain e covers so = absurd (cc)
+  said-there corner v area (Some a) b plain e covers so =
       let one : buffer_of a ≡ b = ap (buffer-in b) e in
       let of-a : IsSo d x y (window_showing owner surface corner v (buffer_of a)) = subst (λ (c : Buffer). IsSo d x y (window_showing owner surface corner v c)) (sym one) so in
+      let unscaled : IsSo d x y (window x y owner surface corner v.transform a area v.opaque v.input) = subst (IsSo d x y) (shows-unscaled owner surface corner v a plain) of-a in
+      let at-point = subst (λ (p : ℕ × ℕ). IsSoOf x y owner surface corner v.transform a area v.opaque v.input covers
+      (pixel_at (bytes_now (window x y owner surface corner v.transform a area v.opaque v.input) (client_at owner.client d)) (buffer_of a) p))
+      (scaled-one (point x y owner surface corner v.transform a area v.opaque v.input)) unscaled in
       let read = now-from (window x y owner surface corner v.transform a area v.opaque v.input) (client_at owner.client d) ∙ ap (λ (o : Option Stock). bytes_or (bytes_from a.store o))
       (sym same) in
       let so-read = subst (λ (bytes : List ℕ). IsSoOf x y owner surface corner v.transform a area v.opaque v.input covers
-      (pixel_at bytes (buffer_of a) (point x y owner surface corner v.transform a area v.opaque v.input))) read of-a in
+      (pixel_at bytes (buffer_of a) (point x y owner surface corner v.transform a area v.opaque v.input))) read at-point in
       subst (λ (p : Option Shown). IsLentSo x y (lent_window corner area p)) (sym (shown-from client (transform_of v.transform) a))
       (said-lent x y owner surface corner v.transform a area v.opaque v.input covers (bytes_from a.store (option_map (λ (v : ClientView). v.stores) client)) so-read)
 
@@ -105,4 +110,4 @@ module _ (x y : ℤ) (d : Desktop) (client : Option ClientView) (owner : Owner) 
       → IsSo d x y (window_showing owner surface corner (applied h) b) → IsLentSo x y (window_kept client nowhere told (Some (counting_of k)))
   said-kept nowhere told corner k h b at-x at-y is there so =
       rw (is.current.transform_is, at-x, at-y)
-      (said-there corner (applied h) k.current_opaque k.current_buffer b (is.current.buffer_is ∙ there) is.current.opaque_is.covered so)
+      (said-there corner (applied h) k.current_opaque k.current_buffer b (applied-unscaled h) (is.current.buffer_is ∙ there) is.current.opaque_is.covered so)

@@ -8,7 +8,8 @@ use Rattle.std.proofs.lemmas.List.Folds.{list_any-append}
 use Rattle.wl_surface.specs.Surfaces.{Surfaces}
 use Rattle.wl_surface.specs.Trees.{descends_from, levels, link_of}
 use Rattle.wl_stacking.specs.Stacking.{Standing, is_of, windows_on, with_mapped, without_surface_of}
-use Rattle.wl_stacking.specs.Windows.{Window, mapping_place}
+use Rattle.wl_stacking.specs.Windows.{AreUnscaled, Window, mapping_place}
+use Rattle.wl_stacking.proofs.Scales.{tree-unscaled, unscaled-append}
 use Rattle.wl_plain.specs.Desktop.{Desktop, owned_in}
 use Rattle.wl_plain.specs.Marks.{AreDistinct}
 use Rattle.wl_plain.specs.Moments.{applied_between}
@@ -51,6 +52,11 @@ own-turned all turned (Some s) =
     each-map (IsShown (standing_owner s) all) (λ w. nat_lt w.transform 8 ≡ true)
     (λ w is. ap (λ n. nat_lt n 8) is.transform ∙ applied-turned is.history (turned w.surface is.history is.here))
     (windows_in all s) (tree-shown (standing_owner s) all 17 s.surface s.place)
+
+-- and no buffer is scaled
+own-unscaled : (all : Surfaces) (o : Option Standing) → AreUnscaled (windows_if all o)
+own-unscaled all None = refl
+own-unscaled all (Some s) = tree-unscaled (standing_owner s) all 17 s.surface s.place
 
 -- those of the toplevels of other surfaces have other roots
 other-root : (c root : ℕ) (d : Desktop) (ss : List Standing) → list_any (is_of c root) ss ≡ false → list_any (has_root c root) (windows_on (owned_in d) ss) ≡ false
@@ -135,6 +141,7 @@ module _ (toplevels : WindowsAreToplevels) (no-standing : NoStandingChanges) (di
                 all-each (λ w. nat_lt w.transform 8) (windows_if all o ++ windows_if (owned_in e c).surfaces p)
                 (each-append (λ w. nat_lt w.transform 8 ≡ true) (windows_if all o) (windows_if (owned_in e c).surfaces p)
                 (own-turned all (had.mapped.each c).turned o) (own-turned (owned_in e c).surfaces (has.mapped.each c).turned p));
+            unscaled = unscaled-append (windows_if all o) (windows_if (owned_in e c).surfaces p) (own-unscaled all o) (own-unscaled (owned_in e c).surfaces p);
           };
           apart =
               none-append (has_root c root) (windows_on (owned_in d) below) (windows_on (owned_in d) above) (other-root c root d below no_lower)

@@ -11,12 +11,12 @@ int_eq a b = int_le a b && int_le b a
 abbrev pub is_same_surface : Window → Window → Bool
 is_same_surface w v = (w.owner.client == v.owner.client) && (w.surface == v.surface)
 
--- The record of a window: its surface, corner, size and transform.
+-- The record of a window: its surface, corner, size, transform and scale.
 abbrev pub has_same_record : Window → Window → Bool
 has_same_record w v =
     is_same_surface w v
     && ((int_eq w.corner.x v.corner.x && int_eq w.corner.y v.corner.y)
-    && ((w.width == v.width && w.height == v.height) && (w.transform == v.transform)))
+    && ((w.width == v.width && w.height == v.height) && (w.transform == v.transform && w.scale == v.scale)))
 
 -- the window is among these, with the same record
 abbrev pub is_kept_in : List Window → Window → Bool

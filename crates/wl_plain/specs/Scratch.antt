@@ -32,11 +32,16 @@ pixel_at bytes b point =
     }
     else record { a = 0; r = 0; g = 0; b = 0 }
 
+-- a point of a buffer of that scale: both coordinates times the scale (wayland.xml, wl_surface.set_buffer_scale)
+abbrev pub scaled : ℕ → ℕ × ℕ → ℕ × ℕ
+scaled scale point = (point.0 * scale, point.1 * scale)
+
 -- a window's colour at a point of the output that it contains
 abbrev pub color_in : Desktop → Window → ℤ → ℤ → Argb
 color_in d w x y =
     pixel_at (bytes_now w (client_at w.owner.client d)) w.buffer
-    (buffer_point (transform_of w.transform) w.width w.height (unsigned_abs (x -ℤ w.corner.x)) (unsigned_abs (y -ℤ w.corner.y)))
+    (scaled w.scale
+    (buffer_point (transform_of w.transform) w.width w.height (unsigned_abs (x -ℤ w.corner.x)) (unsigned_abs (y -ℤ w.corner.y))))
 
 abbrev pub over : Desktop → ℤ → ℤ → Rgb → Window → Rgb
 over d x y under w = cond (contains w x y) (blended under (color_in d w x y)) under

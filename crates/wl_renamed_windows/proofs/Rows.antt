@@ -81,6 +81,7 @@ window id =
       width = 8;
       height = 8;
       transform = 0;
+      scale = 1;
       buffer = buffer;
       opaque = [];
       input = None;

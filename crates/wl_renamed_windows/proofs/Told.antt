@@ -41,12 +41,13 @@ module _ (f : ℕ → ℕ) where
   called-tree client root was is of-tree = record {
     rooted = called-all (has_root client root) was is ∙ of-tree.rooted;
     numbered = called-all (λ w. nat_lt w.transform 8) was is ∙ of-tree.numbered;
+    unscaled = called-all (λ w. w.scale == 1) was is ∙ of-tree.unscaled;
   }
 
   same-record : (w v : Window) → (f w.surface == f v.surface) ≡ (w.surface == v.surface) → has_same_record (called w) (called v) ≡ has_same_record w v
   same-record w v e =
       ap (λ b. ((w.owner.client == v.owner.client) && b) && ((int_eq w.corner.x v.corner.x && int_eq w.corner.y v.corner.y)
-      && ((w.width == v.width && w.height == v.height) && (w.transform == v.transform)))) e
+      && ((w.width == v.width && w.height == v.height) && (w.transform == v.transform && w.scale == v.scale)))) e
 
   first : (w : Window) (ws : List Window) → has_window w.surface (w ∷ ws) ≡ true
   first w ws = or_left (w.surface == w.surface) (has_window w.surface ws) (eq-eqb w.surface w.surface refl)

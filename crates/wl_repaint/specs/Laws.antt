@@ -2,17 +2,19 @@
 use Rattle.std.specs.Prelude.{ℕ, ℤ, ◌≡◌, pos, ◌==◌, nat_lt, ◌&&◌, ◌||◌, true, false, if◌then◌else◌, Option, List, ◌++◌, map}
 use Rattle.std.specs.List.{All, list_all, list_any}
 use Rattle.wl_plain.specs.Marks.{Applied, AreDistinct, at_least, at_most, in_output, same_records}
-use Rattle.wl_stacking.specs.Windows.{Window}
+use Rattle.wl_stacking.specs.Windows.{AreUnscaled, Window}
 use Rattle.wl_state.specs.State.{is_damaged}
 use Rattle.wl_surface.specs.declared.applied.Change.{Change}
 use Rattle.wl_tree_marks.specs.Laws.{AreUndamaged, among, has_root, is_in_any, is_struck_at}
 use Rattle.wl_windows.specs.Windows.{told_of}
 use Rattle.wl_repaint.specs.Repaint.{marks, same_windows}
 
--- The windows `was` and `is` are of the tree with this root of this client, and each transform is a number of wl_output.transform.
+-- The windows `was` and `is` are of the tree with this root of this client, each transform is a number of wl_output.transform, and none of
+-- their buffers is scaled.
 pub record AreOfTree (client root : ℕ) (was is : List Window) : Type 0 where
   pub rooted : list_all (has_root client root) (was ++ is) ≡ true
   pub numbered : list_all (λ w. nat_lt w.transform 8) (was ++ is) ≡ true
+  pub unscaled : AreUnscaled (was ++ is)
 
 -- The damage that was applied to the window's surface, by points of the surface, is what these changes tell of it.
 abbrev pub IsAppliedBy : {A : Type 0} → List (Change A) → Applied → Window → Type 0

@@ -19,6 +19,7 @@ window client side at =
       width = side;
       height = side;
       transform = 0;
+      scale = 1;
       buffer = buffer side;
       opaque = [];
       input = None;

@@ -45,7 +45,7 @@ leads-follow left (Single act done) d path new h =
 -- ---- records
 
 record-self : (w : Window) → has_same_record w w ≡ true
-record-self w = recorded w w (record { client = refl; surface = refl; x = refl; y = refl; width = refl; height = refl; transform = refl })
+record-self w = recorded w w (record { client = refl; surface = refl; x = refl; y = refl; width = refl; height = refl; transform = refl; scale = refl })
 
 record-then : (w v x : Window) → has_same_record w v ≡ true → has_same_record v x ≡ true → has_same_record w x ≡ true
 record-then w v x e f =
@@ -60,6 +60,7 @@ record-then w v x e f =
       width = a.width ∙ b.width;
       height = a.height ∙ b.height;
       transform = a.transform ∙ b.transform;
+      scale = a.scale ∙ b.scale;
     })
 
 records-self : (ws : List Window) → same_records ws ws ≡ true
@@ -97,6 +98,7 @@ records-turned (w ∷ ws) (v ∷ vs) e =
           width = sym f.width;
           height = sym f.height;
           transform = sym f.transform;
+          scale = sym f.scale;
         })
 
 -- ---- one tree

@@ -1,6 +1,6 @@
 -- A store write that leaves busy buffers alone hides nothing.
 use Rattle.std.proofs.Common.{◌≡◌, ℕ, ◌<◌, Bool, true, false, List, [], ◌∷◌, ◌++◌, Option, Some, None, refl, ap, sym, subst, ◌∙◌, arith, pos, negsuc, inl, inr}
-use Rattle.std.specs.Prelude.{ℤ, ◌-ℤ◌, ◌==◌, ◌&&◌, ◌||◌, nat_lt, unsigned_abs, flat_map, find, cond, not, ◌⊎◌}
+use Rattle.std.specs.Prelude.{◌*◌, ℤ, ◌-ℤ◌, ◌==◌, ◌&&◌, ◌||◌, nat_lt, unsigned_abs, flat_map, find, cond, not, ◌⊎◌}
 use Rattle.std.specs.List.{list_any}
 use Rattle.std.specs.Option.{option_map}
 use Rattle.std.proofs.lemmas.Int.{ints}
@@ -21,7 +21,7 @@ use Rattle.wl_plain.specs.Desktop.{Desktop, Resident, Showing, client_at, owned_
 use Rattle.wl_plain.specs.Stacked.{all_windows}
 use Rattle.wl_plain.specs.Step.{with_peer}
 use Rattle.wl_laws.proofs.Runs.Forms.{ChangesAt}
-use Rattle.wl_plain.specs.Scratch.{bytes_now, color_in, pixel_at}
+use Rattle.wl_plain.specs.Scratch.{bytes_now, color_in, pixel_at, scaled}
 use Rattle.wl_laws.proofs.Runs.Places.{number-other, number-same}
 use Rattle.wl_laws.proofs.Marks.Stacks.{Each, Fields, and-left, and-right, differ, each-map, fields, or-left, or-right, unless}
 use Rattle.wl_laws.proofs.Marks.Painted.{each-kept}
@@ -46,6 +46,10 @@ point-within Flipped w h i j bw bh a b c d = (omega (arith, a, c), omega (arith,
 point-within Flipped90 w h i j bw bh a b c d = (omega (arith, b, d), omega (arith, a, c))
 point-within Flipped180 w h i j bw bh a b c d = (omega (arith, a, c), omega (arith, b, d))
 point-within Flipped270 w h i j bw bh a b c d = (omega (arith, b, d), omega (arith, a, c))
+
+-- a scale of 1 leaves it there
+unscaled-within : (i scale n : ℕ) → scale ≡ 1 → i < n → i * scale < n
+unscaled-within i scale n e less = rw e (omega (arith, less))
 
 -- how far a point of a span is from its start
 far-within : (at start : ℤ) (n : ℕ) (d : ℤ) → (at -ℤ start) ≡ d → in_span start (pos n) at ≡ true → unsigned_abs d < n
@@ -88,23 +92,24 @@ same-buffer before after w v f same s t =
     ap (value-in w.buffer) buffers
 
 abbrev point_at : Window → ℤ → ℤ → ℕ × ℕ
-point_at w x y = buffer_point (transform_of w.transform) w.width w.height (unsigned_abs (x -ℤ w.corner.x)) (unsigned_abs (y -ℤ w.corner.y))
+point_at w x y = scaled w.scale (buffer_point (transform_of w.transform) w.width w.height (unsigned_abs (x -ℤ w.corner.x)) (unsigned_abs (y -ℤ w.corner.y)))
 
 bytes-same : (w : Window) (r : Option Resident) → bytes_now w r ≡ bytes_by w.buffer.store r
 bytes-same w None = refl
 bytes-same w (Some r) = refl
 
-points-same : (x y : ℤ) (t t' width width' height height' : ℕ) (cx cx' cy cy' : ℤ) → t ≡ t' → width ≡ width' → height ≡ height' → cx ≡ cx' → cy ≡ cy'
-    → buffer_point (transform_of t) width height (unsigned_abs (x -ℤ cx)) (unsigned_abs (y -ℤ cy)) ≡ buffer_point (transform_of t') width' height' (unsigned_abs (x -ℤ cx')) (unsigned_abs (y -ℤ cy'))
-points-same x y t t' width width' height height' cx cx' cy cy' a b c d e = rw (a, b, c, d, e) refl
+points-same : (x y : ℤ) (s s' t t' width width' height height' : ℕ) (cx cx' cy cy' : ℤ) → s ≡ s' → t ≡ t' → width ≡ width' → height ≡ height' → cx ≡ cx' → cy ≡ cy'
+    → scaled s (buffer_point (transform_of t) width height (unsigned_abs (x -ℤ cx)) (unsigned_abs (y -ℤ cy)))
+    ≡ scaled s' (buffer_point (transform_of t') width' height' (unsigned_abs (x -ℤ cx')) (unsigned_abs (y -ℤ cy')))
+points-same x y s s' t t' width width' height height' cx cx' cy cy' z a b c d e = rw (z, a, b, c, d, e) refl
 
 color-is : (d : Desktop) (w v : Window) (x y : ℤ) → Fields w v → w.buffer ≡ v.buffer → color_in d w x y ≡ pixel_at (bytes_in d v.owner.client v.buffer.store) v.buffer (point_at v x y)
 color-is d w v x y f b =
     ap (λ (bytes : List ℕ). pixel_at bytes w.buffer (point_at w x y)) (bytes-same w (client_at w.owner.client d))
     ∙ ap (λ c. pixel_at (bytes_in d c w.buffer.store) w.buffer (point_at w x y)) f.client
     ∙ ap (λ (a : Buffer). pixel_at (bytes_in d v.owner.client a.store) a (point_at w x y)) b
-    ∙ ap (λ (p : ℕ × ℕ). pixel_at (bytes_in d v.owner.client v.buffer.store) v.buffer p) (points-same x y w.transform v.transform w.width v.width w.height v.height w.corner.x v.corner.x w.corner.y
-    v.corner.y f.transform f.width f.height f.x f.y)
+    ∙ ap (λ (p : ℕ × ℕ). pixel_at (bytes_in d v.owner.client v.buffer.store) v.buffer p) (points-same x y w.scale v.scale w.transform v.transform w.width v.width w.height v.height
+    w.corner.x v.corner.x w.corner.y v.corner.y f.scale f.transform f.width f.height f.x f.y)
 
 -- ---- a busy buffer keeps its colours
 
@@ -142,7 +147,7 @@ not-rewritten false b same e f g = absurd (differ f)
 not-rewritten true false same e f g = absurd (differ g)
 
 self : (v : Window) → Fields v v
-self v = record { client = refl; surface = refl; x = refl; y = refl; width = refl; height = refl; transform = refl }
+self v = record { client = refl; surface = refl; x = refl; y = refl; width = refl; height = refl; transform = refl; scale = refl }
 
 nothing-shown : (v : Window) (o : Owned) (h : History) → o ≡ nothing_owned → history_in v.surface o.surfaces ≡ Some h → ⊥
 nothing-shown v o h e f = none (subst (λ (a : Owned). history_in v.surface a.surfaces ≡ Some h) e f) where
@@ -162,6 +167,7 @@ same-colors : (old new : Desktop) (x y : ℤ) (w v : Window) → KeepsBuffers ol
     → contains v x y ≡ true → is_same_color (color_in old w x y) (color_in new v x y) ≡ true
 same-colors old new x y w v keeps f b s t here =
     let c = v.owner.client in
+    let q = buffer_point (transform_of v.transform) v.width v.height (unsigned_abs (x -ℤ v.corner.x)) (unsigned_abs (y -ℤ v.corner.y)) in
     let p = point_at v x y in
     let across = far-within x v.corner.x v.width (x -ℤ v.corner.x) refl (and-left (in_span v.corner.x (pos v.width) x) (in_span v.corner.y (pos v.height) y) here) in
     let down = far-within y v.corner.y v.height (y -ℤ v.corner.y) refl (and-right (in_span v.corner.x (pos v.width) x) (in_span v.corner.y (pos v.height) y) here) in
@@ -173,7 +179,8 @@ same-colors old new x y w v keeps f b s t here =
     subst (λ (q : Argb). is_same_color q (color_in new v x y) ≡ true) (sym (color-is old w v x y f b))
     (subst (λ (q : Argb). is_same_color was q ≡ true) (sym (color-is new v v x y (self v) refl))
     (not-rewritten (nat_lt p.0 v.buffer.width) (nat_lt p.1 v.buffer.height) (is_same_color (pixel_at (bytes_in old c v.buffer.store) v.buffer p) (pixel_at (bytes_in new c v.buffer.store) v.buffer p))
-    unwritten (fits p.0 v.buffer.width within.0) (fits p.1 v.buffer.height within.1)))
+    unwritten (fits p.0 v.buffer.width (unscaled-within q.0 v.scale v.buffer.width t.5 within.0))
+    (fits p.1 v.buffer.height (unscaled-within q.1 v.scale v.buffer.height t.5 within.1))))
 
 pub any-none : {X : Type 0} (p : X → Bool) (xs : List X) → Each (λ x. p x ≡ false) xs → list_any p xs ≡ false
 any-none p [] e = refl

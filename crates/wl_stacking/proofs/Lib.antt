@@ -1,3 +1,4 @@
 pub mod Hits
 pub mod Lone
 pub mod Rows
+pub mod Scales

@@ -1,6 +1,7 @@
 -- The windows of a desktop, from bottom to top.
-use Rattle.std.specs.Prelude.{ℕ, zero, suc, ℤ, pos, ◌+ℤ◌, ◌-ℤ◌, ◌*◌, ◌%◌, ◌==◌, ◌&&◌, Bool, true, false, if◌then◌else◌, Option, Some, None}
-use Rattle.std.specs.Prelude.{List, [], ◌∷◌, ◌++◌, fold, flat_map}
+use Rattle.std.specs.Prelude.{ℕ, zero, suc, ◌≡◌, ℤ, pos, ◌+ℤ◌, ◌-ℤ◌, ◌*◌, ◌%◌, ◌==◌, ◌&&◌, Bool, true, false, if◌then◌else◌, Option, Some}
+use Rattle.std.specs.Prelude.{None, List, [], ◌∷◌, ◌++◌, fold, flat_map}
+use Rattle.std.specs.List.{list_all}
 use Rattle.std.specs.Option.{option_map_or}
 use Rattle.wl_geom.specs.declared.rect.Rect.{Rect}
 use Rattle.wl_geom.specs.Rect.{in_rect}
@@ -23,7 +24,8 @@ pub record Owner : Type 0 where
   pub root : ℕ
   pub toplevel : ℕ
 
--- A window: a surface with the buffer that it shows, where its upper left corner stands in the output, its size, and its applied regions.
+-- A window: a surface with the buffer that it shows, where its upper left corner stands in the output, its size in surface coordinates, the
+-- transform and the scale of its buffer, and its applied regions.
 pub record Window : Type 0 where
   pub owner : Owner
   pub surface : ℕ
@@ -31,6 +33,7 @@ pub record Window : Type 0 where
   pub width : ℕ
   pub height : ℕ
   pub transform : ℕ
+  pub scale : ℕ
   pub buffer : Buffer
   pub opaque : List Change
   pub input : Option (List Change)
@@ -45,10 +48,15 @@ window_showing owner surface corner v buffer =
       width = width_of (Some buffer) v.transform;
       height = height_of (Some buffer) v.transform;
       transform = v.transform;
+      scale = v.scale;
       buffer = buffer;
       opaque = v.opaque;
       input = v.input;
     }
+
+-- the buffers of these windows have the scale 1
+abbrev pub AreUnscaled : List Window → Type 0
+AreUnscaled ws = list_all (λ w. w.scale == 1) ws ≡ true
 
 -- its window, if it shows one
 abbrev pub window_with : Owner → ℕ → Place → Values → Option Buffer → List Window

@@ -1,4 +1,5 @@
 pub mod Commits
 pub mod Records
 pub mod Rows
+pub mod Scales
 pub mod Shapes

@@ -22,18 +22,20 @@ counting h = take h.cut h.requests
 pub record Values : Type 0 where
   pub buffer : Option Buffer
   pub transform : ℕ
+  -- the buffer scale: 1 at first (wayland.xml, wl_surface.set_buffer_scale)
+  pub scale : ℕ
   pub opaque : List Change
   pub input : Option (List Change)
 
--- the first values (wayland.xml, wl_surface.attach, set_buffer_transform, set_opaque_region and set_input_region)
+-- the first values (wayland.xml, wl_surface.attach, set_buffer_transform, set_buffer_scale, set_opaque_region and set_input_region)
 abbrev pub first_values : Values
-first_values = record { buffer = None; transform = 0; opaque = []; input = None }
+first_values = record { buffer = None; transform = 0; scale = 1; opaque = []; input = None }
 
 abbrev pub changes_or_none : Option (List Change) → List Change
 changes_or_none None = []
 changes_or_none (Some changes) = changes
 
--- one request more
+-- one request more; none sets the scale
 abbrev pub asked : Values → Request → Values
 asked v (Attach buffer x y) = record v { buffer = buffer }
 asked v (SetBufferTransform transform) = record v { transform = transform }

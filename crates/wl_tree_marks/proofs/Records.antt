@@ -13,7 +13,7 @@ use Rattle.wl_tree_marks.proofs.Lists.{any-first, either-of, none-second}
 -- ---- one window
 
 pub record-self : (w : Window) → has_same_record w w ≡ true
-record-self w = recorded w w (record { client = refl; surface = refl; x = refl; y = refl; width = refl; height = refl; transform = refl })
+record-self w = recorded w w (record { client = refl; surface = refl; x = refl; y = refl; width = refl; height = refl; transform = refl; scale = refl })
 
 pub record-turned : (w v : Window) → has_same_record w v ≡ true → has_same_record v w ≡ true
 record-turned w v e =
@@ -27,6 +27,7 @@ record-turned w v e =
       width = sym f.width;
       height = sym f.height;
       transform = sym f.transform;
+      scale = sym f.scale;
     })
 
 -- a window is of the surface of one as of that of the other

@@ -16,6 +16,7 @@ window surface x y =
       width = 4;
       height = 4;
       transform = 0;
+      scale = 1;
       buffer = record { number = 0; object = 9; store = 0; offset = 0; width = 4; height = 4; stride = 16; format = Argb8888 };
       opaque = [];
       input = None;

@@ -115,7 +115,7 @@ never-both w v (x ∷ xs) apart e f = at (is_same_surface w x) (is_same_surface 
 -- ---- windows that are kept
 
 record-self : (w : Window) → has_same_record w w ≡ true
-record-self w = recorded w w (record { client = refl; surface = refl; x = refl; y = refl; width = refl; height = refl; transform = refl })
+record-self w = recorded w w (record { client = refl; surface = refl; x = refl; y = refl; width = refl; height = refl; transform = refl; scale = refl })
 
 each-in : (ws : List Window) → Each (λ w. is_kept_in ws w ≡ true) ws
 each-in [] = tt

@@ -1,13 +1,14 @@
--- Each window shows the buffer that its surface has applied.
+-- Each window shows the buffer that its surface has applied, and none is scaled.
 use Rattle.std.proofs.Common.{◌≡◌, ℕ, zero, suc, Bool, true, false, List, [], ◌∷◌, ◌++◌, Option, Some, None, refl}
 use Rattle.std.specs.Prelude.{◌+ℤ◌, flat_map, cond, map}
 use Rattle.wl_state.specs.Request.{Buffer, Member, Itself, Child}
 use Rattle.wl_state.specs.State.{History, applied, counting, height_of, order, position, width_of}
+use Rattle.wl_state.proofs.Scales.{applied-unscaled}
 use Rattle.wl_surface.specs.Surfaces.{Link, history_in, link_at}
 use Rattle.wl_stacking.specs.Stacking.{Owned, root_of}
-use Rattle.wl_stacking.specs.Windows.{Owner, Place, Root, StackedPopup, Window, child_windows, corner_at, member_windows, owner_of, roots_of, shown_windows, surface_windows, tree, window_with}
-use Rattle.wl_stacking.specs.Windows.{windows}
-use Rattle.wl_stacking.specs.Windows.{windows_of}
+use Rattle.wl_stacking.proofs.Scales.{windows-unscaled}
+use Rattle.wl_stacking.specs.Windows.{AreUnscaled, Owner, Place, Root, StackedPopup, Window, child_windows, corner_at, member_windows, owner_of, roots_of, shown_windows, surface_windows, tree}
+use Rattle.wl_stacking.specs.Windows.{window_with, windows, windows_of}
 use Rattle.wl_plain.specs.Desktop.{Desktop, owned_in}
 use Rattle.wl_plain.specs.Popups.{stacked_popups}
 use Rattle.wl_plain.specs.Stacked.{all_windows}
@@ -16,7 +17,7 @@ use Rattle.wl_laws.proofs.Marks.Stacks.{Each}
 abbrev pub IsShown : (ℕ → Owned) → Window → Type 0
 IsShown owned w =
     (h : History) × (history_in w.surface (owned w.owner.client).surfaces ≡ Some h) × ((applied h).buffer ≡ Some w.buffer)
-    × (w.width ≡ width_of (Some w.buffer) w.transform) × (w.height ≡ height_of (Some w.buffer) w.transform)
+    × (w.width ≡ width_of (Some w.buffer) w.transform) × (w.height ≡ height_of (Some w.buffer) w.transform) × (w.scale ≡ 1)
 
 each-append : {X : Type 0} (P : X → Type 0) (xs ys : List X) → Each P xs → Each P ys → Each P (xs ++ ys)
 each-append P [] ys e f = f
@@ -30,7 +31,7 @@ shown-window : (owned : ℕ → Owned) (owner : Owner) (surface : ℕ) (corner :
     → (applied h).buffer ≡ buffer
     → Each (IsShown owned) (window_with owner surface corner (applied h) buffer)
 shown-window owned owner surface corner h None e f = tt
-shown-window owned owner surface corner h (Some buffer) e f = ((h, e, f, refl, refl), tt)
+shown-window owned owner surface corner h (Some buffer) e f = ((h, e, f, refl, refl, applied-unscaled h), tt)
 
 shown-child : (owned : ℕ → Owned) (next : ℕ → Place → List Window) → ((child : ℕ) (at : Place) → Each (IsShown owned) (next child at)) → (h : History) (corner : Place) (l : ℕ) (link : Option Link)
     → Each (IsShown owned) (child_windows next h corner l link)
@@ -73,6 +74,9 @@ shown-roots owned popups toplevels =
     (λ r. shown-tree 17 owned (owner_of r) r.surface r.place)
     (roots_of (owned toplevel.client).surfaces toplevel (popups toplevel.client)))
     toplevels
+
+pub all-unscaled : (d : Desktop) → AreUnscaled (all_windows d)
+all-unscaled d = windows-unscaled (λ c. (owned_in d c).surfaces) (λ c. stacked_popups (owned_in d c)) (map (root_of (owned_in d)) d.standing)
 
 pub all-shown : (d : Desktop) → Each (IsShown (owned_in d)) (all_windows d)
 all-shown d = shown-roots (owned_in d) (λ c. stacked_popups (owned_in d c)) (map (root_of (owned_in d)) d.standing)

@@ -106,6 +106,7 @@ pub record Fields (w v : Window) : Type 0 where
   pub width : w.width ≡ v.width
   pub height : w.height ≡ v.height
   pub transform : w.transform ≡ v.transform
+  pub scale : w.scale ≡ v.scale
 
 pub fields : (w v : Window) → has_same_record w v ≡ true → Fields w v
 fields w v e =
@@ -113,14 +114,16 @@ fields w v e =
     let r = and-right (is_same_surface w v) _ e in
     let c = and-left (int_eq w.corner.x v.corner.x && int_eq w.corner.y v.corner.y) _ r in
     let z = and-right (int_eq w.corner.x v.corner.x && int_eq w.corner.y v.corner.y) _ r in
-    let sides = and-left (w.width == v.width && w.height == v.height) _ z in record {
+    let sides = and-left (w.width == v.width && w.height == v.height) _ z in
+    let buffers = and-right (w.width == v.width && w.height == v.height) _ z in record {
       client = eqb-true w.owner.client v.owner.client (and-left (w.owner.client == v.owner.client) _ s);
       surface = eqb-true w.surface v.surface (and-right (w.owner.client == v.owner.client) _ s);
       x = int-same w.corner.x v.corner.x (and-left (int_eq w.corner.x v.corner.x) _ c);
       y = int-same w.corner.y v.corner.y (and-right (int_eq w.corner.x v.corner.x) _ c);
       width = eqb-true w.width v.width (and-left (w.width == v.width) _ sides);
       height = eqb-true w.height v.height (and-right (w.width == v.width) _ sides);
-      transform = eqb-true w.transform v.transform (and-right (w.width == v.width && w.height == v.height) _ z);
+      transform = eqb-true w.transform v.transform (and-left (w.transform == v.transform) _ buffers);
+      scale = eqb-true w.scale v.scale (and-right (w.transform == v.transform) _ buffers);
     }
 
 pub equal-numbers : (a b : ℕ) → a ≡ b → (a == b) ≡ true
@@ -136,7 +139,7 @@ recorded w v f =
     (and-both (int_eq w.corner.x v.corner.x) _ (equal-ints w.corner.x v.corner.x f.x) (equal-ints w.corner.y v.corner.y f.y))
     (and-both (w.width == v.width && w.height == v.height) _
     (and-both (w.width == v.width) _ (equal-numbers w.width v.width f.width) (equal-numbers w.height v.height f.height))
-    (equal-numbers w.transform v.transform f.transform)))
+    (and-both (w.transform == v.transform) _ (equal-numbers w.transform v.transform f.transform) (equal-numbers w.scale v.scale f.scale))))
 
 pub record-surface : (w v : Window) → has_same_record w v ≡ true → is_same_surface w v ≡ true
 record-surface w v e = and-left (is_same_surface w v) _ e

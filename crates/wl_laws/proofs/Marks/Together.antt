@@ -47,6 +47,7 @@ record-through w v z e e' =
       width = f.width ∙ g.width;
       height = f.height ∙ g.height;
       transform = f.transform ∙ g.transform;
+      scale = f.scale ∙ g.scale;
     })
 
 kept-as : (w v : Window) (others : List Window) → has_same_record w v ≡ true → is_kept_in others v ≡ true → is_kept_in others w ≡ true
