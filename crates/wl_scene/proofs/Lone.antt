@@ -1,12 +1,8 @@
 -- Without links the tree of a surface is its own window.
-use Rattle.std.proofs.Common.{◌≡◌, ℕ, suc, List, [], ◌∷◌, ◌++◌, Bool, true, false, Option, Some, None, refl, ap, sym, ◌∙◌, map, length, arith}
-use Rattle.std.specs.Prelude.{◌==◌, cond, flat_map, fold, not}
-use Rattle.std.specs.List.{list_any}
-use Rattle.std.proofs.lemmas.Grind.{flat_map-append}
-use Rattle.std.proofs.lemmas.List.{append-nil, length-map, map-append}
-use Rattle.wl_state.specs.Request.{Buffer, Member, Itself, Child, Request, Attach, Damage, Frame, SetOpaqueRegion, SetInputRegion, SetBufferTransform, SetWindowGeometry, Commit, AddChild}
-use Rattle.wl_state.specs.Request.{SetPosition, PlaceAbove, PlaceBelow}
-use Rattle.wl_state.specs.State.{History, Values, above, applied, below, counting, height_of, is_member, order, ordered, width_of, without}
+use Rattle.std.proofs.Common.{◌≡◌, ℕ, suc, List, [], ◌∷◌, ◌++◌, true, Option, Some, None, refl, ap, sym, ◌∙◌, map, length, arith}
+use Rattle.std.proofs.lemmas.List.{length-map, map-append}
+use Rattle.wl_state.specs.Request.{Buffer}
+use Rattle.wl_state.specs.State.{History, Values, applied, counting, height_of, width_of}
 use Rattle.wl_state.specs.Surface.{is_there}
 use Rattle.wl_surface.specs.Surfaces.{Surfaces, history_in}
 use Rattle.wl_scene.specs.Lent.{shown_by, shown_with, told}

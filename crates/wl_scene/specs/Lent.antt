@@ -1,5 +1,5 @@
 -- What is lent of the clients to look at their windows, and what it stands for.
-use Rattle.std.specs.Prelude.{ℕ, zero, suc, ◌≡◌, Bool, true, false, Option, Some, None, List, [], slice_index_or}
+use Rattle.std.specs.Prelude.{ℕ, zero, suc, ◌≡◌, Option, Some, None, List, [], slice_index_or}
 use Rattle.wl_state.specs.State.{History, applied, height_of, width_of}
 use Rattle.wl_surface.specs.Surfaces.{history_in, surface_at}
 use Rattle.wl_surface.specs.Slots.{Slots, StandForAll, no_slots}

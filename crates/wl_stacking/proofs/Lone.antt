@@ -1,17 +1,14 @@
 -- Without links a surface stands in its own order once, and nothing else does.
-use Rattle.std.proofs.Common.{◌≡◌, ℕ, suc, List, [], ◌∷◌, ◌++◌, Bool, true, false, Option, Some, None, refl, ap, sym, ◌∙◌, map, length, arith}
+use Rattle.std.proofs.Common.{◌≡◌, ℕ, List, [], ◌∷◌, ◌++◌, Bool, true, false, refl, ap, ◌∙◌}
 use Rattle.std.specs.Prelude.{◌==◌, cond, flat_map, fold, not}
 use Rattle.std.specs.List.{list_any}
 use Rattle.std.proofs.lemmas.Grind.{flat_map-append}
-use Rattle.std.proofs.lemmas.List.{append-nil, length-map, map-append}
-use Rattle.wl_state.specs.Request.{Buffer, Member, Itself, Child, Request, Attach, Damage, Frame, SetOpaqueRegion, SetInputRegion, SetBufferTransform, SetWindowGeometry, Commit, AddChild}
+use Rattle.std.proofs.lemmas.List.{append-nil}
+use Rattle.wl_state.specs.Request.{Member, Itself, Child, Request, Attach, Damage, Frame, SetOpaqueRegion, SetInputRegion, SetBufferTransform, SetWindowGeometry, Commit, AddChild}
 use Rattle.wl_state.specs.Request.{SetPosition, PlaceAbove, PlaceBelow}
-use Rattle.wl_state.specs.State.{History, Values, above, applied, below, counting, height_of, is_member, order, ordered, width_of, without}
-use Rattle.wl_state.specs.Surface.{is_there}
-use Rattle.wl_surface.specs.Surfaces.{Surfaces, history_in}
-use Rattle.wl_stacking.specs.Stacking.{AllShow, shows_buffer}
-use Rattle.wl_stacking.specs.Stacking.{Owned, Standing, root_of, windows_on}
-use Rattle.wl_stacking.specs.Windows.{Owner, Place, Window, corner_at, member_windows, owner_of, shown_windows, surface_windows, tree, window_of, window_with}
+use Rattle.wl_state.specs.State.{History, above, below, is_member, order, ordered, without}
+use Rattle.wl_surface.specs.Surfaces.{Surfaces}
+use Rattle.wl_stacking.specs.Windows.{Owner, Place, Window, member_windows}
 
 -- nothing comes of a child
 abbrev ChildrenGiveNone : {X : Type 0} → (Member → List X) → Type 0
