@@ -30,7 +30,8 @@ use Rattle.wl_plain.specs.Desktop.{Desktop, Resident, arrival, client_at, with_c
 use Rattle.wl_plain.specs.LeftOut.{LeftOut}
 use Rattle.wl_plain.specs.Pointing.{has_pointers}
 use Rattle.wl_plain.specs.Replies.{replies}
-use Rattle.wl_plain.specs.Settling.{Acts, EndsAndSettles, Midstep, QueuesTo, Settles, SettlesEnds, Tells, becomes, struck_by, unstruck}
+use Rattle.wl_plain.specs.Settling.{EndsAndSettles, Midstep, PointerActs, QueuesTo, Settles, SettlesEnds, Tells, becomes, struck_by}
+use Rattle.wl_plain.specs.Settling.{unstruck}
 use Rattle.wl_plain.specs.Stacked.{all_windows}
 use Rattle.wl_plain.specs.Step.{takes_memory, with_peer}
 use Rattle.wl_plain.specs.Act.{Act, Connect, Feed, Store, Leave, Tick, Send, Close, Motion, Button, IsClosed, IsSent, IsStored, fed_of}
@@ -190,7 +191,8 @@ placed at m = record m { desktop = record m.desktop { pointer = record m.desktop
 -- a toplevel that it moves goes along, and then a surface is told of the motion, or the focus moves
 abbrev pub MovesThen : ℕ → Place → Desktop → (Midstep → Type 0) → Type 0
 MovesThen time at d Settled =
-    (gone : Midstep) × Acts (GoTo at) (unstruck d) gone × (told : Midstep) × Acts (Went time) (placed at gone) told × Settled told
+    (gone : Midstep) × PointerActs (GoTo at) (unstruck d) gone
+    × (told : Midstep) × PointerActs (Went time) (placed at gone) told × Settled told
 
 -- ---- a button
 
@@ -222,12 +224,12 @@ with_release button d = record d { pointer = released_to (without_button button 
 -- the pointer does what a press, or a release, asks, and then the focus is settled
 abbrev pub PressedThen : ℕ → ℕ → Desktop → (Midstep → Type 0) → Type 0
 PressedThen time button d Settled =
-    (told : Midstep) × Acts (Press time button (grab_holder d)) (unstruck (with_press button d)) told
+    (told : Midstep) × PointerActs (Press time button (grab_holder d)) (unstruck (with_press button d)) told
     × (settled : Midstep) × Settles told settled × Settled settled
 
 abbrev pub ReleasedThen : ℕ → ℕ → Desktop → (Midstep → Type 0) → Type 0
 ReleasedThen time button d Settled =
-    (told : Midstep) × Acts (Release time button) (unstruck (with_release button d)) told
+    (told : Midstep) × PointerActs (Release time button) (unstruck (with_release button d)) told
     × (settled : Midstep) × Settles told settled × Settled settled
 
 -- a press of a button that is down, one past 16, and a release of one that isn't, do nothing

@@ -153,15 +153,15 @@ AppliesAll windows (action ∷ later) old new =
     (mid : Midstep) × Applies windows action old mid × AppliesAll windows later mid new
 
 -- What comes in to the pointer is done, by the windows of the beginning.
-abbrev pub Acts : PointerInput → Midstep → Midstep → Type 0
-Acts input old new =
+abbrev pub PointerActs : PointerInput → Midstep → Midstep → Type 0
+PointerActs input old new =
     AppliesAll (all_windows old.desktop) (actions input old.desktop.pointer (all_windows old.desktop)) old new
 
 -- ---- the focus is settled, and clients end
 
 -- The focus is settled once.
 abbrev pub Settles : Midstep → Midstep → Type 0
-Settles old new = Acts Settle old new
+Settles old new = PointerActs Settle old new
 
 -- One client that is to end does, the least number first, and what comes then; where none is, the step is over.
 abbrev pub EndsFirst : (Midstep → Desktop → Type 0) → List Strike → Desktop → Desktop → Type 0

@@ -17,7 +17,7 @@ use Rattle.wl_plain.specs.Desktop.{Desktop, Resident, client_at, resident_of, to
 use Rattle.wl_plain.specs.LeftOut.{LeftOut}
 use Rattle.wl_plain.specs.Pointing.{button_told, has_pointers, motion_told, moved_standing}
 use Rattle.wl_plain.specs.Replies.{focus_window, popups_done}
-use Rattle.wl_plain.specs.Settling.{Acts, Applies, AppliesAll, Midstep, SettlesEnds, Settles, noted_if, number_of, unstruck, with_standing, without_grabs}
+use Rattle.wl_plain.specs.Settling.{Applies, AppliesAll, Midstep, PointerActs, SettlesEnds, Settles, noted_if, number_of, unstruck, with_standing, without_grabs}
 use Rattle.wl_plain.specs.Stacked.{all_windows}
 use Rattle.wl_plain.specs.Act.{Act, Connect, Feed, Store, Leave, Tick, Send, Close, Motion, Button, lowest}
 use Rattle.wl_laws.proofs.Runs.Forms.{ConnectsAt, MovesTo, PressesIf, ReleasesIf, Shows}
@@ -313,7 +313,7 @@ module _ (c : ℕ) (T : Resident → Resident → Option Cause → Type 0) (all 
   applies-all windows [] shift old new known h = same old new h known
   applies-all windows (action ∷ later) shift old new known h = applies-all windows later shift.1 h.0 new (applies windows action shift.0 old h.0 known h.1) h.2
 
-  acts : (input : PointerInput) (old new : Midstep) → AllShift c A (actions input old.desktop.pointer (all_windows old.desktop)) → Within old → Acts input old new → Within new
+  acts : (input : PointerInput) (old new : Midstep) → AllShift c A (actions input old.desktop.pointer (all_windows old.desktop)) → Within old → PointerActs input old new → Within new
   acts input old new shift known h = applies-all (all_windows old.desktop) (actions input old.desktop.pointer (all_windows old.desktop)) shift old new known h
 
   -- what follows from the middle of a step, with what comes then, follows from the step

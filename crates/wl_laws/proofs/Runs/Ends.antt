@@ -13,7 +13,7 @@ use Rattle.wl_plain.specs.Changing.{drawing}
 use Rattle.wl_plain.specs.Desktop.{Desktop, Resident, client_at, resident_of, with_client, with_number}
 use Rattle.wl_plain.specs.Pointing.{button_told, entered_surface, has_pointers, left_surface, motion_told, moved_standing}
 use Rattle.wl_plain.specs.Replies.{focus_window, popups_done}
-use Rattle.wl_plain.specs.Settling.{Acts, Applies, AppliesAll, EndsAndSettles, EndsFirst, Midstep, QueuesFirst, QueuesTo, Settles, SettlesAll, SettlesEnds, Strike, Tells, TellsAt, TellsUnless}
+use Rattle.wl_plain.specs.Settling.{Applies, AppliesAll, EndsAndSettles, EndsFirst, Midstep, PointerActs, QueuesFirst, QueuesTo, Settles, SettlesAll, SettlesEnds, Strike, Tells, TellsAt, TellsUnless}
 use Rattle.wl_plain.specs.Settling.{ended_all, ended_at, ended_by, is_struck, leave_drawn, noted, noted_if, number_of, struck_by, told_drawn, unstruck, with_focus, with_standing, without_grabs}
 use Rattle.wl_plain.specs.Stacked.{all_windows}
 use Rattle.wl_laws.proofs.Lists.Keys.{none-some}
@@ -156,7 +156,7 @@ all-lead windows (action ∷ later) old sound =
     chained Midstep Midstep moving moving old (Applies windows action old) (λ mid new. AppliesAll windows later mid new) first
     (λ mid h. all-lead windows later mid (first.follows mid h).sound)
 
-pub acts-lead : (input : PointerInput) (old : Midstep) → Sound old → Leads Midstep moving old (Acts input old)
+pub acts-lead : (input : PointerInput) (old : Midstep) → Sound old → Leads Midstep moving old (PointerActs input old)
 acts-lead input old sound = all-lead (all_windows old.desktop) (actions input old.desktop.pointer (all_windows old.desktop)) old sound
 
 settles-leads : (old : Midstep) → Sound old → Leads Midstep moving old (Settles old)

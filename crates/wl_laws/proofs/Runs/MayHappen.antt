@@ -31,7 +31,7 @@ use Rattle.wl_plain.specs.Desktop.{Desktop, Resident, client_at, with_client, st
 use Rattle.wl_plain.specs.LeftOut.{LeftOut}
 use Rattle.wl_plain.specs.Pointing.{entered_surface, left_surface}
 use Rattle.wl_plain.specs.Replies.{focus_window, replies}
-use Rattle.wl_plain.specs.Settling.{Acts, Applies, AppliesAll, EndsAndSettles, EndsFirst, Midstep, QueuesFirst, QueuesTo, Settles, SettlesAll, SettlesEnds, Strike, Tells, TellsAt, TellsUnless}
+use Rattle.wl_plain.specs.Settling.{Applies, AppliesAll, EndsAndSettles, EndsFirst, Midstep, PointerActs, QueuesFirst, QueuesTo, Settles, SettlesAll, SettlesEnds, Strike, Tells, TellsAt, TellsUnless}
 use Rattle.wl_plain.specs.Settling.{becomes, ended_all, is_struck, leave_drawn, told_drawn, unstruck}
 use Rattle.wl_plain.specs.Stacked.{all_windows}
 use Rattle.wl_plain.specs.Step.{with_peer}
@@ -80,7 +80,7 @@ all-so : (windows : List Window) (actions : List PointerAction) (m : Midstep) �
 all-so windows [] m = refl
 all-so windows (action ∷ later) m = (applied windows action m, applied-so windows action m, all-so windows later (applied windows action m))
 
-acts-so : (input : PointerInput) (m : Midstep) → Acts input m (acts input m)
+acts-so : (input : PointerInput) (m : Midstep) → PointerActs input m (acts input m)
 acts-so input m = all-so (all_windows m.desktop) (actions input m.desktop.pointer (all_windows m.desktop)) m
 
 -- ---- the focus is settled, and clients end

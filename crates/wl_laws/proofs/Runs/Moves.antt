@@ -8,7 +8,7 @@ use Rattle.wl_stacking.specs.PointerActions.{PointerInput, Settle, GoTo, Went, P
 use Rattle.wl_stacking.specs.Windows.{Place}
 use Rattle.wl_plain.specs.Changing.{grab_holder, without_callbacks}
 use Rattle.wl_plain.specs.Desktop.{Desktop, Resident}
-use Rattle.wl_plain.specs.Settling.{Acts, EndsAndSettles, Midstep, Settles, SettlesEnds, unstruck}
+use Rattle.wl_plain.specs.Settling.{EndsAndSettles, Midstep, PointerActs, Settles, SettlesEnds, unstruck}
 use Rattle.wl_plain.specs.Happens.{TellsFrames, callbacks_due, frames_told, placed, with_press, with_release}
 use Rattle.wl_laws.proofs.Runs.Forms.{Buttons, MovesTo, PressesIf, ReleasesIf, Shows}
 use Rattle.wl_laws.proofs.Runs.Ends.{acts-lead, end_all-leads, ends-leads, tells-leads}
@@ -43,14 +43,15 @@ pub moves-leads : (time : ℕ) (at : Place) (d : Desktop) → lasting d.clients 
 moves-leads time at d few =
     let goes = acts-lead (GoTo at) (unstruck d) tt in
     worded Desktop unstruck (unstruck d)
-    (λ new. (gone : Midstep) × Acts (GoTo at) (unstruck d) gone × ((told : Midstep) × Acts (Went time) (placed at gone) told × SettlesEnds told new)) (MovesTo time at d)
+    (λ new. (gone : Midstep) × PointerActs (GoTo at) (unstruck d) gone × ((told : Midstep) × PointerActs (Went time) (placed at gone) told × SettlesEnds told new)) (MovesTo time at d)
     (λ new h. (h.0, h.1, (h.2, h.3, h.4)))
-    (chained Midstep Desktop moving unstruck (unstruck d) (Acts (GoTo at) (unstruck d)) (λ gone new. (told : Midstep) × Acts (Went time) (placed at gone) told × SettlesEnds told new) goes
+    (chained Midstep Desktop moving unstruck (unstruck d) (PointerActs (GoTo at) (unstruck d))
+    (λ gone new. (told : Midstep) × PointerActs (Went time) (placed at gone) told × SettlesEnds told new) goes
     (λ gone h.
     let first = goes.follows gone h in
     let went = acts-lead (Went time) (placed at gone) first.sound in
-    from Desktop unstruck gone (placed at gone) (λ new. (told : Midstep) × Acts (Went time) (placed at gone) told × SettlesEnds told new) (still _ _ first.sound)
-    (chained Midstep Desktop moving unstruck (placed at gone) (Acts (Went time) (placed at gone)) SettlesEnds went
+    from Desktop unstruck gone (placed at gone) (λ new. (told : Midstep) × PointerActs (Went time) (placed at gone) told × SettlesEnds told new) (still _ _ first.sound)
+    (chained Midstep Desktop moving unstruck (placed at gone) (PointerActs (Went time) (placed at gone)) SettlesEnds went
     (λ told k. let second = went.follows told k in ends-leads told second.sound (omega (arith, few, first.fewer, second.fewer))))))
 
 -- ---- a button
@@ -63,13 +64,13 @@ settle_ends-leads old sound few =
 
 -- the pointer does something, and then the focus is settled
 acts_settle-leads : (input : PointerInput) (old : Midstep) → Sound old → lasting old.desktop.clients ≤ 32
-    → Leads Desktop unstruck old (λ new. (told : Midstep) × Acts input old told × (settled : Midstep) × Settles told settled × SettlesEnds settled new)
+    → Leads Desktop unstruck old (λ new. (told : Midstep) × PointerActs input old told × (settled : Midstep) × Settles told settled × SettlesEnds settled new)
 acts_settle-leads input old sound few =
     let acts = acts-lead input old sound in
-    worded Desktop unstruck old (λ new. (told : Midstep) × Acts input old told × ((settled : Midstep) × Settles told settled × SettlesEnds settled new))
-    (λ new. (told : Midstep) × Acts input old told × (settled : Midstep) × Settles told settled × SettlesEnds settled new)
+    worded Desktop unstruck old (λ new. (told : Midstep) × PointerActs input old told × ((settled : Midstep) × Settles told settled × SettlesEnds settled new))
+    (λ new. (told : Midstep) × PointerActs input old told × (settled : Midstep) × Settles told settled × SettlesEnds settled new)
     (λ new h. (h.0, h.1, (h.2, h.3, h.4)))
-    (chained Midstep Desktop moving unstruck old (Acts input old) (λ told new. (settled : Midstep) × Settles told settled × SettlesEnds settled new) acts
+    (chained Midstep Desktop moving unstruck old (PointerActs input old) (λ told new. (settled : Midstep) × Settles told settled × SettlesEnds settled new) acts
     (λ told h. let after = acts.follows told h in settle_ends-leads told after.sound (omega (arith, few, after.fewer))))
 
 pressed-leads : (time button : ℕ) (d : Desktop) → lasting d.clients ≤ 32 → Leads Desktop unstruck (unstruck d) (PressesIf true time button d)

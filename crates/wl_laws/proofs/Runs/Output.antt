@@ -22,7 +22,7 @@ use Rattle.wl_plain.specs.Demand.{SetPositioner, GetPopup, Grab, EndPopup, EndTo
 use Rattle.wl_plain.specs.Demanding.{effect_of_commit}
 use Rattle.wl_plain.specs.Desktop.{Desktop, Resident, arrival, become, become_by, client_at, with_client}
 use Rattle.wl_plain.specs.LeftOut.{LeftOut}
-use Rattle.wl_plain.specs.Settling.{Acts, Applies, AppliesAll, EndsAndSettles, EndsFirst, Midstep, Settles, SettlesAll, SettlesEnds, Strike, Tells, TellsAt, TellsUnless, after_status, becomes}
+use Rattle.wl_plain.specs.Settling.{Applies, AppliesAll, EndsAndSettles, EndsFirst, Midstep, PointerActs, Settles, SettlesAll, SettlesEnds, Strike, Tells, TellsAt, TellsUnless, after_status, becomes}
 use Rattle.wl_plain.specs.Settling.{ended_all, ended_at, ended_by, unstruck}
 use Rattle.wl_plain.specs.Stacked.{all_windows}
 use Rattle.wl_plain.specs.Step.{with_peer}
@@ -89,7 +89,7 @@ all-still : (windows : List Window) (actions : List PointerAction) (old new : Mi
 all-still windows [] old new h = of-moving old new h
 all-still windows (action ∷ later) old new h = all-still windows later h.0 new h.2 ∙ applies-still windows action old h.0 h.1
 
-acts-still : (input : PointerInput) (old new : Midstep) → Acts input old new → Still old new
+acts-still : (input : PointerInput) (old new : Midstep) → PointerActs input old new → Still old new
 acts-still input old new h = all-still (all_windows old.desktop) (actions input old.desktop.pointer (all_windows old.desktop)) old new h
 
 pub settles-still : (old new : Midstep) → Settles old new → Still old new
