@@ -3,3 +3,7 @@ pub mod Feeding
 pub mod Framing
 pub mod Lent
 pub mod Residents
+pub use Rattle.wl_resident.specs.Agreement
+pub use Rattle.wl_resident.specs.Marking
+pub use Rattle.wl_resident.specs.Seats
+pub use Rattle.wl_resident.specs.View

@@ -4,10 +4,10 @@ use Rattle.std.specs.Prelude.{is_some}
 use Rattle.std.specs.Result.{IfErr, OnOk}
 use Rattle.wl_plain.specs.Desktop.{empty}
 use Rattle.wl_replay.specs.Told.{IsFirst}
-use Rattle.wl_session.specs.Agreeing.{Agrees}
-use Rattle.wl_session.specs.Course.{moment}
-use Rattle.wl_session.specs.Liars.{IsRightBut, nobody}
-use Rattle.wl_session.specs.View.{SessionView}
+use Rattle.wl_server.specs.Agreeing.{Agrees}
+use Rattle.wl_server.specs.Course.{moment}
+use Rattle.wl_server.specs.Liars.{IsRightBut, nobody}
+use Rattle.wl_server.specs.View.{SessionView}
 use Rattle.wl_server.specs.Acting.{InTurn, IsServed}
 use Rattle.wl_server.specs.Phases.{IsTurn}
 use Rattle.wl_server.specs.Telling.{IsToldOf, Reports, gathered, reported}

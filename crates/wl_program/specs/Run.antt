@@ -5,7 +5,7 @@ use Rattle.clap.specs.declared.error.kind.ErrorKind.{ErrorKind}
 use Rattle.clap.specs.declared.error.kind.ErrorKind.TheVariants.{DisplayHelp, DisplayVersion}
 use Rattle.wl_replay.specs.Report.{IsPlayed, StopsAs}
 use Rattle.wl_replay.specs.Told.{IsFirst, Stage}
-use Rattle.wl_session.specs.declared.sessions.Config.{Config}
+use Rattle.wl_replay.specs.Config.{Config}
 use Rattle.wl_recording.specs.declared.error.ReplayError.{ReplayError}
 use Rattle.wl_recording.specs.declared.error.ReplayError.TheVariants as stopped
 use Rattle.wl_recording.specs.declared.error.Summary.{Summary}

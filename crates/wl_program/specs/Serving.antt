@@ -10,11 +10,11 @@ use Rattle.wl_plain.specs.LeftOut.{served_now}
 use Rattle.wl_replay.specs.Told.{IsFirst, Stage}
 use Rattle.wl_server.specs.Acting.{InTurn, ShowsScratch}
 use Rattle.wl_server.specs.Phases.{IsTurn}
-use Rattle.wl_session.specs.Course.{Runs, moment}
-use Rattle.wl_session.specs.Events.{Event, Moment}
-use Rattle.wl_session.specs.Liars.{nobody}
-use Rattle.wl_session.specs.View.{SessionView}
-use Rattle.wl_session.specs.declared.sessions.Config.{Config}
+use Rattle.wl_server.specs.Course.{Runs, moment}
+use Rattle.wl_server.specs.Events.{Event, Moment}
+use Rattle.wl_server.specs.Liars.{nobody}
+use Rattle.wl_server.specs.View.{SessionView}
+use Rattle.wl_replay.specs.Config.{Config}
 
 -- an output of this size, whose background is black
 abbrev pub output_of : declared.Size → Config

@@ -3,8 +3,8 @@
 ghost use Rattle.std.specs.Prelude.{◌≡◌, ◌⊎◌, IfErr, IfOk, OnOk};
 ghost use Rattle.wl_plain.specs.Desktop.{empty};
 ghost use Rattle.wl_replay.specs.Told.{IsFirst};
-ghost use Rattle.wl_session.specs.Agreeing.{Agrees};
-ghost use Rattle.wl_session.specs.Liars.{IsRightBut, nobody};
+ghost use Rattle.wl_server.specs.Agreeing.{Agrees};
+ghost use Rattle.wl_server.specs.Liars.{IsRightBut, nobody};
 ghost use Rattle.wl_server.specs.Acting.{InTurn};
 ghost use Rattle.wl_server.specs.Phases.{IsTurn};
 ghost use Rattle.wl_server.specs.Telling.{Reports};
@@ -21,8 +21,8 @@ use std::rt::Files;
 use wl_hub::{Hub, SocketHub};
 use wl_options::{Fault, Folder, Serve, Size};
 use wl_recording::SideFiles;
-use wl_server::{Connections, Service, TurnError, turn};
-use wl_session::{Config, Session};
+use wl_replay::Config;
+use wl_server::{Connections, Service, Session, TurnError, turn};
 
 /// Serves the clients that connect to a socket, which is made at its path and stays there.
 pub(crate) fn serve<'a, F: Files + Net + AllocGlobal, A: Allocator + Copy, W: Write>(

@@ -12,3 +12,4 @@ pub use Rattle.wl_session.specs.Damage
 pub use Rattle.wl_session.specs.Frame
 pub use Rattle.wl_session.specs.Image
 pub use Rattle.wl_session.specs.Run
+pub use Rattle.wl_session.specs.declared.sessions.Config

@@ -3,3 +3,8 @@ pub mod Due
 pub mod Phases
 pub mod Seats
 pub mod Telling
+pub use Rattle.wl_session.specs.Agreeing
+pub use Rattle.wl_session.specs.Course
+pub use Rattle.wl_session.specs.Events
+pub use Rattle.wl_session.specs.Liars
+pub use Rattle.wl_session.specs.View

@@ -18,3 +18,4 @@ mod writing;
 pub use error::TurnError;
 pub use seat::Connections;
 pub use service::{Service, turn};
+pub use wl_session::Session;

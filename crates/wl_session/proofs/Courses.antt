@@ -25,8 +25,8 @@ use Rattle.wl_laws.proofs.Marks.Through.{marked_through}
 use Rattle.wl_laws.proofs.Lists.Keys.{differ}
 use Rattle.wl_laws.proofs.Runs.Through.{happens_leads_through, messages_lead_through, settling-with}
 use Rattle.wl_marking.specs.Marking.{IsAsLarge as HasItsSides}
-use Rattle.wl_resident.specs.Marking.{MarksAtLeast, MarksMost, MarksThrough}
-use Rattle.wl_resident.specs.View.{MarkedDesk}
+use Rattle.wl_desk.specs.Marking.{MarksAtLeast, MarksMost, MarksThrough}
+use Rattle.wl_desk.specs.View.{MarkedDesk}
 use Rattle.wl_desk.specs.Agreeing.{Agrees, MarksNothing, MarksStep, TakesStep}
 use Rattle.wl_desk.specs.Feeding.{Ends, EndsBy, EndsOf, kept_at, kept_by, kept_of}
 use Rattle.wl_desk.proofs.Agreed.{agrees-apart, kept-unmarked}

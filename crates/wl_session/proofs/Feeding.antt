@@ -8,18 +8,18 @@ use Rattle.wl_peer.specs.declared.cause.Cause.TheVariants.{Memory}
 use Rattle.wl_peer.specs.Peer.{Peer, ended, with_rest}
 use Rattle.wl_client.specs.View.{ClientView}
 use Rattle.wl_stacking.specs.Stacking.{Owned, Standing, is_of, nothing_owned, without_client}
-use Rattle.wl_resident.specs.Agreement.{IsPlace, Matches}
+use Rattle.wl_desk.specs.Agreement.{IsPlace, Matches}
 use Rattle.wl_desk.specs.Agreeing.{Agrees}
 use Rattle.wl_plain.specs.Desktop.{Desktop, Resident, become, become_by, client_at, client_in, owned_in, owned_of, resident_of, with_client, with_number, status_in, status_of as ended_in}
 use Rattle.wl_desk.specs.Feeding.{Ends, IsIdleIn, IsIdleOf, kept_at, kept_by, kept_of}
 use Rattle.wl_desk.proofs.Calls.{ended_at, ended_of}
 use Rattle.wl_desk.proofs.Else.{serves-else}
 use Rattle.wl_desk.proofs.Steps.{ended-once, kept-has}
-use Rattle.wl_resident.specs.Seats.{ended_by}
+use Rattle.wl_desk.specs.Seats.{ended_by}
 use Rattle.wl_plain.specs.Settling.{becomes}
 use Rattle.wl_plain.specs.Step.{with_peer}
 use Rattle.wl_plain.specs.Act.{fed_of, peer_at, peer_of, status_of}
-use Rattle.wl_resident.specs.View.{DeskView, OwnedView}
+use Rattle.wl_desk.specs.View.{DeskView, OwnedView}
 use Rattle.wl_plain.specs.declared.answers.Done.TheVariants as gave
 use Rattle.wl_plain.specs.declared.answers.Fed.{Fed}
 use Rattle.wl_plain.specs.LeftOut.{served_now}

@@ -12,7 +12,7 @@ use Rattle.wl_plain.specs.Moments.{marks_at_least, marks_at_least_through, marks
 use Rattle.wl_plain.specs.Stacked.{all_windows}
 use Rattle.wl_plain.specs.Through.{raised_in}
 use Rattle.wl_marking.specs.Marking.{IsAsLarge as HasItsSides}
-use Rattle.wl_resident.specs.Marking.{MarksAtLeast}
+use Rattle.wl_desk.specs.Marking.{MarksAtLeast}
 use Rattle.wl_session.specs.Run.{IsNextFrame}
 
 -- a desktop, which points of its output are to be painted again, and the last frame

@@ -1,7 +1,7 @@
 use Rattle.std.proofs.Common.{refl, subst}
 use Rattle.wl_paint.specs.Damage.{Damaged}
 use Rattle.wl_marking.specs.Marking.{IsAsLarge as HasItsSides}
-use Rattle.wl_resident.specs.Marking.{MarksAtLeast, MarksMost}
+use Rattle.wl_desk.specs.Marking.{MarksAtLeast, MarksMost}
 use Rattle.wl_plain.specs.declared.answers.Done.TheVariants as gave
 use Rattle.wl_desk.specs.Agreeing.{Agrees}
 use Rattle.wl_desk.specs.Feeding.{kept_at}

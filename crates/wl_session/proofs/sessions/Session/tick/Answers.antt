@@ -5,7 +5,7 @@ use Rattle.wl_client.specs.declared.outputs.Output.{Output}
 use Rattle.wl_paint.specs.Damage.{Damaged, has}
 use Rattle.wl_desk.specs.Agreeing.{Agrees}
 use Rattle.wl_plain.specs.Desktop.{Desktop}
-use Rattle.wl_resident.specs.View.{DeskView}
+use Rattle.wl_desk.specs.View.{DeskView}
 use Rattle.wl_session.specs.Run.{IsNextFrame}
 use Rattle.wl_session.specs.View.{SessionView}
 use Rattle.wl_plain.specs.Act.{Tick}
