@@ -18,7 +18,7 @@ use std::alloc::Allocator;
 use wl_wire::PutError;
 
 /// What an event says, by the interface of the object that sends it.
-#[derive(Clone, Copy, Debug)]
+#[derive(Clone, Copy)]
 pub enum EventBody<'a> {
     WlDisplay(WlDisplayEvent<'a>),
     WlRegistry(WlRegistryEvent<'a>),
@@ -34,7 +34,7 @@ pub enum EventBody<'a> {
 }
 
 /// An event that an object sends.
-#[derive(Clone, Copy, Debug)]
+#[derive(Clone, Copy)]
 pub struct Event<'a> {
     /// The id of the object.
     pub object: u32,

@@ -23,7 +23,7 @@ use crate::xdg_wm_base::{self, XdgWmBaseRequest};
 use crate::{Interface, NewId, ObjectArg, ProtoError};
 
 /// A request, by the interface of the object that it is sent to.
-#[derive(Clone, Copy, Debug)]
+#[derive(Clone, Copy)]
 pub enum Request<'a> {
     WlDisplay(WlDisplayRequest),
     WlRegistry(WlRegistryRequest<'a>),

@@ -10,7 +10,7 @@ use std::alloc::Allocator;
 use wl_wire::{PutError, message_size, put};
 
 /// A request of wl_buffer.
-#[derive(Clone, Copy, Debug)]
+#[derive(Clone, Copy)]
 pub enum WlBufferRequest {
     Destroy,
 }
@@ -28,7 +28,7 @@ pub(crate) fn decode(_version: u32, opcode: u16, body: &[u8]) -> Result<WlBuffer
 }
 
 /// An event of wl_buffer.
-#[derive(Clone, Copy, Debug)]
+#[derive(Clone, Copy)]
 pub enum WlBufferEvent {
     Release,
 }

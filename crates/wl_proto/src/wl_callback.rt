@@ -7,7 +7,7 @@ use std::alloc::Allocator;
 use wl_wire::{Arg, PutError, message_size, put};
 
 /// An event of wl_callback.
-#[derive(Clone, Copy, Debug)]
+#[derive(Clone, Copy)]
 pub enum WlCallbackEvent {
     Done { callback_data: u32 },
 }

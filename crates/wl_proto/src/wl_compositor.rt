@@ -10,7 +10,7 @@ use crate::body::word;
 use crate::{Interface, NewId, ProtoError};
 
 /// A request of wl_compositor.
-#[derive(Clone, Copy, Debug)]
+#[derive(Clone, Copy)]
 pub enum WlCompositorRequest {
     CreateSurface { id: u32 },
     CreateRegion { id: u32 },

@@ -12,7 +12,7 @@ use std::alloc::Allocator;
 use wl_wire::{Arg, PutError, message_size, put};
 
 /// A request of wl_display.
-#[derive(Clone, Copy, Debug)]
+#[derive(Clone, Copy)]
 pub enum WlDisplayRequest {
     Sync { callback: u32 },
     GetRegistry { registry: u32 },
@@ -55,7 +55,7 @@ pub(crate) fn new_id(request: &WlDisplayRequest) -> Option<NewId>
 }
 
 /// An event of wl_display.
-#[derive(Clone, Copy, Debug)]
+#[derive(Clone, Copy)]
 pub enum WlDisplayEvent<'a> {
     Error {
         object_id: u32,

@@ -7,7 +7,7 @@ use std::alloc::Allocator;
 use wl_wire::{Arg, PutError, message_size, put};
 
 /// An event of wl_output.
-#[derive(Clone, Copy, Debug)]
+#[derive(Clone, Copy)]
 pub enum WlOutputEvent<'a> {
     Geometry {
         x: i32,

@@ -12,7 +12,7 @@ use std::alloc::Allocator;
 use wl_wire::{Arg, Fixed, PutError, message_size, put};
 
 /// A request of wl_pointer.
-#[derive(Clone, Copy, Debug)]
+#[derive(Clone, Copy)]
 pub enum WlPointerRequest {
     SetCursor {
         serial: u32,
@@ -56,7 +56,7 @@ pub(crate) fn objects(request: &WlPointerRequest) -> [Option<ObjectArg>; 2]
 }
 
 /// An event of wl_pointer.
-#[derive(Clone, Copy, Debug)]
+#[derive(Clone, Copy)]
 pub enum WlPointerEvent {
     Enter {
         serial: u32,

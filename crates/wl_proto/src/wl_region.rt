@@ -8,7 +8,7 @@ use crate::ProtoError;
 use crate::body::{four_ints, nothing};
 
 /// A request of wl_region.
-#[derive(Clone, Copy, Debug)]
+#[derive(Clone, Copy)]
 pub enum WlRegionRequest {
     Destroy,
     Add {

@@ -12,7 +12,7 @@ use std::alloc::Allocator;
 use wl_wire::{Arg, PutError, message_size, put};
 
 /// A request of wl_registry.
-#[derive(Clone, Copy, Debug)]
+#[derive(Clone, Copy)]
 pub enum WlRegistryRequest<'a> {
     Bind {
         name: u32,
@@ -56,7 +56,7 @@ pub(crate) fn new_id(request: &WlRegistryRequest) -> Option<NewId>
 }
 
 /// An event of wl_registry.
-#[derive(Clone, Copy, Debug)]
+#[derive(Clone, Copy)]
 pub enum WlRegistryEvent<'a> {
     Global {
         name: u32,

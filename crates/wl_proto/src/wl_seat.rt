@@ -12,7 +12,7 @@ use std::alloc::Allocator;
 use wl_wire::{Arg, PutError, message_size, put};
 
 /// A request of wl_seat.
-#[derive(Clone, Copy, Debug)]
+#[derive(Clone, Copy)]
 pub enum WlSeatRequest {
     GetPointer { id: u32 },
     GetKeyboard { id: u32 },
@@ -60,7 +60,7 @@ pub(crate) fn new_id(request: &WlSeatRequest) -> Option<NewId>
 }
 
 /// An event of wl_seat.
-#[derive(Clone, Copy, Debug)]
+#[derive(Clone, Copy)]
 pub enum WlSeatEvent {
     Capabilities { capabilities: u32 },
 }

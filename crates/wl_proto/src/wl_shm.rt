@@ -12,7 +12,7 @@ use std::alloc::Allocator;
 use wl_wire::{Arg, PutError, message_size, put};
 
 /// A request of wl_shm.
-#[derive(Clone, Copy, Debug)]
+#[derive(Clone, Copy)]
 pub enum WlShmRequest {
     CreatePool { id: u32, size: i32 },
 }
@@ -42,7 +42,7 @@ pub(crate) fn new_id(request: &WlShmRequest) -> Option<NewId>
 }
 
 /// An event of wl_shm.
-#[derive(Clone, Copy, Debug)]
+#[derive(Clone, Copy)]
 pub enum WlShmEvent {
     Format { format: u32 },
 }

@@ -10,7 +10,7 @@ use crate::body::{int, nothing, word_four_ints_word};
 use crate::{Interface, NewId, ProtoError};
 
 /// A request of wl_shm_pool.
-#[derive(Clone, Copy, Debug)]
+#[derive(Clone, Copy)]
 pub enum WlShmPoolRequest {
     CreateBuffer {
         id: u32,

@@ -10,7 +10,7 @@ use crate::body::{nothing, three_words};
 use crate::{Interface, NewId, ObjectArg, ProtoError};
 
 /// A request of wl_subcompositor.
-#[derive(Clone, Copy, Debug)]
+#[derive(Clone, Copy)]
 pub enum WlSubcompositorRequest {
     Destroy,
     GetSubsurface { id: u32, surface: u32, parent: u32 },

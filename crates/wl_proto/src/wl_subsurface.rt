@@ -10,7 +10,7 @@ use crate::body::{nothing, two_ints, word};
 use crate::{Interface, ObjectArg, ProtoError};
 
 /// A request of wl_subsurface.
-#[derive(Clone, Copy, Debug)]
+#[derive(Clone, Copy)]
 pub enum WlSubsurfaceRequest {
     Destroy,
     SetPosition { x: i32, y: i32 },

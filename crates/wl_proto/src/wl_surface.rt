@@ -10,7 +10,7 @@ use crate::body::{four_ints, int, nothing, word, word_two_ints};
 use crate::{Interface, NewId, ObjectArg, ProtoError};
 
 /// A request of wl_surface.
-#[derive(Clone, Copy, Debug)]
+#[derive(Clone, Copy)]
 pub enum WlSurfaceRequest {
     Destroy,
     Attach {

@@ -12,7 +12,7 @@ use std::alloc::Allocator;
 use wl_wire::{Arg, PutError, message_size, put};
 
 /// A request of xdg_popup.
-#[derive(Clone, Copy, Debug)]
+#[derive(Clone, Copy)]
 pub enum XdgPopupRequest {
     Destroy,
     Grab { seat: u32, serial: u32 },
@@ -45,7 +45,7 @@ pub(crate) fn objects(request: &XdgPopupRequest) -> [Option<ObjectArg>; 2]
 }
 
 /// An event of xdg_popup.
-#[derive(Clone, Copy, Debug)]
+#[derive(Clone, Copy)]
 pub enum XdgPopupEvent {
     Configure {
         x: i32,

@@ -8,7 +8,7 @@ use crate::ProtoError;
 use crate::body::{four_ints, nothing, two_ints, word};
 
 /// A request of xdg_positioner.
-#[derive(Clone, Copy, Debug)]
+#[derive(Clone, Copy)]
 pub enum XdgPositionerRequest {
     Destroy,
     SetSize {

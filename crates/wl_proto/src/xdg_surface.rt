@@ -12,7 +12,7 @@ use std::alloc::Allocator;
 use wl_wire::{Arg, PutError, message_size, put};
 
 /// A request of xdg_surface.
-#[derive(Clone, Copy, Debug)]
+#[derive(Clone, Copy)]
 pub enum XdgSurfaceRequest {
     Destroy,
     GetToplevel {
@@ -110,7 +110,7 @@ pub(crate) fn new_id(request: &XdgSurfaceRequest) -> Option<NewId>
 }
 
 /// An event of xdg_surface.
-#[derive(Clone, Copy, Debug)]
+#[derive(Clone, Copy)]
 pub enum XdgSurfaceEvent {
     Configure { serial: u32 },
 }

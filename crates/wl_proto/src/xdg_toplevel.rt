@@ -13,7 +13,7 @@ use std::alloc::Allocator;
 use wl_wire::{Arg, PutError, message_size, put};
 
 /// A request of xdg_toplevel.
-#[derive(Clone, Copy, Debug)]
+#[derive(Clone, Copy)]
 pub enum XdgToplevelRequest<'a> {
     Destroy,
     SetParent {
@@ -159,7 +159,7 @@ pub(crate) fn objects(request: &XdgToplevelRequest) -> [Option<ObjectArg>; 2]
 }
 
 /// An event of xdg_toplevel.
-#[derive(Clone, Copy, Debug)]
+#[derive(Clone, Copy)]
 pub enum XdgToplevelEvent<'a> {
     Configure {
         width: i32,

@@ -10,7 +10,7 @@ use crate::body::{nothing, two_words, word};
 use crate::{Interface, NewId, ObjectArg, ProtoError};
 
 /// A request of xdg_wm_base.
-#[derive(Clone, Copy, Debug)]
+#[derive(Clone, Copy)]
 pub enum XdgWmBaseRequest {
     Destroy,
     CreatePositioner { id: u32 },

@@ -1,6 +1,8 @@
-//! Tests of the server over hubs in memory and over a socket, and of the lines of a pointer file.
+//! Tests of the server and of the hub below it, over hubs in memory and over sockets, and of the lines of a pointer file.
 #![tactic(auto)]
 
+#[cfg(test)]
+mod hub;
 #[cfg(test)]
 mod memory;
 #[cfg(test)]

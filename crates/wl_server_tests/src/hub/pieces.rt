@@ -1,7 +1,7 @@
 //! Reads and writes in pieces, that block or fail at a chosen call.
 
-use crate::clients::{accepted, delivers, none_waits, receives};
-use crate::memory::{Client, Kept, MemoryHub, NEVER};
+use crate::hub::clients::{accepted, delivers, none_waits, receives};
+use crate::hub::memory::{Client, Kept, MemoryHub, NEVER};
 use std::alloc::Global;
 use wl_hub::{Hub, Received};
 

@@ -1,6 +1,6 @@
 //! The hub over a real socket, whose both ends are of one process.
 
-use crate::clients::{accepted, delivers, none_waits, receives};
+use crate::hub::clients::{accepted, delivers, none_waits, receives};
 use mio::net::UnixStream;
 use std::io::{ErrorKind, Read, Write};
 use std::{env, fs, process};
