@@ -35,11 +35,10 @@ pub(crate) fn serve<'a, F: Files + Net + AllocGlobal, A: Allocator + Copy, W: Wr
     ensures failed { IfErr result (λ fault. FailsServing fault serve.entry (W.contents output.old) (W.contents output.new)) }
 {
     let mut ppm = create(files, serve.ppm)?;
-    let heap = &alloc;
-    let lines = read_pointer(files, heap, serve.pointer)?;
+    let lines = read_pointer(files, alloc, serve.pointer)?;
     let mut hub = SocketHub::bind(files, serve.socket).map_err(bind_failed)?;
     let mut side = Folder::new(files, serve.dir);
-    let session = session_of(heap, serve.size)?;
+    let session = session_of(alloc, serve.size)?;
     let mut service = Service::new(session, lines, &mut *output, ppm.as_mut());
     let mut connections = Connections::new();
     take_turns(
