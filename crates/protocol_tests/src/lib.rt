@@ -6,4 +6,6 @@ mod messages;
 #[cfg(test)]
 mod objects;
 #[cfg(test)]
+mod requests;
+#[cfg(test)]
 mod words;
