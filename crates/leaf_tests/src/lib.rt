@@ -1,13 +1,46 @@
-//! Tests of regions, stores, xdg_surfaces and the stack of toplevels, with allocations that are refused.
+//! Tests of what knows no clients: regions, stores, painting, surfaces by themselves and linked, the windows of their trees, xdg_surfaces and the
+//! stack of toplevels; with allocations that are refused.
 #![tactic(auto)]
 
 #[cfg(test)]
+mod blending;
+#[cfg(test)]
+mod calls;
+#[cfg(test)]
+mod children;
+#[cfg(test)]
+mod damage;
+#[cfg(test)]
+mod family;
+#[cfg(test)]
+mod held;
+#[cfg(test)]
+mod images;
+#[cfg(test)]
+mod linked;
+#[cfg(test)]
+mod painting;
+#[cfg(test)]
 mod regions;
+#[cfg(test)]
+mod repaint;
 #[cfg(test)]
 mod scenes;
 #[cfg(test)]
 mod shells;
 #[cfg(test)]
+mod stacked;
+#[cfg(test)]
 mod stores;
 #[cfg(test)]
 mod support;
+#[cfg(test)]
+mod surface_cases;
+#[cfg(test)]
+mod surfaces;
+#[cfg(test)]
+mod trees;
+#[cfg(test)]
+mod two;
+#[cfg(test)]
+mod windows;

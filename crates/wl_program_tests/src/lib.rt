@@ -1,8 +1,10 @@
-//! Tests of the program: what it says and how it ends.
+//! Tests of recordings, and of the program: what it says and how it ends.
 #![tactic(auto)]
 
 #[cfg(test)]
 mod files;
+#[cfg(test)]
+mod replay;
 #[cfg(test)]
 mod serving;
 #[cfg(test)]

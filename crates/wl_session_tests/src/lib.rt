@@ -1,8 +1,25 @@
-//! Tests of the session: its worked recordings but for frames, and what it does where memory is refused.
+//! Tests of the session: by tables of what is done in one and what is wanted of it (rows); where memory is refused; and of what is seen, by a viewer that
+//! copies only what each frame painted, against a slow painter of what clients asked for.
 #![tactic(auto)]
 
 #[cfg(test)]
+mod acting;
+#[cfg(test)]
+mod begun;
+#[cfg(test)]
+mod callbacks;
+#[cfg(test)]
+mod desktop;
+#[cfg(test)]
+mod drawing;
+#[cfg(test)]
+mod frames;
+#[cfg(test)]
 mod memory;
+#[cfg(test)]
+mod painter;
+#[cfg(test)]
+mod plays;
 #[cfg(test)]
 mod pools;
 #[cfg(test)]
@@ -12,4 +29,14 @@ mod regions;
 #[cfg(test)]
 mod registry;
 #[cfg(test)]
+mod releases;
+#[cfg(test)]
+mod requests;
+#[cfg(test)]
+mod rows;
+#[cfg(test)]
+mod subsurfaces;
+#[cfg(test)]
 mod toplevels;
+#[cfg(test)]
+mod viewer;

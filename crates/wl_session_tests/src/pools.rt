@@ -1,8 +1,7 @@
 //! Pools, buffers and the stores behind them.
 
-use session_rows::{
-    BUFFER_10, BUFFER_11, BUFFERS, Case, Message, POOL_12800, REGISTRY, Row, SHM, first_missed_case,
-};
+use crate::begun::{BUFFER_10, BUFFER_11, BUFFERS, POOL_12800, SHM};
+use crate::rows::{Case, Message, REGISTRY, Row, first_missed_case};
 use wl_session::{Cause, Done, Fed, Step, Stored};
 use wl_wire::Arg;
 

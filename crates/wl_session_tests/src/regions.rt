@@ -1,6 +1,7 @@
 //! Regions.
 
-use session_rows::{Case, Message, REGISTRY, Row, SHM, first_missed_case};
+use crate::begun::SHM;
+use crate::rows::{Case, Message, REGISTRY, Row, first_missed_case};
 use wl_wire::Arg;
 
 const RECT: &[Arg] = &[Arg::Int(0), Arg::Int(0), Arg::Int(4), Arg::Int(4)];

@@ -1,6 +1,6 @@
 //! The registry, binds, and the order in which messages are refused.
 
-use session_rows::{
+use crate::rows::{
     CLIENT, Case, Fault, INVALID_OBJECT, Message, REGISTRY, Row, SYNC, first_missed_case,
     first_missed_row,
 };

@@ -1,9 +1,10 @@
 //! Surfaces and toplevels: what is told of them, their errors, and how long their buffers keep stores.
 
-use session_rows::{
-    ACKNOWLEDGES, ATTACH_10, ATTACH_NONE, BUFFER_10, BUFFERS, COMMIT, CONFIGURED, CONFIGURES, Case,
-    GLOBALS, MADE, MAPS, Message, REGISTRY, Row, first_missed_case, first_missed_row,
+use crate::begun::{
+    ACKNOWLEDGES, ATTACH_10, ATTACH_NONE, BUFFER_10, BUFFERS, COMMIT, CONFIGURED, CONFIGURES,
+    GLOBALS, MADE, MAPS,
 };
+use crate::rows::{Case, Message, REGISTRY, Row, first_missed_case, first_missed_row};
 use wl_session::{Done, Fed, Step, Stored};
 use wl_wire::Arg;
 

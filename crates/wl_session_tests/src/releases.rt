@@ -1,9 +1,7 @@
 //! wl_buffer.release: a buffer that no surface shows any more is told, while its wl_buffer is there.
 
-use session_rows::{
-    ACKNOWLEDGES, ATTACH_NONE, BUFFERS, COMMIT, CONFIGURES, Case, GLOBALS, MADE, MAPS, Message,
-    Pixel, REGISTRY, Row, first_missed_case, play,
-};
+use crate::begun::{ACKNOWLEDGES, ATTACH_NONE, BUFFERS, COMMIT, CONFIGURES, GLOBALS, MADE, MAPS};
+use crate::rows::{Case, Message, Pixel, REGISTRY, Row, first_missed_case, play};
 use wl_session::{Cause, Done, Fed, Step};
 use wl_wire::Arg;
 

@@ -4,7 +4,7 @@ use std::alloc::Global;
 use wl_session::{Cause, Config, Done, Fed, Rgb, Session, Step, Stored};
 use wl_wire::{Arg, put};
 
-pub const CONFIG: Config = Config {
+pub(crate) const CONFIG: Config = Config {
     width: 64,
     height: 48,
     background: Rgb { r: 0, g: 0, b: 0 },
@@ -12,15 +12,15 @@ pub const CONFIG: Config = Config {
 
 /// A message: the object that it is to or from, its opcode and its arguments.
 #[derive(Clone, Copy)]
-pub struct Message<'a>(pub u32, pub u16, pub &'a [Arg<'a>]);
+pub(crate) struct Message<'a>(pub u32, pub u16, pub &'a [Arg<'a>]);
 
 /// A pixel of a frame: its column, its row, and its colour as red, green and blue.
 #[derive(Clone, Copy)]
-pub struct Pixel(pub usize, pub usize, pub u8, pub u8, pub u8);
+pub(crate) struct Pixel(pub usize, pub usize, pub u8, pub u8, pub u8);
 
 /// Something that is done in a session, or how the session is, with what is wanted of it.
 #[derive(Clone, Copy)]
-pub enum Row<'a> {
+pub(crate) enum Row<'a> {
     /// A step, made by its own call, and its answer.
     Calls(Step<'a>, Done),
     /// A step, made by `step`, and its answer.
@@ -78,31 +78,31 @@ pub enum Row<'a> {
 
 /// What wasn't as wanted.
 #[derive(Clone, Copy, Debug, PartialEq, Eq)]
-pub enum Fault {
+pub(crate) enum Fault {
     NoSession,
     /// A row, by its part and its place there.
     Row(usize, usize),
 }
 
 /// A client connects as the first.
-pub const CLIENT: &[Row] = &[Row::Calls(Step::Connect, Done::Connect(Ok(1)))];
+pub(crate) const CLIENT: &[Row] = &[Row::Calls(Step::Connect, Done::Connect(Ok(1)))];
 
 /// A client with the registry 2, whose globals were sent.
-pub const REGISTRY: &[Row] = &[
+pub(crate) const REGISTRY: &[Row] = &[
     Row::Calls(Step::Connect, Done::Connect(Ok(1))),
     Row::Sends(Message(1, 1, &[Arg::NewId(2)])),
     Row::Takes,
 ];
 
 /// How a client is after wl_display.error of wl_display with invalid_object.
-pub const INVALID_OBJECT: Fed = Fed::Ended(Cause::Protocol { object: 1, code: 0 });
+pub(crate) const INVALID_OBJECT: Fed = Fed::Ended(Cause::Protocol { object: 1, code: 0 });
 
 fn protocol(object: u32, code: u32) -> Fed {
     Fed::Ended(Cause::Protocol { object, code })
 }
 
 /// The bytes of messages. None where there is no memory for them.
-pub fn bytes_of(alloc: Global, messages: &[Message]) -> Option<Vec<u8, Global>> {
+pub(crate) fn bytes_of(alloc: Global, messages: &[Message]) -> Option<Vec<u8, Global>> {
     let mut bytes = Vec::new(alloc);
     for &Message(object, opcode, args) in messages {
         match put(&mut bytes, object, opcode, args) {
@@ -177,7 +177,7 @@ fn fill(session: &mut Session<Global>, place: &Place, count: u32, pixel: &[u8]) 
 }
 
 /// Whether a pixel of an image that is so wide is as wanted.
-pub fn is_pixel(bytes: &[u8], width: usize, pixel: &Pixel) -> bool {
+pub(crate) fn is_pixel(bytes: &[u8], width: usize, pixel: &Pixel) -> bool {
     let &Pixel(x, y, red, green, blue) = pixel;
     let at = y.saturating_mul(width).saturating_add(x).saturating_mul(4);
     match bytes.get(at..) {
@@ -193,7 +193,7 @@ fn shows(session: &mut Session<Global>, least: u32, most: u32, pixels: &[Pixel])
     least <= count && count <= most && pixels.iter().all(|pixel| is_pixel(bytes, 64, pixel))
 }
 
-pub fn has_out(session: &Session<Global>, client: u32, bytes: &[u8]) -> bool {
+pub(crate) fn has_out(session: &Session<Global>, client: u32, bytes: &[u8]) -> bool {
     match session.out(client) {
         Some(out) => out == bytes,
         None => false,
@@ -249,7 +249,7 @@ fn drip(session: &mut Session<Global>, piece: &[u8]) -> bool {
 }
 
 /// wl_display.sync with the new callback 2.
-pub const SYNC: &[u8] = &[1, 0, 0, 0, 0, 0, 12, 0, 2, 0, 0, 0];
+pub(crate) const SYNC: &[u8] = &[1, 0, 0, 0, 0, 0, 12, 0, 2, 0, 0, 0];
 
 fn sync(session: &mut Session<Global>, count: u32) -> bool {
     for _ in 0..count {
@@ -382,7 +382,7 @@ fn first_missed(alloc: Global, session: &mut Session<Global>, rows: &[Row]) -> O
 }
 
 /// Plays the parts of a case in a session.
-pub fn play_in(
+pub(crate) fn play_in(
     alloc: Global,
     session: &mut Session<Global>,
     parts: &[&[Row]],
@@ -396,10 +396,10 @@ pub fn play_in(
 }
 
 /// A case: its name, and the parts of rows that are played in turn in a session of its own.
-pub type Case<'a> = (&'a str, &'a [&'a [Row<'a>]]);
+pub(crate) type Case<'a> = (&'a str, &'a [&'a [Row<'a>]]);
 
 /// Plays the parts of a case after those that it shares with others.
-pub fn play_after(alloc: Global, first: &[&[Row]], parts: &[&[Row]]) -> Result<(), Fault> {
+pub(crate) fn play_after(alloc: Global, first: &[&[Row]], parts: &[&[Row]]) -> Result<(), Fault> {
     match Session::new(alloc, CONFIG) {
         Ok(mut session) => play_both(alloc, &mut session, first, parts),
         Err(_) => Err(Fault::NoSession),
@@ -417,7 +417,7 @@ fn play_both(
 }
 
 /// Plays the parts of a case.
-pub fn play(alloc: Global, parts: &[&[Row]]) -> Result<(), Fault> {
+pub(crate) fn play(alloc: Global, parts: &[&[Row]]) -> Result<(), Fault> {
     match Session::new(alloc, CONFIG) {
         Ok(mut session) => play_in(alloc, &mut session, parts),
         Err(_) => Err(Fault::NoSession),
@@ -447,7 +447,11 @@ fn play_row(alloc: Global, parts: &[&[Row]], row: &Row) -> Result<(), Fault> {
 }
 
 /// The first of the rows that isn't as wanted, each in a session of its own after these parts, and what wasn't.
-pub fn first_missed_row(alloc: Global, parts: &[&[Row]], rows: &[Row]) -> Option<(usize, Fault)> {
+pub(crate) fn first_missed_row(
+    alloc: Global,
+    parts: &[&[Row]],
+    rows: &[Row],
+) -> Option<(usize, Fault)> {
     for (place, row) in rows.iter().enumerate() {
         if let Err(fault) = play_row(alloc, parts, row) {
             return Some((place, fault));
@@ -457,7 +461,7 @@ pub fn first_missed_row(alloc: Global, parts: &[&[Row]], rows: &[Row]) -> Option
 }
 
 /// The first of the cases that isn't as wanted, each in a session of its own after the parts that they share, and what wasn't.
-pub fn first_missed_case(
+pub(crate) fn first_missed_case(
     alloc: Global,
     first: &[&[Row]],
     cases: &[Case],

@@ -1,9 +1,9 @@
 //! wl_surface.frame: after a frame a client is told that those of its callbacks are done whose requests a commit applied.
 
-use session_rows::{
-    ACKNOWLEDGES, ATTACH_NONE, BUFFERS, COMMIT, CONFIGURES, Case, GLOBALS, MADE, MAPS, Message,
-    Pixel, RED_10, REGISTRY, Row, first_missed_case,
+use crate::begun::{
+    ACKNOWLEDGES, ATTACH_NONE, BUFFERS, COMMIT, CONFIGURES, GLOBALS, MADE, MAPS, RED_10,
 };
+use crate::rows::{Case, Message, Pixel, REGISTRY, Row, first_missed_case};
 use wl_session::{Cause, Done, Fed, Step};
 use wl_wire::Arg;
 

@@ -1,6 +1,6 @@
 //! Faults of the streams and of memory, at each call in turn.
 
-use crate::support::play;
+use crate::replay::support::play;
 use std::test::Fail;
 use test_support::{FaultyReader, FaultyWriter, Refusing};
 use wl_replay::{ReplayError, Summary};

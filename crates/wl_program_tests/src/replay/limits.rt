@@ -1,6 +1,6 @@
 //! The limits of recordings.
 
-use crate::support::play;
+use crate::replay::support::play;
 use std::test::Fail;
 use wl_replay::{LINE_LIMIT, MAX_LINES, ReplayError, Summary};
 

@@ -1,9 +1,7 @@
 //! Subsurfaces: when what they commit is shown, where they stand, and how deep they go.
 
-use session_rows::{
-    ACKNOWLEDGES, BUFFERS, COMMIT, CONFIGURES, Case, GLOBALS, GREEN, MADE, MAPS, Message, Pixel,
-    RED, REGISTRY, Row, first_missed_case,
-};
+use crate::begun::{ACKNOWLEDGES, BUFFERS, COMMIT, CONFIGURES, GLOBALS, GREEN, MADE, MAPS, RED};
+use crate::rows::{Case, Message, Pixel, REGISTRY, Row, first_missed_case};
 use wl_session::Fed;
 use wl_wire::Arg;
 

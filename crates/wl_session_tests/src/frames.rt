@@ -1,9 +1,11 @@
 //! Frames of windows: what they show, and which points are painted again.
 
-use session_rows::{
-    ACKNOWLEDGES, ATTACH_NONE, BUFFERS, COMMIT, CONFIGURED, CONFIGURES, Case, GLOBALS, GREEN, MADE,
-    MAPS, Message, Pixel, RED, RED_10, REGISTRY, Row, bytes_of, first_missed_case, is_pixel,
-    play_after,
+use crate::begun::{
+    ACKNOWLEDGES, ATTACH_NONE, BUFFERS, COMMIT, CONFIGURED, CONFIGURES, GLOBALS, GREEN, MADE, MAPS,
+    RED, RED_10,
+};
+use crate::rows::{
+    Case, Message, Pixel, REGISTRY, Row, bytes_of, first_missed_case, is_pixel, play_after,
 };
 use std::alloc::Global;
 use wl_session::{Config, Done, Fed, Rgb, Run, Session, Shot, Step};

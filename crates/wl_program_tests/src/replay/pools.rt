@@ -1,6 +1,6 @@
 //! Store writes and side files, with a client that has a pool of 12,800 bytes.
 
-use crate::support::{OneFile, play_with};
+use crate::replay::support::{OneFile, play_with};
 use std::alloc::{Allocator, Global};
 use std::test::Fail;
 use wl_replay::{ReplayError, SideFiles, Summary};

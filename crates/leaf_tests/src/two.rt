@@ -2,7 +2,7 @@ ghost use Rattle.std.specs.Prelude.{◌≡◌, pos};
 ghost use Rattle.wl_paint.specs.Painting.{window_of};
 ghost use Rattle.wl_store.specs.Stores.{picture_of};
 ghost use Rattle.std.specs.Option.{option_map};
-ghost use Rattle.paint_tests.specs.Two.{window_at};
+ghost use Rattle.leaf_tests.specs.Two.{window_at};
 
 use std::alloc::Allocator;
 use wl_geom::Region;
@@ -43,7 +43,7 @@ impl<'a, A: Allocator> Windows for Two<'a, A> {
     ghost use Rattle.std.specs.Prelude.{pos};
     ghost use Rattle.std.specs.Option.{option_map};
     ghost use Rattle.wl_store.specs.Stores.{picture_of};
-    ghost use Rattle.paint_tests.specs.Two.{pair_of, window_at};
+    ghost use Rattle.leaf_tests.specs.Two.{pair_of, window_at};
 
     ghost windows = { λ t. pair_of
         (option_map (window_at (pos 0) (pos 0) t.opaque.now) (picture_of t.store t.lower 0 t.stores.now))

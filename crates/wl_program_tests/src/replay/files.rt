@@ -1,6 +1,6 @@
 //! Side files, and the lines that name them.
 
-use crate::support::{OneFile, play_with};
+use crate::replay::support::{OneFile, play_with};
 use std::alloc::Allocator;
 use std::test::Fail;
 use wl_replay::{ReplayError, Summary};

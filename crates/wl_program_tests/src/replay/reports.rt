@@ -1,6 +1,6 @@
 //! The reports of recordings, worked out from the protocol by hand.
 
-use crate::support::play;
+use crate::replay::support::play;
 use std::test::Fail;
 use wl_replay::{ReplayError, Summary};
 

@@ -1,0 +1,8 @@
+//! Recordings, their reports and their images.
+
+mod faults;
+mod files;
+mod limits;
+mod pools;
+mod reports;
+mod support;
