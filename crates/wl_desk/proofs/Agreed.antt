@@ -5,7 +5,7 @@ use Rattle.wl_plain.specs.Desktop.{Desktop}
 use Rattle.wl_plain.specs.Marks.{AreDistinct}
 use Rattle.wl_plain.specs.Moments.{marks_at_least}
 use Rattle.wl_plain.specs.Stacked.{all_windows}
-use Rattle.wl_ways.proofs.Trees.{all-distinct, orderly_has_trees}
+use Rattle.wl_changes.proofs.MessageWays.Trees.{all-distinct, orderly_has_trees}
 use Rattle.wl_resident.specs.View.{DeskView}
 use Rattle.wl_desk.specs.Agreeing.{Agrees}
 use Rattle.wl_desk.specs.Feeding.{kept_at}

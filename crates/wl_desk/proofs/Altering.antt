@@ -20,8 +20,8 @@ use Rattle.wl_laws.proofs.Runs.Forms.{ChangesAt as StepChangesAt, ConnectsAt, Le
 use Rattle.wl_laws.proofs.Runs.OneRun.{held}
 use Rattle.wl_laws.proofs.Runs.Places.{client-kept}
 use Rattle.wl_laws.proofs.Runs.Stays.{sent-status, stored-status}
-use Rattle.wl_records.proofs.Toplevels.Serves.{becomes-same, settles-to}
-use Rattle.wl_orderly.specs.Orderly.{Orderly, OrderlyAt, OrderlyBy}
+use Rattle.wl_invariants.proofs.KeptRecords.Toplevels.Serves.{becomes-same, settles-to}
+use Rattle.wl_invariants.specs.Orderly.{Orderly, OrderlyAt, OrderlyBy}
 
 -- ---- what is done
 

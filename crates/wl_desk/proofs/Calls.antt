@@ -30,8 +30,8 @@ use Rattle.wl_laws.proofs.Lists.Keys.{differ, some-same}
 use Rattle.wl_laws.proofs.Marks.Stacks.{or-left, or-right}
 use Rattle.wl_laws.proofs.Runs.Forms.{ConnectsAt}
 use Rattle.wl_laws.proofs.Runs.Places.{client-kept}
-use Rattle.wl_orderly.specs.Orderly.{Orderly}
-use Rattle.wl_mapped.proofs.Steps.{empty_is_mapped, mapped_stays}
+use Rattle.wl_invariants.specs.Orderly.{Orderly}
+use Rattle.wl_invariants.proofs.MappedToplevels.Steps.{empty_is_mapped, mapped_stays}
 use Rattle.wl_requests.specs.declared.residents.Resident.{Resident as Kept}
 use Rattle.wl_resident.specs.Agreement.{Matches, IsPlace, IsScene, IsStack, numbers_in, numbers_of, with_numbers}
 use Rattle.wl_resident.specs.Seats.{IsBare, IsChangedSo, IsSeated, ended_by}

@@ -13,7 +13,7 @@ use Rattle.wl_lending.specs.Stacked.{AreStacked}
 use Rattle.wl_resident.specs.Agreement.{Matches, IsPlace, IsScene, IsSeat, numbers_in, numbers_of, with_numbers}
 use Rattle.wl_plain.specs.Desktop.{Desktop, Resident, client_at, place, with_number, with_place}
 use Rattle.wl_resident.specs.Seats.{IsSeated}
-use Rattle.wl_records.specs.Standing.{MappedStand}
+use Rattle.wl_invariants.specs.Standing.{MappedStand}
 use Rattle.wl_plain.specs.Act.{lowest, next_of}
 use Rattle.wl_plain.specs.Stacked.{all_windows}
 use Rattle.wl_resident.specs.View.{DeskView, OwnedView, Pile, owned_view}

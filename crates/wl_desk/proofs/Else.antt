@@ -13,11 +13,11 @@ use Rattle.wl_plain.specs.Desktop.{Desktop, Resident, become_by, client_at, resi
 use Rattle.wl_plain.specs.Happens.{Serves, wants_memory}
 use Rattle.wl_plain.specs.LeftOut.{served_now}
 use Rattle.wl_plain.specs.Step.{with_peer}
-use Rattle.wl_without_popups.specs.Simple.{AnswersSimply, Becomes, DoesSimply, TakesSimply, WantsOr, changed_simply, stacked_simply}
-use Rattle.wl_without_popups.proofs.Messages.{messages_are_simple}
-use Rattle.wl_orderly.specs.Orderly.{Orderly}
-use Rattle.wl_orderly.proofs.Clients.{orderly_has_no_popups}
-use Rattle.wl_ways.proofs.Ends.{stacked-leaves}
+use Rattle.wl_invariants.specs.Simple.{AnswersSimply, Becomes, DoesSimply, TakesSimply, WantsOr, changed_simply, stacked_simply}
+use Rattle.wl_invariants.proofs.WithoutPopups.Messages.{messages_are_simple}
+use Rattle.wl_invariants.specs.Orderly.{Orderly}
+use Rattle.wl_invariants.proofs.OrderlyClients.Clients.{orderly_has_no_popups}
+use Rattle.wl_changes.proofs.MessageWays.Ends.{stacked-leaves}
 
 -- one client of the desktop is another
 abbrev pub IsOneElse : ℕ → Desktop → Desktop → Type 0

@@ -13,12 +13,12 @@ use Rattle.wl_plain.specs.Moments.{marks_at_most}
 use Rattle.wl_laws.proofs.Marks.Stacks.{differ}
 use Rattle.wl_laws.proofs.Marks.Through.{unmarked-on}
 use Rattle.wl_laws.proofs.Runs.Fates.{same-or}
-use Rattle.wl_records.specs.Touching.{has_window_at}
-use Rattle.wl_records.proofs.Marks.Framing.{told-more}
-use Rattle.wl_orderly.specs.Orderly.{Orderly}
-use Rattle.wl_orderly.proofs.Clients.{frames_keep_order}
-use Rattle.wl_ways.specs.Ways.{IsGone}
-use Rattle.wl_ways.proofs.Ends.{untold_is_gone}
+use Rattle.wl_invariants.specs.Touching.{has_window_at}
+use Rattle.wl_invariants.proofs.KeptRecords.Marks.Framing.{told-more}
+use Rattle.wl_invariants.specs.Orderly.{Orderly}
+use Rattle.wl_invariants.proofs.OrderlyClients.Clients.{frames_keep_order}
+use Rattle.wl_changes.specs.Ways.{IsGone}
+use Rattle.wl_changes.proofs.MessageWays.Ends.{untold_is_gone}
 use Rattle.wl_marking.specs.Marking.{IsAsLarge}
 use Rattle.wl_requests.specs.declared.residents.Resident.{Resident as Kept}
 use Rattle.wl_resident.specs.Agreement.{Matches, numbers_in}

@@ -26,8 +26,8 @@ use Rattle.wl_plain.specs.Through.{ServesThrough}
 use Rattle.wl_plain.specs.declared.answers.Fed.TheVariants as fed
 use Rattle.wl_laws.proofs.Lists.Keys.{differ}
 use Rattle.wl_laws.proofs.Runs.Places.{number-same, number-twice}
-use Rattle.wl_orderly.specs.Orderly.{Orderly}
-use Rattle.wl_mapped.proofs.Steps.{pieces_keep_mapped}
+use Rattle.wl_invariants.specs.Orderly.{Orderly}
+use Rattle.wl_invariants.proofs.MappedToplevels.Steps.{pieces_keep_mapped}
 use Rattle.wl_requests.specs.declared.residents.Resident.{Resident as Kept}
 use Rattle.wl_resident.specs.Agreement.{Matches, IsPlace, IsSeat, numbers_in, with_numbers}
 use Rattle.wl_resident.specs.Marking.{MarksAtLeast, MarksAtMost, MarksThrough}

@@ -13,14 +13,14 @@ use Rattle.wl_plain.specs.Happens.{Happens}
 use Rattle.wl_plain.specs.LeftOut.{served_now}
 use Rattle.wl_plain.specs.Moments.{marks_at_least, marks_at_most}
 use Rattle.wl_laws.proofs.Marks.Stacks.{differ, or-left, or-right, unless}
-use Rattle.wl_records.specs.Standing.{MappedStand}
-use Rattle.wl_records.specs.Touching.{has_window_at}
-use Rattle.wl_orderly.specs.Orderly.{Orderly}
-use Rattle.wl_orderly.proofs.Clients.{orderly_has_no_popups, orderly_stays}
-use Rattle.wl_ways.specs.Ways.{IsGone}
-use Rattle.wl_ways.proofs.Ends.{left_is_gone}
-use Rattle.wl_ways.proofs.Gone.{gone_marks_least}
-use Rattle.wl_ways.proofs.Trees.{orderly_has_trees}
+use Rattle.wl_invariants.specs.Standing.{MappedStand}
+use Rattle.wl_invariants.specs.Touching.{has_window_at}
+use Rattle.wl_invariants.specs.Orderly.{Orderly}
+use Rattle.wl_invariants.proofs.OrderlyClients.Clients.{orderly_has_no_popups, orderly_stays}
+use Rattle.wl_changes.specs.Ways.{IsGone}
+use Rattle.wl_changes.proofs.MessageWays.Ends.{left_is_gone}
+use Rattle.wl_changes.proofs.MessageWays.Gone.{gone_marks_least}
+use Rattle.wl_changes.proofs.MessageWays.Trees.{orderly_has_trees}
 use Rattle.wl_requests.specs.declared.residents.Resident.{Resident as Kept}
 use Rattle.wl_resident.specs.Agreement.{numbers_in}
 use Rattle.wl_resident.specs.Marking.{MarksAtLeast, MarksMost, MarksOwn}

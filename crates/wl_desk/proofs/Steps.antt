@@ -20,13 +20,13 @@ use Rattle.wl_plain.specs.Through.{ServesThrough}
 use Rattle.wl_laws.proofs.Runs.Forms.{LeavesAt}
 use Rattle.wl_laws.proofs.Runs.Places.{client-kept, status-become}
 use Rattle.wl_laws.proofs.Runs.Through.{messages_lead_through}
-use Rattle.wl_records.specs.Acts.{LeavesPointer}
-use Rattle.wl_records.proofs.Toplevels.Back.{settled-back}
-use Rattle.wl_records.proofs.Toplevels.Serves.{becomes-same, settles-to}
-use Rattle.wl_orderly.specs.Orderly.{Orderly, OrderlyAt}
-use Rattle.wl_orderly.proofs.Clients.{empty_is_orderly, ends_keep_order, messages_keep_order, orderly_stays, pieces_keep_order}
-use Rattle.wl_ways.specs.Ways.{IsGone}
-use Rattle.wl_ways.proofs.Ends.{end_is_gone}
+use Rattle.wl_invariants.specs.Acts.{LeavesPointer}
+use Rattle.wl_invariants.proofs.KeptRecords.Toplevels.Back.{settled-back}
+use Rattle.wl_invariants.proofs.KeptRecords.Toplevels.Serves.{becomes-same, settles-to}
+use Rattle.wl_invariants.specs.Orderly.{Orderly, OrderlyAt}
+use Rattle.wl_invariants.proofs.OrderlyClients.Clients.{empty_is_orderly, ends_keep_order, messages_keep_order, orderly_stays, pieces_keep_order}
+use Rattle.wl_changes.specs.Ways.{IsGone}
+use Rattle.wl_changes.proofs.MessageWays.Ends.{end_is_gone}
 use Rattle.wl_desk.specs.Agreeing.{Agrees, TakesStep}
 use Rattle.wl_desk.specs.Feeding.{Ends, EndsBy, EndsOf, IsIdleIn, kept_at, kept_by, kept_of}
 use Rattle.wl_desk.proofs.Altering.{Alters, alters-whole, stays-by}

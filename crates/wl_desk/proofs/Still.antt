@@ -19,13 +19,13 @@ use Rattle.wl_plain.specs.Step.{with_peer}
 use Rattle.wl_laws.proofs.Marks.Stacks.{differ, unless}
 use Rattle.wl_laws.proofs.Runs.Forms.{ChangesAt, ConnectsAt}
 use Rattle.wl_laws.proofs.Runs.OneRun.{changed-held, held}
-use Rattle.wl_records.specs.Standing.{MappedStand}
-use Rattle.wl_orderly.specs.Orderly.{Orderly}
-use Rattle.wl_orderly.proofs.Clients.{ended_own_nothing}
-use Rattle.wl_orderly.proofs.Desktops.{comes-at}
-use Rattle.wl_ways.proofs.Gone.{same-applied}
-use Rattle.wl_ways.proofs.Lists.{any-never, filter-every, is_gone_at, least-gone}
-use Rattle.wl_ways.proofs.Trees.{all-distinct, orderly_has_trees}
+use Rattle.wl_invariants.specs.Standing.{MappedStand}
+use Rattle.wl_invariants.specs.Orderly.{Orderly}
+use Rattle.wl_invariants.proofs.OrderlyClients.Clients.{ended_own_nothing}
+use Rattle.wl_invariants.proofs.OrderlyClients.Desktops.{comes-at}
+use Rattle.wl_changes.proofs.MessageWays.Gone.{same-applied}
+use Rattle.wl_changes.proofs.MessageWays.Lists.{any-never, filter-every, is_gone_at, least-gone}
+use Rattle.wl_changes.proofs.MessageWays.Trees.{all-distinct, orderly_has_trees}
 use Rattle.wl_desk.proofs.Altering.{closed-leaves, leaves-over, sent-leaves, stored-leaves}
 
 -- The output is the same, each client owns what it did, and the same toplevels stand.

@@ -12,12 +12,12 @@ use Rattle.wl_laws.proofs.Runs.Fates.{same-or}
 use Rattle.wl_laws.proofs.Runs.Following.{Owns}
 use Rattle.wl_laws.proofs.Runs.Places.{other-become, status-become}
 use Rattle.wl_laws.proofs.Soundness.ObjectsKeys.{any-of-filter}
-use Rattle.wl_without_popups.proofs.Windows.{windows_are_toplevels}
-use Rattle.wl_orderly.specs.Orderly.{Orderly}
-use Rattle.wl_orderly.proofs.Clients.{orderly_has_no_popups}
-use Rattle.wl_ways.specs.Ways.{IsGone}
-use Rattle.wl_ways.proofs.Ends.{untold_is_gone}
-use Rattle.wl_ways.proofs.Gone.{gone_windows}
+use Rattle.wl_invariants.proofs.WithoutPopups.Windows.{windows_are_toplevels}
+use Rattle.wl_invariants.specs.Orderly.{Orderly}
+use Rattle.wl_invariants.proofs.OrderlyClients.Clients.{orderly_has_no_popups}
+use Rattle.wl_changes.specs.Ways.{IsGone}
+use Rattle.wl_changes.proofs.MessageWays.Ends.{untold_is_gone}
+use Rattle.wl_changes.proofs.MessageWays.Gone.{gone_windows}
 use Rattle.wl_desk.proofs.Still.{IsStill, put-still, same-still, still-shown}
 
 -- ---- the client that is told

@@ -4,7 +4,7 @@ use Rattle.wl_paint.specs.Damage.{has}
 use Rattle.wl_plain.specs.declared.answers.Done.{Done}
 use Rattle.wl_plain.specs.Desktop.{Desktop}
 use Rattle.wl_plain.specs.LeftOut.{served_now}
-use Rattle.wl_orderly.specs.Orderly.{Orderly}
+use Rattle.wl_invariants.specs.Orderly.{Orderly}
 use Rattle.wl_plain.specs.Act.{Act}
 use Rattle.wl_plain.specs.Happens.{Happens}
 use Rattle.wl_resident.specs.Agreement.{Matches}

@@ -3,7 +3,7 @@ use Rattle.std.specs.Prelude.{ℕ, ◌≡◌, ◌<◌, ◌⊎◌, is_some, pos, 
 use Rattle.wl_paint.specs.Damage.{Damaged, has}
 use Rattle.wl_plain.specs.Desktop.{Desktop, client_at, status_in}
 use Rattle.wl_plain.specs.Framing.{FramesToldAt}
-use Rattle.wl_records.specs.Touching.{has_window_at}
+use Rattle.wl_invariants.specs.Touching.{has_window_at}
 use Rattle.wl_resident.specs.Marking.{MarksAtLeast}
 use Rattle.wl_resident.specs.View.{MarkedDesk}
 use Rattle.wl_desk.specs.Agreeing.{Agrees}

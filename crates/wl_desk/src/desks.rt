@@ -18,7 +18,7 @@ ghost use Rattle.wl_plain.specs.Scratch.{scratch};
 ghost use Rattle.wl_plain.specs.LeftOut.{served_now};
 ghost use Rattle.wl_plain.specs.Happens.{Happens, Serves};
 ghost use Rattle.wl_plain.specs.Through.{ServesThrough};
-ghost use Rattle.wl_records.specs.Touching.{has_window_at};
+ghost use Rattle.wl_invariants.specs.Touching.{has_window_at};
 
 use crate::windows::{Lent, resident_of};
 use std::alloc::{AllocError, Allocator};

@@ -16,11 +16,11 @@ use Rattle.wl_tree_laws.specs.Hanging.{AreNumbered, kid_of, kids_of}
 use Rattle.wl_tree_laws.specs.Stacks.{IsKept}
 use Rattle.wl_tree_laws.proofs.Changing.{or-false}
 use Rattle.wl_linked.specs.Linked.{IsLink, Stand}
-use Rattle.wl_renaming.specs.Renaming.{HasEnds, IsRenaming, has_surface, renamed, renamed_link}
-use Rattle.wl_renaming.proofs.Done.{changes-surface, desynchronises, destroys-surface, heed-no-names, synchronises, unlinks}
-use Rattle.wl_renaming.proofs.Known.{finds-links, known-there}
-use Rattle.wl_renaming.proofs.Lists.{found}
-use Rattle.wl_renaming.proofs.Reading.{same-name}
+use Rattle.wl_named.specs.Renaming.{HasEnds, IsRenaming, has_surface, renamed, renamed_link}
+use Rattle.wl_named.proofs.Names.Done.{changes-surface, desynchronises, destroys-surface, heed-no-names, synchronises, unlinks}
+use Rattle.wl_named.proofs.Names.Known.{finds-links, known-there}
+use Rattle.wl_named.proofs.Names.Lists.{found}
+use Rattle.wl_named.proofs.Names.Reading.{same-name}
 use Rattle.wl_named.specs.Named.{DesynchronisesNamed, DestroysNamed, MovesNamed, PlacesBy, PlacesNamed, SynchronisesNamed, StandBy, UnlinksNamed}
 use Rattle.wl_named.proofs.Named.{named-as}
 

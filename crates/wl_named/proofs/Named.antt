@@ -13,9 +13,9 @@ use Rattle.wl_tree_laws.specs.Hanging.{Hang}
 use Rattle.wl_tree_laws.proofs.Hanging.{asks-alone, hangs-changed, tied-changed}
 use Rattle.wl_linked.specs.Linked.{Stand, numbered}
 use Rattle.wl_linked.proofs.Standing.{stand-changed, there-changed}
-use Rattle.wl_renaming.specs.Renaming.{IsRenamedAs, IsRenaming, has_surface, renamed, renamed_link, renamed_surface}
-use Rattle.wl_renaming.proofs.Done.{changes-surface, commits-surface, heed-no-names, links-surfaces}
-use Rattle.wl_renaming.proofs.Known.{finds-links, reads-surfaces}
+use Rattle.wl_named.specs.Renaming.{IsRenamedAs, IsRenaming, has_surface, renamed, renamed_link, renamed_surface}
+use Rattle.wl_named.proofs.Names.Done.{changes-surface, commits-surface, heed-no-names, links-surfaces}
+use Rattle.wl_named.proofs.Names.Known.{finds-links, reads-surfaces}
 use Rattle.wl_named.specs.Named.{AsksNamed, CommitsNamed, LinksNamed, RolesNamed, StandBy, StaysNamed}
 
 -- ---- what was made by numbers was made by ids

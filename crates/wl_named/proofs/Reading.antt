@@ -12,8 +12,8 @@ use Rattle.wl_surface.specs.Surfaces.{Link, Surfaces, is_busy, is_used, surface_
 use Rattle.wl_surface.specs.Trees.{link_of}
 use Rattle.wl_surface.specs.Waiting.{applied_at, frames_at, held_at}
 use Rattle.wl_linked.specs.Linked.{is_other_role, numbered}
-use Rattle.wl_renaming.specs.Renaming.{IsRenaming, has_surface, renamed, renamed_link, renamed_surface}
-use Rattle.wl_renaming.proofs.Known.{keeps-refusals, known-there, reads-surfaces}
+use Rattle.wl_named.specs.Renaming.{IsRenaming, has_surface, renamed, renamed_link, renamed_surface}
+use Rattle.wl_named.proofs.Names.Known.{keeps-refusals, known-there, reads-surfaces}
 use Rattle.wl_named.specs.Reading.{AreFound, BuffersNamed, FreesNamed, HoldsNamed, NumbersNamed, ReadsNamed, RefusesNamed}
 
 -- ---- one surface

@@ -17,11 +17,11 @@ use Rattle.wl_tree_laws.specs.Stacks.{Kids}
 use Rattle.wl_tree_laws.proofs.Coming.{creates-surface as creates-hanging}
 use Rattle.wl_tree_laws.proofs.Placing.{kept_of}
 use Rattle.wl_linked.specs.Linked.{Stand, numbered}
-use Rattle.wl_renaming.specs.Renaming.{HasEnds, has_surface, renamed, renamed_link}
-use Rattle.wl_renaming.proofs.Done.{creates-surface}
-use Rattle.wl_renaming.proofs.Known.{names-those-there}
-use Rattle.wl_renaming.proofs.Lists.{each-weaker, found}
-use Rattle.wl_renaming.proofs.Reading.{if-lives, link-renamed, lives-of}
+use Rattle.wl_named.specs.Renaming.{HasEnds, has_surface, renamed, renamed_link}
+use Rattle.wl_named.proofs.Names.Done.{creates-surface}
+use Rattle.wl_named.proofs.Names.Known.{names-those-there}
+use Rattle.wl_named.proofs.Names.Lists.{each-weaker, found}
+use Rattle.wl_named.proofs.Names.Reading.{if-lives, link-renamed, lives-of}
 use Rattle.wl_named.specs.Reading.{ShowsNamed}
 use Rattle.wl_named.specs.Named.{BeginsNamed, CreatesNamed, RenamesNamed, StandBy, with_name}
 use Rattle.wl_named.proofs.Named.{named-as, there-named}

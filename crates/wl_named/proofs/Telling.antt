@@ -19,12 +19,12 @@ use Rattle.wl_linked.specs.Linked.{numbered}
 use Rattle.wl_linked.specs.Tree.{AreOnce, AreTold, IsTold, IsToldUnless, is_among}
 use Rattle.wl_linked.proofs.Destroying.{numbered-left}
 use Rattle.wl_linked.proofs.Standing.{there-changed}
-use Rattle.wl_renaming.specs.Renaming.{HasEnds, IsRenaming, has_surface, renamed, renamed_link, renamed_surface}
-use Rattle.wl_renaming.proofs.Changing.{with-link-known, with-link-renamed}
-use Rattle.wl_renaming.proofs.Done.{changes-surface, heed-no-names}
-use Rattle.wl_renaming.proofs.Known.{keeps-descent, keeps-places, known-there, reads-surfaces}
-use Rattle.wl_renaming.proofs.Lists.{each-weaker}
-use Rattle.wl_renaming.proofs.Reading.{lives-of, same-name}
+use Rattle.wl_named.specs.Renaming.{HasEnds, IsRenaming, has_surface, renamed, renamed_link, renamed_surface}
+use Rattle.wl_named.proofs.Names.Changing.{with-link-known, with-link-renamed}
+use Rattle.wl_named.proofs.Names.Done.{changes-surface, heed-no-names}
+use Rattle.wl_named.proofs.Names.Known.{keeps-descent, keeps-places, known-there, reads-surfaces}
+use Rattle.wl_named.proofs.Names.Lists.{each-weaker}
+use Rattle.wl_named.proofs.Names.Reading.{lives-of, same-name}
 use Rattle.wl_named.specs.Telling.{AreToldBy, IsToldBy, IsToldUnlessBy, TellsCommit, TellsDesync, TellsEnd, TellsUnlink}
 use Rattle.wl_named.proofs.Linking.{ends-there}
 use Rattle.wl_named.proofs.Reading.{read-by}

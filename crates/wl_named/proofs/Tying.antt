@@ -18,10 +18,10 @@ use Rattle.wl_tree_laws.proofs.Hanging.{same-stacks}
 use Rattle.wl_tree_laws.proofs.Changing.{or-false}
 use Rattle.wl_tree_laws.proofs.Ending.{live-parts}
 use Rattle.wl_tree_laws.proofs.Placing.{kept_of, kid-is}
-use Rattle.wl_renaming.specs.Renaming.{has_surface, renamed, renamed_link}
-use Rattle.wl_renaming.proofs.Known.{known-there, reads-surfaces}
-use Rattle.wl_renaming.proofs.Lists.{each-from, found}
-use Rattle.wl_renaming.proofs.Reading.{parent-known, same-name}
+use Rattle.wl_named.specs.Renaming.{has_surface, renamed, renamed_link}
+use Rattle.wl_named.proofs.Names.Known.{known-there, reads-surfaces}
+use Rattle.wl_named.proofs.Names.Lists.{each-from, found}
+use Rattle.wl_named.proofs.Names.Reading.{parent-known, same-name}
 use Rattle.wl_named.specs.Reading.{FindsNamed, SiblingsNamed, StacksNamed, TiesNamed, kept_by, member_by, stack_by, stacks_by}
 use Rattle.wl_named.proofs.Linking.{kids-named, numbered-named}
 

@@ -12,7 +12,7 @@ use Rattle.wl_surface.specs.Trees.{committed_in, desynchronised_in, destroyed_in
 use Rattle.wl_tree_laws.specs.Hanging.{kids_of}
 use Rattle.wl_tree_laws.specs.Stacks.{IsKept, is_about_children}
 use Rattle.wl_linked.specs.Linked.{IsLink, Stand}
-use Rattle.wl_renaming.specs.Renaming.{IsRenaming, has_surface, renamed}
+use Rattle.wl_named.specs.Renaming.{IsRenaming, has_surface, renamed}
 
 -- What is kept stands for these surfaces, each under the number that `names` gives its id. An id that no surface has may have any number.
 pub record StandBy (names : ℕ → ℕ) (slots : Slots) (tied : Tied) (all : Surfaces) : Type 0 where

@@ -16,7 +16,7 @@ use Rattle.wl_surface.specs.Waiting.{applied_at, frames_at, held_at}
 use Rattle.wl_tree_laws.specs.Hanging.{kids_of, stacks_at}
 use Rattle.wl_tree_laws.specs.Laws.{links_of}
 use Rattle.wl_linked.specs.Linked.{IsLink, link_refusal, numbered}
-use Rattle.wl_renaming.specs.Renaming.{IsRenaming, has_surface, renamed, renamed_surface}
+use Rattle.wl_named.specs.Renaming.{IsRenaming, has_surface, renamed, renamed_surface}
 use Rattle.wl_named.specs.Named.{StandBy}
 
 -- ---- one surface

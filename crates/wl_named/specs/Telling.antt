@@ -7,7 +7,7 @@ use Rattle.wl_surface.specs.Applied.{AreApplied, AreGone}
 use Rattle.wl_surface.specs.Surfaces.{Link, Surfaces, link_at, surface_at, with_change, without_surface}
 use Rattle.wl_surface.specs.Trees.{behaves_synchronised, descends_from, ending, in_mode, levels, with_link}
 use Rattle.wl_linked.specs.Tree.{AreOnce, IsCommitTold, IsDesyncTold, IsEndTold, IsTold, is_among, listed}
-use Rattle.wl_renaming.specs.Renaming.{IsRenaming, has_surface, renamed}
+use Rattle.wl_named.specs.Renaming.{IsRenaming, has_surface, renamed}
 
 -- of each of these in turn it is told, under its number, what it changes that it is applied
 abbrev pub AreToldBy : {A : Type 0} → (ℕ → ℕ) → List ℕ → Surfaces → List (Change A) → Type 0

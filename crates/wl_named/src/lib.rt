@@ -8,6 +8,13 @@ ghost use Rattle.wl_named.specs.Reading.{BuffersNamed, FindsNamed, FreesNamed, H
 ghost use Rattle.wl_named.specs.Reading.{ShowsNamed, SiblingsNamed, StacksNamed, TiesNamed};
 ghost use Rattle.wl_named.specs.Telling.{TellsCommit, TellsDesync, TellsEnd, TellsUnlink};
 
+mod renamed;
+
+pub use renamed::{
+    applies_tree, changes_surface, commits_surface, creates_surface, destroys_surface,
+    desynchronises, finds_links, heed_no_names, keeps_descent, keeps_places, keeps_refusals,
+    links_surfaces, names_those_there, reads_surfaces, removes_surface, synchronises, unlinks,
+};
 use std::alloc::Allocator;
 use wl_surface::Change;
 

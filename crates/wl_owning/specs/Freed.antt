@@ -4,7 +4,7 @@ use Rattle.std.specs.List.{Contains, list_any}
 use Rattle.wl_state.specs.Request.{Buffer}
 use Rattle.wl_state.specs.Surface.{listed}
 use Rattle.wl_surface.specs.Surfaces.{Surfaces, is_busy}
-use Rattle.wl_tree_buffers.specs.Laws.{has_number, shown_in}
+use Rattle.wl_invariants.specs.TreeBuffersLaws.{has_number, shown_in}
 
 -- of these buffers those of these numbers, one of each
 abbrev pub freed_of : List ℕ → List Buffer → List Buffer

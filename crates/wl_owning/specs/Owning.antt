@@ -15,7 +15,7 @@ use Rattle.wl_surface.specs.Slots.{Numbered, Slots, StandForAll, count as count_
 use Rattle.wl_state.specs.State.{History}
 use Rattle.wl_surface.specs.Surfaces.{Surfaces, history_in, surface_at}
 use Rattle.wl_tree_laws.specs.Hanging.{Hang}
-use Rattle.wl_renaming.specs.Renaming.{HasEnds, renamed}
+use Rattle.wl_named.specs.Renaming.{HasEnds, renamed}
 use Rattle.wl_shell.specs.Agreement.{IsShell}
 use Rattle.wl_xdg_state.specs.Kept.{Kept, Stands}
 use Rattle.wl_xdg_state.specs.declared.acts.ShellAct.{ShellAct}

@@ -4,7 +4,7 @@ use Rattle.std.specs.Prelude.{◌&&◌, ◌||◌, if◌then◌else◌}
 use Rattle.std.specs.List.{list_any}
 use Rattle.std.proofs.lemmas.Bool.{and_parts, or_left}
 use Rattle.wl_plain.specs.Marks.{at_least, at_most, in_output, same_records}
-use Rattle.wl_tree_marks.specs.Laws.{IsTreeOfRoot, MarksDamageAlone, MarksTreeAlone, MayMarkWholeTree, among, is_in_any, is_struck_at}
+use Rattle.wl_invariants.specs.TreeMarksLaws.{IsTreeOfRoot, MarksDamageAlone, MarksTreeAlone, MayMarkWholeTree, among, is_in_any, is_struck_at}
 use Rattle.wl_windows.specs.Windows.{told_of}
 use Rattle.wl_repaint.specs.Laws.{MarksBetween}
 use Rattle.wl_repaint.specs.Repaint.{marks}

@@ -13,7 +13,7 @@ use Rattle.wl_stacking.specs.Windows.{AreUnscaled, Window, contains}
 use Rattle.wl_state.specs.State.{is_damaged}
 use Rattle.wl_store.specs.Transform.{transform_of}
 use Rattle.wl_surface.specs.declared.applied.Change.{Change}
-use Rattle.wl_tree_marks.specs.Laws.{has_root, is_in_any, is_struck_at}
+use Rattle.wl_invariants.specs.TreeMarksLaws.{has_root, is_in_any, is_struck_at}
 use Rattle.wl_windows.specs.Windows.{told_of}
 use Rattle.wl_repaint.specs.Laws.{IsAppliedBy, MarksAsApplied, SameAsRecords}
 use Rattle.wl_repaint.specs.Repaint.{is_damaged_by, is_same_window, is_struck_by, number_of, window_has}

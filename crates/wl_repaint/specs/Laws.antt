@@ -5,7 +5,7 @@ use Rattle.wl_plain.specs.Marks.{Applied, AreDistinct, at_least, at_most, in_out
 use Rattle.wl_stacking.specs.Windows.{AreUnscaled, Window}
 use Rattle.wl_state.specs.State.{is_damaged}
 use Rattle.wl_surface.specs.declared.applied.Change.{Change}
-use Rattle.wl_tree_marks.specs.Laws.{AreUndamaged, among, has_root, is_in_any, is_struck_at}
+use Rattle.wl_invariants.specs.TreeMarksLaws.{AreUndamaged, among, has_root, is_in_any, is_struck_at}
 use Rattle.wl_windows.specs.Windows.{told_of}
 use Rattle.wl_repaint.specs.Repaint.{marks, same_windows}
 

@@ -3,7 +3,7 @@
 ghost use Rattle.wl_repaint.specs.Laws.{MarksAsApplied, MarksBetween, SameAsRecords};
 
 use std::alloc::Allocator;
-use wl_tree_marks::{is_tree_of_root, marks_damage_alone, marks_tree_alone, may_mark_whole_tree};
+use wl_invariants::{is_tree_of_root, marks_damage_alone, marks_tree_alone, may_mark_whole_tree};
 
 /// The windows of a tree are told to be the same where they keep their records.
 pub fn same_as_records()

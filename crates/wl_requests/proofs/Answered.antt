@@ -13,7 +13,7 @@ use Rattle.wl_peer.specs.Peer.{Peer, Queues, removed}
 use Rattle.wl_state.specs.Kept.{Kept as KeptSurface}
 use Rattle.wl_family.specs.Family.{Tied, is_there}
 use Rattle.wl_tree_laws.specs.Hanging.{Hang}
-use Rattle.wl_renaming.specs.Renaming.{renamed}
+use Rattle.wl_named.specs.Renaming.{renamed}
 use Rattle.wl_surface.specs.Slots.{Slots, StandsAt}
 use Rattle.wl_surface.specs.Surfaces.{Surfaces}
 use Rattle.wl_surface.specs.Waiting.{AreUndue, Callback, IsNextDue, is_in}

@@ -22,8 +22,8 @@ use Rattle.wl_plain.specs.Framing.{done_due}
 use Rattle.wl_plain.specs.Happens.{callbacks_due, frame_told, frames_told}
 use Rattle.wl_owning.specs.Owning.{AreKept, by_number}
 use Rattle.wl_laws.specs.Apart.{AreApartBy}
-use Rattle.wl_records.proofs.Toplevels.Heard.{AreHeard}
-use Rattle.wl_records.proofs.Toplevels.Messages.{told-objects}
+use Rattle.wl_invariants.proofs.KeptRecords.Toplevels.Heard.{AreHeard}
+use Rattle.wl_invariants.proofs.KeptRecords.Toplevels.Messages.{told-objects}
 use Rattle.wl_laws.proofs.Soundness.ObjectsHas.{has_callback}
 use Rattle.wl_laws.proofs.Soundness.ObjectsKeys.{objects-gone}
 use Rattle.wl_laws.proofs.Lists.Keys.{differ, none-some}

@@ -36,10 +36,10 @@ use Rattle.wl_plain.specs.Demand.{Demand, CommitTree, EndToplevel}
 use Rattle.wl_plain.specs.Demanding.{demand_of, effect_of_commit, judge_all}
 use Rattle.wl_plain.specs.Desktop.{Desktop, Resident}
 use Rattle.wl_plain.specs.LeftOut.{served_now}
-use Rattle.wl_orderly.specs.Orderly.{OwnsOrderly}
+use Rattle.wl_invariants.specs.Orderly.{OwnsOrderly}
 use Rattle.wl_requests.specs.Residents.{AnswersAs, AnswersDemand, AnswersDemandAs, AnswersSo, IsResident, NewIsFree, ObjectsFit, Stacks, StacksBy, StacksFor, StacksSo, StacksTo, TakesAs, TakesSo}
 use Rattle.wl_plain.specs.Step.{with_peer}
-use Rattle.wl_orderly.proofs.Clients.{only_peer_changes}
+use Rattle.wl_invariants.proofs.OrderlyClients.Clients.{only_peer_changes}
 use Rattle.wl_requests.proofs.Framing.{no-more}
 use Rattle.wl_laws.proofs.Pieces.Changing.{judged-behind}
 use Rattle.wl_requests.proofs.Numbers.{left-from}

@@ -17,8 +17,8 @@ use Rattle.wl_linked.specs.Linked.{IsLink, Stand, numbered}
 use Rattle.wl_linked.specs.Tree.{AreAmong, AreShown, is_committed, is_released}
 use Rattle.wl_named.specs.Named.{Makes, MakesBy, StandBy}
 use Rattle.wl_named.proofs.Linking.{desynchronises-named, link-named, unlinks-named}
-use Rattle.wl_renaming.specs.Renaming.{has_surface, renamed, renamed_link, renamed_surface}
-use Rattle.wl_renaming.proofs.Done.{commits-surface, destroys-surface, desynchronises, unlinks}
+use Rattle.wl_named.specs.Renaming.{has_surface, renamed, renamed_link, renamed_surface}
+use Rattle.wl_named.proofs.Names.Done.{commits-surface, destroys-surface, desynchronises, unlinks}
 use Rattle.wl_plain.specs.Desktop.{Resident}
 use Rattle.wl_plain.specs.Framing.{AreFramed}
 use Rattle.wl_laws.proofs.Lists.Keys.{none-some, some-same}

@@ -16,7 +16,7 @@ use Rattle.wl_requests.specs.Residents.{drawn_by, told_by, told_of}
 use Rattle.wl_plain.specs.Step.{configures_told, role_configured, toplevel_configured, xdg_configured}
 use Rattle.wl_owning.proofs.Keeping.OwningReads.{configures-read}
 use Rattle.wl_owning.proofs.Keeping.OwningXdg.{xdg-of}
-use Rattle.wl_without_popups.specs.Simple.{answers_on, effect_on}
+use Rattle.wl_invariants.specs.Simple.{answers_on, effect_on}
 
 -- only a configure changes more of a client than its xdg_surface
 mapped-peer : (id : ℕ) (o : Option XdgSurface) (r : Resident) → (effect_on id Maps o r).peer ≡ r.peer

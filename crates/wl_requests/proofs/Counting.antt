@@ -6,7 +6,7 @@ use Rattle.wl_peer.specs.Peer.{counted}
 use Rattle.wl_plain.specs.Demand.{Demand}
 use Rattle.wl_plain.specs.Desktop.{Desktop, Resident}
 use Rattle.wl_plain.specs.Step.{with_peer}
-use Rattle.wl_orderly.specs.Orderly.{OwnsOrderly}
+use Rattle.wl_invariants.specs.Orderly.{OwnsOrderly}
 use Rattle.wl_requests.specs.declared.residents.Resident.{Resident as Kept}
 use Rattle.wl_requests.specs.Residents.{IsResident, MeetsAs, MeetsTold}
 use Rattle.wl_requests.proofs.Shelling.{counted-on, meets-from, objects-counted}

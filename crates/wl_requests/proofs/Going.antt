@@ -21,7 +21,7 @@ use Rattle.wl_surface.specs.Surfaces.{history_in, surface_at}
 use Rattle.wl_surface.specs.Waiting.{Callback, frames_at, is_in}
 use Rattle.wl_plain.specs.Changing.{callbacks_of}
 use Rattle.wl_plain.specs.Desktop.{Resident}
-use Rattle.wl_without_popups.specs.NoPopups.{OwnsNoPopups}
+use Rattle.wl_invariants.specs.NoPopups.{OwnsNoPopups}
 use Rattle.wl_owning.specs.Owning.{AreKept, names_in, target_as, targets_in, with_surface}
 use Rattle.std.proofs.lemmas.List.{append-nil}
 use Rattle.wl_laws.proofs.Soundness.ObjectsKeys.{any-of-filter}

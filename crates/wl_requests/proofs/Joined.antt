@@ -6,14 +6,14 @@ use Rattle.wl_interface.specs.declared.interface.Interface.TheVariants.{WlSubsur
 use Rattle.wl_client.specs.View.{ClientView}
 use Rattle.wl_family.specs.Family.{Tied}
 use Rattle.wl_laws.proofs.Lists.Keys.{any-found, found-any, found-map, found-passes}
-use Rattle.wl_orderly.specs.Orderly.{OwnsOrderly}
+use Rattle.wl_invariants.specs.Orderly.{OwnsOrderly}
 use Rattle.wl_owning.specs.Owning.{AreKept, by_number}
 use Rattle.wl_owning.proofs.Keeping.OwningSurfaces.{surface-read}
 use Rattle.wl_peer.specs.Objects.{ById, is_of}
 use Rattle.wl_plain.specs.Desktop.{Resident, Subsurface}
 use Rattle.wl_plain.specs.Replies.{releases}
 use Rattle.wl_plain.specs.Step.{is_number}
-use Rattle.wl_records.proofs.Toplevels.Releases.{none-released}
+use Rattle.wl_invariants.proofs.KeptRecords.Toplevels.Releases.{none-released}
 use Rattle.wl_state.specs.Request.{AddChild, Request}
 use Rattle.wl_state.specs.State.{applied, committed, held, values}
 use Rattle.wl_state.specs.Surface.{Surface, asking, names, shows, with_role}

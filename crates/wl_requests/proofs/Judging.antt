@@ -9,7 +9,7 @@ use Rattle.wl_linked.proofs.Refusing.{both-refuse}
 use Rattle.wl_named.proofs.Reading.{refuses-named}
 use Rattle.wl_named.proofs.Tying.{finds-named}
 use Rattle.wl_named.specs.Named.{StandBy}
-use Rattle.wl_orderly.proofs.Whole.{child-there}
+use Rattle.wl_invariants.proofs.OrderlyClients.Whole.{child-there}
 use Rattle.wl_owning.specs.Owning.{IsOwned, Names, number_in}
 use Rattle.wl_owning.specs.Subsurfaces.{AreOfSurfaces}
 use Rattle.wl_owning.proofs.Keeping.OwningLinks.{owned-linked}
@@ -21,8 +21,8 @@ use Rattle.wl_plain.specs.Demand.{Demand, GetSubsurface}
 use Rattle.wl_plain.specs.Desktop.{Resident, Subsurface}
 use Rattle.wl_plain.specs.WlSubsurface.{has_subsurface, is_no_subsurface, is_of_child, past_limit, refuses, subsurface_made}
 use Rattle.wl_plain.specs.XdgShell.{role_of}
-use Rattle.wl_renaming.specs.Renaming.{has_surface, renamed}
-use Rattle.wl_renaming.proofs.Known.{keeps-refusals}
+use Rattle.wl_named.specs.Renaming.{has_surface, renamed}
+use Rattle.wl_named.proofs.Names.Known.{keeps-refusals}
 use Rattle.wl_xdg_state.specs.Kept.{kept_of}
 use Rattle.wl_xdg_state.specs.Shell.{xdg_of}
 use Rattle.wl_state.specs.Surface.{Surface}

@@ -9,8 +9,8 @@ use Rattle.wl_named.proofs.Linking.{ends-there}
 use Rattle.wl_named.proofs.Tying.{finds-named, ties-named}
 use Rattle.wl_named.specs.Named.{StandBy}
 use Rattle.wl_named.specs.Reading.{kept_by}
-use Rattle.wl_orderly.specs.Orderly.{OwnsOrderly}
-use Rattle.wl_orderly.proofs.Children.{subsurfaces_name_children}
+use Rattle.wl_invariants.specs.Orderly.{OwnsOrderly}
+use Rattle.wl_invariants.proofs.OrderlyClients.Children.{subsurfaces_name_children}
 use Rattle.wl_owning.specs.Owning.{number_in, targets_in}
 use Rattle.wl_owning.proofs.Keeping.OwningTies.{number-of-name, renaming-of, stand-by}
 use Rattle.wl_plain.specs.Desktop.{Resident, Subsurface}

@@ -33,11 +33,11 @@ use Rattle.wl_plain.specs.Demand.{Demand}
 use Rattle.wl_plain.specs.Demanding.{demand_of, demands, judge_all}
 use Rattle.wl_plain.specs.Desktop.{Desktop, Resident}
 use Rattle.wl_plain.specs.LeftOut.{served_now}
-use Rattle.wl_orderly.specs.Orderly.{OwnsOrderly}
+use Rattle.wl_invariants.specs.Orderly.{OwnsOrderly}
 use Rattle.wl_owning.specs.Owning.{Names, by_number, names_in, target_as, targets_in}
 use Rattle.wl_requests.specs.Residents.{AnswersSo as AnswersWhole, IsLeft, IsResident, StacksSo as StacksWhole, TakesSo}
 use Rattle.wl_plain.specs.Step.{with_peer, changed_by}
-use Rattle.wl_orderly.proofs.Clients.{only_peer_changes}
+use Rattle.wl_invariants.proofs.OrderlyClients.Clients.{only_peer_changes}
 use Rattle.wl_requests.proofs.Asking.{demanded-first, judged-by, whole-first}
 use Rattle.wl_requests.proofs.Simply.{AnswersSo, asks-stay, simply}
 use Rattle.wl_requests.proofs.Numbers.{keeps-names}

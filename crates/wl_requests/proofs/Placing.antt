@@ -5,7 +5,7 @@ use Rattle.wl_client.specs.Agreement.{IsPeer}
 use Rattle.wl_client.specs.View.{ClientView}
 use Rattle.wl_interface.specs.declared.interface.Interface.TheVariants.{WlSurface}
 use Rattle.wl_linked.specs.Linked.{IsLink, Stand}
-use Rattle.wl_orderly.specs.Orderly.{OwnsOrderly}
+use Rattle.wl_invariants.specs.Orderly.{OwnsOrderly}
 use Rattle.wl_owning.specs.Owning.{IsOwned, names_in, targets_in}
 use Rattle.wl_owning.proofs.Keeping.Letting.{asked-keeps}
 use Rattle.wl_owning.proofs.Keeping.OwningLinks.{owned-synchronised}
@@ -19,7 +19,7 @@ use Rattle.wl_plain.specs.Demand.{Demand, Asks, SetMode}
 use Rattle.wl_plain.specs.Desktop.{Desktop, Resident}
 use Rattle.wl_plain.specs.Step.{asked_of, changed_by, with_peer, with_surfaces}
 use Rattle.wl_plain.specs.WlSubsurface.{beside, placed_beside}
-use Rattle.wl_records.proofs.Toplevels.Releases.{none-released, requested-still}
+use Rattle.wl_invariants.proofs.KeptRecords.Toplevels.Releases.{none-released, requested-still}
 use Rattle.wl_xdg_state.specs.Kept.{kept_of}
 use Rattle.wl_state.specs.Frames.{frames_of}
 use Rattle.wl_state.specs.Request.{Member, Request}

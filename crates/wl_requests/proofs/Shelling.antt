@@ -50,8 +50,8 @@ use Rattle.wl_owning.proofs.Keeping.Letting.{asked-keeps}
 use Rattle.wl_requests.proofs.Numbers.{left-from}
 use Rattle.wl_requests.proofs.Simply.{AnswersSimply, AnswersSo}
 use Rattle.wl_requests.proofs.Framing.{IsFramed, framed-names, one-more}
-use Rattle.wl_records.proofs.Toplevels.Simply.{told_alone}
-use Rattle.wl_records.proofs.Toplevels.Releases.{requested-still}
+use Rattle.wl_invariants.proofs.KeptRecords.Toplevels.Simply.{told_alone}
+use Rattle.wl_invariants.proofs.KeptRecords.Toplevels.Releases.{requested-still}
 use Rattle.wl_owning.proofs.Keeping.OwningSurfaces.{surface-named, surface-read}
 use Rattle.wl_owning.proofs.Keeping.OwningNames.{names-other-gone, names-toplevel-gone, names-xdg-gone}
 use Rattle.wl_owning.proofs.Keeping.OwningReads.{role-fits, role-read}

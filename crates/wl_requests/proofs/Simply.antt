@@ -4,8 +4,8 @@ use Rattle.std.specs.Prelude.{Ok, Err}
 use Rattle.wl_peer.specs.Peer.{Errs, LacksMemory, Peer, Queues, WantsOr, counted}
 use Rattle.wl_peer.specs.Told.{Said}
 use Rattle.wl_peer.specs.declared.refusals.Refusal.{Refusal}
-use Rattle.wl_orderly.specs.Orderly.{OwnsOrderly}
-use Rattle.wl_orderly.proofs.Clients.{only_peer_changes}
+use Rattle.wl_invariants.specs.Orderly.{OwnsOrderly}
+use Rattle.wl_invariants.proofs.OrderlyClients.Clients.{only_peer_changes}
 use Rattle.wl_plain.specs.Ask.{Ask}
 use Rattle.wl_plain.specs.Demand.{Demand, Asks}
 use Rattle.wl_plain.specs.Demanding.{demands}
@@ -15,13 +15,13 @@ use Rattle.wl_plain.specs.Happens.{wants_memory}
 use Rattle.wl_plain.specs.Replies.{releases, replies}
 use Rattle.wl_plain.specs.Stacked.{all_windows}
 use Rattle.wl_plain.specs.Step.{changed_by, takes_memory, with_peer}
-use Rattle.wl_records.proofs.Toplevels.Releases.{asked-told}
-use Rattle.wl_records.proofs.Toplevels.Simply.{told_alone}
-use Rattle.wl_without_popups.specs.NoPopups.{OwnsNoPopups}
+use Rattle.wl_invariants.proofs.KeptRecords.Toplevels.Releases.{asked-told}
+use Rattle.wl_invariants.proofs.KeptRecords.Toplevels.Simply.{told_alone}
+use Rattle.wl_invariants.specs.NoPopups.{OwnsNoPopups}
 use Rattle.wl_plain.specs.LeftOut.{served_now}
-use Rattle.wl_without_popups.specs.Simple.{IsServed, answers_simply, changed_simply, told_simply}
-use Rattle.wl_without_popups.proofs.Served.{IsServedSo}
-use Rattle.wl_without_popups.proofs.Simple.{changes_simply, replies_simply}
+use Rattle.wl_invariants.specs.Simple.{IsServed, answers_simply, changed_simply, told_simply}
+use Rattle.wl_invariants.proofs.WithoutPopups.Served.{IsServedSo}
+use Rattle.wl_invariants.proofs.WithoutPopups.Simple.{changes_simply, replies_simply}
 use Rattle.wl_requests.specs.declared.residents.Resident.{Resident as Kept}
 use Rattle.wl_requests.specs.declared.residents.Stacking.TheVariants.{Stays}
 use Rattle.wl_requests.specs.Residents.{AnswersAs, AnswersSo as AnswersWhole, IsLeft, MeetsAs, MeetsSo, StacksSo as StacksWhole}

@@ -27,10 +27,10 @@ use Rattle.wl_plain.specs.Step.{each_once, is_over, letting_go, without_buffer}
 use Rattle.wl_laws.specs.Apart.{AreApartBy}
 use Rattle.wl_laws.proofs.Lists.Keys.{differ, none-some, some-same}
 use Rattle.wl_laws.proofs.Lists.Surfaces.{has_id}
-use Rattle.wl_one_buffer.specs.OneBuffer.{HasOneBuffer, IsAmong, IsAttachedBy, IsAttachedTo}
-use Rattle.wl_one_buffer.proofs.Attached.{had-by}
-use Rattle.wl_tree_buffers.specs.Laws.{AreOne, had_in, has_number}
-use Rattle.wl_tree_buffers.proofs.Lists.{any-in, each-in, first-in, in-any, later-in, truth}
+use Rattle.wl_invariants.specs.OneBuffer.{HasOneBuffer, IsAmong, IsAttachedBy, IsAttachedTo}
+use Rattle.wl_invariants.proofs.OneBuffer.Attached.{had-by}
+use Rattle.wl_invariants.specs.TreeBuffersLaws.{AreOne, had_in, has_number}
+use Rattle.wl_invariants.proofs.TreeBuffers.Lists.{any-in, each-in, first-in, in-any, later-in, truth}
 use Rattle.wl_owning.specs.Freed.{AreFreedOf, freed_of}
 use Rattle.wl_owning.proofs.Keeping.Freeing.{flat-in, found-in, freed-has, freed-in, in-flat, left-in, lets-go-freed}
 use Rattle.wl_owning.proofs.Keeping.Ids.{KeepsWaiting, waiting}

@@ -1,7 +1,7 @@
 -- What is asked of links, by what is kept (wayland.xml, wl_subcompositor and wl_subsurface).
 use Rattle.std.specs.Prelude.{ℕ, ◌≡◌, ◌==◌, List, [], ◌∷◌, ◌++◌, Option, Some, None, Result, Ok, Err, find, is_some, slice_index_or, true}
 use Rattle.wl_family.specs.Family.{links_in}
-use Rattle.wl_orderly.specs.Orderly.{OwnsOrderly}
+use Rattle.wl_invariants.specs.Orderly.{OwnsOrderly}
 use Rattle.wl_owning.specs.Owning.{IsOwned, Names}
 use Rattle.wl_owning.specs.Subsurfaces.{AreOfSurfaces}
 use Rattle.wl_peer.specs.declared.refusals.ErrorCode.TheVariants.{BadParent, BadSurface, Implementation}

@@ -4,7 +4,7 @@ ghost use Rattle.std.specs.Prelude.{◌≡◌, None};
 ghost use Rattle.wl_peer.specs.Peer.{Peer, Queues};
 ghost use Rattle.wl_plain.specs.Happens.{frames_told};
 ghost use Rattle.wl_owning.specs.Owning.{names_in};
-ghost use Rattle.wl_orderly.specs.Orderly.{OwnsOrderly};
+ghost use Rattle.wl_invariants.specs.Orderly.{OwnsOrderly};
 ghost use Rattle.wl_plain.specs.Desktop.{Resident as Plain};
 ghost use Rattle.wl_plain.specs.Framing.{done_due};
 ghost use Rattle.wl_requests.specs.Residents.{IsLeft, IsResident};

@@ -14,7 +14,7 @@ ghost use Rattle.wl_xdg_state.specs.Kept.{Kept as KeptXdg, changing, commit_answ
 ghost use Rattle.wl_plain.specs.Ask.{AskSurface};
 ghost use Rattle.wl_plain.specs.Demand.{CommitTree, EndSurface};
 ghost use Rattle.wl_plain.specs.Desktop.{Desktop, Resident as Plain};
-ghost use Rattle.wl_orderly.specs.Orderly.{OwnsOrderly};
+ghost use Rattle.wl_invariants.specs.Orderly.{OwnsOrderly};
 ghost use Rattle.wl_owning.specs.Owning.{IsOwned, Names, by_number, effect_by, names_in};
 ghost use Rattle.wl_owning.specs.Subsurfaces.{AreOfSurfaces};
 ghost use Rattle.wl_plain.specs.Framing.{AreFramed};

@@ -25,11 +25,11 @@ use Rattle.wl_laws.proofs.Lists.Keys.{differ}
 use Rattle.wl_laws.proofs.Marks.Stacks.{unless}
 use Rattle.wl_laws.proofs.Runs.Through.{messages_lead_through}
 use Rattle.wl_lending.specs.Stacked.{AreStacked}
-use Rattle.wl_mapped.proofs.Steps.{messages_keep_mapped}
-use Rattle.wl_orderly.specs.Orderly.{Orderly, OwnsOrderly}
-use Rattle.wl_orderly.proofs.Clients.{messages_keep_order}
-use Rattle.wl_one_tree.specs.Trees.{HasTrees}
-use Rattle.wl_records.specs.Standing.{MappedStand}
+use Rattle.wl_invariants.proofs.MappedToplevels.Steps.{messages_keep_mapped}
+use Rattle.wl_invariants.specs.Orderly.{Orderly, OwnsOrderly}
+use Rattle.wl_invariants.proofs.OrderlyClients.Clients.{messages_keep_order}
+use Rattle.wl_changes.specs.Trees.{HasTrees}
+use Rattle.wl_invariants.specs.Standing.{MappedStand}
 use Rattle.wl_requests.specs.declared.messages.Asked.{Asked}
 use Rattle.wl_requests.specs.declared.residents.Resident.{Resident as Kept}
 use Rattle.wl_requests.specs.declared.residents.Stacking.{Stacking}
@@ -40,10 +40,10 @@ use Rattle.wl_requests.specs.Touching.{IsTouched, Touch}
 use Rattle.wl_stacked.specs.declared.stacked.Stacked.{Stacked}
 use Rattle.wl_windows.specs.Windows.{told_of}
 use Rattle.wl_windows.specs.declared.window.TreeWindow.{TreeWindow}
-use Rattle.wl_ways.specs.Ways.{RouteBy, TakesAs}
-use Rattle.wl_ways.proofs.Marks.{twice_marks}
-use Rattle.wl_ways.proofs.Routes.{messages_lead_so}
-use Rattle.wl_ways.proofs.Trees.{orderly_has_trees}
+use Rattle.wl_changes.specs.Ways.{RouteBy, TakesAs}
+use Rattle.wl_changes.proofs.MessageWays.Marks.{twice_marks}
+use Rattle.wl_changes.proofs.MessageWays.Routes.{messages_lead_so}
+use Rattle.wl_changes.proofs.MessageWays.Trees.{orderly_has_trees}
 use Rattle.wl_resident.specs.declared.screens.Screen.{Screen}
 use Rattle.wl_resident.specs.Agreement.{with_numbers}
 use Rattle.wl_resident.specs.Marking.{MarksAtLeast, MarksMost, MarksThrough}
@@ -56,7 +56,7 @@ use Rattle.wl_resident.proofs.Sitting.{IsSettled, Sits, numbers}
 use Rattle.wl_resident.proofs.Taking.{served, sits-seated}
 use Rattle.wl_owning.specs.Owning.{AreKept, number_in}
 use Rattle.wl_owning.proofs.Keeping.OwningTies.{stand-by}
-use Rattle.wl_renaming.specs.Renaming.{renamed}
+use Rattle.wl_named.specs.Renaming.{renamed}
 use Rattle.wl_resident.proofs.Turning as turning
 
 -- ---- what is known before a message

@@ -8,7 +8,7 @@ use Rattle.wl_family.specs.Family.{links_in}
 use Rattle.wl_interface.specs.declared.interface.Interface.{Interface}
 use Rattle.wl_interface.specs.declared.interface.Interface.TheVariants.{WlBuffer, WlDisplay, WlRegion, WlRegistry, WlShm, WlShmPool}
 use Rattle.wl_laws.proofs.Lists.Keys.{differ, none-some}
-use Rattle.wl_one_tree.specs.Changes.{IsDemanded}
+use Rattle.wl_changes.specs.Changes.{IsDemanded}
 use Rattle.wl_owning.specs.Subsurfaces.{AreOfSurfaces, child_of}
 use Rattle.wl_peer.specs.declared.refusals.Refusal.{Refusal}
 use Rattle.wl_peer.specs.Judgement.{action_of}

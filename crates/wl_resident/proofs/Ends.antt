@@ -17,7 +17,7 @@ use Rattle.wl_peer.specs.declared.refusals.ErrorCode.TheVariants.{NoMemory}
 use Rattle.wl_peer.specs.declared.refusals.Refusal.{Refusal}
 use Rattle.wl_xdg_state.specs.Kept.{Book, kept_of}
 use Rattle.std.proofs.lemmas.List.Elements.{All-from_recursion}
-use Rattle.wl_renaming.specs.Renaming.{HasEnds}
+use Rattle.wl_named.specs.Renaming.{HasEnds}
 use Rattle.wl_requests.specs.declared.residents.Resident.{Resident as Kept}
 use Rattle.wl_stacking.specs.Stacking.{nothing_owned}
 use Rattle.wl_scene.specs.declared.owned.Owned.{Owned}

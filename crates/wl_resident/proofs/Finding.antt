@@ -4,15 +4,15 @@ use Rattle.std.specs.Prelude.{find}
 use Rattle.wl_laws.proofs.Lists.Keys.{differ, found-passes}
 use Rattle.wl_laws.proofs.Lists.Standings.{of-surface}
 use Rattle.wl_peer.specs.Objects.{ById}
-use Rattle.wl_renaming.specs.Renaming.{IsRenaming, renamed}
-use Rattle.wl_renamed_windows.specs.Windows.{IsNamedAlone}
+use Rattle.wl_named.specs.Renaming.{IsRenaming, renamed}
+use Rattle.wl_changes.specs.RenamedWindows.{IsNamedAlone}
 use Rattle.wl_stacking.specs.Stacking.{Standing, is_of}
 use Rattle.wl_stacking.specs.Windows.{Owner, Place}
 use Rattle.wl_surface.specs.Surfaces.{Surfaces}
 use Rattle.wl_windows.specs.Windows.{told_of, told_tree}
 use Rattle.wl_lending.specs.Stacked.{told_by}
-use Rattle.wl_one_tree.specs.Trees.{windows_if}
-use Rattle.wl_turned.proofs.Told.{told-is}
+use Rattle.wl_changes.specs.Trees.{windows_if}
+use Rattle.wl_changes.proofs.TurnedWindows.Told.{told-is}
 use Rattle.wl_resident.specs.Agreement.{IsStack}
 use Rattle.wl_resident.specs.Screens.{tree_at, tree_on}
 use Rattle.wl_resident.proofs.Scenes.{AreOnce, number-is}

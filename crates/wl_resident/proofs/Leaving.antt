@@ -16,9 +16,9 @@ use Rattle.wl_laws.proofs.Marks.Stacks.{Each, differ, each-map}
 use Rattle.wl_laws.proofs.Marks.Painted.{each-kept}
 use Rattle.wl_laws.proofs.Runs.Places.{number-other}
 use Rattle.wl_laws.proofs.Soundness.Trees.{each-append, each-flat}
-use Rattle.wl_tree_steps.proofs.Owners.{tree-owned}
-use Rattle.wl_tree_steps.proofs.Reading.{each-always}
-use Rattle.wl_ways.proofs.Lists.{filter-all, filter-none}
+use Rattle.wl_invariants.proofs.TreeSteps.Owners.{tree-owned}
+use Rattle.wl_invariants.proofs.TreeSteps.Reading.{each-always}
+use Rattle.wl_changes.proofs.MessageWays.Lists.{filter-all, filter-none}
 use Rattle.wl_stacked.specs.declared.stacked.Stacked.{Stacked}
 use Rattle.wl_stacked.specs.Stacked.{without_client as without_client_of}
 use Rattle.wl_lending.specs.Stacked.{AreStacked}

@@ -18,8 +18,8 @@ use Rattle.wl_plain.specs.Demanding.{effect_of_commit, judge_all}
 use Rattle.wl_plain.specs.Desktop.{Desktop, Resident}
 use Rattle.wl_plain.specs.LeftOut.{served_now}
 use Rattle.wl_laws.proofs.Lists.Keys.{differ}
-use Rattle.wl_one_tree.specs.Changes.{IsDemanded}
-use Rattle.wl_orderly.specs.Orderly.{OwnsOrderly}
+use Rattle.wl_changes.specs.Changes.{IsDemanded}
+use Rattle.wl_invariants.specs.Orderly.{OwnsOrderly}
 use Rattle.wl_requests.specs.declared.messages.Asked.{Asked}
 use Rattle.wl_requests.specs.declared.residents.Resident.{Resident as Kept}
 use Rattle.wl_requests.specs.declared.residents.Stacking.{Stacking}

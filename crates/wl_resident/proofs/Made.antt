@@ -9,19 +9,19 @@ use Rattle.wl_surface.specs.Surfaces.{Link, Surfaces}
 use Rattle.wl_surface.specs.Trees.{desynchronised_in, destroyed_in, ended_in}
 use Rattle.wl_named.specs.Named.{Makes, MakesBy, StandBy}
 use Rattle.wl_named.proofs.Linking.{desynchronises-named, destroys-named, unlinks-named}
-use Rattle.wl_renaming.specs.Renaming.{has_surface}
+use Rattle.wl_named.specs.Renaming.{has_surface}
 use Rattle.wl_plain.specs.Changing.{tree_committed, unlinked_at}
 use Rattle.wl_plain.specs.Demand.{Demand}
 use Rattle.wl_plain.specs.Demanding.{effect_of_commit}
 use Rattle.wl_plain.specs.Desktop.{Desktop, Resident, client_at, owned_of}
 use Rattle.wl_plain.specs.Step.{with_peer}
-use Rattle.wl_without_popups.specs.Simple.{changed_simply}
-use Rattle.wl_orderly.specs.Orderly.{OwnsOrderly}
-use Rattle.wl_one_tree.specs.Changes.{ChangesTree, IsDemanded, IsDone}
-use Rattle.wl_one_tree.specs.Trees.{touched_by}
-use Rattle.wl_one_tree.proofs.Demands.{effect-surfaces}
-use Rattle.wl_one_tree.proofs.Fits.{fits-among}
-use Rattle.wl_one_tree.proofs.There.{no-surface-comes}
+use Rattle.wl_invariants.specs.Simple.{changed_simply}
+use Rattle.wl_invariants.specs.Orderly.{OwnsOrderly}
+use Rattle.wl_changes.specs.Changes.{ChangesTree, IsDemanded, IsDone}
+use Rattle.wl_changes.specs.Trees.{touched_by}
+use Rattle.wl_changes.proofs.OneTree.Demands.{effect-surfaces}
+use Rattle.wl_changes.proofs.OneTree.Fits.{fits-among}
+use Rattle.wl_changes.proofs.OneTree.There.{no-surface-comes}
 use Rattle.wl_owning.proofs.Keeping.OwningTies.{committed-by, number-of-name, present, stand-by}
 use Rattle.wl_requests.specs.declared.messages.Asked.{Asked}
 use Rattle.wl_requests.specs.declared.residents.Resident.{Resident as Kept}

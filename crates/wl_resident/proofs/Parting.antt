@@ -32,25 +32,25 @@ use Rattle.wl_plain.specs.Step.{with_peer}
 use Rattle.wl_laws.proofs.Marks.Stacks.{differ, or-left, or-right, or-second, unless}
 use Rattle.wl_lending.specs.Stacked.{AreStacked, IsStacked, told_by}
 use Rattle.wl_named.specs.Named.{StandBy}
-use Rattle.wl_renaming.specs.Renaming.{renamed}
-use Rattle.wl_records.specs.Touching.{any_window_at, has_window_at}
+use Rattle.wl_named.specs.Renaming.{renamed}
+use Rattle.wl_invariants.specs.Touching.{any_window_at, has_window_at}
 use Rattle.wl_repaint.specs.Repaint.{window_has}
 use Rattle.wl_stacked.specs.declared.stacked.Stacked.{Stacked}
-use Rattle.wl_tree_marks.specs.Laws.{is_in_any}
-use Rattle.wl_tree_marks.proofs.Lists.{either-of}
-use Rattle.wl_without_popups.specs.NoPopups.{NoPopups}
-use Rattle.wl_without_popups.specs.Simple.{changed_simply}
-use Rattle.wl_without_popups.proofs.Windows.{windows_are_toplevels}
+use Rattle.wl_invariants.specs.TreeMarksLaws.{is_in_any}
+use Rattle.wl_invariants.proofs.TreeMarks.Lists.{either-of}
+use Rattle.wl_invariants.specs.NoPopups.{NoPopups}
+use Rattle.wl_invariants.specs.Simple.{changed_simply}
+use Rattle.wl_invariants.proofs.WithoutPopups.Windows.{windows_are_toplevels}
 use Rattle.wl_windows.specs.Windows.{told_of}
 use Rattle.wl_windows.specs.declared.window.TreeWindow.{TreeWindow}
-use Rattle.wl_orderly.specs.Orderly.{Orderly, OwnsOrderly}
-use Rattle.wl_one_tree.specs.Changes.{ChangesTree, IsDemanded, IsDone, StaysPainted}
-use Rattle.wl_one_tree.specs.Trees.{HasTrees, touched_by}
-use Rattle.wl_turned.proofs.Laws.{nothing-is-marked}
-use Rattle.wl_ways.specs.Ways.{IsGone, RouteBy, Struck}
-use Rattle.wl_ways.proofs.Ends.{ended_is_gone}
-use Rattle.wl_ways.proofs.Gone.{gone_marks_least, gone_marks_most}
-use Rattle.wl_ways.proofs.Marks.{struck_marks, twice_marks}
+use Rattle.wl_invariants.specs.Orderly.{Orderly, OwnsOrderly}
+use Rattle.wl_changes.specs.Changes.{ChangesTree, IsDemanded, IsDone, StaysPainted}
+use Rattle.wl_changes.specs.Trees.{HasTrees, touched_by}
+use Rattle.wl_changes.proofs.TurnedWindows.Laws.{nothing-is-marked}
+use Rattle.wl_changes.specs.Ways.{IsGone, RouteBy, Struck}
+use Rattle.wl_changes.proofs.MessageWays.Ends.{ended_is_gone}
+use Rattle.wl_changes.proofs.MessageWays.Gone.{gone_marks_least, gone_marks_most}
+use Rattle.wl_changes.proofs.MessageWays.Marks.{struck_marks, twice_marks}
 use Rattle.wl_requests.specs.declared.messages.Asked.{Asked}
 use Rattle.wl_requests.specs.declared.residents.Resident.{Resident as Kept}
 use Rattle.wl_requests.specs.declared.residents.Stacking.{Stacking}

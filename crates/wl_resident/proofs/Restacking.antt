@@ -26,15 +26,15 @@ use Rattle.wl_laws.proofs.Soundness.Allowed.{allowed}
 use Rattle.wl_laws.proofs.Marks.Stacks.{same-number}
 use Rattle.wl_laws.specs.Laws.{AreApart}
 use Rattle.wl_lending.specs.Stacked.{AreNumberedBy, AreNumberedOnce, AreStacked, told_by}
-use Rattle.wl_mapped.proofs.Found.{told-apart, top-with}
-use Rattle.wl_orderly.specs.Orderly.{Orderly, OwnsOrderly}
-use Rattle.wl_one_tree.specs.Changes.{ChangesTree, IsDemanded, IsDone}
-use Rattle.wl_one_tree.specs.Trees.{HasTrees, touched_by}
-use Rattle.wl_one_tree.proofs.Stacks.{find-none, none-lower}
-use Rattle.wl_tree_steps.proofs.Descents.{is-top, no-child-is-top}
-use Rattle.wl_turned.proofs.Turned.{none-at, out-turned, stays-turned, top-turned}
-use Rattle.wl_without_popups.specs.Simple.{stacked_on, stacked_simply}
-use Rattle.wl_without_popups.proofs.Windows.{windows_are_toplevels}
+use Rattle.wl_invariants.proofs.MappedToplevels.Found.{told-apart, top-with}
+use Rattle.wl_invariants.specs.Orderly.{Orderly, OwnsOrderly}
+use Rattle.wl_changes.specs.Changes.{ChangesTree, IsDemanded, IsDone}
+use Rattle.wl_changes.specs.Trees.{HasTrees, touched_by}
+use Rattle.wl_changes.proofs.OneTree.Stacks.{find-none, none-lower}
+use Rattle.wl_invariants.proofs.TreeSteps.Descents.{is-top, no-child-is-top}
+use Rattle.wl_changes.proofs.TurnedWindows.Turned.{none-at, out-turned, stays-turned, top-turned}
+use Rattle.wl_invariants.specs.Simple.{stacked_on, stacked_simply}
+use Rattle.wl_invariants.proofs.WithoutPopups.Windows.{windows_are_toplevels}
 use Rattle.wl_surface.specs.Trees.{levels}
 use Rattle.wl_requests.specs.declared.residents.Resident.{Resident as Kept}
 use Rattle.wl_requests.specs.declared.residents.Stacking.{Stacking}

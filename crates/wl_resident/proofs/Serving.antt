@@ -19,7 +19,7 @@ use Rattle.wl_surface.specs.declared.applied.Change.{Change}
 use Rattle.wl_paint.specs.Damage.{Damaged, has}
 use Rattle.wl_plain.specs.Marks.{in_output}
 use Rattle.wl_repaint.specs.Repaint.{is_damaged_by, marks, window_has}
-use Rattle.wl_one_tree.specs.Telling.{TellsTrees}
+use Rattle.wl_changes.specs.Telling.{TellsTrees}
 use Rattle.wl_stacking.specs.Stacking.{Owned, Standing}
 use Rattle.wl_scene.specs.Kept.{Stack}
 use Rattle.wl_stacking.specs.Windows.{Owner}
@@ -32,13 +32,13 @@ use Rattle.wl_plain.specs.Step.{with_peer}
 use Rattle.wl_laws.proofs.Lists.Keys.{differ}
 use Rattle.wl_lending.specs.Stacked.{AreStacked, told_by}
 use Rattle.wl_named.specs.Named.{StandBy}
-use Rattle.wl_renaming.specs.Renaming.{has_surface, renamed}
+use Rattle.wl_named.specs.Renaming.{has_surface, renamed}
 use Rattle.wl_windows.specs.Windows.{told_of}
 use Rattle.wl_windows.specs.declared.window.TreeWindow.{TreeWindow}
-use Rattle.wl_orderly.specs.Orderly.{Orderly, OwnsOrderly}
-use Rattle.wl_one_tree.specs.Changes.{ChangesTree, IsDemanded, MessageChanges}
-use Rattle.wl_one_tree.specs.Trees.{HasTrees, touched_by}
-use Rattle.wl_one_tree.proofs.There.{no-surface-comes}
+use Rattle.wl_invariants.specs.Orderly.{Orderly, OwnsOrderly}
+use Rattle.wl_changes.specs.Changes.{ChangesTree, IsDemanded, MessageChanges}
+use Rattle.wl_changes.specs.Trees.{HasTrees, touched_by}
+use Rattle.wl_changes.proofs.OneTree.There.{no-surface-comes}
 use Rattle.wl_requests.specs.declared.messages.Asked.{Asked}
 use Rattle.wl_requests.specs.declared.residents.Resident.{Resident as Kept}
 use Rattle.wl_requests.specs.declared.residents.Stacking.{Stacking}
@@ -46,10 +46,10 @@ use Rattle.wl_requests.specs.declared.residents.Stacking.TheVariants as on
 use Rattle.wl_requests.specs.Messages.{IsAsked, IsTouchOfAsked}
 use Rattle.wl_requests.specs.Residents.{AnswersSo, Owns, IsLeft, IsResident, KeepsNumbers, StacksFor, StacksSo, TakesMessage, TakesSo}
 use Rattle.wl_requests.specs.Touching.{IsTouched, Touch}
-use Rattle.wl_turned.proofs.Laws.{messages-change}
-use Rattle.wl_turned.proofs.Numbers.{renumbered, renumbered-since}
+use Rattle.wl_changes.proofs.TurnedWindows.Laws.{messages-change}
+use Rattle.wl_changes.proofs.TurnedWindows.Numbers.{renumbered, renumbered-since}
 use Rattle.wl_resident.specs.Agreement.{IsStack, with_numbers}
-use Rattle.wl_without_popups.specs.Simple.{changed_simply}
+use Rattle.wl_invariants.specs.Simple.{changed_simply}
 use Rattle.wl_resident.specs.Screens.{changes_in, turned_has, IsTouchedBy, restacked_if, root_in, tree_kept, tree_on}
 use Rattle.wl_resident.specs.Marking.{MarksAtLeast, MarksMost}
 use Rattle.wl_resident.specs.Seats.{IsRestacked, IsSeated}

@@ -7,9 +7,9 @@ use Rattle.wl_laws.proofs.Lists.Keys.{differ}
 use Rattle.wl_laws.proofs.Runs.Places.{left_by}
 use Rattle.wl_laws.proofs.Soundness.RunSteady.{changed-steady}
 use Rattle.wl_lending.specs.Stacked.{AreStacked}
-use Rattle.wl_one_tree.specs.Changes.{IsDemanded}
-use Rattle.wl_orderly.proofs.Clients.{clients_are_orderly, only_peer_changes}
-use Rattle.wl_orderly.specs.Orderly.{Orderly, OwnsOrderly}
+use Rattle.wl_changes.specs.Changes.{IsDemanded}
+use Rattle.wl_invariants.proofs.OrderlyClients.Clients.{clients_are_orderly, only_peer_changes}
+use Rattle.wl_invariants.specs.Orderly.{Orderly, OwnsOrderly}
 use Rattle.wl_peer.specs.declared.cause.Cause.{Cause}
 use Rattle.wl_peer.specs.declared.refusals.ErrorCode.TheVariants.{InvalidMethod}
 use Rattle.wl_peer.specs.declared.refusals.Refusal.{Refusal}
@@ -25,7 +25,7 @@ use Rattle.wl_plain.specs.LeftOut.{served_now}
 use Rattle.wl_plain.specs.Replies.{releases, replies}
 use Rattle.wl_plain.specs.Stacked.{all_windows}
 use Rattle.wl_plain.specs.Step.{with_peer}
-use Rattle.wl_records.specs.Standing.{MappedStand, is_mapped}
+use Rattle.wl_invariants.specs.Standing.{MappedStand, is_mapped}
 use Rattle.wl_requests.proofs.Framing.{no-more, told-requests}
 use Rattle.wl_requests.proofs.Simply.{counted-orderly}
 use Rattle.wl_requests.specs.declared.messages.Asked.{Asked}
@@ -51,14 +51,14 @@ use Rattle.wl_xdg_state.specs.Shell.{Effect, Stays, Unconfigured, Configures, Ma
 use Rattle.wl_stacked.specs.declared.stacked.Stacked.{Stacked}
 use Rattle.wl_surface.specs.declared.applied.Applied.{Applied}
 use Rattle.wl_surface.specs.Surfaces.{history_in}
-use Rattle.wl_ways.specs.Ways.{AnswersAs, TakesAs}
+use Rattle.wl_changes.specs.Ways.{AnswersAs, TakesAs}
 use Rattle.wl_wire.specs.declared.header.Split.{Split}
 use Rattle.wl_wire.specs.declared.header.Split.TheVariants.{Message as Whole, More, Bad}
 use Rattle.wl_wire.specs.Wire.{split_of}
-use Rattle.wl_without_popups.proofs.Served.{IsServedSo, judge-served}
-use Rattle.wl_without_popups.proofs.Simple.{changes_simply, replies_simply}
-use Rattle.wl_without_popups.specs.NoPopups.{OwnsNoPopups}
-use Rattle.wl_without_popups.specs.Simple.{Becomes, DoesSimply, IsServed, answers_simply, changed_simply, stacked_on, stacked_simply, told_simply}
+use Rattle.wl_invariants.proofs.WithoutPopups.Served.{IsServedSo, judge-served}
+use Rattle.wl_invariants.proofs.WithoutPopups.Simple.{changes_simply, replies_simply}
+use Rattle.wl_invariants.specs.NoPopups.{OwnsNoPopups}
+use Rattle.wl_invariants.specs.Simple.{Becomes, DoesSimply, IsServed, answers_simply, changed_simply, stacked_on, stacked_simply, told_simply}
 
 -- ---- what a request does to the stack
 

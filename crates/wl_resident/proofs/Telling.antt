@@ -26,8 +26,8 @@ use Rattle.wl_laws.proofs.Lists.Keys.{differ}
 use Rattle.wl_laws.proofs.Runs.Fates.{same-or}
 use Rattle.wl_laws.proofs.Runs.Moves.{callbacks-status}
 use Rattle.wl_laws.proofs.Runs.Places.{left_by, number-other, number-same}
-use Rattle.wl_records.specs.Standing.{AreMapped, MappedStand}
-use Rattle.wl_records.proofs.Keeping.StandingDesks.{become-stand}
+use Rattle.wl_invariants.specs.Standing.{AreMapped, MappedStand}
+use Rattle.wl_invariants.proofs.KeptRecords.Keeping.StandingDesks.{become-stand}
 use Rattle.wl_lending.specs.Stacked.{AreStacked}
 use Rattle.wl_owning.specs.Owning.{IsOwned, Names, names_in, targets_in}
 use Rattle.wl_stacked.specs.declared.stacked.Stacked.{Stacked}

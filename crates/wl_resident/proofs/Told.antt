@@ -11,23 +11,23 @@ use Rattle.wl_linked.specs.Linked.{IsLink}
 use Rattle.wl_linked.specs.Tree.{IsCommitTold, IsDesyncTold, IsEndTold, IsTold}
 use Rattle.wl_named.specs.Named.{StandBy}
 use Rattle.wl_named.proofs.Linking.{link-named}
-use Rattle.wl_renaming.specs.Renaming.{IsRenaming, has_surface, renamed, renamed_link}
-use Rattle.wl_renaming.proofs.Done.{commits-surface, destroys-surface, desynchronises, unlinks}
-use Rattle.wl_renaming.proofs.Known.{finds-links, keeps-places, reads-surfaces}
-use Rattle.wl_told.proofs.Calls.{commit-tells}
-use Rattle.wl_told.proofs.Going.{end-tells}
-use Rattle.wl_told.proofs.Links.{desync-tells, unlink-tells}
-use Rattle.wl_tree_steps.proofs.Damage.{applies-nothing}
+use Rattle.wl_named.specs.Renaming.{IsRenaming, has_surface, renamed, renamed_link}
+use Rattle.wl_named.proofs.Names.Done.{commits-surface, destroys-surface, desynchronises, unlinks}
+use Rattle.wl_named.proofs.Names.Known.{finds-links, keeps-places, reads-surfaces}
+use Rattle.wl_changes.proofs.ToldDamage.Calls.{commit-tells}
+use Rattle.wl_changes.proofs.ToldDamage.Going.{end-tells}
+use Rattle.wl_changes.proofs.ToldDamage.Links.{desync-tells, unlink-tells}
+use Rattle.wl_invariants.proofs.TreeSteps.Damage.{applies-nothing}
 use Rattle.wl_plain.specs.Changing.{tree_committed, unlinked_at}
 use Rattle.wl_plain.specs.Demand.{Demand, EndToplevel}
 use Rattle.wl_plain.specs.Demanding.{effect_of_commit}
 use Rattle.wl_plain.specs.Desktop.{Resident}
 use Rattle.wl_plain.specs.Step.{with_peer}
-use Rattle.wl_without_popups.specs.Simple.{changed_simply}
-use Rattle.wl_orderly.specs.Orderly.{OwnsOrderly}
-use Rattle.wl_one_tree.specs.Changes.{IsDemanded}
-use Rattle.wl_one_tree.specs.Telling.{TellsTrees}
-use Rattle.wl_one_tree.proofs.Named.{commit-told-by-name, desync-told-by-name, end-told-by-name, nothing-told-by-name, unlink-told-by-name}
+use Rattle.wl_invariants.specs.Simple.{changed_simply}
+use Rattle.wl_invariants.specs.Orderly.{OwnsOrderly}
+use Rattle.wl_changes.specs.Changes.{IsDemanded}
+use Rattle.wl_changes.specs.Telling.{TellsTrees}
+use Rattle.wl_changes.proofs.OneTree.Named.{commit-told-by-name, desync-told-by-name, end-told-by-name, nothing-told-by-name, unlink-told-by-name}
 use Rattle.wl_owning.specs.Owning.{number_in}
 use Rattle.wl_owning.proofs.Keeping.OwningTies.{number-of-name, present, renaming-of, stand-by}
 use Rattle.wl_requests.specs.declared.messages.Asked.{Asked}

@@ -51,9 +51,9 @@ use Rattle.wl_plain.specs.WlSubsurface.{beside, demand_by_link, has_subsurface, 
 use Rattle.wl_plain.specs.WlSurface.{surface_created, transform_set}
 use Rattle.wl_plain.specs.XdgShell.{acknowledged_by, base_destroyed, geometry_set, role_of, state_asked, toplevel_made, xdg_surface_destroyed, xdg_surface_made}
 use Rattle.wl_laws.proofs.Lists.Keys.{none-some}
-use Rattle.wl_orderly.specs.Orderly.{OwnsOrderly}
-use Rattle.wl_one_tree.specs.Changes.{IsDemanded}
-use Rattle.wl_one_tree.specs.Trees.{touched_by}
+use Rattle.wl_invariants.specs.Orderly.{OwnsOrderly}
+use Rattle.wl_changes.specs.Changes.{IsDemanded}
+use Rattle.wl_changes.specs.Trees.{touched_by}
 use Rattle.wl_owning.specs.Owning.{names_in, target_as, targets_in}
 use Rattle.wl_owning.proofs.Keeping.OwningXdg.{toplevel-named}
 use Rattle.wl_requests.specs.declared.messages.Asked.{Asked}

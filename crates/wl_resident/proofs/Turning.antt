@@ -18,23 +18,23 @@ use Rattle.wl_plain.specs.Moments.{marks_at_least, marks_at_most}
 use Rattle.wl_plain.specs.Step.{with_peer}
 use Rattle.wl_laws.proofs.Marks.Stacks.{differ, unless}
 use Rattle.wl_lending.specs.Stacked.{AreNumberedBy, told_by}
-use Rattle.wl_renaming.specs.Renaming.{IsRenaming, has_surface, renamed}
-use Rattle.wl_renamed_windows.specs.Windows.{IsNamedAlone}
+use Rattle.wl_named.specs.Renaming.{IsRenaming, has_surface, renamed}
+use Rattle.wl_changes.specs.RenamedWindows.{IsNamedAlone}
 use Rattle.wl_repaint.specs.Repaint.{marks}
-use Rattle.wl_told.proofs.Shown.{between-is-applied}
+use Rattle.wl_changes.proofs.ToldDamage.Shown.{between-is-applied}
 use Rattle.wl_windows.specs.Windows.{told_of}
 use Rattle.wl_owning.proofs.Keeping.OwningTies.{named-there, number-of-name}
-use Rattle.wl_orderly.specs.Orderly.{Orderly, OwnsOrderly}
-use Rattle.wl_orderly.proofs.Clients.{clients_are_orderly}
-use Rattle.wl_one_tree.specs.Changes.{ChangesAt, ChangesTree, IsDone, StaysPainted}
-use Rattle.wl_one_tree.specs.Telling.{TellsTrees}
-use Rattle.wl_one_tree.specs.Trees.{HasTrees, touched_by}
-use Rattle.wl_one_tree.proofs.There.{no-surface-comes, tree-is-told}
-use Rattle.wl_tree_steps.specs.Laws.{IsRootOf}
-use Rattle.wl_turned.proofs.Laws.{demands-change-one-tree, marks-are-between, names-are-apart, nothing-is-marked}
-use Rattle.wl_turned.proofs.Naming.{root-is-named}
-use Rattle.wl_turned.proofs.Told.{numbered-at, told-was}
-use Rattle.wl_without_popups.specs.Simple.{changed_simply}
+use Rattle.wl_invariants.specs.Orderly.{Orderly, OwnsOrderly}
+use Rattle.wl_invariants.proofs.OrderlyClients.Clients.{clients_are_orderly}
+use Rattle.wl_changes.specs.Changes.{ChangesAt, ChangesTree, IsDone, StaysPainted}
+use Rattle.wl_changes.specs.Telling.{TellsTrees}
+use Rattle.wl_changes.specs.Trees.{HasTrees, touched_by}
+use Rattle.wl_changes.proofs.OneTree.There.{no-surface-comes, tree-is-told}
+use Rattle.wl_invariants.specs.TreeStepsLaws.{IsRootOf}
+use Rattle.wl_changes.proofs.TurnedWindows.Laws.{demands-change-one-tree, marks-are-between, names-are-apart, nothing-is-marked}
+use Rattle.wl_changes.proofs.TurnedWindows.Naming.{root-is-named}
+use Rattle.wl_changes.proofs.TurnedWindows.Told.{numbered-at, told-was}
+use Rattle.wl_invariants.specs.Simple.{changed_simply}
 use Rattle.wl_requests.specs.declared.residents.Resident.{Resident as Kept}
 use Rattle.wl_requests.specs.Residents.{IsResident}
 use Rattle.wl_resident.specs.Agreement.{IsStack, with_numbers}

@@ -6,21 +6,21 @@ use Rattle.std.proofs.lemmas.Bool.{eqb-true, or_left, or_right}
 use Rattle.wl_lending.specs.Stacked.{told_by}
 use Rattle.wl_laws.proofs.Marks.Painted.{contains-same}
 use Rattle.wl_laws.proofs.Marks.Stacks.{AreSame, Each, and-both, and-left, and-right, any-more, equal-numbers}
-use Rattle.wl_one_tree.specs.Changes.{ChangesTree}
+use Rattle.wl_changes.specs.Changes.{ChangesTree}
 use Rattle.wl_plain.specs.Desktop.{Desktop}
 use Rattle.wl_plain.specs.Marks.{at_least, at_most, in_output, same_records}
 use Rattle.wl_plain.specs.Moments.{applied_between, marks_at_least, marks_at_most}
-use Rattle.wl_records.specs.Touching.{any_window_at, has_window_at}
+use Rattle.wl_invariants.specs.Touching.{any_window_at, has_window_at}
 use Rattle.wl_repaint.specs.Repaint.{window_has}
 use Rattle.wl_stacking.specs.Windows.{Window, contains}
-use Rattle.wl_tree_marks.specs.Laws.{among, has_root, is_in_any}
-use Rattle.wl_tree_marks.proofs.Lists.{any-each-more, any-first, any-second, any-three, each-all, each-first, each-second, either-of}
-use Rattle.wl_tree_marks.proofs.Records.{same-tested}
-use Rattle.wl_tree_marks.proofs.Roots.{is-tree-of-root}
-use Rattle.wl_tree_marks.proofs.Tree.{marks-tree-alone}
-use Rattle.wl_tree_marks.proofs.Whole.{may-mark-whole-tree}
-use Rattle.wl_without_popups.specs.NoPopups.{NoPopups}
-use Rattle.wl_without_popups.proofs.Windows.{windows_are_toplevels}
+use Rattle.wl_invariants.specs.TreeMarksLaws.{among, has_root, is_in_any}
+use Rattle.wl_invariants.proofs.TreeMarks.Lists.{any-each-more, any-first, any-second, any-three, each-all, each-first, each-second, either-of}
+use Rattle.wl_invariants.proofs.TreeMarks.Records.{same-tested}
+use Rattle.wl_invariants.proofs.TreeMarks.Roots.{is-tree-of-root}
+use Rattle.wl_invariants.proofs.TreeMarks.Tree.{marks-tree-alone}
+use Rattle.wl_invariants.proofs.TreeMarks.Whole.{may-mark-whole-tree}
+use Rattle.wl_invariants.specs.NoPopups.{NoPopups}
+use Rattle.wl_invariants.proofs.WithoutPopups.Windows.{windows_are_toplevels}
 
 -- one of these windows is of the client, and contains the point
 abbrev pub is_own_in : ℕ → ℤ → ℤ → List Window → Bool

@@ -12,7 +12,7 @@ use Rattle.wl_plain.specs.Desktop.{Desktop, Resident, place}
 use Rattle.wl_laws.specs.Laws.{OwnsNothing}
 use Rattle.wl_owning.specs.Owning.{IsOwned, by_number, names_in, targets_in}
 use Rattle.wl_owning.specs.Subsurfaces.{AreOfSurfaces}
-use Rattle.wl_records.specs.Standing.{MappedStand}
+use Rattle.wl_invariants.specs.Standing.{MappedStand}
 use Rattle.wl_plain.specs.Framing.{AreFramed}
 use Rattle.wl_plain.specs.Stacked.{all_windows}
 use Rattle.wl_lending.specs.Stacked.{AreStacked}

@@ -4,11 +4,11 @@ use Rattle.wl_peer.specs.declared.cause.Cause.{Cause}
 use Rattle.wl_peer.specs.Objects.{ById}
 use Rattle.wl_paint.specs.Damage.{Damaged, has}
 use Rattle.wl_marking.specs.Marking.{IsAsLarge}
-use Rattle.wl_orderly.specs.Orderly.{Orderly}
+use Rattle.wl_invariants.specs.Orderly.{Orderly}
 use Rattle.wl_plain.specs.Desktop.{Desktop, Resident, status_in}
 use Rattle.wl_plain.specs.Moments.{marks_at_least, marks_at_least_through, marks_at_most, marks_at_most_through}
 use Rattle.wl_plain.specs.Stacked.{all_windows}
-use Rattle.wl_records.specs.Touching.{has_window_at}
+use Rattle.wl_invariants.specs.Touching.{has_window_at}
 use Rattle.wl_requests.specs.declared.residents.Resident.{Resident as Kept}
 use Rattle.wl_resident.specs.Seats.{IsSeated}
 use Rattle.wl_resident.specs.View.{Pile}

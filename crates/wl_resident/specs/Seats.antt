@@ -15,7 +15,7 @@ use Rattle.wl_resident.specs.Agreement.{IsScene, IsSeat, with_numbers}
 use Rattle.wl_plain.specs.Desktop.{Desktop, Resident, become, client_at, with_number}
 use Rattle.wl_plain.specs.Stacked.{all_windows}
 use Rattle.wl_owning.specs.Owning.{targets_in}
-use Rattle.wl_records.specs.Standing.{MappedStand}
+use Rattle.wl_invariants.specs.Standing.{MappedStand}
 use Rattle.wl_resident.specs.View.{Pile, owned_view}
 use Rattle.wl_plain.specs.declared.answers.Done.{Done}
 use Rattle.wl_requests.specs.declared.residents.Resident.{Resident as Kept}

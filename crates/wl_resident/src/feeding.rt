@@ -12,7 +12,7 @@ ghost use Rattle.wl_resident.specs.Screens.{IsFollowed, IsParted};
 ghost use Rattle.wl_resident.specs.Seats.{IsBare, IsChangedSo, IsClearedBy, IsSeated, ended_by};
 ghost use Rattle.wl_resident.specs.View.{Pile, pile_of};
 ghost use Rattle.wl_plain.specs.LeftOut.{served_now};
-ghost use Rattle.wl_orderly.specs.Orderly.{Orderly};
+ghost use Rattle.wl_invariants.specs.Orderly.{Orderly};
 ghost use Rattle.wl_plain.specs.Happens.{Serves};
 ghost use Rattle.wl_plain.specs.Through.{ServesThrough};
 ghost use Rattle.wl_plain.specs.Act.{IsLeft, IsSent, IsStored, stored_of};

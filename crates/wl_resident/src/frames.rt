@@ -4,7 +4,7 @@ ghost use Rattle.std.specs.Prelude.{ℕ, ◌≡◌, None, Some, is_some, true};
 ghost use Rattle.wl_peer.specs.Objects.{ById};
 ghost use Rattle.wl_plain.specs.Desktop.{Desktop, Resident as Plain};
 ghost use Rattle.wl_plain.specs.Framing.{FramesToldAt};
-ghost use Rattle.wl_orderly.specs.Orderly.{Orderly};
+ghost use Rattle.wl_invariants.specs.Orderly.{Orderly};
 ghost use Rattle.wl_marking.specs.Marking.{IsAsLarge};
 ghost use Rattle.wl_resident.specs.Marking.{MarksOwnIf};
 ghost use Rattle.wl_resident.specs.Seats.{IsSeated};

@@ -1,7 +1,7 @@
 -- A piece of a client's stream, message by message.
 use Rattle.std.proofs.Common.{◌≡◌, ℕ, zero, suc, List, [], ◌∷◌, ◌++◌, Bool, true, false, Option, Some, None, refl, ap, sym, subst, ◌∙◌, inl, inr}
 use Rattle.std.specs.Prelude.{◌==◌, not, cond, is_some, slice_index_or}
-use Rattle.wl_records.specs.Standing.{AreMapped}
+use Rattle.wl_invariants.specs.Standing.{AreMapped}
 use Rattle.std.specs.List.{list_any}
 use Rattle.wl_peer.specs.declared.cause.Cause.{Cause}
 use Rattle.wl_peer.specs.declared.cause.Cause.TheVariants.{Memory}
@@ -23,11 +23,11 @@ use Rattle.wl_desk.specs.View.{DeskView, OwnedView}
 use Rattle.wl_plain.specs.declared.answers.Done.TheVariants as gave
 use Rattle.wl_plain.specs.declared.answers.Fed.{Fed}
 use Rattle.wl_plain.specs.LeftOut.{served_now}
-use Rattle.wl_orderly.specs.Orderly.{Orderly}
-use Rattle.wl_orderly.proofs.Clients.{messages_keep_order}
+use Rattle.wl_invariants.specs.Orderly.{Orderly}
+use Rattle.wl_invariants.proofs.OrderlyClients.Clients.{messages_keep_order}
 use Rattle.wl_plain.specs.Happens.{FeedsAt, IsFedAt, Reaches, Serves, StopsAt}
 use Rattle.wl_laws.proofs.Runs.Forms.{ServesAt as StepServesAt}
-use Rattle.wl_records.proofs.Toplevels.Serves.{becomes-same, settles-to}
+use Rattle.wl_invariants.proofs.KeptRecords.Toplevels.Serves.{becomes-same, settles-to}
 use Rattle.wl_laws.proofs.Runs.Places.{client-become, number-kept, number-same, number-twice}
 use Rattle.wl_laws.proofs.Marks.Stacks.{and-both, differ, or-left, or-right, same-number}
 

@@ -6,7 +6,7 @@ use Rattle.wl_plain.specs.declared.answers.Done.{Done}
 use Rattle.wl_plain.specs.Act.{Act, is_tick}
 use Rattle.wl_plain.specs.Happens.{Happens}
 use Rattle.wl_laws.specs.Others.{client_of}
-use Rattle.wl_without_popups.specs.NoPopups.{NoPopups}
+use Rattle.wl_invariants.specs.NoPopups.{NoPopups}
 
 -- Whatever happens but a frame leaves each client that it isn't a step of as it was: its status, requests, objects, serials, unsent bytes
 -- and rest, what it owns, and the places and the order of its toplevels; where no client has a popup, and nobody points.

@@ -19,10 +19,10 @@ use Rattle.wl_plain.specs.Desktop.{Resident}
 use Rattle.wl_plain.specs.Releases.{is_released}
 use Rattle.wl_plain.specs.Replies.{buffers_shown, has_object, releases}
 use Rattle.wl_plain.specs.Step.{is_over, letting_go}
-use Rattle.wl_tree_buffers.specs.Laws.{AreOne, had_in, has_number, shown_in}
-use Rattle.wl_tree_buffers.proofs.After.{after-these}
-use Rattle.wl_tree_buffers.proofs.Lists.{any-in, first-in, in-any, later-in}
-use Rattle.wl_tree_buffers.proofs.Releasing.{rise}
+use Rattle.wl_invariants.specs.TreeBuffersLaws.{AreOne, had_in, has_number, shown_in}
+use Rattle.wl_invariants.proofs.TreeBuffers.After.{after-these}
+use Rattle.wl_invariants.proofs.TreeBuffers.Lists.{any-in, first-in, in-any, later-in}
+use Rattle.wl_invariants.proofs.TreeBuffers.Releasing.{rise}
 use Rattle.wl_laws.proofs.Lists.Keys.{differ, found-passes}
 use Rattle.wl_owning.specs.Freed.{AreFreedOf, freed_of}
 

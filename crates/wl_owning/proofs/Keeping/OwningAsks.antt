@@ -29,8 +29,8 @@ use Rattle.wl_named.specs.Named.{Makes}
 use Rattle.wl_surface.specs.Trees.{committed_in, destroyed_in, ended_in, links_with}
 use Rattle.wl_tree_laws.specs.Hanging.{AreNumbered}
 use Rattle.wl_tree_laws.specs.Laws.{AreOnceLinked}
-use Rattle.wl_tree_steps.proofs.Commits.{commit-keeps-others}
-use Rattle.wl_tree_steps.proofs.Ends.{destruction-keeps-others}
+use Rattle.wl_invariants.proofs.TreeSteps.Commits.{commit-keeps-others}
+use Rattle.wl_invariants.proofs.TreeSteps.Ends.{destruction-keeps-others}
 use Rattle.wl_laws.specs.Soundness.{IsNoChild}
 use Rattle.wl_tree_laws.specs.Stacks.{is_about_children}
 use Rattle.wl_stacking.specs.Stacking.{Owned}
@@ -49,8 +49,8 @@ use Rattle.wl_owning.proofs.Keeping.OwningXdg.{histories-changed, histories-same
 use Rattle.wl_plain.specs.Changing.{drawing, is_configure, tree_committed}
 use Rattle.wl_plain.specs.Demand.{Asks, EndSurface, EndToplevel}
 use Rattle.wl_plain.specs.Demanding.{effect_on_xdg}
-use Rattle.wl_without_popups.specs.Simple.{changed_simply, effect_on}
-use Rattle.wl_without_popups.proofs.Simple.{effect-toplevel, if-top}
+use Rattle.wl_invariants.specs.Simple.{changed_simply, effect_on}
+use Rattle.wl_invariants.proofs.WithoutPopups.Simple.{effect-toplevel, if-top}
 
 -- ---- histories of a surface that changes
 

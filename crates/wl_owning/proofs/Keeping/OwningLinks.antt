@@ -18,10 +18,10 @@ use Rattle.wl_tree_laws.specs.Hanging.{AreNumbered, kids_of}
 use Rattle.wl_tree_laws.specs.Laws.{AreOnceLinked}
 use Rattle.wl_tree_laws.specs.Stacks.{IsKept}
 use Rattle.wl_tree_laws.proofs.Hanging.{history-changed}
-use Rattle.wl_tree_steps.proofs.Ends.{end-keeps-others}
-use Rattle.wl_tree_steps.proofs.Modes.{mode-keeps-others}
+use Rattle.wl_invariants.proofs.TreeSteps.Ends.{end-keeps-others}
+use Rattle.wl_invariants.proofs.TreeSteps.Modes.{mode-keeps-others}
 use Rattle.wl_linked.specs.Linked.{IsLink, Stand}
-use Rattle.wl_renaming.specs.Renaming.{has_surface}
+use Rattle.wl_named.specs.Renaming.{has_surface}
 use Rattle.wl_named.specs.Named.{MakesBy, StandBy}
 use Rattle.wl_named.proofs.Linking.{desynchronises-named, moves-named, places-named, synchronises-named, unlinks-named}
 use Rattle.wl_named.proofs.Named.{links-named}

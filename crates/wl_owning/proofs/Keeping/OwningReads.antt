@@ -37,7 +37,7 @@ use Rattle.wl_owning.proofs.Keeping.OwningXdg.{xdg-of, xdg-of-none, xdg-there}
 use Rattle.wl_plain.specs.Demand.{EndSurface, CommitTree}
 use Rattle.wl_plain.specs.Demanding.{commit_demand, committed_by, effect_of_commit, effect_on_xdg, surface_destroyed}
 use Rattle.wl_plain.specs.WlSubsurface.{refuses}
-use Rattle.wl_without_popups.proofs.Simple.{effect-toplevel, if-top}
+use Rattle.wl_invariants.proofs.WithoutPopups.Simple.{effect-toplevel, if-top}
 
 there-mapped : {X : Type 0} (f : X → Buffer) (o : Option X) → is_there (option_map f o) ≡ is_some o
 there-mapped f None = refl

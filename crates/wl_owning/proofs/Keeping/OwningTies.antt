@@ -18,8 +18,8 @@ use Rattle.wl_surface.specs.Surfaces.{Surfaces, surface_at, with_change, with_ne
 use Rattle.wl_surface.specs.Trees.{committed_in, destroyed_in, ended_in, links_with}
 use Rattle.wl_tree_laws.specs.Stacks.{is_about_children}
 use Rattle.wl_linked.specs.Linked.{numbered}
-use Rattle.wl_renaming.specs.Renaming.{IsRenaming, has_surface, renamed, renamed_surface}
-use Rattle.wl_renaming.proofs.Known.{known-there}
+use Rattle.wl_named.specs.Renaming.{IsRenaming, has_surface, renamed, renamed_surface}
+use Rattle.wl_named.proofs.Names.Known.{known-there}
 use Rattle.wl_named.specs.Named.{Makes, StandBy}
 use Rattle.wl_named.proofs.Linking.{destroys-named}
 use Rattle.wl_named.proofs.Named.{asks-named, commits-named, roles-named, there-named}

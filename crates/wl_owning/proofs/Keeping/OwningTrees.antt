@@ -16,7 +16,7 @@ use Rattle.wl_surface.specs.Waiting.{AreWaiting, Callback, counted_at, frames_at
 use Rattle.wl_surface.proofs.Counting.{waiting-same}
 use Rattle.wl_linked.specs.Linked.{numbered}
 use Rattle.wl_linked.specs.Tree.{shown_at}
-use Rattle.wl_renaming.specs.Renaming.{renamed, renamed_surface}
+use Rattle.wl_named.specs.Renaming.{renamed, renamed_surface}
 use Rattle.wl_owning.specs.Owning.{AreKept, by_number, number_in}
 use Rattle.wl_owning.proofs.Keeping.OwningSurfaces.{busy-is, surface-numbered}
 use Rattle.wl_owning.proofs.Keeping.OwningTies.{read-renamed, renaming-of}

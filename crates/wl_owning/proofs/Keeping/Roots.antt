@@ -13,9 +13,9 @@ use Rattle.wl_tree_laws.specs.Hanging.{AreNumbered}
 use Rattle.wl_tree_laws.specs.Laws.{AreOnceLinked}
 use Rattle.wl_tree_laws.proofs.Applying.{applies-descendants}
 use Rattle.wl_tree_laws.proofs.Coming.{history-applied}
-use Rattle.wl_tree_steps.specs.Laws.{KeepsOthers}
-use Rattle.wl_tree_steps.proofs.Commits.{asked_more, commit-keeps-others, history-asked}
-use Rattle.wl_tree_steps.proofs.Descents.{at-top, is-top, no-child-is-top}
+use Rattle.wl_invariants.specs.TreeStepsLaws.{KeepsOthers}
+use Rattle.wl_invariants.proofs.TreeSteps.Commits.{asked_more, commit-keeps-others, history-asked}
+use Rattle.wl_invariants.proofs.TreeSteps.Descents.{at-top, is-top, no-child-is-top}
 use Rattle.wl_shell.specs.Agreement.{with_history}
 use Rattle.wl_xdg_state.specs.Shell.{Shell, xdg_of}
 use Rattle.wl_laws.specs.Soundness.{IsLive, IsNoChild}

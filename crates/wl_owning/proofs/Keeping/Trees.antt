@@ -16,10 +16,10 @@ use Rattle.wl_surface.specs.Surfaces.{Surfaces, is_busy, surface_at}
 use Rattle.wl_surface.specs.Waiting.{AreWaiting, Callback, frames_at}
 use Rattle.wl_linked.specs.Linked.{numbered}
 use Rattle.wl_linked.specs.Tree.{AreAmong, AreOnce, AreShown, is_among, numbers_of}
-use Rattle.wl_renaming.specs.Renaming.{renamed}
+use Rattle.wl_named.specs.Renaming.{renamed}
 use Rattle.wl_plain.specs.Framing.{AreFramed}
 use Rattle.wl_plain.specs.Replies.{buffers_shown}
-use Rattle.wl_tree_buffers.specs.Laws.{has_number, shown_in}
+use Rattle.wl_invariants.specs.TreeBuffersLaws.{has_number, shown_in}
 use Rattle.wl_laws.proofs.Lists.Keys.{differ}
 use Rattle.wl_laws.proofs.Lists.Surfaces.{has_id}
 use Rattle.wl_owning.specs.Freed.{AreFreedOf}

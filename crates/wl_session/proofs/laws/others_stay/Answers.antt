@@ -1,4 +1,4 @@
-use Rattle.wl_without_popups.proofs.Left.{others_stay}
+use Rattle.wl_invariants.proofs.WithoutPopups.Left.{others_stay}
 use Rattle.wl_session.proofs.laws.others_stay.Goals as goal
 
 pub returns : goal.returns

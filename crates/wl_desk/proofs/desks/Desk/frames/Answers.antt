@@ -1,5 +1,5 @@
 use Rattle.std.proofs.Common.{◌≡◌, refl, subst, ℕ, ◌∙◌, arith}
-use Rattle.wl_records.proofs.Marks.Framing.{shows-told}
+use Rattle.wl_invariants.proofs.KeptRecords.Marks.Framing.{shows-told}
 use Rattle.wl_desk.proofs.Framing.{HasTold, more-told, none-told, told-most}
 use Rattle.wl_desk.proofs.desks.Desk.frames.Goals as goal
 

@@ -1,6 +1,6 @@
 use Rattle.std.proofs.Common.{◌≡◌, None, length}
 use Rattle.wl_plain.specs.Desktop.{Resident}
-use Rattle.wl_orderly.specs.Orderly.{OwnsOrderly}
+use Rattle.wl_invariants.specs.Orderly.{OwnsOrderly}
 use Rattle.wl_owning.specs.Owning.{names_in}
 use Rattle.wl_requests.specs.Residents.{IsResident}
 use Rattle.wl_requests.proofs.Answering.{IsAnswered}

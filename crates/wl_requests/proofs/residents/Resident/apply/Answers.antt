@@ -27,7 +27,7 @@ use Rattle.wl_owning.proofs.Keeping.Freeing.{releases-freed}
 use Rattle.wl_owning.proofs.Keeping.Ids.{waits-committed}
 use Rattle.wl_owning.proofs.Keeping.OwningAsks.{answered-effect, owned-committed}
 use Rattle.wl_owning.proofs.Keeping.Trees.{once-freed}
-use Rattle.wl_without_popups.specs.Simple.{answers_on, effect_on}
+use Rattle.wl_invariants.specs.Simple.{answers_on, effect_on}
 use Rattle.wl_requests.specs.Residents.{IsLeft, drawn_by, told_by}
 use Rattle.wl_requests.specs.Touching.{Commits, IsMade}
 use Rattle.wl_requests.proofs.Calls.{commit-called}

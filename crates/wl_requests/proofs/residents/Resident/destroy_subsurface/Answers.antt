@@ -27,7 +27,7 @@ use Rattle.wl_owning.proofs.Keeping.Ids.{waits-unlinked}
 use Rattle.wl_owning.proofs.Keeping.OwningLinks.{owned-parted}
 use Rattle.wl_owning.proofs.Keeping.OwningNames.{names-other-gone}
 use Rattle.wl_owning.proofs.Keeping.Trees.{once-freed}
-use Rattle.wl_records.proofs.Toplevels.Releases.{still-released}
+use Rattle.wl_invariants.proofs.KeptRecords.Toplevels.Releases.{still-released}
 use Rattle.wl_requests.specs.declared.residents.Resident.{Resident as Kept}
 use Rattle.wl_requests.specs.Residents.{IsLeft}
 use Rattle.wl_requests.specs.Touching.{IsMade, IsTouched, Parts}

@@ -1,8 +1,8 @@
 use Rattle.wl_plain.specs.Demanding.{toplevel_destroyed}
 use Rattle.wl_plain.specs.Demand.{EndToplevel}
-use Rattle.wl_records.proofs.Toplevels.Releases.{ended-told}
-use Rattle.wl_without_popups.proofs.Served.{IsServedSo}
-use Rattle.wl_without_popups.specs.Simple.{changed_simply}
+use Rattle.wl_invariants.proofs.KeptRecords.Toplevels.Releases.{ended-told}
+use Rattle.wl_invariants.proofs.WithoutPopups.Served.{IsServedSo}
+use Rattle.wl_invariants.specs.Simple.{changed_simply}
 use Rattle.wl_xdg_state.specs.Shell.{XdgSurface as Xdg, xdg_with}
 use Rattle.std.proofs.Common.{ℕ, Option, None, Some, true, inr, ap, refl}
 use Rattle.wl_xdg_state.specs.Kept.{kept_of}

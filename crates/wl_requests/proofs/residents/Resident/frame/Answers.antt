@@ -10,7 +10,7 @@ use Rattle.wl_owning.specs.Owning.{names_in}
 use Rattle.wl_plain.specs.Step.{with_peer}
 use Rattle.wl_owning.proofs.Keeping.OwningAsks.{owned-asked}
 use Rattle.wl_owning.proofs.Keeping.OwningNames.{names-other-made}
-use Rattle.wl_without_popups.specs.Simple.{changed_simply}
+use Rattle.wl_invariants.specs.Simple.{changed_simply}
 use Rattle.wl_requests.proofs.Doing.{lacked}
 use Rattle.wl_requests.proofs.Framing.{framed-frame}
 use Rattle.wl_requests.proofs.Numbers.{keeps-names}

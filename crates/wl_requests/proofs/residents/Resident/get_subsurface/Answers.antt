@@ -17,7 +17,7 @@ use Rattle.wl_surface.specs.Slots.{Numbered}
 use Rattle.wl_surface.specs.Waiting.{counted_at, frames_at}
 use Rattle.wl_surface.specs.declared.frames.Waiting.{Waiting}
 use Rattle.wl_table.specs.declared.entry.Entry.{Entry}
-use Rattle.wl_without_popups.specs.Simple.{changed_simply}
+use Rattle.wl_invariants.specs.Simple.{changed_simply}
 use Rattle.wl_requests.specs.declared.residents.Resident.{Resident as Kept}
 use Rattle.wl_requests.specs.Linking.{IsJudged}
 use Rattle.wl_requests.specs.Residents.{AnswersSo}

@@ -1,6 +1,6 @@
 use Rattle.std.proofs.Common.{◌≡◌, Bool, Option, None, ap, refl, subst, sym, ◌∙◌}
 use Rattle.std.specs.Prelude.{is_some}
-use Rattle.wl_orderly.proofs.Clients.{clients_are_orderly}
+use Rattle.wl_invariants.proofs.OrderlyClients.Clients.{clients_are_orderly}
 use Rattle.wl_paint.specs.Damage.{Damaged}
 use Rattle.wl_peer.specs.declared.cause.Cause.{Cause}
 use Rattle.wl_plain.specs.Desktop.{become}

@@ -1,0 +1,5 @@
+pub mod ToldDamage
+pub mod RenamedWindows
+pub mod OneTree
+pub mod MessageWays
+pub mod TurnedWindows

@@ -1,0 +1,9 @@
+//! The laws of windows under other names: what a client's surfaces are called makes no difference to the windows of a tree of surfaces, to
+//! what is told of them, and to what is marked where they change (wayland.xml, wl_surface and wl_subsurface). Each law is a function that
+//! promises it.
+
+mod marks;
+mod windows;
+
+pub use marks::{marks_applied_by_name, marks_between_by_name, marks_heed_no_names, same_by_name};
+pub use windows::{shows_those_there, tells_trees_by_name, trees_heed_no_names};

@@ -1,0 +1,192 @@
+-- Clients whose role objects are toplevels keep that, and what becomes of a desktop where nobody points is its own change.
+use Rattle.std.proofs.Common.{◌≡◌, ℕ, List, ◌∷◌, ◌++◌, Bool, true, false, Option, Some, None, cond, refl, ap, subst, sym, ◌∙◌, map, inl, inr, []}
+use Rattle.std.specs.Prelude.{◌==◌, not, filter, flat_map}
+use Rattle.std.specs.Option.{option_map}
+use Rattle.wl_interface.specs.declared.interface.Interface.TheVariants.{XdgPopup}
+use Rattle.wl_proto.specs.Messages.{says}
+use Rattle.wl_peer.specs.declared.cause.Cause.{Cause}
+use Rattle.wl_peer.specs.declared.cause.Cause.TheVariants.{Memory, Slow}
+use Rattle.wl_peer.specs.Peer.{Peer, Queues, QueuesOr, ended, has_room, queued}
+use Rattle.wl_peer.specs.Told.{Said, said}
+use Rattle.wl_xdg_state.specs.Popups.{is_among, placing, with_effect, with_popup, with_popup_role, without_grab}
+use Rattle.wl_xdg_state.specs.Positioner.{Placed}
+use Rattle.wl_xdg_state.specs.Shell.{Effect, Stays, Unconfigured, Configures, Maps, Unmaps, Fresh, Waiting, Mapped, Popup, RoleObject, Shell, XdgSurface as Xdg, acknowledging, configuring, in_stage}
+use Rattle.wl_xdg_state.specs.Shell.{new_toplevel, unmapping, with_change, with_new, without_role, without_xdg, xdg_at}
+use Rattle.wl_stacking.specs.Pointer.{first_pointer}
+use Rattle.wl_stacking.specs.Stacking.{without_client}
+use Rattle.wl_plain.specs.Ask.{Ask, Own, CreateSurface, AskSurface, EndObject, GetXdgSurface, DestroyXdgSurface, GetToplevel, Acknowledge, ConfigureAgain, Ignore}
+use Rattle.wl_plain.specs.Changing.{drawing, effect_placing, is_configure, with_kept_move}
+use Rattle.wl_plain.specs.Desktop.{Desktop, Resident, become, become_by, client_at, resident_of, with_client}
+use Rattle.wl_plain.specs.Replies.{dismissed_in, newest_first, popups_done}
+use Rattle.wl_plain.specs.Settling.{EndsAndSettles, QueuesTo, after_status, becomes, ended_at, pointer_without, unstruck}
+use Rattle.wl_plain.specs.Step.{asked_so_far, changed_by, toplevel_given, with_peer, xdg_changed}
+use Rattle.wl_invariants.proofs.KeptRecords.Toplevels.Simply.{Becomes}
+use Rattle.wl_invariants.specs.Toplevels.{AreToplevels, IsToplevel}
+use Rattle.wl_laws.proofs.Runs.Forms.{after_why, Becomes as StepBecomes}
+use Rattle.wl_invariants.proofs.KeptRecords.Toplevels.Changed.{no-popups, stage-top}
+use Rattle.wl_laws.proofs.Runs.Places.{number-same, number-twice}
+use Rattle.wl_laws.proofs.Runs.Ends.{queues-status}
+
+-- ---- the role objects stay toplevels
+
+top-change : (id : ℕ) (f : Xdg → Xdg) → ((x : Xdg) → IsToplevel x.role → IsToplevel (f x).role) → (xs : Shell) → AreToplevels xs → AreToplevels (with_change id f xs)
+top-change id f keeps [] top = tt
+top-change id f keeps (x ∷ xs) top = (at (x.id == id), top-change id f keeps xs top.1)
+  where
+    at : (b : Bool) → IsToplevel (cond b (f x) x).role
+    at true = keeps x top.0
+    at false = top.0
+
+top-new : (id base surface : ℕ) (xs : Shell) → AreToplevels xs → AreToplevels (with_new id base surface xs)
+top-new id base surface [] top = (tt, tt)
+top-new id base surface (x ∷ xs) top = (top.0, top-new id base surface xs top.1)
+
+top-without : (id : ℕ) (xs : Shell) → AreToplevels xs → AreToplevels (without_xdg id xs)
+top-without id [] top = tt
+top-without id (x ∷ xs) top = at (x.id == id) (top-without id xs top.1)
+  where
+    at : (b : Bool) → AreToplevels (without_xdg id xs) → AreToplevels (cond (not b) (x ∷ without_xdg id xs) (without_xdg id xs))
+    at true later = later
+    at false later = (top.0, later)
+
+top-acknowledged : (serial : ℕ) (x : Xdg) (o : Option RoleObject) → x.role ≡ o → IsToplevel o → IsToplevel (acknowledging serial x).role
+top-acknowledged serial x o is top = subst (λ p. IsToplevel (acknowledging serial (record x { role = p })).role) (sym is) (at o top)
+  where
+    at : (o : Option RoleObject) → IsToplevel o → IsToplevel (acknowledging serial (record x { role = o })).role
+    at None top = tt
+    at (Some object) top = top
+
+top-changed : (change : Popup → Popup) (o : Option RoleObject) → IsToplevel o → IsToplevel (option_map (with_popup_role change) o)
+top-changed change None top = tt
+top-changed change (Some object) top = ap (with_popup change) top
+
+top-effect-at : (serial since : ℕ) (where_to : Popup → Option Placed) (effect : Effect) (x : Xdg) → IsToplevel x.role → IsToplevel (with_effect serial since where_to effect x).role
+top-effect-at serial since where_to Stays x is = is
+top-effect-at serial since where_to Unconfigured x is = is
+top-effect-at serial since where_to Configures x is = top-changed (placing where_to) (in_stage Waiting x).role (stage-top Waiting x.role is)
+top-effect-at serial since where_to Maps x is = stage-top Mapped x.role is
+top-effect-at serial since where_to Unmaps x is = top-changed without_grab (unmapping since x).role (stage-top Fresh x.role is)
+
+pub top-effect : (where_to : Popup → Option Placed) (id : ℕ) (effect : Effect) (o : Option Xdg) (r : Resident) → AreToplevels r.owned.shell
+    → AreToplevels (effect_placing where_to id effect o r).owned.shell
+top-effect where_to id effect None r top = top
+top-effect where_to id effect (Some x) r top = at (is_configure effect)
+  where
+    changed : Resident
+    changed = xdg_changed x.id (with_effect r.peer.serial (asked_so_far id r) where_to effect) r
+
+    there : AreToplevels changed.owned.shell
+    there = top-change x.id (with_effect r.peer.serial (asked_so_far id r) where_to effect) (top-effect-at r.peer.serial (asked_so_far id r) where_to effect) r.owned.shell top
+
+    at : (b : Bool) → AreToplevels (drawing b changed).owned.shell
+    at true = there
+    at false = there
+
+pub top-given : (id xdg : ℕ) (o : Option Xdg) (r : Resident) → AreToplevels r.owned.shell → AreToplevels (toplevel_given id xdg o r).owned.shell
+top-given id xdg None r top = top
+top-given id xdg (Some x) r top = top-change xdg (new_toplevel id _) (λ y is. refl) r.owned.shell top
+
+pub tops-gone : (xdg : ℕ) (r : Resident) → AreToplevels r.owned.shell → AreToplevels (xdg_changed xdg without_role r).owned.shell
+tops-gone xdg r top = top-change xdg without_role (λ y is. tt) r.owned.shell top
+
+pub tops-kept : (ask : Ask) (r : Resident) → AreToplevels r.owned.shell → AreToplevels (changed_by ask r).owned.shell
+tops-kept (Own action) r top = top
+tops-kept (CreateSurface id version) r top = top
+tops-kept (AskSurface id request) r top = top
+tops-kept (EndObject id) r top = top
+tops-kept (GetXdgSurface id version base surface) r top = top-new id base surface r.owned.shell top
+tops-kept (DestroyXdgSurface id) r top = top-without id r.owned.shell top
+tops-kept (GetToplevel id version xdg) r top = top-given id xdg (xdg_at xdg r.owned.shell) r top
+tops-kept (Acknowledge xdg serial) r top = top-change xdg (acknowledging serial) (λ y is. top-acknowledged serial y y.role refl is) r.owned.shell top
+tops-kept (ConfigureAgain xdg) r top = top-change xdg (configuring r.peer.serial) (λ y is. is) r.owned.shell top
+tops-kept Ignore r top = top
+
+-- ---- the pointer isn't anywhere
+
+settled-plain : (d : Desktop) → EndsAndSettles (unstruck (record d { pointer = first_pointer })) (record d { pointer = first_pointer })
+settled-plain d = (unstruck (record d { pointer = first_pointer }), refl, refl)
+
+-- then the focus is settled at once
+pub settles-to : (x y new : Desktop) → x ≡ y → new ≡ y → y.pointer ≡ first_pointer → EndsAndSettles (unstruck x) new
+settles-to x y new first last still =
+    let there : EndsAndSettles (unstruck y) y =
+    subst (λ p. EndsAndSettles (unstruck (record y { pointer = p })) (record y { pointer = p })) (sym still) (settled-plain y) in
+    let here : EndsAndSettles (unstruck x) y = subst (λ d. EndsAndSettles (unstruck d) y) (sym first) there in
+    subst (λ d. EndsAndSettles (unstruck x) d) (sym last) here
+
+pub by-pointer : (s : Option Cause) (c : ℕ) (r : Resident) (q : Peer) (d : Desktop) → (become_by s c r q d).pointer ≡ d.pointer
+by-pointer None c r q d = refl
+by-pointer (Some cause) c r q d = refl
+
+after-still : (s : Option Cause) (c : ℕ) (d : Desktop) → d.pointer ≡ first_pointer → after_status s c d ≡ d
+after-still None c d still = refl
+after-still (Some cause) c d still = ap (λ p. record d { pointer = pointer_without c p }) still ∙ sym (ap (λ p. record d { pointer = p }) still)
+
+pub becomes-same : (c : ℕ) (r : Resident) (q : Peer) (d : Desktop) → d.pointer ≡ first_pointer → becomes c r q d ≡ become c r q d
+becomes-same c r q d still = after-still q.status c (become c r q d) (by-pointer q.status c r q d ∙ still)
+
+-- what a client becomes is settled
+pub becomes-whole : (Q : Peer → Type 0) (c : ℕ) (r : Resident) (d new : Desktop) → d.pointer ≡ first_pointer → Becomes Q c r d new → StepBecomes Q c r d new
+becomes-whole Q c r d new still h =
+    (h.0, h.1, settles-to (becomes c r h.0 d) (become c r h.0 d) new (becomes-same c r h.0 d still) h.2 (by-pointer h.0.status c r h.0 d ∙ still))
+
+-- ---- what a client is told
+
+abbrev pub ended_why : Option Cause → Peer → Peer
+ended_why None q = q
+ended_why (Some cause) q = ended cause q
+
+abbrev IsToldTo : List Said → Peer → Peer → Type 0
+IsToldTo events p q = (told : Peer) × (why : Option Cause) × QueuesTo events p told why × (q ≡ ended_why why told)
+
+pub told-to : (events : List Said) (p q : Peer) → Queues events p q → IsToldTo events p q
+told-to [] p q h = (p, None, (refl, refl), h)
+told-to (event ∷ events) p q h = at (has_room p.unsent event) refl (told-to events (queued event p) q) h
+  where
+    at : (b : Bool) → has_room p.unsent event ≡ b → (Queues events (queued event p) q → IsToldTo events (queued event p) q) → QueuesOr b (Queues events (queued event p) q) p q
+        → IsToldTo (event ∷ events) p q
+    at false e later h = (p, Some Slow, rw e (refl, refl), h)
+    at true e later (inl h) = (p, Some Memory, rw e (inl (refl, refl)), h)
+    at true e later (inr h) = let k = later h in (k.0, k.1, rw e (inr k.2), k.3)
+
+-- a client that lives is told, and ends where that isn't queued
+abbrev pub IsDone : List Said → ℕ → Resident → Desktop → Desktop → Type 0
+IsDone events c made d new =
+    (q : Peer) × (why : Option Cause) × QueuesTo events made.peer q why × EndsAndSettles (unstruck (after_why why c (with_client c (Some (with_peer q made)) d))) new
+
+-- what it becomes, and what is left of the desktop where it ends
+pub after-same : (events : List Said) (c : ℕ) (made there : Resident) (d : Desktop) → client_at c d ≡ Some there → d.pointer ≡ first_pointer → made.peer.status ≡ None → (q : Peer) (why : Option Cause)
+    → QueuesTo events made.peer q why
+    → after_why why c (with_client c (Some (with_peer q made)) d) ≡ become c made (ended_why why q) d
+after-same events c made there d is still alive q None told = sym (ap (λ s. become_by s c made q d) (queues-status events made.peer q None told ∙ alive))
+after-same events c made there d is still alive q (Some cause) told =
+    let now : Desktop = with_client c (Some (with_peer q made)) d in
+    ap (λ o. ended_at c cause o now) (number-same d.clients c (Some (with_peer q made)) there is) ∙ becomes-same c (with_peer q made) (ended cause q) now still
+    ∙ ap (λ clients. record d { clients = clients; standing = without_client c d.standing }) (number-twice d.clients c (Some (resident_of (ended cause q))) (Some (with_peer q made)))
+
+pub is-done : (events : List Said) (c : ℕ) (made there : Resident) (d new : Desktop) → client_at c d ≡ Some there → d.pointer ≡ first_pointer → made.peer.status ≡ None
+    → Becomes (Queues events made.peer) c made d new → IsDone events c made d new
+is-done events c made there d new is still alive h =
+    let k = told-to events made.peer h.0 h.1 in
+    let last = become c made (ended_why k.1 k.0) d in (
+      k.0,
+      k.1,
+      k.2,
+      settles-to (after_why k.1 c (with_client c (Some (with_peer k.0 made)) d)) last new (after-same events c made there d is still alive k.0 k.1 k.2)
+          (h.2 ∙ ap (λ q. become c made q d) k.3) (by-pointer (ended_why k.1 k.0).status c made (ended_why k.1 k.0) d ∙ still),
+    )
+
+-- ---- what is asked
+
+pub kept-still : (d : Desktop) → d.pointer ≡ first_pointer → with_kept_move d ≡ d
+kept-still d still = ap (λ p. with_kept_move (record d { pointer = p })) still ∙ sym (ap (λ p. record d { pointer = p }) still)
+
+pub none-done : (r made : Resident) → AreToplevels made.owned.shell → popups_done r made ≡ []
+none-done r made top =
+    ap (λ ps. map (λ id. said id (says XdgPopup 1 [])) (filter (λ id. not (is_among id (dismissed_in r.owned.shell)))
+    (newest_first (flat_map (λ p. cond p.popup.is_dismissed (p.object.id ∷ []) []) ps))))
+    (no-popups made.owned.shell top)
+
+pub nothing-between : (xs ys : List Said) → xs ++ [] ++ ys ≡ xs ++ ys
+nothing-between [] ys = refl
+nothing-between (x ∷ xs) ys = ap (λ zs. x ∷ zs) (nothing-between xs ys)

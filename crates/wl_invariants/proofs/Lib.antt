@@ -1,0 +1,9 @@
+pub mod TreeMarks
+pub mod TreeSteps
+pub mod KeptRecords
+pub mod WithoutPopups
+pub mod OneBuffer
+pub mod XdgRoots
+pub mod TreeBuffers
+pub mod OrderlyClients
+pub mod MappedToplevels

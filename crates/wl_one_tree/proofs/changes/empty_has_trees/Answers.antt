@@ -1,5 +1,0 @@
-use Rattle.wl_one_tree.proofs.Empty.{empty-has-trees}
-use Rattle.wl_one_tree.proofs.changes.empty_has_trees.Goals as goal
-
-pub returns : goal.returns
-returns c = empty-has-trees c.empty_has_no_popups.ensures c.empty_is_sound.ensures

@@ -1,4 +1,0 @@
-pub mod Changes
-pub mod Laws
-pub mod Telling
-pub mod Trees

@@ -1,5 +1,0 @@
-use Rattle.wl_orderly.proofs.Clients.{messages_keep_order}
-use Rattle.wl_orderly.proofs.messages_keep_order.Goals as goal
-
-pub returns : goal.returns
-returns c = messages_keep_order

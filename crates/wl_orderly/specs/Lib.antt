@@ -1,2 +1,0 @@
-pub mod Orderly
-pub mod OrderlyLaws

@@ -1,4 +1,0 @@
-pub mod NoPopups
-pub mod NoPopupsLaws
-pub mod Simple
-pub mod SimpleLaws
