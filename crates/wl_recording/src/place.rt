@@ -5,7 +5,7 @@ ghost use Rattle.wl_recording.specs.Line.{after_place, place_in};
 
 use crate::numbers::number;
 use crate::word::next_word;
-use wl_client::StoreNo;
+use wl_store::StoreNo;
 
 /// A place in a store: the client that the store is of, the store's number there, and the byte, from 0.
 #[derive(Clone, Copy, Debug, PartialEq, Eq)]

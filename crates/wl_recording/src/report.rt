@@ -6,7 +6,7 @@ ghost use Rattle.wl_recording.specs.Text.{cause_text, client_line, end_line, fra
 
 use std::io;
 use std::io::Write;
-use wl_client::Cause;
+use wl_peer::Cause;
 
 /// How many bytes are written as hex digits at once.
 const CHUNK: usize = 1024;
