@@ -22,6 +22,11 @@ slots-at lent (suc n) index slot some is within e =
     let less : index < length lent = grind (arith, nat_tests) in
     ap slots_of (sym (get_or_from_slice_get lent index slot None (slice_get_read lent (length lent) index slot refl less e)) ∙ ap (λ i. get_or lent i None) same)
 
+-- no client is numbered 0
+pub slots-none : {A : Type 0} (lent : List (Option (Lent A))) (c : ℕ) → (1 ≤ c → ⊥) → no_slots ≡ slots_lent lent c
+slots-none lent zero none = refl
+slots-none lent (suc n) none = absurd (none (omega arith))
+
 -- past the end nothing is lent
 pub slots-past : {A : Type 0} (lent : List (Option (Lent A))) (c index : ℕ) → 1 ≤ c → index ≡ c - 1 → false ≡ nat_lt index (length lent) → no_slots ≡ slots_lent lent c
 slots-past lent zero index some is past = absurd (omega (arith, some))

@@ -49,3 +49,42 @@ returns-in_ok-put_file-in-File-clause-told g c =
     let to = c.put_file.new.side in
     Leads-at files from to c.args.asked.line (line.File c.in-File.place c.in-File.name) c.args.asked.piece.now (TellsFile files c.in-File.place c.in-File.name.now from to) _ _ _ _ _ _ c.in-File.is
     (λ old new told tells. tells) (Counts-silent _ 0) c.in_ok-put_file-in-File.ensures.told
+
+pub returns-in_ok-clients-in-Connect-clause-calm : goal.returns-in_ok-clients-in-Connect-clause-calm
+returns-in_ok-clients-in-Connect-clause-calm g c = refl
+
+pub returns-in_ok-clients-in-Connect-clause-lacking : goal.returns-in_ok-clients-in-Connect-clause-lacking
+returns-in_ok-clients-in-Connect-clause-lacking g c = λ e. absurd (cc)
+
+pub returns-in_ok-feed-in-Bytes-clause-calm : goal.returns-in_ok-feed-in-Bytes-clause-calm
+returns-in_ok-feed-in-Bytes-clause-calm g c = refl
+
+pub returns-in_ok-feed-in-Bytes-clause-lacking : goal.returns-in_ok-feed-in-Bytes-clause-lacking
+returns-in_ok-feed-in-Bytes-clause-lacking g c = λ e. absurd (cc)
+
+pub returns-in_ok-store-in-Store-clause-calm : goal.returns-in_ok-store-in-Store-clause-calm
+returns-in_ok-store-in-Store-clause-calm g c = refl
+
+pub returns-in_ok-store-in-Store-clause-lacking : goal.returns-in_ok-store-in-Store-clause-lacking
+returns-in_ok-store-in-Store-clause-lacking g c = λ e. absurd (cc)
+
+pub returns-in_ok-put_file-in-File-clause-lacking : goal.returns-in_ok-put_file-in-File-clause-lacking
+returns-in_ok-put_file-in-File-clause-lacking g c = λ e. absurd (cc)
+
+pub returns-in_ok-gone-in-Gone-clause-calm : goal.returns-in_ok-gone-in-Gone-clause-calm
+returns-in_ok-gone-in-Gone-clause-calm g c = refl
+
+pub returns-in_ok-gone-in-Gone-clause-lacking : goal.returns-in_ok-gone-in-Gone-clause-lacking
+returns-in_ok-gone-in-Gone-clause-lacking g c = λ e. absurd (cc)
+
+pub returns-in_ok-tick-in-Tick-clause-calm : goal.returns-in_ok-tick-in-Tick-clause-calm
+returns-in_ok-tick-in-Tick-clause-calm g c = refl
+
+pub returns-in_ok-tick-in-Tick-clause-lacking : goal.returns-in_ok-tick-in-Tick-clause-lacking
+returns-in_ok-tick-in-Tick-clause-lacking g c = λ e. absurd (cc)
+
+pub returns-in-Nothing-clause-calm : goal.returns-in-Nothing-clause-calm
+returns-in-Nothing-clause-calm g c = refl
+
+pub returns-in-Nothing-clause-lacking : goal.returns-in-Nothing-clause-lacking
+returns-in-Nothing-clause-lacking g c = λ e. absurd (cc)

@@ -26,3 +26,42 @@ returns-in_default-clause-failed g c =
       ),
       (refl, refl, refl),
     )
+
+pub returns-then-not-branch-clause-small : goal.returns-then-not-branch-clause-small
+returns-then-not-branch-clause-small g c = tt
+
+pub returns-then-not-branch-clause-failed : goal.returns-then-not-branch-clause-failed
+returns-then-not-branch-clause-failed g c = tt
+
+pub returns-in_default-clause-played : goal.returns-in_default-clause-played
+returns-in_default-clause-played g c = tt
+
+pub returns-in_default-clause-small : goal.returns-in_default-clause-small
+returns-in_default-clause-small g c = tt
+
+pub returns-in-Ok-clause-failed : goal.returns-in-Ok-clause-failed
+returns-in-Ok-clause-failed g c = tt
+
+pub returns-in-Err-Write-clause-played : goal.returns-in-Err-Write-clause-played
+returns-in-Err-Write-clause-played g c = tt
+
+pub returns-in-Err-Write-clause-small : goal.returns-in-Err-Write-clause-small
+returns-in-Err-Write-clause-small g c = tt
+
+pub returns-in-Err-Write-clause-failed : goal.returns-in-Err-Write-clause-failed
+returns-in-Err-Write-clause-failed g c = tt
+
+pub returns-in-Err-Side-clause-played : goal.returns-in-Err-Side-clause-played
+returns-in-Err-Side-clause-played g c = tt
+
+pub returns-in-Err-Side-clause-small : goal.returns-in-Err-Side-clause-small
+returns-in-Err-Side-clause-small g c = tt
+
+pub returns-in-Err-Memory-clause-played : goal.returns-in-Err-Memory-clause-played
+returns-in-Err-Memory-clause-played g c = tt
+
+pub returns-in-Err-Memory-clause-small : goal.returns-in-Err-Memory-clause-small
+returns-in-Err-Memory-clause-small g c = tt
+
+pub returns-in-Err-Memory-clause-failed : goal.returns-in-Err-Memory-clause-failed
+returns-in-Err-Memory-clause-failed g c = tt

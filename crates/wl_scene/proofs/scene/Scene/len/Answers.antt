@@ -9,3 +9,6 @@ returns-clause-windows g c = λ owned stands show.
     sym (length-map c.toplevels.result.now standing_of)
     ∙ ap (λ s. length s) c.toplevels.ensures
     ∙ windows-counted owned c.args.self.now.standing stands.links show
+
+pub returns-clause-count : goal.returns-clause-count
+returns-clause-count g c = sym (length-map c.toplevels.result.now standing_of) ∙ ap (λ s. length s) c.toplevels.ensures

@@ -19,3 +19,6 @@ returns-clause-shown g c = λ owned stands.
 pub returns-clause-windows : goal.returns-clause-windows
 returns-clause-windows g c = λ owned stands show.
     ap (λ ts. slice_get ts c.args.k) (windows-told owned c.args.self.now.standing stands.links show) ∙ returns-clause-shown g c owned stands
+
+pub index-requires : goal.index-requires
+index-requires g c = let ts = c.self.inside.standing.items in let same = ap (λ s. length s.standing) c.self.view_is in let mapped = length-map ts standing_of in omega (arith, c.requires, same, mapped)
