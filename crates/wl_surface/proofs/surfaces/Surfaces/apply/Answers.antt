@@ -4,6 +4,7 @@ use Rattle.wl_surface.specs.Slots.{StandsAt}
 use Rattle.wl_surface.specs.Waiting.{applied_by}
 use Rattle.wl_surface.proofs.Changed.{applied-none, applied-some}
 use Rattle.wl_surface.proofs.Counting.{waiting-applied}
+use Rattle.wl_surface.proofs.Slots.{Changes-at, Changes-none}
 use Rattle.wl_surface.proofs.Waiting.{changed-all}
 use Rattle.wl_surface.proofs.surfaces.Surfaces.apply.Goals as goal
 use Rattle.wl_surface.proofs.surfaces.Surfaces.apply.Goals.{in-Some, in-None}
@@ -31,4 +32,13 @@ returns-clause-change g c = λ all stand.
           w.apply_change.ensures.change)
       | in-None w ↦ rw w.result-is
           (applied-none _ c.args.surface (all c.args.surface) (subst (λ (slot : Option Kept). StandsAt slot (all c.args.surface)) (sym (rw w.in-None.is at at)) here))
+    ]
+
+pub returns-clause-stand : goal.returns-clause-stand
+returns-clause-stand g c =
+    let at = c.get_mut.ensures.value in
+    elim c.match-get_mut.branch [
+      | in-Some w ↦
+          rw (← c.self.view_is, w.self-inside-is) (Changes-at c.self.inside.slots.slots _ _ c.args.surface _ _ _ (sym (rw w.in-Some.is at at)) w.apply_change.ensures.stands)
+      | in-None w ↦ rw (← c.self.view_is, w.self-inside-is) (Changes-none c.self.inside.slots.slots _ _ c.args.surface _ (sym (rw w.in-None.is at at)))
     ]

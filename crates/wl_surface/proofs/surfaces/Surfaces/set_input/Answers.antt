@@ -1,0 +1,1 @@
+use Rattle.wl_surface.proofs.surfaces.Surfaces.set_input.Goals as goal
