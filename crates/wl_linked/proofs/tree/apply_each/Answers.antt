@@ -32,9 +32,3 @@ loop-number-preserved g c =
       places = c.apply-in-loop-number.ensures.places ∙ c.loop-number.invariant.places;
       stacks = stacks-next numbers i 0 less _ _ _ c.loop-number.invariant.stacks c.apply-in-loop-number.ensures.stacks;
     }
-
-pub returns-clause-links : goal.returns-clause-links
-returns-clause-links g c = c.loop-number.invariant.links
-
-pub returns-clause-places : goal.returns-clause-places
-returns-clause-places g c = c.loop-number.invariant.places

@@ -21,30 +21,3 @@ returns-then-len-gt-LINE_LIMIT-clause-long g c = λ answer.
     let new = g.R.Read.remaining c.take_part.new.reader in
     let taken = subst (λ (p : Part). IsTaken p mid new t.0) c.in-More.is t.3 in
     too_long 140000 old mid new c.loop.line.items t.0 c.take_part.new.line.items c.loop.invariant.taken c.loop.invariant.plain t.2 t.1 taken (omega arith)
-
-pub returns-in-LineFeed-clause-end : goal.returns-in-LineFeed-clause-end
-returns-in-LineFeed-clause-end g c = λ e. absurd (cc)
-
-pub returns-in-LineFeed-clause-long : goal.returns-in-LineFeed-clause-long
-returns-in-LineFeed-clause-long g c = λ e. absurd (cc)
-
-pub returns-then-len-gt-LINE_LIMIT-clause-taken : goal.returns-then-len-gt-LINE_LIMIT-clause-taken
-returns-then-len-gt-LINE_LIMIT-clause-taken g c = λ e. absurd (cc)
-
-pub returns-then-len-gt-LINE_LIMIT-clause-end : goal.returns-then-len-gt-LINE_LIMIT-clause-end
-returns-then-len-gt-LINE_LIMIT-clause-end g c = λ e. absurd (cc)
-
-pub returns-then-len-gt-LINE_LIMIT-clause-bound : goal.returns-then-len-gt-LINE_LIMIT-clause-bound
-returns-then-len-gt-LINE_LIMIT-clause-bound g c = tt
-
-pub returns-clause-taken : goal.returns-clause-taken
-returns-clause-taken g c = λ e. absurd (cc)
-
-pub returns-clause-end : goal.returns-clause-end
-returns-clause-end g c = λ e. absurd (cc)
-
-pub returns-clause-long : goal.returns-clause-long
-returns-clause-long g c = λ e. absurd (cc)
-
-pub returns-clause-bound : goal.returns-clause-bound
-returns-clause-bound g c = tt

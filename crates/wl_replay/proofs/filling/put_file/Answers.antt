@@ -38,18 +38,3 @@ returns-in-Ok-true-clause-told g c = λ old stands.
       Appends-nil _,
       (refl, refl, refl),
     )
-
-pub returns-in-Ok-true-clause-lacking : goal.returns-in-Ok-true-clause-lacking
-returns-in-Ok-true-clause-lacking g c = λ e. absurd (cc)
-
-pub returns-in-Ok-false-clause-told : goal.returns-in-Ok-false-clause-told
-returns-in-Ok-false-clause-told g c = tt
-
-pub returns-in-Ok-false-clause-calm : goal.returns-in-Ok-false-clause-calm
-returns-in-Ok-false-clause-calm g c = tt
-
-pub returns-in-Ok-false-2-clause-told : goal.returns-in-Ok-false-2-clause-told
-returns-in-Ok-false-2-clause-told g c = tt
-
-pub returns-in-Ok-false-2-clause-calm : goal.returns-in-Ok-false-2-clause-calm
-returns-in-Ok-false-2-clause-calm g c = tt

@@ -1,4 +1,3 @@
-use Rattle.std.proofs.Common.{refl}
 use Rattle.wl_recording.specs.Line.{meaning}
 use Rattle.wl_replay.specs.Report.{TellsAll, TellsLine, images_in}
 use Rattle.wl_recording.specs.Side.{files_of}
@@ -28,9 +27,3 @@ returns-clause-told g c =
     Leads-weaker (TellsAll files asked from to) (TellsLine files asked from to) c.args.session.now c.tell_clients.new.session report reported counts counts
     (TellsLine-all files from to c.args.asked.line c.args.asked.piece.now c.in_default.not-Nothing) (λ told h. h)
     (Leads-all files from to asked c.args.session.now c.take_step.new.session c.tell_clients.new.session report wrote reported _ _ shown.frames shown.clients c.in_ok-shown.ensures.told tells)
-
-pub returns-in-Nothing-clause-calm : goal.returns-in-Nothing-clause-calm
-returns-in-Nothing-clause-calm g c = refl
-
-pub returns-in-Nothing-clause-lacking : goal.returns-in-Nothing-clause-lacking
-returns-in-Nothing-clause-lacking g c = λ e. absurd (cc)

@@ -69,30 +69,3 @@ returns-clause-nothing g c = none-marked _ _ c.self.view_is
 
 pub returns-clause-output : goal.returns-clause-output
 returns-clause-output g c = ap (λ (m : MarkedDesk). m.desk.output) c.self.view_is
-
-pub returns-in_default-clause-sides : goal.returns-in_default-clause-sides
-returns-in_default-clause-sides g c = record { width = refl; height = refl }
-
-pub returns-in_default-clause-nothing : goal.returns-in_default-clause-nothing
-returns-in_default-clause-nothing g c = none-marked _ _ refl
-
-pub returns-in_default-clause-output : goal.returns-in_default-clause-output
-returns-in_default-clause-output g c = refl
-
-pub returns-in_default-index-clause-sides : goal.returns-in_default-index-clause-sides
-returns-in_default-index-clause-sides g c = record { width = refl; height = refl }
-
-pub returns-in_default-index-clause-nothing : goal.returns-in_default-index-clause-nothing
-returns-in_default-index-clause-nothing g c = none-marked _ _ refl
-
-pub returns-in_default-index-clause-output : goal.returns-in_default-index-clause-output
-returns-in_default-index-clause-output g c = refl
-
-pub returns-then-not-has_ended-clause-sides : goal.returns-then-not-has_ended-clause-sides
-returns-then-not-has_ended-clause-sides g c = record { width = refl; height = refl }
-
-pub returns-then-not-has_ended-clause-nothing : goal.returns-then-not-has_ended-clause-nothing
-returns-then-not-has_ended-clause-nothing g c = none-marked _ _ refl
-
-pub returns-then-not-has_ended-clause-output : goal.returns-then-not-has_ended-clause-output
-returns-then-not-has_ended-clause-output g c = refl

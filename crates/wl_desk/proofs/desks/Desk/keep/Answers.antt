@@ -48,15 +48,3 @@ returns-clause-damage g c = ap (λ (m : MarkedDesk). m.damage) c.self.view_is
 
 pub returns-clause-output : goal.returns-clause-output
 returns-clause-output g c = ap (λ (m : MarkedDesk). m.desk.output) c.self.view_is
-
-pub returns-in_default-clause-damage : goal.returns-in_default-clause-damage
-returns-in_default-clause-damage g c = refl
-
-pub returns-in_default-clause-output : goal.returns-in_default-clause-output
-returns-in_default-clause-output g c = refl
-
-pub returns-in_default-clause-err : goal.returns-in_default-clause-err
-returns-in_default-clause-err g c = tt
-
-pub returns-in_default-index_mut-clause-err : goal.returns-in_default-index_mut-clause-err
-returns-in_default-index_mut-clause-err g c = tt

@@ -64,12 +64,3 @@ returns-clause-nothing g c = none-marked _ _ c.self.view_is
 
 pub returns-clause-output : goal.returns-clause-output
 returns-clause-output g c = ap (λ (m : MarkedDesk). m.desk.output) c.self.view_is
-
-pub returns-in_default-clause-sides : goal.returns-in_default-clause-sides
-returns-in_default-clause-sides g c = record { width = refl; height = refl }
-
-pub returns-in_default-clause-nothing : goal.returns-in_default-clause-nothing
-returns-in_default-clause-nothing g c = none-marked _ _ refl
-
-pub returns-in_default-clause-output : goal.returns-in_default-clause-output
-returns-in_default-clause-output g c = refl

@@ -44,9 +44,3 @@ returns-clause-output g c = ap (λ (m : MarkedDesk). m.desk.output) c.self.view_
 pub invariant_of-self-2 : goal.invariant_of-self-2
 invariant_of-self-2 g c =
     (length-set _ _ _ ∙ c.self.invariant.0, (c.tell_frames.ensures.sides.width ∙ c.self.invariant.1.0, c.tell_frames.ensures.sides.height ∙ c.self.invariant.1.1))
-
-pub returns-in_default-clause-sides : goal.returns-in_default-clause-sides
-returns-in_default-clause-sides g c = record { width = refl; height = refl }
-
-pub returns-in_default-clause-output : goal.returns-in_default-clause-output
-returns-in_default-clause-output g c = refl

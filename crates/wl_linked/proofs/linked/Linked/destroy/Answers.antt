@@ -61,9 +61,3 @@ returns-clause-shown g c = λ all stand.
     rw c.apply_tree-applied.ensures.shown
     (are-shown c.in_ok-room.room.below.items (descends_from 16 all c.args.surface) all c.in_ok-room.room.shown.items
     (descend v.surfaces v.surfaces v.family v.family all c.args.surface c.in_ok-room.room.below.items stand c.in_ok-room.ensures.those) (c.in_ok-room.ensures.shown (numbered all) stand.surfaces))
-
-pub returns-clause-err : goal.returns-clause-err
-returns-clause-err g c = tt
-
-pub returns-clause-cause : goal.returns-clause-cause
-returns-clause-cause g c = tt

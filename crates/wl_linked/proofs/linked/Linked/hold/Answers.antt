@@ -31,9 +31,3 @@ returns-clause-shown g c = λ all stand.
 
 pub returns-clause-among : goal.returns-clause-among
 returns-clause-among g c = λ number e. rw c.deref.ensures.value at c.add_freed.ensures.among number e
-
-pub returns-clause-err : goal.returns-clause-err
-returns-clause-err g c = tt
-
-pub returns-clause-cause : goal.returns-clause-cause
-returns-clause-cause g c = tt

@@ -1,4 +1,4 @@
-use Rattle.std.proofs.Common.{refl, map, sym, subst, ◌∙◌}
+use Rattle.std.proofs.Common.{map, sym, subst, ◌∙◌}
 use Rattle.wl_state.specs.Kept.{buffer_of}
 use Rattle.wl_surface.specs.Applied.{AreFreed}
 use Rattle.wl_surface.specs.Slots.{Numbered}
@@ -98,18 +98,3 @@ returns-clause-shown g c = λ all number link is stand.
 pub returns-then-is_none-clause-shown : goal.returns-then-is_none-clause-shown
 returns-then-is_none-clause-shown g c = λ all number link is stand.
     never-none c.args.self.now.surfaces c.args.self.now.family all number c.args.child link c.link.result is stand c.link.ensures c.if-is_none.ensures
-
-pub returns-then-is_none-clause-err : goal.returns-then-is_none-clause-err
-returns-then-is_none-clause-err g c = tt
-
-pub returns-then-is_none-clause-cause : goal.returns-then-is_none-clause-cause
-returns-then-is_none-clause-cause g c = tt
-
-pub returns-clause-err : goal.returns-clause-err
-returns-clause-err g c = tt
-
-pub returns-clause-cause : goal.returns-clause-cause
-returns-clause-cause g c = tt
-
-pub returns-then-is_none-clause-none : goal.returns-then-is_none-clause-none
-returns-then-is_none-clause-none g c = λ e. refl

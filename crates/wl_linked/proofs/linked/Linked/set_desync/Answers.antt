@@ -1,4 +1,4 @@
-use Rattle.std.proofs.Common.{refl, ◌≡◌, false, true, map, sym, subst, ◌∙◌}
+use Rattle.std.proofs.Common.{◌≡◌, false, true, map, sym, subst, ◌∙◌}
 use Rattle.wl_state.specs.Kept.{buffer_of}
 use Rattle.std.specs.Prelude.{◌||◌, not}
 use Rattle.wl_surface.specs.Applied.{AreFreed}
@@ -193,24 +193,3 @@ returns-clause-shown g c = λ all number link is stand.
     c.set_synchronised.ensures.links c.set_synchronised.ensures.places c.set_synchronised.ensures.stacks c.in_ok-room.ensures.those
     c.behaves_synchronised-was_synchronised.result c.behaves_synchronised-is_synchronised.result c.behaves_synchronised-was_synchronised.ensures c.behaves_synchronised-is_synchronised.ensures
     stays) c.nothing-2.ensures.shown
-
-pub returns-then-is_none-clause-err : goal.returns-then-is_none-clause-err
-returns-then-is_none-clause-err g c = tt
-
-pub returns-then-is_none-clause-cause : goal.returns-then-is_none-clause-cause
-returns-then-is_none-clause-cause g c = tt
-
-pub returns-then-not-is_synchronised-clause-err : goal.returns-then-not-is_synchronised-clause-err
-returns-then-not-is_synchronised-clause-err g c = tt
-
-pub returns-then-not-is_synchronised-clause-cause : goal.returns-then-not-is_synchronised-clause-cause
-returns-then-not-is_synchronised-clause-cause g c = tt
-
-pub returns-clause-err : goal.returns-clause-err
-returns-clause-err g c = tt
-
-pub returns-clause-cause : goal.returns-clause-cause
-returns-clause-cause g c = tt
-
-pub returns-then-is_none-clause-none : goal.returns-then-is_none-clause-none
-returns-then-is_none-clause-none g c = λ e. refl

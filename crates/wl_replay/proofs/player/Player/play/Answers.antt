@@ -58,12 +58,3 @@ returns-clause-played g c = λ first stands.
     let played = c.loop-lines.invariant.played first stands in
     IsPlayed-end _ first _ c.loop-lines.side c.loop-lines.side c.loop-lines.self.session _ _ _ _ _ _ _ _ 1000000 c.loop-lines.frames c.loop-lines.clients (rw all at played)
     (c.in_ok-read_text.ensures.end (ap Ok c.if-branch.false)) refl refl refl
-
-pub returns-in-None-clause-stopped : goal.returns-in-None-clause-stopped
-returns-in-None-clause-stopped g c = tt
-
-pub returns-then-branch-clause-played : goal.returns-then-branch-clause-played
-returns-then-branch-clause-played g c = tt
-
-pub returns-clause-stopped : goal.returns-clause-stopped
-returns-clause-stopped g c = tt

@@ -1,4 +1,4 @@
-use Rattle.std.proofs.Common.{refl, sym, subst, ◌∙◌}
+use Rattle.std.proofs.Common.{sym, subst, ◌∙◌}
 use Rattle.wl_requests.specs.declared.residents.Resident.{Resident as Kept}
 use Rattle.wl_resident.specs.declared.screens.Screen.{Screen}
 use Rattle.wl_resident.specs.Seats.{IsSeated}
@@ -122,39 +122,3 @@ returns-clause-through g c = λ some others base d r width height is orderly.
           (lives-through c.args.client others base d r old mid was ready w.follow.new.self before orderly c.asked-asked.result c.root_of-root.result o.stacking o.applied asks
           (lives-so mid.client.ended (sym c.has_ended-2.ensures ∙ w.if-has_ended-2.false)) w.follow.ensures.follows width height)
     ]
-
-pub returns-then-has_ended-clause-serves : goal.returns-then-has_ended-clause-serves
-returns-then-has_ended-clause-serves g c = λ e. absurd (cc)
-
-pub returns-then-has_ended-clause-marks : goal.returns-then-has_ended-clause-marks
-returns-then-has_ended-clause-marks g c = λ e. absurd (cc)
-
-pub returns-then-has_ended-clause-within : goal.returns-then-has_ended-clause-within
-returns-then-has_ended-clause-within g c = λ e. absurd (cc)
-
-pub returns-then-has_ended-clause-through : goal.returns-then-has_ended-clause-through
-returns-then-has_ended-clause-through g c = λ e. absurd (cc)
-
-pub returns-then-has_ended-clause-less : goal.returns-then-has_ended-clause-less
-returns-then-has_ended-clause-less g c = λ e. absurd (cc)
-
-pub returns-in_default-clause-serves : goal.returns-in_default-clause-serves
-returns-in_default-clause-serves g c = λ e. absurd (cc)
-
-pub returns-in_default-clause-marks : goal.returns-in_default-clause-marks
-returns-in_default-clause-marks g c = λ e. absurd (cc)
-
-pub returns-in_default-clause-within : goal.returns-in_default-clause-within
-returns-in_default-clause-within g c = λ e. absurd (cc)
-
-pub returns-in_default-clause-through : goal.returns-in_default-clause-through
-returns-in_default-clause-through g c = λ e. absurd (cc)
-
-pub returns-in_default-clause-less : goal.returns-in_default-clause-less
-returns-in_default-clause-less g c = λ e. absurd (cc)
-
-pub returns-clause-idle : goal.returns-clause-idle
-returns-clause-idle g c = λ e. absurd (cc)
-
-pub returns-then-has_ended-clause-sides : goal.returns-then-has_ended-clause-sides
-returns-then-has_ended-clause-sides g c = record { width = refl; height = refl }
