@@ -1,4 +1,5 @@
 use Rattle.std.proofs.Common.{false, ap, refl, sym, ◌∙◌}
+use Rattle.std.proofs.lemmas.List.{length-set}
 use Rattle.wl_plain.specs.Act.{Close, IsClosed}
 use Rattle.wl_plain.specs.declared.answers.Done.TheVariants as gave
 use Rattle.wl_resident.specs.View.{MarkedDesk, Pile, pile_of}
@@ -69,3 +70,6 @@ returns-clause-nothing g c = none-marked _ _ c.self.view_is
 
 pub returns-clause-output : goal.returns-clause-output
 returns-clause-output g c = ap (λ (m : MarkedDesk). m.desk.output) c.self.view_is
+
+pub invariant_of-self : goal.invariant_of-self
+invariant_of-self g c = (length-set _ _ _ ∙ c.self.invariant.0, c.self.invariant.1)

@@ -1,4 +1,5 @@
 use Rattle.std.proofs.Common.{ap, false, refl, ◌∙◌}
+use Rattle.std.proofs.lemmas.List.{length-set}
 use Rattle.wl_plain.specs.Act.{Connect, lowest}
 use Rattle.wl_resident.specs.View.{MarkedDesk, pile_of}
 use Rattle.wl_desk.proofs.Calls.{Connects-full, Connects-new, Connects-refused}
@@ -54,3 +55,6 @@ returns-clause-nothing g c = none-marked _ _ c.self.view_is
 
 pub returns-clause-output : goal.returns-clause-output
 returns-clause-output g c = ap (λ (m : MarkedDesk). m.desk.output) c.self.view_is
+
+pub invariant_of-self : goal.invariant_of-self
+invariant_of-self g c = (length-set _ _ _ ∙ c.self.invariant.0, c.self.invariant.1)

@@ -1,5 +1,6 @@
 use Rattle.wl_plain.specs.Act.{Send, IsSent}
-use Rattle.std.proofs.Common.{ap, refl, false}
+use Rattle.std.proofs.Common.{ap, refl, false, ◌∙◌}
+use Rattle.std.proofs.lemmas.List.{length-set}
 use Rattle.wl_plain.specs.declared.answers.Done.TheVariants as gave
 use Rattle.wl_resident.specs.View.{MarkedDesk, pile_of}
 use Rattle.wl_desk.proofs.Calls.{Changes-none, changes}
@@ -64,3 +65,9 @@ returns-clause-nothing g c = none-marked _ _ c.self.view_is
 
 pub returns-clause-output : goal.returns-clause-output
 returns-clause-output g c = ap (λ (m : MarkedDesk). m.desk.output) c.self.view_is
+
+pub invariant_of-self : goal.invariant_of-self
+invariant_of-self g c = (length-set _ _ _ ∙ c.self.invariant.0, c.self.invariant.1)
+
+pub invariant_of-self-2 : goal.invariant_of-self-2
+invariant_of-self-2 g c = (length-set _ _ _ ∙ c.self.invariant.0, c.self.invariant.1)

@@ -60,9 +60,3 @@ pub returns-in_err-commit_change-clause-err : goal.returns-in_err-commit_change-
 returns-in_err-commit_change-clause-err g c =
     left-as-it-was c.from_residual-in_err-commit_change.result c.self.inside.slots.slots c.self.inside.frames.items c.args.surface c.in-Some.kept.now c.commit_change.new.state c.args.self.now
     (sym (rw c.in-Some.is at c.get_mut.ensures.value)) c.in_err-commit_change.ensures.err c.self.view_is
-
-pub returns-clause-err : goal.returns-clause-err
-returns-clause-err g c = tt
-
-pub returns-clause-cause : goal.returns-clause-cause
-returns-clause-cause g c = tt

@@ -7,9 +7,3 @@ returns-clause-ok g c = λ all id stand.
     let e = c.in_ok-number.ensures in
     with-new c.self.inside.slots.slots c.insert.new.self.slots c.in_ok-number.number c.new.result (new_surface id) e.was_vacant e.updates.changed e.updates.others (c.new.ensures id) all
     (rw (← c.self.view_is) at stand)
-
-pub returns-clause-err : goal.returns-clause-err
-returns-clause-err g c = tt
-
-pub returns-clause-cause : goal.returns-clause-cause
-returns-clause-cause g c = tt

@@ -10,9 +10,3 @@ returns-clause-ok g c =
       | in-Some+in_ok-damage w ↦ rw (← c.self.view_is, w.self-inside-is) (Changes-at c.self.inside.slots.slots _ _ c.args.surface _ _ _ (sym (rw w.in-Some.is at at)) w.in_ok-damage.ensures.ok)
       | in_default w ↦ rw (← c.self.view_is, w.self-inside-is) (Changes-none c.self.inside.slots.slots _ _ c.args.surface _ (sym (rw w.in_default.is at at)))
     ]
-
-pub returns-clause-err : goal.returns-clause-err
-returns-clause-err g c = tt
-
-pub returns-clause-cause : goal.returns-clause-cause
-returns-clause-cause g c = tt

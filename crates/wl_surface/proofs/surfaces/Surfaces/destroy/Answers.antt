@@ -21,9 +21,3 @@ returns-clause-ids g c = λ all cs are. returns-clause-callbacks g c ∙ callbac
 
 pub returns-clause-waits : goal.returns-clause-waits
 returns-clause-waits g c = λ all cs are. rw (returns-clause-frames g c) (waiting-gone c.args.surface all c.args.self.now.frames cs are)
-
-pub returns-clause-err : goal.returns-clause-err
-returns-clause-err g c = tt
-
-pub returns-clause-cause : goal.returns-clause-cause
-returns-clause-cause g c = tt

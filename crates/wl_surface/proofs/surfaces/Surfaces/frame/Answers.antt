@@ -10,15 +10,3 @@ returns-clause-waits g c = λ all cs stand are there n new.
     rw (c.in_ok-push.ensures.items)
     (waiting-framed c.self.inside.slots.slots c.self.inside.frames.items all (rw (← c.self.view_is) at stand) c.args.surface n c.args.callback c.self.inside.frames.items cs there new
     (rw (← c.self.view_is) at are))
-
-pub returns-clause-err : goal.returns-clause-err
-returns-clause-err g c = tt
-
-pub returns-clause-cause : goal.returns-clause-cause
-returns-clause-cause g c = tt
-
-pub returns-then-is_none-clause-err : goal.returns-then-is_none-clause-err
-returns-then-is_none-clause-err g c = tt
-
-pub returns-then-is_none-clause-cause : goal.returns-then-is_none-clause-cause
-returns-then-is_none-clause-cause g c = tt

@@ -13,9 +13,3 @@ returns-clause-ok g c =
           (Changes-at c.self.inside.slots.slots _ _ c.args.surface w.in-Some.kept.now _ _ (sym (rw w.in-Some.is at at)) (λ s t. For-role w.in-Some.kept.now s c.args.role t))
       | in_default w ↦ rw (← c.self.view_is, w.self-inside-is) (Changes-none c.self.inside.slots.slots _ _ c.args.surface _ (sym (rw w.in_default.is at at)))
     ]
-
-pub returns-clause-err : goal.returns-clause-err
-returns-clause-err g c = tt
-
-pub returns-clause-cause : goal.returns-clause-cause
-returns-clause-cause g c = tt

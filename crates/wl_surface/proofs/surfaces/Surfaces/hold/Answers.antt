@@ -27,9 +27,3 @@ returns-clause-frames g c =
 pub returns-clause-waits : goal.returns-clause-waits
 returns-clause-waits g c = λ all cs stand are.
     rw (returns-clause-frames g c) (waiting-held c.args.surface all (λ number. (kept_at c.args.self.now number, stand number)) c.args.self.now.frames cs are)
-
-pub returns-clause-err : goal.returns-clause-err
-returns-clause-err g c = tt
-
-pub returns-clause-cause : goal.returns-clause-cause
-returns-clause-cause g c = tt
