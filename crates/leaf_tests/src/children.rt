@@ -1,4 +1,4 @@
-use std::alloc::Allocator;
+use std::alloc::{Allocator, Global};
 use test_support::Refusing;
 use wl_children::{Children, Member, Placed};
 
@@ -41,132 +41,208 @@ fn added<A: Allocator + Copy>(children: &mut Children<A>, count: usize) -> bool 
     true
 }
 
-// wl_subcompositor.get_subsurface: a new child is topmost, at (0, 0), and counts once the surface is applied.
+// Whether two new children are topmost, at (0, 0), and count once the surface is applied.
+fn new_are_topmost<A: Allocator + Copy>(children: &mut Children<A>) -> bool {
+    let are_pending = is_alone(children.pending())
+        && is_alone(children.applied())
+        && added(children, 2)
+        && stack_is(
+            children.pending(),
+            &[(Member::Itself, 0, 0), (FIRST, 0, 0), (SECOND, 0, 0)],
+        )
+        && children.has_child(2)
+        && !children.has_child(3);
+    children.commit();
+    let wait = is_alone(children.applied());
+    children.apply();
+    are_pending && wait && order_is(children.applied(), &[Member::Itself, FIRST, SECOND])
+}
+
+// wl_subcompositor.get_subsurface
 #[test]
 fn a_new_child_is_topmost(rt: HostRuntime) {
     let mut children = Children::new(rt.alloc());
-    assert!(rt; is_alone(children.pending()) && is_alone(children.applied()));
-    assert!(rt; added(&mut children, 2));
-    assert!(rt;
-        stack_is(
-            children.pending(),
-            &[(Member::Itself, 0, 0), (FIRST, 0, 0), (SECOND, 0, 0)]
-        )
-    );
-    assert!(rt; children.has_child(2) && !children.has_child(3));
-    children.commit();
-    assert!(rt; is_alone(children.applied()));
-    children.apply();
-    assert!(rt; order_is(children.applied(), &[Member::Itself, FIRST, SECOND]));
+    assert!(rt; new_are_topmost(&mut children));
 }
 
-// wl_surface.commit: a place that is committed counts once the surface is applied, and none that was asked later.
+// Whether a place that is committed counts once the surface is applied, and none that was asked later.
+fn applies_what_was_committed<A: Allocator + Copy>(children: &mut Children<A>) -> bool {
+    let is_added = added(children, 1);
+    children.commit();
+    children.apply();
+    let is_placed = children.place_below(1, Member::Itself).is_ok()
+        && children.set_position(1, 4, -1).is_ok();
+    children.commit();
+    let waits = stack_is(children.applied(), &[(Member::Itself, 0, 0), (FIRST, 0, 0)])
+        && children.set_position(1, 9, 9).is_ok();
+    children.apply();
+    is_added
+        && is_placed
+        && waits
+        && stack_is(
+            children.applied(),
+            &[(FIRST, 4, -1), (Member::Itself, 0, 0)],
+        )
+        && stack_is(children.pending(), &[(FIRST, 9, 9), (Member::Itself, 0, 0)])
+}
+
+// wl_surface.commit
 #[test]
 fn a_commit_applies_nothing(rt: HostRuntime) {
     let mut children = Children::new(rt.alloc());
-    assert!(rt; added(&mut children, 1));
-    children.commit();
-    children.apply();
-    assert!(rt; children.place_below(1, Member::Itself).is_ok());
-    assert!(rt; children.set_position(1, 4, -1).is_ok());
-    children.commit();
-    assert!(rt; stack_is(children.applied(), &[(Member::Itself, 0, 0), (FIRST, 0, 0)]));
-    assert!(rt; children.set_position(1, 9, 9).is_ok());
-    children.apply();
-    assert!(rt;
-        stack_is(
-            children.applied(),
-            &[(FIRST, 4, -1), (Member::Itself, 0, 0)]
-        )
-    );
-    assert!(rt; stack_is(children.pending(), &[(FIRST, 9, 9), (Member::Itself, 0, 0)]));
+    assert!(rt; applies_what_was_committed(&mut children));
 }
 
-// wl_subsurface.place_above and place_below, worked by hand: beside a sibling, beside the surface, and where nothing changes.
+// A place that is asked for, and the order of all that is wanted then.
+#[derive(Clone, Copy)]
+enum Place {
+    Above(usize, Member, [Member; 4]),
+    Below(usize, Member, [Member; 4]),
+}
+
+// Beside a sibling, beside the surface, and where nothing changes or there is no such child; worked by hand.
+const PLACES: [Place; 8] = [
+    Place::Above(1, THIRD, [Member::Itself, SECOND, THIRD, FIRST]),
+    Place::Below(3, Member::Itself, [THIRD, Member::Itself, SECOND, FIRST]),
+    Place::Below(1, SECOND, [THIRD, Member::Itself, FIRST, SECOND]),
+    Place::Above(2, THIRD, [THIRD, SECOND, Member::Itself, FIRST]),
+    Place::Above(2, SECOND, [THIRD, SECOND, Member::Itself, FIRST]),
+    Place::Below(2, Member::Child(4), [THIRD, SECOND, Member::Itself, FIRST]),
+    Place::Above(4, Member::Itself, [THIRD, SECOND, Member::Itself, FIRST]),
+    Place::Below(4, Member::Itself, [THIRD, SECOND, Member::Itself, FIRST]),
+];
+
+fn is_placed<A: Allocator + Copy>(children: &mut Children<A>, place: Place) -> bool {
+    let (answered, wanted) = match place {
+        Place::Above(child, beside, wanted) => (children.place_above(child, beside), wanted),
+        Place::Below(child, beside, wanted) => (children.place_below(child, beside), wanted),
+    };
+    answered.is_ok() && order_is(children.pending(), &wanted)
+}
+
+// The first of these that isn't as wanted.
+fn misplaced<A: Allocator + Copy>(children: &mut Children<A>, places: &[Place]) -> Option<usize> {
+    for (at, place) in places.iter().enumerate() {
+        if !is_placed(children, *place) {
+            return Some(at);
+        }
+    }
+    None
+}
+
+// Whether a child that isn't there is nowhere.
+fn none_is_moved<A: Allocator + Copy>(children: &mut Children<A>) -> bool {
+    children.set_position(4, 1, 1).is_ok()
+        && order_is(children.pending(), &[THIRD, SECOND, Member::Itself, FIRST])
+}
+
+// wl_subsurface.place_above and place_below
 #[test]
 fn siblings_stand_in_order(rt: HostRuntime) {
     let mut children = Children::new(rt.alloc());
-    assert!(rt; added(&mut children, 3));
-    assert!(rt; children.place_above(1, THIRD).is_ok());
-    assert!(rt; order_is(children.pending(), &[Member::Itself, SECOND, THIRD, FIRST]));
-    assert!(rt; children.place_below(3, Member::Itself).is_ok());
-    assert!(rt; order_is(children.pending(), &[THIRD, Member::Itself, SECOND, FIRST]));
-    assert!(rt; children.place_below(1, SECOND).is_ok());
-    assert!(rt; order_is(children.pending(), &[THIRD, Member::Itself, FIRST, SECOND]));
-    assert!(rt; children.place_above(2, THIRD).is_ok());
-    assert!(rt; order_is(children.pending(), &[THIRD, SECOND, Member::Itself, FIRST]));
     assert!(rt;
-        children.place_above(2, SECOND).is_ok() && children.place_below(2, Member::Child(4)).is_ok()
+        added(&mut children, 3)
+            && misplaced(&mut children, &PLACES).is_none()
+            && none_is_moved(&mut children)
     );
-    assert!(rt;
-        children.place_above(4, Member::Itself).is_ok() && children.set_position(4, 1, 1).is_ok()
-    );
-    assert!(rt; order_is(children.pending(), &[THIRD, SECOND, Member::Itself, FIRST]));
 }
 
-// wl_subsurface.destroy: a child that goes is at once in none of the three.
+// Whether a child that goes is at once in none of the three.
+fn goes_at_once<A: Allocator + Copy>(children: &mut Children<A>) -> bool {
+    let is_added = added(children, 2);
+    children.commit();
+    children.apply();
+    let is_below = children.place_below(1, Member::Itself).is_ok();
+    children.commit();
+    let is_moved = children.set_position(2, 5, 6).is_ok();
+    children.remove(1);
+    let is_gone = stack_is(
+        children.applied(),
+        &[(Member::Itself, 0, 0), (SECOND, 0, 0)],
+    ) && stack_is(
+        children.pending(),
+        &[(Member::Itself, 0, 0), (SECOND, 5, 6)],
+    );
+    children.apply();
+    is_added
+        && is_below
+        && is_moved
+        && is_gone
+        && stack_is(
+            children.applied(),
+            &[(Member::Itself, 0, 0), (SECOND, 0, 0)],
+        )
+        && !children.has_child(1)
+}
+
+// wl_subsurface.destroy
 #[test]
 fn a_child_that_goes_is_nowhere(rt: HostRuntime) {
     let mut children = Children::new(rt.alloc());
-    assert!(rt; added(&mut children, 2));
-    children.commit();
-    children.apply();
-    assert!(rt; children.place_below(1, Member::Itself).is_ok());
-    children.commit();
-    assert!(rt; children.set_position(2, 5, 6).is_ok());
-    children.remove(1);
-    assert!(rt;
-        stack_is(
-            children.applied(),
-            &[(Member::Itself, 0, 0), (SECOND, 0, 0)]
-        )
-    );
-    assert!(rt;
-        stack_is(
-            children.pending(),
-            &[(Member::Itself, 0, 0), (SECOND, 5, 6)]
-        )
-    );
-    children.apply();
-    assert!(rt;
-        stack_is(
-            children.applied(),
-            &[(Member::Itself, 0, 0), (SECOND, 0, 0)]
-        )
-    );
-    assert!(rt; !children.has_child(1));
+    assert!(rt; goes_at_once(&mut children));
 }
 
-// A surface without children takes no memory. Each allocation refused in turn leaves the children as they were.
+// Whether all that is asked of a surface without children leaves it alone.
+fn stays_alone<A: Allocator + Copy>(children: &mut Children<A>) -> bool {
+    let is_answered = children.set_position(1, 1, 1).is_ok()
+        && children.place_above(1, Member::Itself).is_ok();
+    children.commit();
+    children.apply();
+    children.remove(1);
+    is_answered && is_alone(children.applied())
+}
+
+// A surface without children takes no memory.
 #[test]
-fn a_child_needs_memory(rt: HostRuntime) {
+fn no_child_needs_no_memory(rt: HostRuntime) {
     let nothing = Refusing::new(rt.alloc(), 0);
     let mut alone = Children::new(&nothing);
-    assert!(rt;
-        alone.set_position(1, 1, 1).is_ok() && alone.place_above(1, Member::Itself).is_ok()
-    );
-    alone.commit();
-    alone.apply();
-    alone.remove(1);
-    assert!(rt; is_alone(alone.applied()) && !nothing.refused());
-    let mut refused = 0_u32;
-    for served in 0..8_u64 {
-        let refusing = Refusing::new(rt.alloc(), served);
-        let mut children = Children::new(&refusing);
-        if !added(&mut children, 1) {
-            refused = refused.saturating_add(1);
-            assert!(rt; is_alone(children.pending()) && !children.has_child(1));
-            continue;
-        }
-        children.commit();
-        children.apply();
-        if children.place_below(1, Member::Itself).is_err() {
-            refused = refused.saturating_add(1);
-            assert!(rt; order_is(children.pending(), &[Member::Itself, FIRST]));
-        } else {
-            assert!(rt; order_is(children.pending(), &[FIRST, Member::Itself]));
-        }
-        assert!(rt; order_is(children.applied(), &[Member::Itself, FIRST]));
+    assert!(rt; stays_alone(&mut alone));
+    assert!(rt; !nothing.refused());
+}
+
+// How often a child is refused memory, 0 or 1, as it is added and then placed below the surface. None where it isn't answered so, or a refusal
+// doesn't leave the children as they were.
+fn refusals<A: Allocator + Copy>(children: &mut Children<A>) -> Option<usize> {
+    if !added(children, 1) {
+        let is_as_before = is_alone(children.pending()) && !children.has_child(1);
+        return if is_as_before { Some(1) } else { None };
     }
-    assert!(rt; refused >= 2);
+    children.commit();
+    children.apply();
+    let (refused, wanted) = match children.place_below(1, Member::Itself) {
+        Ok(()) => (0, [FIRST, Member::Itself]),
+        Err(_) => (1, [Member::Itself, FIRST]),
+    };
+    if order_is(children.pending(), &wanted)
+        && order_is(children.applied(), &[Member::Itself, FIRST])
+    {
+        Some(refused)
+    } else {
+        None
+    }
+}
+
+fn refusals_where_served(alloc: Global, served: u64) -> Option<usize> {
+    let refusing = Refusing::new(alloc, served);
+    let mut children = Children::new(&refusing);
+    refusals(&mut children)
+}
+
+// How often it is refused with 0 to 7 allocations served.
+fn all_refusals(alloc: Global) -> Option<usize> {
+    let mut all = 0_usize;
+    for served in 0..8_u64 {
+        all = all.saturating_add(refusals_where_served(alloc, served)?);
+    }
+    Some(all)
+}
+
+// Each allocation refused in turn leaves the children as they were.
+#[test]
+fn a_child_needs_memory(rt: HostRuntime) {
+    match all_refusals(rt.alloc()) {
+        Some(refused) => assert!(rt; refused >= 2),
+        None => assert!(rt; false),
+    }
 }

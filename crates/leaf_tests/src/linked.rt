@@ -121,102 +121,181 @@ fn has_child<A: Allocator + Copy>(linked: &mut Linked<A>) -> bool {
         && tells(linked.commit(ROOT), &[(ROOT, 0), (CHILD, 1)], &[])
 }
 
-// wl_subsurface: commits of a synchronised child are held, the later in the place of the earlier with the damage of both, and applied by a
-// commit of its parent. A buffer is released where no surface holds or shows it any more.
+// Whether commits of a synchronised child are held, the later in the place of the earlier with the damage of both, and applied by a commit of its
+// parent. A buffer is released where no surface holds or shows it any more.
+fn holds_commits<A: Allocator + Copy>(linked: &mut Linked<A>) -> bool {
+    has_child(linked)
+        && shown(linked, CHILD) == Some(18)
+        && stack_is(linked, ROOT, &[ITSELF, child_at(CHILD, 4, 4)])
+        && commits(linked, CHILD, 19, &[], &[])
+        && commits(linked, CHILD, 20, &[], &[19])
+        && shown(linked, CHILD) == Some(18)
+        && linked.surfaces.is_busy(20)
+        && tells(linked.commit(ROOT), &[(ROOT, 0), (CHILD, 2)], &[18])
+        && shown(linked, CHILD) == Some(20)
+}
+
+// wl_subsurface
 #[test]
 fn a_synchronised_child_is_held(rt: HostRuntime) {
     let mut linked = Linked::new(rt.alloc());
-    assert!(rt; has_child(&mut linked) && shown(&linked, CHILD) == Some(18));
-    assert!(rt; stack_is(&linked, ROOT, &[ITSELF, child_at(CHILD, 4, 4)]));
-    assert!(rt; commits(&mut linked, CHILD, 19, &[], &[]));
-    assert!(rt; commits(&mut linked, CHILD, 20, &[], &[19]));
-    assert!(rt; shown(&linked, CHILD) == Some(18) && linked.surfaces.is_busy(20));
-    assert!(rt; tells(linked.commit(ROOT), &[(ROOT, 0), (CHILD, 2)], &[18]));
-    assert!(rt; shown(&linked, CHILD) == Some(20));
+    assert!(rt; holds_commits(&mut linked));
 }
 
-// wl_subsurface.set_desync: what was held is applied at once, and so are later commits.
+// Whether what was held is applied at once, and so are later commits.
+fn releases<A: Allocator + Copy>(linked: &mut Linked<A>) -> bool {
+    let is_released = has_child(linked)
+        && commits(linked, CHILD, 19, &[], &[])
+        && tells(linked.set_desync(CHILD), &[(CHILD, 1)], &[18])
+        && tells(linked.set_desync(CHILD), &[], &[])
+        && commits(linked, CHILD, 20, &[(CHILD, 1)], &[19]);
+    linked.set_sync(CHILD);
+    is_released
+        && commits(linked, CHILD, 21, &[], &[])
+        && tells(linked.set_desync(ROOT), &[], &[])
+        && shown(linked, CHILD) == Some(20)
+}
+
+// wl_subsurface.set_desync
 #[test]
 fn a_child_is_released(rt: HostRuntime) {
     let mut linked = Linked::new(rt.alloc());
-    assert!(rt; has_child(&mut linked) && commits(&mut linked, CHILD, 19, &[], &[]));
-    assert!(rt; tells(linked.set_desync(CHILD), &[(CHILD, 1)], &[18]));
-    assert!(rt; tells(linked.set_desync(CHILD), &[], &[]));
-    assert!(rt; commits(&mut linked, CHILD, 20, &[(CHILD, 1)], &[19]));
-    linked.set_sync(CHILD);
-    assert!(rt; commits(&mut linked, CHILD, 21, &[], &[]));
-    assert!(rt; tells(linked.set_desync(ROOT), &[], &[]) && shown(&linked, CHILD) == Some(20));
+    assert!(rt; releases(&mut linked));
 }
 
-// wl_subsurface.destroy and wl_surface.destroy: the link ends, and what was held of the child is applied.
+// Whether a link that ends lets what was held of the child be applied.
+fn ends_with_its_link<A: Allocator + Copy>(linked: &mut Linked<A>) -> bool {
+    let is_ended = has_child(linked)
+        && commits(linked, CHILD, 19, &[], &[])
+        && tells(linked.remove_subsurface(CHILD), &[(CHILD, 1)], &[18])
+        && stack_is(linked, ROOT, &[ITSELF])
+        && linked.family.link(CHILD).is_none()
+        && tells(linked.remove_subsurface(CHILD), &[], &[]);
+    linked.surfaces.attach(CHILD, None, 0, 0);
+    is_ended && tells(linked.commit(CHILD), &[(CHILD, 0)], &[19])
+}
+
+// Whether a parent that goes does so too.
+fn ends_with_its_parent<A: Allocator + Copy>(linked: &mut Linked<A>) -> bool {
+    linked.subsurface(CHILD, ROOT) == Ok(())
+        && commits(linked, CHILD, 20, &[], &[])
+        && tells(linked.destroy(ROOT), &[(ROOT, 0), (CHILD, 1)], &[10])
+        && linked.family.link(CHILD).is_none()
+        && shown(linked, CHILD) == Some(20)
+}
+
+// wl_subsurface.destroy and wl_surface.destroy
 #[test]
 fn a_link_ends(rt: HostRuntime) {
     let mut linked = Linked::new(rt.alloc());
-    assert!(rt; has_child(&mut linked) && commits(&mut linked, CHILD, 19, &[], &[]));
-    assert!(rt; tells(linked.remove_subsurface(CHILD), &[(CHILD, 1)], &[18]));
-    assert!(rt; stack_is(&linked, ROOT, &[ITSELF]) && linked.family.link(CHILD).is_none());
-    assert!(rt; tells(linked.remove_subsurface(CHILD), &[], &[]));
-    linked.surfaces.attach(CHILD, None, 0, 0);
-    assert!(rt; tells(linked.commit(CHILD), &[(CHILD, 0)], &[19]));
-
-    assert!(rt; linked.subsurface(CHILD, ROOT) == Ok(()));
-    assert!(rt; commits(&mut linked, CHILD, 20, &[], &[]));
-    assert!(rt; tells(linked.destroy(ROOT), &[(ROOT, 0), (CHILD, 1)], &[10]));
-    assert!(rt; linked.family.link(CHILD).is_none() && shown(&linked, CHILD) == Some(20));
+    assert!(rt; ends_with_its_link(&mut linked) && ends_with_its_parent(&mut linked));
 }
 
-// wl_buffer.release: what surfaces had applied and held before is told of those that a call applies, holds or ends, and of no others.
+// Attaches another buffer and commits: whether that tells that just these were shown.
+fn commit_tells_shown<A: Allocator + Copy>(
+    linked: &mut Linked<A>,
+    surface: SurfaceNo,
+    buffer: BufferNo,
+    wanted: &[BufferNo],
+) -> bool {
+    attach(linked, surface, buffer);
+    tells_shown(linked.commit(surface), wanted)
+}
+
+// Whether what surfaces had applied and held before is told of those that a call applies, holds or ends, and of no others.
+fn tells_what_was_shown<A: Allocator + Copy>(linked: &mut Linked<A>) -> bool {
+    has_child(linked)
+        && commit_tells_shown(linked, CHILD, 19, &[18, 18])
+        && commit_tells_shown(linked, CHILD, 20, &[18, 19])
+        && commit_tells_shown(linked, ROOT, 11, &[10, 10, 18, 20])
+        && tells_shown(linked.set_desync(CHILD), &[20, 20])
+        && tells_shown(linked.set_desync(CHILD), &[])
+        && tells_shown(linked.remove_subsurface(CHILD), &[20, 20])
+        && tells_shown(linked.remove_subsurface(CHILD), &[])
+        && tells_shown(linked.destroy(ROOT), &[11, 11])
+        && tells_shown(linked.destroy(ROOT), &[])
+}
+
+// wl_buffer.release
 #[test]
 fn what_was_shown_is_told(rt: HostRuntime) {
     let mut linked = Linked::new(rt.alloc());
-    assert!(rt; has_child(&mut linked));
-    attach(&mut linked, CHILD, 19);
-    assert!(rt; tells_shown(linked.commit(CHILD), &[18, 18]));
-    attach(&mut linked, CHILD, 20);
-    assert!(rt; tells_shown(linked.commit(CHILD), &[18, 19]));
-    attach(&mut linked, ROOT, 11);
-    assert!(rt; tells_shown(linked.commit(ROOT), &[10, 10, 18, 20]));
-    assert!(rt; tells_shown(linked.set_desync(CHILD), &[20, 20]));
-    assert!(rt; tells_shown(linked.set_desync(CHILD), &[]));
-    assert!(rt; tells_shown(linked.remove_subsurface(CHILD), &[20, 20]));
-    assert!(rt; tells_shown(linked.remove_subsurface(CHILD), &[]));
-    assert!(rt; tells_shown(linked.destroy(ROOT), &[11, 11]));
-    assert!(rt; tells_shown(linked.destroy(ROOT), &[]));
+    assert!(rt; tells_what_was_shown(&mut linked));
 }
 
-// The order of a surface and its children counts once the parent is committed.
+// Whether the order of a surface and its children counts once the parent is committed.
+fn places_children<A: Allocator + Copy>(linked: &mut Linked<A>) -> bool {
+    made(linked, 4)
+        && linked.subsurface(1, 0) == Ok(())
+        && linked.subsurface(2, 0) == Ok(())
+        && linked.place_below(2, 0) == Ok(())
+        && linked.place_above(1, 2) == Ok(())
+        && linked.place_above(1, 1) == Err(SurfaceError::NotSibling)
+        && linked.place_below(1, 3) == Err(SurfaceError::NotSibling)
+        && linked.place_above(3, 0) == Ok(())
+        && stack_is(linked, 0, &[])
+        && tells(linked.commit(0), &[(0, 0), (1, 0), (2, 0)], &[])
+        && stack_is(linked, 0, &[child_at(2, 0, 0), child_at(1, 0, 0), ITSELF])
+}
+
 #[test]
 fn children_are_placed(rt: HostRuntime) {
     let mut linked = Linked::new(rt.alloc());
-    assert!(rt; made(&mut linked, 4));
-    assert!(rt; linked.subsurface(1, 0) == Ok(()) && linked.subsurface(2, 0) == Ok(()));
-    assert!(rt; linked.place_below(2, 0) == Ok(()) && linked.place_above(1, 2) == Ok(()));
-    assert!(rt; linked.place_above(1, 1) == Err(SurfaceError::NotSibling));
-    assert!(rt; linked.place_below(1, 3) == Err(SurfaceError::NotSibling));
-    assert!(rt; linked.place_above(3, 0) == Ok(()) && stack_is(&linked, 0, &[]));
-    assert!(rt; tells(linked.commit(0), &[(0, 0), (1, 0), (2, 0)], &[]));
-    assert!(rt; stack_is(&linked, 0, &[child_at(2, 0, 0), child_at(1, 0, 0), ITSELF]));
+    assert!(rt; places_children(&mut linked));
 }
 
-// wl_subcompositor.get_subsurface: what is refused, in this order.
+// Whether each of the surfaces 1 to 16 becomes the child of the one before it.
+fn chains_16<A: Allocator + Copy>(linked: &mut Linked<A>) -> bool {
+    for child in 1..17_usize {
+        if linked.subsurface(child, child - 1) != Ok(()) {
+            return false;
+        }
+    }
+    true
+}
+
+// A child and its parent, and what the link is answered with.
+type Asked = (SurfaceNo, SurfaceNo, Result<(), SurfaceError>);
+
+const ASKED: [Asked; 7] = [
+    (17, 16, Err(SurfaceError::TooDeep)),
+    (19, 16, Err(SurfaceError::TooDeep)),
+    (19, 0, Err(SurfaceError::Role)),
+    (1, 18, Err(SurfaceError::Role)),
+    (18, 18, Err(SurfaceError::BadParent)),
+    (0, 18, Err(SurfaceError::TooDeep)),
+    (18, 15, Ok(())),
+];
+
+// The first that isn't answered so.
+fn answered_otherwise<A: Allocator + Copy>(
+    linked: &mut Linked<A>,
+    asked: &[Asked],
+) -> Option<usize> {
+    for (place, &(child, parent, wanted)) in asked.iter().enumerate() {
+        if linked.subsurface(child, parent) != wanted {
+            return Some(place);
+        }
+    }
+    None
+}
+
+// Whether links are refused in this order.
+fn refuses_links<A: Allocator + Copy>(linked: &mut Linked<A>) -> bool {
+    made(linked, 20)
+        && linked.surfaces.give_role(19, Role::Toplevel) == Ok(())
+        && chains_16(linked)
+        && answered_otherwise(linked, &ASKED).is_none()
+        && tells(linked.remove_subsurface(16), &[(16, 0)], &[])
+        && linked.subsurface(0, 17) == Err(SurfaceError::TooDeep)
+        && linked.surfaces.role(18) == Some(Role::Subsurface)
+}
+
+// wl_subcompositor.get_subsurface
 #[test]
 fn links_are_refused(rt: HostRuntime) {
     let mut linked = Linked::new(rt.alloc());
-    assert!(rt; made(&mut linked, 20));
-    assert!(rt; linked.surfaces.give_role(19, Role::Toplevel) == Ok(()));
-    for child in 1..17 {
-        assert!(rt; linked.subsurface(child, child - 1) == Ok(()), "{child}");
-    }
-    assert!(rt; linked.subsurface(17, 16) == Err(SurfaceError::TooDeep));
-    assert!(rt; linked.subsurface(19, 16) == Err(SurfaceError::TooDeep));
-    assert!(rt; linked.subsurface(19, 0) == Err(SurfaceError::Role));
-    assert!(rt; linked.subsurface(1, 18) == Err(SurfaceError::Role));
-    assert!(rt; linked.subsurface(18, 18) == Err(SurfaceError::BadParent));
-    assert!(rt; linked.subsurface(0, 18) == Err(SurfaceError::TooDeep));
-    assert!(rt; linked.subsurface(18, 15) == Ok(()));
-    assert!(rt; tells(linked.remove_subsurface(16), &[(16, 0)], &[]));
-    assert!(rt; linked.subsurface(0, 17) == Err(SurfaceError::TooDeep));
-    assert!(rt; linked.surfaces.role(18) == Some(Role::Subsurface));
+    assert!(rt; refuses_links(&mut linked));
 }
 
 // What a commit of the window and of its child tells, the window's first: None where there was no memory for it.

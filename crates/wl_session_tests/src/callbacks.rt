@@ -3,7 +3,8 @@
 use crate::begun::{
     ACKNOWLEDGES, ATTACH_NONE, BUFFERS, COMMIT, CONFIGURES, GLOBALS, MADE, MAPS, RED_10,
 };
-use crate::rows::{Case, Message, Pixel, REGISTRY, Row, first_missed_case};
+use crate::rows::{Case, Fault, Message, Pixel, REGISTRY, Row, first_missed_case};
+use std::alloc::Global;
 use wl_session::{Cause, Done, Fed, Step};
 use wl_wire::Arg;
 
@@ -154,7 +155,12 @@ const CASES: &[Case] = &[
     ("the client is too slow", &[TOO_SLOW]),
 ];
 
+/// The first of the cases that isn't as wanted after the window was mapped, and what wasn't.
+fn missed_after_map(alloc: Global, cases: &[Case]) -> Option<(usize, Fault)> {
+    first_missed_case(alloc, MAPPED, cases)
+}
+
 #[test]
 fn callbacks_are_answered(rt: HostRuntime) {
-    assert_eq!(rt; first_missed_case(rt.alloc(), MAPPED, CASES), None);
+    assert_eq!(rt; missed_after_map(rt.alloc(), CASES), None);
 }

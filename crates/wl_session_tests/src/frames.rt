@@ -5,7 +5,7 @@ use crate::begun::{
     RED, RED_10,
 };
 use crate::rows::{
-    Case, Message, Pixel, REGISTRY, Row, bytes_of, first_missed_case, is_pixel, play_after,
+    Case, Fault, Message, Pixel, REGISTRY, Row, bytes_of, first_missed_case, is_pixel, play_after,
 };
 use std::alloc::Global;
 use wl_session::{Config, Done, Fed, Rgb, Run, Session, Shot, Step};
@@ -535,9 +535,14 @@ const CASES: &[Case] = &[
     ),
 ];
 
+/// The first of the cases that isn't as wanted after the toplevel was configured, and what wasn't.
+fn missed_after_start(alloc: Global, cases: &[Case]) -> Option<(usize, Fault)> {
+    first_missed_case(alloc, START, cases)
+}
+
 #[test]
 fn frames_are_as_worked(rt: HostRuntime) {
-    assert_eq!(rt; first_missed_case(rt.alloc(), START, CASES), None);
+    assert_eq!(rt; missed_after_start(rt.alloc(), CASES), None);
 }
 
 /// A window that is all red, and a clean tick after its frame.
@@ -579,9 +584,14 @@ const SHOWN_CASES: &[Case] = &[
     ),
 ];
 
+/// The first of the cases that isn't as wanted after the window was shown, and what wasn't.
+fn missed_after_frame(alloc: Global, cases: &[Case]) -> Option<(usize, Fault)> {
+    first_missed_case(alloc, SHOWN, cases)
+}
+
 #[test]
 fn frames_of_a_shown_window(rt: HostRuntime) {
-    assert_eq!(rt; first_missed_case(rt.alloc(), SHOWN, SHOWN_CASES), None);
+    assert_eq!(rt; missed_after_frame(rt.alloc(), SHOWN_CASES), None);
 }
 
 /// The white window of the client 1, and above it one of the client 2 that is half red.
@@ -606,18 +616,28 @@ const TWO_CASES: &[Case] = &[
     ("the client below ends", &[OTHER_STAYS]),
 ];
 
+/// The first of the cases that isn't as wanted after both windows were shown, and what wasn't.
+fn missed_after_two(alloc: Global, cases: &[Case]) -> Option<(usize, Fault)> {
+    first_missed_case(alloc, TWO, cases)
+}
+
 #[test]
 fn windows_of_two_clients(rt: HostRuntime) {
-    assert_eq!(rt; first_missed_case(rt.alloc(), TWO, TWO_CASES), None);
+    assert_eq!(rt; missed_after_two(rt.alloc(), TWO_CASES), None);
 }
 
 /// The parts of a session before the client 2 has the only window.
 const SECOND_ALONE: &[&[Row]] = &[REGISTRY, GLOBALS, MADE, CONFIGURES, BUFFERS];
 
+/// Plays the parts after those.
+fn play_alone(alloc: Global, parts: &[&[Row]]) -> Result<(), Fault> {
+    play_after(alloc, SECOND_ALONE, parts)
+}
+
 #[test]
 fn a_window_of_the_second_client_alone(rt: HostRuntime) {
     let parts: &[&[Row]] = &[SECOND, SECOND_BUFFER, SHOWS_SECOND_ALONE, UNCONFIGURED];
-    assert_eq!(rt; play_after(rt.alloc(), SECOND_ALONE, parts), Ok(()));
+    assert_eq!(rt; play_alone(rt.alloc(), parts), Ok(()));
 }
 
 /// Four pixels by three.

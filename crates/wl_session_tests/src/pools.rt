@@ -1,7 +1,8 @@
 //! Pools, buffers and the stores behind them.
 
 use crate::begun::{BUFFER_10, BUFFER_11, BUFFERS, POOL_12800, SHM};
-use crate::rows::{Case, Message, REGISTRY, Row, first_missed_case};
+use crate::rows::{Case, Fault, Message, REGISTRY, Row, first_missed_case};
+use std::alloc::Global;
 use wl_session::{Cause, Done, Fed, Step, Stored};
 use wl_wire::Arg;
 
@@ -194,50 +195,41 @@ const BAD_FORMAT: &[Row] = &[
 ];
 
 const CASES: &[Case] = &[
-    (
-        "bytes lie in their store",
-        &[REGISTRY, SHM, BUFFERS, STORED],
-    ),
-    (
-        "a step stores as its call",
-        &[REGISTRY, SHM, BUFFERS, STEPS],
-    ),
-    (
-        "an ended client has no stores",
-        &[REGISTRY, SHM, BUFFERS, ENDED],
-    ),
-    (
-        "a destroyed buffer gives its id back",
-        &[REGISTRY, SHM, BUFFERS, DESTROYED],
-    ),
-    (
-        "a store lives while its pool or a buffer does",
-        &[REGISTRY, SHM, BUFFERS, LIVES],
-    ),
-    (
-        "stores are numbered by their pools",
-        &[REGISTRY, SHM, BUFFERS, SECOND_STORE],
-    ),
-    (
-        "a pool grows and does not shrink",
-        &[REGISTRY, SHM, BUFFERS, RESIZED],
-    ),
-    ("a pool has bytes", &[REGISTRY, SHM, NO_BYTES]),
-    (
-        "all stores have at most 268435456 bytes",
-        &[REGISTRY, SHM, TOO_MANY_BYTES],
-    ),
-    (
-        "the format is looked at first",
-        &[REGISTRY, SHM, BAD_FORMAT],
-    ),
-    ("at most 64 stores are live", &[REGISTRY, SHM, STORE_65]),
-    ("a buffer lies in its store", &[REGISTRY, SHM, WITHIN]),
-    ("a buffer past its store", &[REGISTRY, SHM, PAST]),
-    ("a store that is too short", &[REGISTRY, SHM, SHORT]),
+    ("bytes lie in their store", &[STORED]),
+    ("a step stores as its call", &[STEPS]),
+    ("an ended client has no stores", &[ENDED]),
+    ("a destroyed buffer gives its id back", &[DESTROYED]),
+    ("a store lives while its pool or a buffer does", &[LIVES]),
+    ("stores are numbered by their pools", &[SECOND_STORE]),
+    ("a pool grows and does not shrink", &[RESIZED]),
 ];
+
+const CASES_WITHOUT_BUFFERS: &[Case] = &[
+    ("a pool has bytes", &[NO_BYTES]),
+    ("all stores have at most 268435456 bytes", &[TOO_MANY_BYTES]),
+    ("the format is looked at first", &[BAD_FORMAT]),
+    ("at most 64 stores are live", &[STORE_65]),
+    ("a buffer lies in its store", &[WITHIN]),
+    ("a buffer past its store", &[PAST]),
+    ("a store that is too short", &[SHORT]),
+];
+
+/// The first of the cases that isn't as wanted after a pool and its buffers were made, and what wasn't.
+fn missed_after_buffers(alloc: Global, cases: &[Case]) -> Option<(usize, Fault)> {
+    first_missed_case(alloc, &[REGISTRY, SHM, BUFFERS], cases)
+}
 
 #[test]
 fn pools_and_stores_are_as_worked(rt: HostRuntime) {
-    assert_eq!(rt; first_missed_case(rt.alloc(), &[], CASES), None);
+    assert_eq!(rt; missed_after_buffers(rt.alloc(), CASES), None);
+}
+
+/// The first of the cases that isn't as wanted after wl_shm was bound, and what wasn't.
+fn missed_after_shm(alloc: Global, cases: &[Case]) -> Option<(usize, Fault)> {
+    first_missed_case(alloc, &[REGISTRY, SHM], cases)
+}
+
+#[test]
+fn pools_have_limits(rt: HostRuntime) {
+    assert_eq!(rt; missed_after_shm(rt.alloc(), CASES_WITHOUT_BUFFERS), None);
 }

@@ -2,7 +2,7 @@
 
 use crate::rows::{
     CLIENT, Case, Fault, INVALID_OBJECT, Message, REGISTRY, Row, SYNC, first_missed_case,
-    first_missed_row,
+    first_missed_row, play,
 };
 use std::alloc::Global;
 use wl_session::{Cause, Done, Fed, Step};
@@ -307,34 +307,45 @@ const ANOTHER_ERRS: &[Row] = &[
 ];
 
 const CASES: &[Case] = &[
-    ("a registry tells the globals", &[CLIENT, GLOBALS_TOLD]),
-    (
-        "bound objects tell what they are",
-        &[REGISTRY, ALL_GLOBALS, OBJECTS_TOLD],
-    ),
-    ("a word too many is refused", &[CLIENT, WORD_TOO_MANY]),
-    ("an unknown object is refused", &[CLIENT, UNKNOWN_OBJECT]),
-    ("an id is used again", &[CLIENT, USED_AGAIN]),
-    ("an error ends its sender alone", &[REGISTRY, ANOTHER_ERRS]),
-    ("a seat has no keyboard", &[REGISTRY, ALL_GLOBALS, KEYBOARD]),
-    (
-        "a destroyed wl_subcompositor gives its id back",
-        &[REGISTRY, ALL_GLOBALS, SUBCOMPOSITOR_DESTROYED],
-    ),
+    ("a registry tells the globals", &[GLOBALS_TOLD]),
+    ("a word too many is refused", &[WORD_TOO_MANY]),
+    ("an unknown object is refused", &[UNKNOWN_OBJECT]),
+    ("an id is used again", &[USED_AGAIN]),
     (
         "a client that reads nothing is too slow",
-        &[CLIENT, UNREAD, READS_NOTHING],
+        &[UNREAD, READS_NOTHING],
     ),
-    (
-        "an error that has no room ends as slow",
-        &[CLIENT, UNREAD, NO_ROOM],
-    ),
-    ("no client has 8193 objects", &[CLIENT, REGISTRY_8193]),
+    ("an error that has no room ends as slow", &[UNREAD, NO_ROOM]),
+    ("no client has 8193 objects", &[REGISTRY_8193]),
 ];
+
+const CASES_OF_GLOBALS: &[Case] = &[
+    ("bound objects tell what they are", &[OBJECTS_TOLD]),
+    ("a seat has no keyboard", &[KEYBOARD]),
+    (
+        "a destroyed wl_subcompositor gives its id back",
+        &[SUBCOMPOSITOR_DESTROYED],
+    ),
+];
+
+/// The first of the cases that isn't as wanted after all globals were bound, and what wasn't.
+fn missed_after_globals(alloc: Global, cases: &[Case]) -> Option<(usize, Fault)> {
+    first_missed_case(alloc, &[REGISTRY, ALL_GLOBALS], cases)
+}
+
+#[test]
+fn globals_are_as_worked(rt: HostRuntime) {
+    assert_eq!(rt; missed_after_globals(rt.alloc(), CASES_OF_GLOBALS), None);
+}
+
+#[test]
+fn an_error_ends_its_sender_alone(rt: HostRuntime) {
+    assert_eq!(rt; play(rt.alloc(), &[REGISTRY, ANOTHER_ERRS]), Ok(()));
+}
 
 #[test]
 fn registries_are_as_worked(rt: HostRuntime) {
-    assert_eq!(rt; first_missed_case(rt.alloc(), &[], CASES), None);
+    assert_eq!(rt; first_missed_case(rt.alloc(), &[CLIENT], CASES), None);
 }
 
 /// Rows that are each played in a session of their own, by the name of the case and after its parts.

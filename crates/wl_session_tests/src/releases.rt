@@ -1,7 +1,8 @@
 //! wl_buffer.release: a buffer that no surface shows any more is told, while its wl_buffer is there.
 
 use crate::begun::{ACKNOWLEDGES, ATTACH_NONE, BUFFERS, COMMIT, CONFIGURES, GLOBALS, MADE, MAPS};
-use crate::rows::{Case, Message, Pixel, REGISTRY, Row, first_missed_case, play};
+use crate::rows::{Case, Fault, Message, Pixel, REGISTRY, Row, first_missed_case, play};
+use std::alloc::Global;
 use wl_session::{Cause, Done, Fed, Step};
 use wl_wire::Arg;
 
@@ -121,9 +122,14 @@ const CASES: &[Case] = &[
     ("the client is too slow", &[TOO_SLOW]),
 ];
 
+/// The first of the cases that isn't as wanted after the window was mapped, and what wasn't.
+fn missed_after_map(alloc: Global, cases: &[Case]) -> Option<(usize, Fault)> {
+    first_missed_case(alloc, MAPPED, cases)
+}
+
 #[test]
 fn buffers_are_released(rt: HostRuntime) {
-    assert_eq!(rt; first_missed_case(rt.alloc(), MAPPED, CASES), None);
+    assert_eq!(rt; missed_after_map(rt.alloc(), CASES), None);
 }
 
 #[test]

@@ -1,7 +1,8 @@
 //! Subsurfaces: when what they commit is shown, where they stand, and how deep they go.
 
 use crate::begun::{ACKNOWLEDGES, BUFFERS, COMMIT, CONFIGURES, GLOBALS, GREEN, MADE, MAPS, RED};
-use crate::rows::{Case, Message, Pixel, REGISTRY, Row, first_missed_case};
+use crate::rows::{Case, Fault, Message, Pixel, REGISTRY, Row, first_missed_case};
+use std::alloc::Global;
 use wl_session::Fed;
 use wl_wire::Arg;
 
@@ -220,9 +221,14 @@ const CASES: &[Case] = &[
     ("1,025 held rectangles", &[RECTANGLES_1025]),
 ];
 
+/// The first of the cases that isn't as wanted after the window with its subsurface was mapped, and what wasn't.
+fn missed_after_map(alloc: Global, cases: &[Case]) -> Option<(usize, Fault)> {
+    first_missed_case(alloc, MAPPED, cases)
+}
+
 #[test]
 fn subsurfaces_are_as_worked(rt: HostRuntime) {
-    assert_eq!(rt; first_missed_case(rt.alloc(), MAPPED, CASES), None);
+    assert_eq!(rt; missed_after_map(rt.alloc(), CASES), None);
 }
 
 /// The wl_subcompositor 9, and the surfaces 100 to 117. From 101 on each up to 115 is a subsurface of the one before it: 115 is at depth 15.
@@ -266,8 +272,12 @@ const DEEP: &[Case] = &[
     ("its own subsurface is too deep", &[PUSHED_TO_DEPTH_17]),
 ];
 
+/// The first of the cases that isn't as wanted after the subsurface at depth 15 was made, and what wasn't.
+fn missed_after_depth_15(alloc: Global, cases: &[Case]) -> Option<(usize, Fault)> {
+    first_missed_case(alloc, &[REGISTRY, GLOBALS, DEPTH_15], cases)
+}
+
 #[test]
 fn subsurfaces_go_16_deep(rt: HostRuntime) {
-    let parts: &[&[Row]] = &[REGISTRY, GLOBALS, DEPTH_15];
-    assert_eq!(rt; first_missed_case(rt.alloc(), parts, DEEP), None);
+    assert_eq!(rt; missed_after_depth_15(rt.alloc(), DEEP), None);
 }

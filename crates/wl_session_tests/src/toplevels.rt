@@ -4,7 +4,8 @@ use crate::begun::{
     ACKNOWLEDGES, ATTACH_10, ATTACH_NONE, BUFFER_10, BUFFERS, COMMIT, CONFIGURED, CONFIGURES,
     GLOBALS, MADE, MAPS,
 };
-use crate::rows::{Case, Message, REGISTRY, Row, first_missed_case, first_missed_row};
+use crate::rows::{Case, Fault, Message, REGISTRY, Row, first_missed_case, first_missed_row};
+use std::alloc::Global;
 use wl_session::{Done, Fed, Step, Stored};
 use wl_wire::Arg;
 
@@ -126,73 +127,71 @@ const STORE_GOES_WITH_ITS_SURFACE: &[Row] = &[
     Row::Store(1, 1, None),
 ];
 
-const CASES: &[Case] = &[
-    (
-        "another state is answered with a configure",
-        &[
-            REGISTRY,
-            GLOBALS,
-            MADE,
-            CONFIGURES,
-            ACKNOWLEDGES,
-            BUFFERS,
-            MAPS,
-            MAXIMIZES,
-        ],
-    ),
-    (
-        "what has no effect is not answered",
-        &[
-            REGISTRY,
-            GLOBALS,
-            MADE,
-            CONFIGURES,
-            ACKNOWLEDGES,
-            WITHOUT_EFFECT,
-        ],
-    ),
-    (
-        "a buffer waits for the configure",
-        &[REGISTRY, GLOBALS, MADE, CONFIGURES, BUFFERS, UNCONFIGURED],
-    ),
-    (
-        "at most 64 configures wait",
-        &[
-            REGISTRY,
-            GLOBALS,
-            MADE,
-            CONFIGURES,
-            ACKNOWLEDGES,
-            CONFIGURE_65,
-        ],
-    ),
-    (
-        "a client has at most 256 surfaces",
-        &[REGISTRY, GLOBALS, SURFACE_257],
-    ),
-    (
-        "objects go in order",
-        &[REGISTRY, GLOBALS, MADE, CONFIGURES, ACKNOWLEDGES, GOES],
-    ),
+const MAPPED_CASES: &[Case] = &[
+    ("another state is answered with a configure", &[MAXIMIZES]),
     (
         "a store stays while its buffer is shown",
-        &[
-            REGISTRY,
-            GLOBALS,
-            MADE,
-            CONFIGURES,
-            ACKNOWLEDGES,
-            BUFFERS,
-            MAPS,
-            WITHOUT_BUFFERS,
-            STORE_STAYS_WHILE_SHOWN,
-        ],
+        &[WITHOUT_BUFFERS, STORE_STAYS_WHILE_SHOWN],
     ),
+    (
+        "a buffer is itself, not its id",
+        &[WITHOUT_BUFFERS, ID_USED_AGAIN],
+    ),
+    (
+        "a store goes with its surface",
+        &[WITHOUT_BUFFERS, STORE_GOES_WITH_ITS_SURFACE],
+    ),
+];
+
+/// The first of the cases that isn't as wanted after the toplevel was mapped, and what wasn't.
+fn missed_after_map(alloc: Global, cases: &[Case]) -> Option<(usize, Fault)> {
+    let parts: &[&[Row]] = &[
+        REGISTRY,
+        GLOBALS,
+        MADE,
+        CONFIGURES,
+        ACKNOWLEDGES,
+        BUFFERS,
+        MAPS,
+    ];
+    first_missed_case(alloc, parts, cases)
+}
+
+#[test]
+fn mapped_toplevels_are_as_worked(rt: HostRuntime) {
+    assert_eq!(rt; missed_after_map(rt.alloc(), MAPPED_CASES), None);
+}
+
+const ACKNOWLEDGED_CASES: &[Case] = &[
+    ("what has no effect is not answered", &[WITHOUT_EFFECT]),
+    ("at most 64 configures wait", &[CONFIGURE_65]),
+    ("objects go in order", &[GOES]),
+];
+
+const ACKNOWLEDGED: &[&[Row]] = &[REGISTRY, GLOBALS, MADE, CONFIGURES, ACKNOWLEDGES];
+
+/// The first of the cases that isn't as wanted after the toplevel's configure was acknowledged, and what wasn't.
+fn missed_after_acknowledgement(alloc: Global, cases: &[Case]) -> Option<(usize, Fault)> {
+    first_missed_case(alloc, ACKNOWLEDGED, cases)
+}
+
+#[test]
+fn acknowledged_toplevels_are_as_worked(rt: HostRuntime) {
+    assert_eq!(rt;
+        missed_after_acknowledgement(rt.alloc(), ACKNOWLEDGED_CASES),
+        None
+    );
+}
+
+const CASES: &[Case] = &[
+    (
+        "a buffer waits for the configure",
+        &[MADE, CONFIGURES, BUFFERS, UNCONFIGURED],
+    ),
+    ("a client has at most 256 surfaces", &[SURFACE_257]),
     (
         "a store stays while its buffer is pending",
         &[
-            REGISTRY,
-            GLOBALS,
             MADE,
             BUFFERS,
             &[Row::Sends(ATTACH_10)],
@@ -200,39 +199,16 @@ const CASES: &[Case] = &[
             STORE_STAYS_WHILE_PENDING,
         ],
     ),
-    (
-        "a buffer is itself, not its id",
-        &[
-            REGISTRY,
-            GLOBALS,
-            MADE,
-            CONFIGURES,
-            ACKNOWLEDGES,
-            BUFFERS,
-            MAPS,
-            WITHOUT_BUFFERS,
-            ID_USED_AGAIN,
-        ],
-    ),
-    (
-        "a store goes with its surface",
-        &[
-            REGISTRY,
-            GLOBALS,
-            MADE,
-            CONFIGURES,
-            ACKNOWLEDGES,
-            BUFFERS,
-            MAPS,
-            WITHOUT_BUFFERS,
-            STORE_GOES_WITH_ITS_SURFACE,
-        ],
-    ),
 ];
+
+/// The first of the cases that isn't as wanted after the globals were bound, and what wasn't.
+fn missed_after_globals(alloc: Global, cases: &[Case]) -> Option<(usize, Fault)> {
+    first_missed_case(alloc, &[REGISTRY, GLOBALS], cases)
+}
 
 #[test]
 fn toplevels_are_as_worked(rt: HostRuntime) {
-    assert_eq!(rt; first_missed_case(rt.alloc(), &[], CASES), None);
+    assert_eq!(rt; missed_after_globals(rt.alloc(), CASES), None);
 }
 
 /// Each is an error of its own, of a toplevel whose configure was acknowledged.
@@ -254,10 +230,14 @@ const ERRORS: &[Row] = &[
     Row::Errs(Message(6, 3, &[Arg::NewId(6)]), 1, 0),
 ];
 
+/// The first of the rows that isn't as wanted, each after the toplevel's configure was acknowledged, and what wasn't.
+fn missed_row(alloc: Global, rows: &[Row]) -> Option<(usize, Fault)> {
+    first_missed_row(alloc, ACKNOWLEDGED, rows)
+}
+
 #[test]
 fn requests_of_toplevels_are_refused(rt: HostRuntime) {
-    let parts: &[&[Row]] = &[REGISTRY, GLOBALS, MADE, CONFIGURES, ACKNOWLEDGES];
-    assert_eq!(rt; first_missed_row(rt.alloc(), parts, ERRORS), None);
+    assert_eq!(rt; missed_row(rt.alloc(), ERRORS), None);
 }
 
 /// An xdg_surface without a role object, and a surface that has a buffer.
@@ -276,8 +256,12 @@ const BARE: &[Row] = &[
     Row::Sends(Message(12, 1, &[Arg::Object(11), Arg::Int(0), Arg::Int(0)])),
 ];
 
+/// The first of the rows that isn't as wanted, each after these surfaces were made, and what wasn't.
+fn missed_row_of_bare(alloc: Global, rows: &[Row]) -> Option<(usize, Fault)> {
+    first_missed_row(alloc, &[REGISTRY, GLOBALS, BUFFERS, BARE], rows)
+}
+
 #[test]
 fn an_xdg_surface_needs_its_toplevel(rt: HostRuntime) {
-    let parts: &[&[Row]] = &[REGISTRY, GLOBALS, BUFFERS, BARE];
-    assert_eq!(rt; first_missed_row(rt.alloc(), parts, BARE_ERRORS), None);
+    assert_eq!(rt; missed_row_of_bare(rt.alloc(), BARE_ERRORS), None);
 }
