@@ -1,9 +1,9 @@
 //! The command line.
 
-ghost use Rattle.std.specs.Prelude.{◌≡◌, ◌≤◌, ℕ, IfErr, IfOk, MatchResult, Some, None, false, map, string_bytes};
-ghost use Rattle.clap.specs.Words.{app_of, first_value, found_of, rule_of};
+ghost use Rattle.std.specs.Prelude.{◌≡◌, ◌≤◌, ℕ, IfErr, IfOk, MatchResult, Some, None, codes, false, map, string_bytes};
+ghost use Rattle.clap.specs.Words.{app_of, first_value, found_of, new_app, rule_of, with_rule};
 ghost use Rattle.wl_recording.specs.Line.{number_of};
-ghost use Rattle.wl_options.specs.Command.{Asks, IsAskedBy, IsGiven, IsRefused, IsServed, IsToldAs, asked_size, dir_option, pointer_option, ppm_option, program, replay_command, serve_command, size_option, socket_option, turns_option};
+ghost use Rattle.wl_options.specs.Command.{Asks, IsAskedBy, IsGiven, IsRefused, IsServed, IsToldAs, asked_size, dir_option, option_named, pointer_option, ppm_option, program, replay_command, serve_command, size_option, socket_option, turns_option, with_required_subcommand};
 
 use crate::fault::Fault;
 use crate::size::Size;
@@ -101,13 +101,18 @@ fn command<'a>(alloc: Global) -> Result<Command<'a>, AllocError>
 {
     let replay = replay_command(alloc)?;
     let serve = serve_command(alloc)?;
+    bare_command(alloc).subcommand(replay)?.subcommand(serve)
+}
+
+/// The command without its subcommands.
+fn bare_command<'a>(alloc: Global) -> Command<'a>
+    ensures { app_of result ≡ with_required_subcommand (new_app (codes "wlframe")) }
+{
     Command::new(alloc, "wlframe")
         .about("A Wayland compositor without a screen")
         .after_help(PROGRAM_EXAMPLE)
         .subcommand_required(true)
         .arg_required_else_help(true)
-        .subcommand(replay)?
-        .subcommand(serve)
 }
 
 const PROGRAM_EXAMPLE: &str = "Example: wlframe replay --size 2x1 < examples/sync.rec";
@@ -121,91 +126,107 @@ const SERVE_EXAMPLE: &str =
 fn replay_command<'a>(alloc: Global) -> Result<Command<'a>, AllocError>
     ensures { IfOk result (λ command. app_of command ≡ replay_command) }
 {
-    Command::new(alloc, "replay")
+    let replay = Command::new(alloc, "replay")
         .about("Plays a recording from standard input")
-        .after_help(REPLAY_EXAMPLE)
-        .arg(size_option(alloc))?
-        .arg(ppm_option(alloc))?
-        .arg(dir_option(alloc))
+        .after_help(REPLAY_EXAMPLE);
+    with_output(alloc, replay)
 }
 
 fn serve_command<'a>(alloc: Global) -> Result<Command<'a>, AllocError>
     ensures { IfOk result (λ command. app_of command ≡ serve_command) }
 {
-    Command::new(alloc, "serve")
+    let serve = Command::new(alloc, "serve")
         .about("Serves clients over a Unix socket")
         .after_help(SERVE_EXAMPLE)
         .arg(socket_option(alloc))?
-        .arg(turns_option(alloc))?
+        .arg(turns_option(alloc))?;
+    with_output(alloc, serve)?.arg(pointer_option(alloc))
+}
+
+/// The subcommand with the options of its output: its size, the file of its images, and the folder of its side files.
+fn with_output<'a>(alloc: Global, subcommand: Command<'a>) -> Result<Command<'a>, AllocError>
+    ensures { IfOk result (λ r. app_of r ≡ with_rule (with_rule (with_rule (app_of subcommand.entry) size_option) ppm_option) dir_option) }
+{
+    subcommand
         .arg(size_option(alloc))?
         .arg(ppm_option(alloc))?
-        .arg(dir_option(alloc))?
-        .arg(pointer_option(alloc))
+        .arg(dir_option(alloc))
+}
+
+/// `--name VALUE`, with what help calls the value and says of it.
+fn named_option<'a>(alloc: Global, name: &'a str, value: &'a str, help: &'a str) -> Arg<'a>
+    ensures rule { rule_of result ≡ option_named name.entry.now }
+    ensures own { result.global ≡ false }
+{
+    Arg::new(alloc, name)
+        .long(name)
+        .value_name(value)
+        .help(help)
 }
 
 fn socket_option<'a>(alloc: Global) -> Arg<'a>
     ensures rule { rule_of result ≡ socket_option }
     ensures own { result.global ≡ false }
 {
-    Arg::new(alloc, "socket")
-        .long("socket")
-        .value_name("PATH")
-        .help("The socket that clients connect to, which is made there")
-        .required(true)
+    named_option(
+        alloc,
+        "socket",
+        "PATH",
+        "The socket that clients connect to, which is made there",
+    )
+    .required(true)
 }
 
 fn turns_option<'a>(alloc: Global) -> Arg<'a>
     ensures rule { rule_of result ≡ turns_option }
     ensures own { result.global ≡ false }
 {
-    Arg::new(alloc, "turns")
-        .long("turns")
-        .value_name("N")
-        .help("How many turns are taken, 1 to 1000000")
-        .required(true)
-        .value_parser(ValueParser::unsigned(1, u64::from(MAX_TURNS)))
+    named_option(
+        alloc,
+        "turns",
+        "N",
+        "How many turns are taken, 1 to 1000000",
+    )
+    .required(true)
+    .value_parser(ValueParser::unsigned(1, u64::from(MAX_TURNS)))
 }
 
 fn size_option<'a>(alloc: Global) -> Arg<'a>
     ensures rule { rule_of result ≡ size_option }
     ensures own { result.global ≡ false }
 {
-    Arg::new(alloc, "size")
-        .long("size")
-        .value_name("WxH")
-        .help("The output's sides in pixels")
-        .default_value("640x480")
+    named_option(alloc, "size", "WxH", "The output's sides in pixels").default_value("640x480")
 }
 
 fn ppm_option<'a>(alloc: Global) -> Arg<'a>
     ensures rule { rule_of result ≡ ppm_option }
     ensures own { result.global ≡ false }
 {
-    Arg::new(alloc, "ppm")
-        .long("ppm")
-        .value_name("FILE")
-        .help("Writes an image of each frame to this file")
+    named_option(
+        alloc,
+        "ppm",
+        "FILE",
+        "Writes an image of each frame to this file",
+    )
 }
 
 fn dir_option<'a>(alloc: Global) -> Arg<'a>
     ensures rule { rule_of result ≡ dir_option }
     ensures own { result.global ≡ false }
 {
-    Arg::new(alloc, "dir")
-        .long("dir")
-        .value_name("DIR")
-        .help("The folder of the side files")
-        .default_value(".")
+    named_option(alloc, "dir", "DIR", "The folder of the side files").default_value(".")
 }
 
 fn pointer_option<'a>(alloc: Global) -> Arg<'a>
     ensures rule { rule_of result ≡ pointer_option }
     ensures own { result.global ≡ false }
 {
-    Arg::new(alloc, "pointer")
-        .long("pointer")
-        .value_name("FILE")
-        .help("Reads what the pointer does from this file")
+    named_option(
+        alloc,
+        "pointer",
+        "FILE",
+        "Reads what the pointer does from this file",
+    )
 }
 
 /// What these matches of the subcommand of this name ask.

@@ -33,18 +33,39 @@ fn serves_without_clients(rt: HostRuntime) {
     assert_eq!(rt; serves(&rt, "bare", ""), Some(Status::Done));
 }
 
+/// Options, what is said of the fault, and how the program ends.
+const FAULTS: &[(&str, &str, Status)] = &[
+    ("", "wlframe: bind failed\n", Status::Failed),
+    (
+        " --pointer /no/such/file",
+        "wlframe: read failed\n",
+        Status::Failed,
+    ),
+    (
+        " --pointer /no/such/file --ppm /no/such/folder/a.ppm",
+        "wlframe: write failed\n",
+        Status::Failed,
+    ),
+    (
+        " --size 0x1 --ppm /no/such/folder/a.ppm",
+        "wlframe: bad size\n",
+        Status::Usage,
+    ),
+];
+
+/// The place of the first options with which the program ends otherwise.
+fn first_missed_fault(rt: &HostRuntime, faults: &[(&str, &str, Status)]) -> Option<usize> {
+    for (place, &(options, fault, wanted)) in faults.iter().enumerate() {
+        if fails(rt, options, fault) != Some(wanted) {
+            return Some(place);
+        }
+    }
+    None
+}
+
 #[test]
 fn tells_faults_of_serving(rt: HostRuntime) {
-    let unbound = fails(&rt, "", "wlframe: bind failed\n");
-    assert_eq!(rt; unbound, Some(Status::Failed));
-    let unread = fails(&rt, " --pointer /no/such/file", "wlframe: read failed\n");
-    assert_eq!(rt; unread, Some(Status::Failed));
-    let unmade = " --pointer /no/such/file --ppm /no/such/folder/a.ppm";
-    let unmade = fails(&rt, unmade, "wlframe: write failed\n");
-    assert_eq!(rt; unmade, Some(Status::Failed));
-    let bad_size = " --size 0x1 --ppm /no/such/folder/a.ppm";
-    let bad_size = fails(&rt, bad_size, "wlframe: bad size\n");
-    assert_eq!(rt; bad_size, Some(Status::Usage));
+    assert_eq!(rt; first_missed_fault(&rt, FAULTS), None);
 }
 
 /// How the program ends that has a bad line in the pointer's file, and how once the line is mended.

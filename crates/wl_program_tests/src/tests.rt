@@ -46,15 +46,61 @@ const BAD_SIZES: &[&str] = &[
     "wlframe replay --size x --ppm /no/such/folder/a.ppm",
 ];
 
+/// The place of the first words that end the program otherwise.
+fn first_missed_use(rt: &HostRuntime, uses: &[(&str, Status)]) -> Option<usize> {
+    for (place, &(text, wanted)) in uses.iter().enumerate() {
+        if status_of(rt, text) != Some(wanted) {
+            return Some(place);
+        }
+    }
+    None
+}
+
 #[test]
 fn tells_usage(rt: HostRuntime) {
-    for &(text, wanted) in USES {
-        assert_eq!(rt; status_of(&rt, text), Some(wanted), "{text}");
+    assert_eq!(rt; first_missed_use(&rt, USES), None);
+}
+
+/// The place of the first words whose size is taken.
+fn first_taken_size(rt: &HostRuntime, uses: &[&str]) -> Option<usize> {
+    for (place, &text) in uses.iter().enumerate() {
+        if plays(rt, text, b"", "wlframe: bad size\n", b"") != Some(Status::Usage) {
+            return Some(place);
+        }
     }
-    for &text in BAD_SIZES {
-        let status = plays(&rt, text, b"", "wlframe: bad size\n", b"");
-        assert_eq!(rt; status, Some(Status::Usage), "{text}");
-    }
+    None
+}
+
+#[test]
+fn tells_bad_sizes(rt: HostRuntime) {
+    assert_eq!(rt; first_taken_size(&rt, BAD_SIZES), None);
+}
+
+/// How the program ends that reads a bad line.
+fn ends_badly(rt: &HostRuntime) -> Option<Status> {
+    plays(
+        rt,
+        "wlframe replay",
+        b"tock 1",
+        "wlframe: bad line 1\n",
+        b"",
+    )
+}
+
+#[test]
+fn tells_bad_lines(rt: HostRuntime) {
+    assert_eq!(rt; ends_badly(&rt), Some(Status::BadLine));
+}
+
+/// How the program ends whose images have no folder.
+fn ends_without_images(rt: &HostRuntime) -> Option<Status> {
+    let text = "wlframe replay --ppm /no/such/folder/a.ppm";
+    plays(rt, text, SYNC, "wlframe: write failed\n", b"")
+}
+
+#[test]
+fn tells_images_that_cannot_be_made(rt: HostRuntime) {
+    assert_eq!(rt; ends_without_images(&rt), Some(Status::Failed));
 }
 
 /// How the program ends whose input fails after its first line.
@@ -93,19 +139,12 @@ fn ends_unwritten(rt: &HostRuntime) -> Option<Status> {
 }
 
 #[test]
-fn tells_faults(rt: HostRuntime) {
-    let bad = plays(
-        &rt,
-        "wlframe replay",
-        b"tock 1",
-        "wlframe: bad line 1\n",
-        b"",
-    );
-    assert_eq!(rt; bad, Some(Status::BadLine));
-    let unmade = "wlframe replay --ppm /no/such/folder/a.ppm";
-    let unmade = plays(&rt, unmade, SYNC, "wlframe: write failed\n", b"");
-    assert_eq!(rt; unmade, Some(Status::Failed));
+fn tells_faults_of_its_input(rt: HostRuntime) {
     assert_eq!(rt; ends_unread(&rt), Some(Status::Failed));
+}
+
+#[test]
+fn tells_faults_of_its_output(rt: HostRuntime) {
     assert_eq!(rt; ends_unwritten(&rt), Some(Status::Failed));
 }
 

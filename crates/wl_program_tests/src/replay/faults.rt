@@ -1,7 +1,7 @@
 //! Faults of the streams and of memory, at each call in turn.
 
 use crate::replay::support::play;
-use std::test::Fail;
+use std::alloc::Global;
 use test_support::{FaultyReader, FaultyWriter, Refusing};
 use wl_replay::{ReplayError, Summary};
 
@@ -28,89 +28,98 @@ fn told(read: &[u8]) -> usize {
     }
 }
 
-#[test]
-fn each_read_fails_in_turn(rt: HostRuntime) -> Result<(), Fail> {
-    for call in 0..1000_u64 {
-        let mut reader = FaultyReader::new(RECORDING).byte_by_byte().failing_at(call);
-        let mut written = Vec::new(rt.alloc());
-        let mut none = None::<Vec<u8>>;
-        let played = play(rt.alloc(), &mut reader, &mut written, &mut none);
-        if !reader.has_failed() {
-            assert_eq!(rt; played, Ok(SUMMARY));
-            assert_eq!(rt; written.as_slice(), REPORT);
-            return Ok(());
-        }
-        assert_eq!(rt; played, Err(ReplayError::Read));
-        let left = reader.rest.len().min(RECORDING.len());
-        let end = told(&RECORDING[..RECORDING.len() - left]).min(REPORT.len());
-        assert_eq!(rt; written.as_slice(), &REPORT[..end]);
-    }
-    assert!(rt; false, "a read failed in each run");
-    Ok(())
+/// What fails once.
+#[derive(Clone, Copy)]
+enum Failing {
+    Read,
+    Write,
+    /// A write of an image.
+    Image,
+    Allocation,
 }
 
-#[test]
-fn each_write_fails_in_turn(rt: HostRuntime) -> Result<(), Fail> {
-    for call in 0..1000_u64 {
-        let mut writer = FaultyWriter::new(rt.alloc())
-            .byte_by_byte()
-            .failing_at(call);
-        let mut ppm = Some(Vec::new(rt.alloc()));
-        let played = play(rt.alloc(), &mut &*RECORDING, &mut writer, &mut ppm);
-        if !writer.has_failed() {
-            assert_eq!(rt; played, Ok(SUMMARY));
-            assert_eq!(rt; writer.written.as_slice(), REPORT);
-            return Ok(());
-        }
-        assert_eq!(rt; played, Err(ReplayError::Write));
-    }
-    assert!(rt; false, "a write failed in each run");
-    Ok(())
+/// What became of a run.
+#[derive(Drop)]
+enum Outcome {
+    /// Nothing failed, and the report is whole.
+    Whole,
+    /// Something failed, and the run ended as it should.
+    Failed,
+    Wrong,
 }
 
-#[test]
-fn each_write_of_an_image_fails_in_turn(rt: HostRuntime) -> Result<(), Fail> {
-    for call in 0..1000_u64 {
-        let mut written = Vec::new(rt.alloc());
-        let mut ppm = Some(
-            FaultyWriter::new(rt.alloc())
-                .byte_by_byte()
-                .failing_at(call),
-        );
-        let played = play(rt.alloc(), &mut &*RECORDING, &mut written, &mut ppm);
-        let has_failed = match &ppm {
-            Some(writer) => writer.has_failed(),
-            None => false,
-        };
-        if !has_failed {
-            assert_eq!(rt; played, Ok(SUMMARY));
-            return Ok(());
-        }
-        assert_eq!(rt; played, Err(ReplayError::Write));
+fn judged_whole(played: Result<Summary, ReplayError>, report: &[u8]) -> Outcome {
+    if played == Ok(SUMMARY) && report == REPORT {
+        Outcome::Whole
+    } else {
+        Outcome::Wrong
     }
-    assert!(rt; false, "a write failed in each run");
-    Ok(())
 }
 
-#[test]
-fn each_allocation_is_refused_in_turn(rt: HostRuntime) -> Result<(), Fail> {
-    for served in 0..1000_u64 {
-        let heap = Refusing::new(rt.alloc(), served);
-        let mut written = Vec::new(rt.alloc());
-        let mut none = None::<Vec<u8>>;
-        let played = play(&heap, &mut &*RECORDING, &mut written, &mut none);
-        if !heap.refused() {
-            assert_eq!(rt; played, Ok(SUMMARY));
-            assert_eq!(rt; written.as_slice(), REPORT);
-            return Ok(());
-        }
-        if played != Err(ReplayError::Memory) {
-            assert_eq!(rt; played, Ok(SUMMARY));
-            assert!(rt; ends_for_memory(written.as_slice()));
-        }
+fn judged_failed(is_as_wanted: bool) -> Outcome {
+    if is_as_wanted {
+        Outcome::Failed
+    } else {
+        Outcome::Wrong
     }
-    assert!(rt; false, "memory was refused in each run");
-    Ok(())
+}
+
+/// Whether so many bytes of the recording were left unread, and the report tells of the lines before them.
+fn is_told(left: usize, report: &[u8]) -> bool {
+    let read = RECORDING.len().saturating_sub(left);
+    let end = told(&RECORDING[..read]).min(REPORT.len());
+    report == &REPORT[..end]
+}
+
+fn run_with_a_read(alloc: Global, call: u64) -> Outcome {
+    let mut reader = FaultyReader::new(RECORDING).byte_by_byte().failing_at(call);
+    let mut written = Vec::new(alloc);
+    let mut none = None::<Vec<u8>>;
+    let played = play(alloc, &mut reader, &mut written, &mut none);
+    if !reader.has_failed() {
+        return judged_whole(played, written.as_slice());
+    }
+    judged_failed(
+        played == Err(ReplayError::Read) && is_told(reader.rest.len(), written.as_slice()),
+    )
+}
+
+fn run_with_a_write(alloc: Global, call: u64) -> Outcome {
+    let mut writer = FaultyWriter::new(alloc).byte_by_byte().failing_at(call);
+    let mut ppm = Some(Vec::new(alloc));
+    let played = play(alloc, &mut &*RECORDING, &mut writer, &mut ppm);
+    if !writer.has_failed() {
+        return judged_whole(played, writer.written.as_slice());
+    }
+    judged_failed(played == Err(ReplayError::Write))
+}
+
+fn run_with_an_image(alloc: Global, call: u64) -> Outcome {
+    let mut written = Vec::new(alloc);
+    let mut ppm = Some(FaultyWriter::new(alloc).byte_by_byte().failing_at(call));
+    let played = play(alloc, &mut &*RECORDING, &mut written, &mut ppm);
+    let has_failed = match &ppm {
+        Some(writer) => writer.has_failed(),
+        None => false,
+    };
+    if !has_failed {
+        return judged_whole(played, written.as_slice());
+    }
+    judged_failed(played == Err(ReplayError::Write))
+}
+
+fn run_with_memory(alloc: Global, served: u64) -> Outcome {
+    let heap = Refusing::new(alloc, served);
+    let mut written = Vec::new(alloc);
+    let mut none = None::<Vec<u8>>;
+    let played = play(&heap, &mut &*RECORDING, &mut written, &mut none);
+    if !heap.refused() {
+        return judged_whole(played, written.as_slice());
+    }
+    judged_failed(
+        played == Err(ReplayError::Memory)
+            || played == Ok(SUMMARY) && ends_for_memory(written.as_slice()),
+    )
 }
 
 /// Whether the report tells that client 1 ended for want of memory.
@@ -118,4 +127,49 @@ fn ends_for_memory(report: &[u8]) -> bool {
     report
         .windows(12)
         .any(|part| part == b"end 1 memory".as_slice())
+}
+
+/// A run in which the call of this number fails, from 0.
+fn run(alloc: Global, failing: Failing, call: u64) -> Outcome {
+    match failing {
+        Failing::Read => run_with_a_read(alloc, call),
+        Failing::Write => run_with_a_write(alloc, call),
+        Failing::Image => run_with_an_image(alloc, call),
+        Failing::Allocation => run_with_memory(alloc, call),
+    }
+}
+
+/// The calls of which one fails, each in a run of its own.
+const CALLS: u64 = 1000;
+
+/// The call whose failing isn't answered as wanted; `CALLS` where a call failed in each run.
+fn first_missed(alloc: Global, failing: Failing) -> Option<u64> {
+    for call in 0..CALLS {
+        match run(alloc, failing, call) {
+            Outcome::Whole => return None,
+            Outcome::Failed => {}
+            Outcome::Wrong => return Some(call),
+        }
+    }
+    Some(CALLS)
+}
+
+#[test]
+fn each_read_fails_in_turn(rt: HostRuntime) {
+    assert_eq!(rt; first_missed(rt.alloc(), Failing::Read), None);
+}
+
+#[test]
+fn each_write_fails_in_turn(rt: HostRuntime) {
+    assert_eq!(rt; first_missed(rt.alloc(), Failing::Write), None);
+}
+
+#[test]
+fn each_write_of_an_image_fails_in_turn(rt: HostRuntime) {
+    assert_eq!(rt; first_missed(rt.alloc(), Failing::Image), None);
+}
+
+#[test]
+fn each_allocation_is_refused_in_turn(rt: HostRuntime) {
+    assert_eq!(rt; first_missed(rt.alloc(), Failing::Allocation), None);
 }

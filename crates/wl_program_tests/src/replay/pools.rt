@@ -1,8 +1,7 @@
 //! Store writes and side files, with a client that has a pool of 12,800 bytes.
 
-use crate::replay::support::{OneFile, play_with};
-use std::alloc::{Allocator, Global};
-use std::test::Fail;
+use crate::replay::support::{OneFile, play_with, played};
+use std::alloc::Global;
 use wl_replay::{ReplayError, SideFiles, Summary};
 
 /// get_registry(2), and binds of wl_compositor as 3, wl_shm as 4 and xdg_wm_base as 5; then create_pool(9, 12800), and two
@@ -20,119 +19,162 @@ bytes 1 09000000 00002000 0b000000 00190000 28000000 28000000 a0000000 01000000
 /// How many lines that is.
 const POOL_LINES: u32 = 8;
 
-/// Plays lines after those of the pool, and gives what is reported of them.
-fn told<S: SideFiles>(
+/// The lines of the pool, and these. None where there is no memory for them.
+fn after_pool(alloc: Global, lines: &[u8]) -> Option<Vec<u8>> {
+    let mut recording = Vec::new(alloc);
+    recording.extend_from_slice(POOL).ok()?;
+    recording.extend_from_slice(lines).ok()?;
+    Some(recording)
+}
+
+/// How lines are played after those of the pool. None where something else is reported of them.
+fn plays<S: SideFiles>(
     alloc: Global,
     lines: &[u8],
     side: &mut S,
-) -> Result<(Result<Summary, ReplayError>, Vec<u8>), Fail> {
-    let mut before = Vec::new(alloc);
-    let mut unread = OneFile::new("", b"");
-    let _ = play_with(alloc, &mut &*POOL, &mut before, &mut unread);
-    let mut recording = Vec::new(alloc);
-    recording.extend_from_slice(POOL)?;
-    recording.extend_from_slice(lines)?;
+    report: &[u8],
+) -> Option<Result<Summary, ReplayError>> {
+    let (_, before) = played(alloc, POOL);
+    let recording = after_pool(alloc, lines)?;
+    let mut reader = recording.as_slice();
     let mut written = Vec::new(alloc);
-    let played = play_with(alloc, &mut recording.as_slice(), &mut written, side);
-    let mut own = Vec::new(alloc);
-    if let Some(rest) = written.as_slice().strip_prefix(before.as_slice()) {
-        own.extend_from_slice(rest)?;
-    } else {
-        own.extend_from_slice(b"not the report of the pool")?;
-    }
-    Ok((played, own))
+    let played = play_with(alloc, &mut reader, &mut written, side);
+    let own = written.as_slice().strip_prefix(before.as_slice())?;
+    if own == report { Some(played) } else { None }
 }
 
-#[test]
-fn writes_within_a_store_and_not_outside(rt: HostRuntime) -> Result<(), Fail> {
-    for (line, report) in [
-        ("store 1 1 12799 00\n", ""),
-        ("store 1 1 12800 00\n", "outside 1 1\n"),
-        ("store 1 1 12799 0000\n", "outside 1 1\n"),
-        ("store 1 1 4294967295 00\n", "outside 1 1\n"),
-        ("store 1 1 4294967295 0000\n", "outside 1 1\n"),
-        ("store 1 2 0 00\n", "nostore 1 2\n"),
-        ("store 1 0 0 00\n", "nostore 1 0\n"),
-        ("store 2 1 0 00\n", "none 2\n"),
-    ] {
+/// Whether a line is played after those of the pool, and this is reported of it.
+fn is_told(alloc: Global, line: &str, side: &mut OneFile, report: &str) -> bool {
+    match plays(alloc, line.as_bytes(), side, report.as_bytes()) {
+        Some(played) => played.is_ok(),
+        None => false,
+    }
+}
+
+/// A line, and its report.
+const WRITES: &[(&str, &str)] = &[
+    ("store 1 1 12799 00\n", ""),
+    ("store 1 1 12800 00\n", "outside 1 1\n"),
+    ("store 1 1 12799 0000\n", "outside 1 1\n"),
+    ("store 1 1 4294967295 00\n", "outside 1 1\n"),
+    ("store 1 1 4294967295 0000\n", "outside 1 1\n"),
+    ("store 1 2 0 00\n", "nostore 1 2\n"),
+    ("store 1 0 0 00\n", "nostore 1 0\n"),
+    ("store 2 1 0 00\n", "none 2\n"),
+];
+
+/// The place of the first line that isn't played, or has another report.
+fn first_missed_write(alloc: Global, lines: &[(&str, &str)]) -> Option<usize> {
+    for (place, &(line, report)) in lines.iter().enumerate() {
         let mut side = OneFile::new("a", b"");
-        let (played, own) = told(rt.alloc(), line.as_bytes(), &mut side)?;
-        assert!(rt; played.is_ok(), "{line}");
-        assert_eq!(rt; own.as_slice(), report.as_bytes(), "{line}");
-    }
-    Ok(())
-}
-
-#[test]
-fn files_come_into_a_store(rt: HostRuntime) -> Result<(), Fail> {
-    let bytes = vec![in rt.alloc(); 7u8; 12_801]?;
-    // A line, its report, and how often the file is opened and read, with how many bytes asked and given.
-    for (line, report, opens, reads, asked, given) in [
-        ("file 1 1 0 a\n", "", 1, 4, 12_800, 12_800),
-        ("file 1 1 4096 a\n", "", 1, 3, 8_704, 8_704),
-        ("file 1 1 12799 a\n", "", 1, 1, 1, 1),
-        ("file 1 1 12800 a\n", "", 1, 0, 0, 0),
-        ("file 1 1 12801 a\n", "outside 1 1\n", 0, 0, 0, 0),
-        ("file 1 1 4294967295 a\n", "outside 1 1\n", 0, 0, 0, 0),
-        ("file 1 2 0 a\n", "nostore 1 2\n", 0, 0, 0, 0),
-        ("file 2 1 0 a\n", "none 2\n", 0, 0, 0, 0),
-    ] {
-        let mut side = OneFile::new("a", bytes.as_slice());
-        let (played, own) = told(rt.alloc(), line.as_bytes(), &mut side)?;
-        assert!(rt; played.is_ok(), "{line}");
-        assert_eq!(rt; own.as_slice(), report.as_bytes(), "{line}");
-        assert_eq!(rt; (side.opens, side.reads), (opens, reads), "{line}");
-        assert_eq!(rt; (side.asked, side.given), (asked, given), "{line}");
-    }
-    Ok(())
-}
-
-#[test]
-fn short_files_end_by_themselves(rt: HostRuntime) -> Result<(), Fail> {
-    let mut side = OneFile::new("a", b"three");
-    let (played, own) = told(rt.alloc(), b"file 1 1 12000 a\n", &mut side)?;
-    assert!(rt; played.is_ok());
-    assert_eq!(rt; own.as_slice(), b"".as_slice());
-    // The first read gives five bytes, and the second, of what is left, none.
-    assert_eq!(rt; (side.reads, side.asked, side.given), (2, 1_595, 5));
-    Ok(())
-}
-
-#[test]
-fn a_missing_file_stops_the_replay(rt: HostRuntime) -> Result<(), Fail> {
-    let mut side = OneFile::new("a", b"bytes");
-    let (played, own) = told(
-        rt.alloc(),
-        b"store 1 2 0 00\nfile 1 1 0 b\ngone 1\n",
-        &mut side,
-    )?;
-    assert_eq!(rt; played, Err(ReplayError::Side(POOL_LINES + 2)));
-    assert_eq!(rt; own.as_slice(), b"nostore 1 2\n".as_slice());
-    Ok(())
-}
-
-#[test]
-fn each_read_of_a_file_fails_in_turn(rt: HostRuntime) -> Result<(), Fail> {
-    let bytes = vec![in rt.alloc(); 7u8; 9_000]?;
-    // Five reads in all: three that give something and the file's end, and the one of a full store.
-    let lines = b"store 1 2 0 00\nfile 1 1 0 a\nfile 1 1 12799 a\ngone 1\n";
-    for read in 0..100_u64 {
-        let mut side = OneFile::new("a", bytes.as_slice()).failing_at(read);
-        let (played, own) = told(rt.alloc(), lines, &mut side)?;
-        if !side.has_failed() {
-            assert_eq!(rt; read, 5);
-            assert!(rt; played.is_ok());
-            assert_eq!(rt; own.as_slice(), b"nostore 1 2\nend 1 gone\n".as_slice());
-            return Ok(());
+        if !is_told(alloc, line, &mut side, report) {
+            return Some(place);
         }
-        let line = if read < 4 {
-            POOL_LINES + 2
-        } else {
-            POOL_LINES + 3
-        };
-        assert_eq!(rt; played, Err(ReplayError::Side(line)));
-        assert_eq!(rt; own.as_slice(), b"nostore 1 2\n".as_slice());
     }
-    assert!(rt; false, "a read failed in each run");
-    Ok(())
+    None
+}
+
+#[test]
+fn writes_within_a_store_and_not_outside(rt: HostRuntime) {
+    assert_eq!(rt; first_missed_write(rt.alloc(), WRITES), None);
+}
+
+/// A line, its report, and how often the file is opened and read, with how many bytes asked and given.
+type Line<'a> = (&'a str, &'a str, [u64; 4]);
+
+const FILES: &[Line] = &[
+    ("file 1 1 0 a\n", "", [1, 4, 12_800, 12_800]),
+    ("file 1 1 4096 a\n", "", [1, 3, 8_704, 8_704]),
+    ("file 1 1 12799 a\n", "", [1, 1, 1, 1]),
+    ("file 1 1 12800 a\n", "", [1, 0, 0, 0]),
+    ("file 1 1 12801 a\n", "outside 1 1\n", [0, 0, 0, 0]),
+    ("file 1 1 4294967295 a\n", "outside 1 1\n", [0, 0, 0, 0]),
+    ("file 1 2 0 a\n", "nostore 1 2\n", [0, 0, 0, 0]),
+    ("file 2 1 0 a\n", "none 2\n", [0, 0, 0, 0]),
+];
+
+/// Whether a line is played after those of the pool with a file of these bytes beside it, and all is as wanted.
+fn is_read(alloc: Global, bytes: &[u8], line: &Line) -> bool {
+    let mut side = OneFile::new("a", bytes);
+    is_told(alloc, line.0, &mut side, line.1)
+        && [side.opens, side.reads, side.asked, side.given] == line.2
+}
+
+/// The place of the first line that isn't as wanted with a file of 12,801 bytes beside it. `Some(None)` where all are, and None where there is no
+/// memory for the file.
+fn first_missed_file(alloc: Global, lines: &[Line]) -> Option<Option<usize>> {
+    let bytes = vec![in alloc; 7u8; 12_801].ok()?;
+    for (place, line) in lines.iter().enumerate() {
+        if !is_read(alloc, bytes.as_slice(), line) {
+            return Some(Some(place));
+        }
+    }
+    Some(None)
+}
+
+#[test]
+fn files_come_into_a_store(rt: HostRuntime) {
+    assert_eq!(rt; first_missed_file(rt.alloc(), FILES), Some(None));
+}
+
+#[test]
+fn short_files_end_by_themselves(rt: HostRuntime) {
+    // The first read gives five bytes, and the second, of what is left, none.
+    let line = ("file 1 1 12000 a\n", "", [1, 2, 1_595, 5]);
+    assert!(rt; is_read(rt.alloc(), b"three", &line));
+}
+
+/// How lines are played of which the second names a file that isn't there. None where more is reported than of the line before it.
+fn plays_missing(alloc: Global) -> Option<Result<Summary, ReplayError>> {
+    let lines = b"store 1 2 0 00\nfile 1 1 0 b\ngone 1\n";
+    let mut side = OneFile::new("a", b"bytes");
+    plays(alloc, lines, &mut side, b"nostore 1 2\n")
+}
+
+#[test]
+fn a_missing_file_stops_the_replay(rt: HostRuntime) {
+    let wanted = Some(Err(ReplayError::Side(POOL_LINES + 2)));
+    assert_eq!(rt; plays_missing(rt.alloc()), wanted);
+}
+
+/// Five reads in all: three that give something and the file's end, and the one of a full store.
+const FIVE_READS: &[u8] = b"store 1 2 0 00\nfile 1 1 0 a\nfile 1 1 12799 a\ngone 1\n";
+
+/// Whether the read of this number fails, the line of its file is named, and no more is reported than of the lines before the first file.
+fn fails_at(alloc: Global, bytes: &[u8], read: u64) -> bool {
+    let mut side = OneFile::new("a", bytes).failing_at(read);
+    let line = POOL_LINES + if read < 4 { 2 } else { 3 };
+    let played = plays(alloc, FIVE_READS, &mut side, b"nostore 1 2\n");
+    side.has_failed() && played == Some(Err(ReplayError::Side(line)))
+}
+
+/// Whether there is no sixth read, and the lines are played to their end.
+fn plays_without_a_fault(alloc: Global, bytes: &[u8]) -> bool {
+    let mut side = OneFile::new("a", bytes).failing_at(5);
+    let played = plays(alloc, FIVE_READS, &mut side, b"nostore 1 2\nend 1 gone\n");
+    match played {
+        Some(Ok(_)) => !side.has_failed(),
+        _ => false,
+    }
+}
+
+/// The first of the reads whose failing isn't told of, or 5 where all five are and a run without a fault isn't as wanted. `Some(None)` where all is
+/// as wanted, and None where there is no memory for the file.
+fn first_missed_read(alloc: Global) -> Option<Option<u64>> {
+    let bytes = vec![in alloc; 7u8; 9_000].ok()?;
+    for read in 0..5_u64 {
+        if !fails_at(alloc, bytes.as_slice(), read) {
+            return Some(Some(read));
+        }
+    }
+    if plays_without_a_fault(alloc, bytes.as_slice()) {
+        Some(None)
+    } else {
+        Some(Some(5))
+    }
+}
+
+#[test]
+fn each_read_of_a_file_fails_in_turn(rt: HostRuntime) {
+    assert_eq!(rt; first_missed_read(rt.alloc()), Some(None));
 }

@@ -1,11 +1,11 @@
 //! The reports of recordings, worked out from the protocol by hand.
 
-use crate::replay::support::play;
-use std::test::Fail;
+use crate::replay::support::{play, played};
+use std::alloc::Global;
 use wl_replay::{ReplayError, Summary};
 
 /// A recording and its report. The last line of each report has its line feed.
-const REPORTS: [(&[u8], &[u8]); 10] = [
+const REPORTS: &[(&[u8], &[u8])] = &[
     // One sync in one piece.
     (
         b"connect\nbytes 1 01000000 00000c00 02000000\ntick 0\n",
@@ -53,104 +53,132 @@ const REPORTS: [(&[u8], &[u8]); 10] = [
     (b"", b""),
 ];
 
-#[test]
-fn reports(rt: HostRuntime) -> Result<(), Fail> {
-    for (recording, report) in REPORTS {
-        let mut written = Vec::new(rt.alloc());
-        let mut none = None::<Vec<u8>>;
-        let played = play(rt.alloc(), &mut &*recording, &mut written, &mut none);
-        assert!(rt; played.is_ok());
-        assert_eq!(rt; written.as_slice(), report);
+/// Whether a recording is played to its end, and has this report.
+fn is_reported(alloc: Global, recording: &[u8], report: &[u8]) -> bool {
+    let (played, written) = played(alloc, recording);
+    played.is_ok() && written.as_slice() == report
+}
+
+/// The place of the first recording that isn't played to its end, or has another report.
+fn first_missed(alloc: Global, reports: &[(&[u8], &[u8])]) -> Option<usize> {
+    for (place, &(recording, report)) in reports.iter().enumerate() {
+        if !is_reported(alloc, recording, report) {
+            return Some(place);
+        }
     }
-    Ok(())
+    None
 }
 
 #[test]
-fn images(rt: HostRuntime) -> Result<(), Fail> {
-    let mut written = Vec::new(rt.alloc());
-    let mut ppm = Some(Vec::new(rt.alloc()));
-    let played = play(
-        rt.alloc(),
-        &mut b"tick 0\ntick 1\n".as_slice(),
-        &mut written,
-        &mut ppm,
-    );
-    assert_eq!(rt;
-        played,
-        Ok(Summary {
-            lines: 2,
-            frames: 2,
-            clients: 0
-        })
-    );
-    assert_eq!(rt; written.as_slice(), b"frame 0 0\nframe 1 0\n".as_slice());
-    let image = ppm.unwrap_or(Vec::new(rt.alloc()));
-    assert_eq!(rt;
-        image.as_slice(),
-        b"P6\n2 1\n255\n\0\0\0\0\0\0P6\n2 1\n255\n\0\0\0\0\0\0".as_slice()
-    );
-    Ok(())
+fn reports(rt: HostRuntime) {
+    assert_eq!(rt; first_missed(rt.alloc(), REPORTS), None);
+}
+
+const TWO_FRAMES: Summary = Summary {
+    lines: 2,
+    frames: 2,
+    clients: 0,
+};
+
+/// How two frames are played, with their report and images.
+fn played_frames(alloc: Global) -> (Result<Summary, ReplayError>, Vec<u8>, Option<Vec<u8>>) {
+    let mut reader = b"tick 0\ntick 1\n".as_slice();
+    let mut written = Vec::new(alloc);
+    let mut ppm = Some(Vec::new(alloc));
+    let played = play(alloc, &mut reader, &mut written, &mut ppm);
+    (played, written, ppm)
+}
+
+const IMAGES: &[u8] = b"P6\n2 1\n255\n\0\0\0\0\0\0P6\n2 1\n255\n\0\0\0\0\0\0";
+
+/// Whether two frames are reported, and shown as two black images.
+fn shows_two(alloc: Global) -> bool {
+    let (played, written, ppm) = played_frames(alloc);
+    match &ppm {
+        Some(images) => {
+            played == Ok(TWO_FRAMES)
+                && written.as_slice() == b"frame 0 0\nframe 1 0\n".as_slice()
+                && images.as_slice() == IMAGES
+        }
+        None => false,
+    }
 }
 
 #[test]
-fn bad_lines(rt: HostRuntime) -> Result<(), Fail> {
-    for line in [
-        "tock 1",
-        "connect 1",
-        "Connect",
-        "tick",
-        "tick 1 2",
-        "tick -1",
-        "tick +1",
-        "tick 4294967296",
-        "tick 1x",
-        "gone",
-        "gone x",
-        "bytes 1",
-        "bytes 1 0",
-        "bytes 1 0 0",
-        "bytes 1 0g",
-        "bytes x 00",
-        " # comment",
-        "tick\t1",
-        "tick 1\r",
-        "store 1 1 0",
-        "store 1 1 00",
-        "store 1 1 0 0",
-        "store 1 1 0 00 0g",
-        "store 1 1 -1 00",
-        "store 1 1 4294967296 00",
-        "store 1 4294967296 0 00",
-        "store 4294967296 1 0 00",
-        "store 1 1 x 00",
-        "store 9 1 0 x",
-        "file 1 1 0",
-        "file 1 1 a",
-        "file 1 1 0 a b",
-        "file 1 1 4294967296 a",
-        "file 1 1 +1 a",
-        "file x 1 0 a",
-        "file 9 1 0 .a",
-        "file 1 1 0 ..",
-        "file 1 1 0 .",
-        "file 1 1 0 a/b",
-        "file 1 1 0 a\0",
-        "file 1 1 0 a:b",
-        "file 1 1 0 @",
-        "file 1 1 0 [",
-        "file 1 1 0 `",
-        "file 1 1 0 {",
-        "file 1 1 0 \u{e4}",
-        "file 1 1 0 abcdefghijklmnopqrstuvwxyzABCDEFGHIJKLMNOPQRSTUVWXYZ0123456789._-",
-        "motion 0 0 0",
-        "button 0 272 1",
-    ] {
-        let mut written = Vec::new(rt.alloc());
-        let mut none = None::<Vec<u8>>;
-        let text = format!(in rt.alloc(); "connect\n{line}\ntick 0\n")?;
-        let played = play(rt.alloc(), &mut text.as_bytes(), &mut written, &mut none);
-        assert_eq!(rt; played, Err(ReplayError::BadLine(2)), "{line}");
-        assert_eq!(rt; written.as_slice(), b"client 1\n".as_slice());
+fn images(rt: HostRuntime) {
+    assert!(rt; shows_two(rt.alloc()));
+}
+
+const BAD_LINES: &[&str] = &[
+    "tock 1",
+    "connect 1",
+    "Connect",
+    "tick",
+    "tick 1 2",
+    "tick -1",
+    "tick +1",
+    "tick 4294967296",
+    "tick 1x",
+    "gone",
+    "gone x",
+    "bytes 1",
+    "bytes 1 0",
+    "bytes 1 0 0",
+    "bytes 1 0g",
+    "bytes x 00",
+    " # comment",
+    "tick\t1",
+    "tick 1\r",
+    "store 1 1 0",
+    "store 1 1 00",
+    "store 1 1 0 0",
+    "store 1 1 0 00 0g",
+    "store 1 1 -1 00",
+    "store 1 1 4294967296 00",
+    "store 1 4294967296 0 00",
+    "store 4294967296 1 0 00",
+    "store 1 1 x 00",
+    "store 9 1 0 x",
+    "file 1 1 0",
+    "file 1 1 a",
+    "file 1 1 0 a b",
+    "file 1 1 4294967296 a",
+    "file 1 1 +1 a",
+    "file x 1 0 a",
+    "file 9 1 0 .a",
+    "file 1 1 0 ..",
+    "file 1 1 0 .",
+    "file 1 1 0 a/b",
+    "file 1 1 0 a\0",
+    "file 1 1 0 a:b",
+    "file 1 1 0 @",
+    "file 1 1 0 [",
+    "file 1 1 0 `",
+    "file 1 1 0 {",
+    "file 1 1 0 \u{e4}",
+    "file 1 1 0 abcdefghijklmnopqrstuvwxyzABCDEFGHIJKLMNOPQRSTUVWXYZ0123456789._-",
+    "motion 0 0 0",
+    "button 0 272 1",
+];
+
+/// Whether the line after that of a client is refused by its number, and no more is reported than of the client.
+fn is_refused(alloc: Global, line: &str) -> Option<bool> {
+    let text = format!(in alloc; "connect\n{line}\ntick 0\n").ok()?;
+    let (played, written) = played(alloc, text.as_bytes());
+    Some(played == Err(ReplayError::BadLine(2)) && written.as_slice() == b"client 1\n".as_slice())
+}
+
+/// The place of the first line that isn't refused.
+fn first_taken(alloc: Global, lines: &[&str]) -> Option<usize> {
+    for (place, &line) in lines.iter().enumerate() {
+        if is_refused(alloc, line) != Some(true) {
+            return Some(place);
+        }
     }
-    Ok(())
+    None
+}
+
+#[test]
+fn bad_lines(rt: HostRuntime) {
+    assert_eq!(rt; first_taken(rt.alloc(), BAD_LINES), None);
 }

@@ -2,7 +2,7 @@
 
 ghost use Rattle.std.specs.Prelude.{◌≡◌, ◌++◌, true};
 
-use std::alloc::Allocator;
+use std::alloc::{Allocator, Global};
 use std::io::{BufRead, Write};
 use wl_replay::{ReplayError, SideFault, SideFiles, Summary, replay};
 use wl_session::{Config, Rgb};
@@ -136,4 +136,13 @@ pub(crate) fn play_with<A: Allocator + Copy, R: BufRead, W: Write, S: SideFiles>
 ) -> Result<Summary, ReplayError> {
     let mut none = None::<Vec<u8>>;
     replay(alloc, SMALL, reader, writer, &mut none, side)
+}
+
+/// How a recording is played without side files and images, and its report.
+pub(crate) fn played(alloc: Global, recording: &[u8]) -> (Result<Summary, ReplayError>, Vec<u8>) {
+    let mut reader = recording;
+    let mut written = Vec::new(alloc);
+    let mut none = None::<Vec<u8>>;
+    let played = play(alloc, &mut reader, &mut written, &mut none);
+    (played, written)
 }

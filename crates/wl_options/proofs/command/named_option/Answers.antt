@@ -1,5 +1,5 @@
 use Rattle.wl_options.proofs.Named.{named-own, named-rule}
-use Rattle.wl_options.proofs.command.ppm_option.Goals as goal
+use Rattle.wl_options.proofs.command.named_option.Goals as goal
 
 pub returns-clause-rule : goal.returns-clause-rule
 returns-clause-rule c =
