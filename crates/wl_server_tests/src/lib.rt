@@ -15,3 +15,5 @@ mod serving;
 mod slow;
 #[cfg(test)]
 mod sockets;
+#[cfg(test)]
+mod turns;

@@ -3,11 +3,10 @@
 ghost use Rattle.std.specs.Prelude.{⊤};
 
 use crate::memory::{Client, MemoryHub};
-use crate::serving::{ANSWER, CONFIG, SYNC};
+use crate::serving::{ANSWER, SYNC};
+use crate::turns::reports;
 use std::alloc::Global;
 use wl_recording::{SideFault, SideFiles};
-use wl_server::{Connections, Service, turn};
-use wl_session::Session;
 
 /// wl_display.sync with the new callback 3.
 const OTHER_SYNC: &[u8] = b"\x01\0\0\0\0\0\x0c\0\x03\0\0\0";
@@ -49,49 +48,53 @@ impl SideFiles for Endless {
     }
 }
 
-/// Serves two clients that send these bytes for three turns. None where there is no memory, or a turn isn't taken.
-fn served<'a>(
-    alloc: Global,
-    first: &'a [u8],
-    second: &'a [u8],
-    side: &mut Endless,
-) -> Option<MemoryHub<'a>> {
+/// The hub of two clients that send these bytes. None where there is no memory.
+fn hub<'a>(alloc: Global, first: &'a [u8], second: &'a [u8]) -> Option<MemoryHub<'a>> {
     let mut clients = Vec::new(alloc);
     clients.push(Client::new(alloc, first)).ok()?;
     clients.push(Client::new(alloc, second)).ok()?;
-    let mut hub = MemoryHub::new(clients, 4096);
-    let session = Session::new(alloc, CONFIG).ok()?;
-    let mut service = Service::new(session, Vec::new(alloc), Vec::new(alloc), None::<Vec<u8>>);
-    let mut connections = Connections::new();
-    for time in 1..4_u32 {
-        turn(&mut hub, &mut service, &mut connections, side, time).ok()?;
-    }
-    Some(hub)
+    Some(MemoryHub::new(clients, 4096))
 }
 
+/// Both clients connect.
+const BOTH: &[u8] = b"client 1\nclient 2\n";
+
 /// Whether the two took these bytes.
-fn have_taken(hub: &Option<MemoryHub>, first: &[u8], second: &[u8]) -> bool {
-    match hub {
-        Some(hub) => match hub.clients.as_slice() {
-            [one, other] => one.taken.as_slice() == first && other.taken.as_slice() == second,
-            _ => false,
-        },
+fn have_taken(hub: &MemoryHub, first: &[u8], second: &[u8]) -> bool {
+    match hub.clients.as_slice() {
+        [one, other] => one.taken.as_slice() == first && other.taken.as_slice() == second,
+        _ => false,
+    }
+}
+
+/// Whether two clients that send a sync each are given their own answers in three turns.
+fn answers_each(alloc: Global) -> bool {
+    let mut side = Endless { reads: 0, asked: 0 };
+    match hub(alloc, SYNC, OTHER_SYNC) {
+        Some(mut hub) => {
+            reports(alloc, &mut hub, &mut side, 3, BOTH) && have_taken(&hub, ANSWER, OTHER_ANSWER)
+        }
         None => false,
     }
 }
 
 #[test]
 fn each_gets_its_own_answer(rt: HostRuntime) {
+    assert!(rt; answers_each(rt.alloc()));
+}
+
+/// Whether the file of a pool is read twice in three turns, up to the end of its store.
+fn reads_twice(alloc: Global) -> bool {
     let mut side = Endless { reads: 0, asked: 0 };
-    let hub = served(rt.alloc(), SYNC, OTHER_SYNC, &mut side);
-    assert!(rt; have_taken(&hub, ANSWER, OTHER_ANSWER));
+    match hub(alloc, b"", POOL) {
+        Some(mut hub) => {
+            reports(alloc, &mut hub, &mut side, 3, BOTH) && side.reads == 2 && side.asked == 5000
+        }
+        None => false,
+    }
 }
 
 #[test]
 fn a_file_is_read_up_to_the_end_of_its_store(rt: HostRuntime) {
-    let mut side = Endless { reads: 0, asked: 0 };
-    let hub = served(rt.alloc(), b"", POOL, &mut side);
-    assert!(rt; hub.is_some());
-    assert_eq!(rt; side.reads, 2);
-    assert_eq!(rt; side.asked, 5000);
+    assert!(rt; reads_twice(rt.alloc()));
 }

@@ -1,50 +1,14 @@
 //! Turns over a hub in memory.
 
 use crate::memory::{Client, MemoryHub, OneFile};
+use crate::turns::reports;
 use std::alloc::Global;
-use wl_server::{Connections, Service, turn};
-use wl_session::{Config, Rgb, Session};
-
-pub(crate) const CONFIG: Config = Config {
-    width: 2,
-    height: 1,
-    background: Rgb { r: 0, g: 0, b: 0 },
-};
 
 /// wl_display.sync with the new callback 2.
 pub(crate) const SYNC: &[u8] = b"\x01\0\0\0\0\0\x0c\0\x02\0\0\0";
 
 /// wl_callback.done of the callback 2, and wl_display.delete_id of it.
 pub(crate) const ANSWER: &[u8] = b"\x02\0\0\0\0\0\x0c\0\0\0\0\0\x01\0\0\0\x01\0\x0c\0\x02\0\0\0";
-
-/// Whether a hub is served for so many turns, and this is reported.
-fn reports(
-    alloc: Global,
-    hub: &mut MemoryHub,
-    side: &mut OneFile,
-    turns: u32,
-    wanted: &[u8],
-) -> bool {
-    let Ok(session) = Session::new(alloc, CONFIG) else {
-        return false;
-    };
-    let mut service = Service::new(session, Vec::new(alloc), Vec::new(alloc), None::<Vec<u8>>);
-    let mut connections = Connections::new();
-    for before in 0..turns {
-        if turn(
-            hub,
-            &mut service,
-            &mut connections,
-            side,
-            before.saturating_add(1),
-        )
-        .is_err()
-        {
-            return false;
-        }
-    }
-    service.report.as_slice() == wanted
-}
 
 /// The clients of a hub.
 fn two<'a>(alloc: Global, first: Client<'a>, second: Client<'a>) -> Option<Vec<Client<'a>>> {

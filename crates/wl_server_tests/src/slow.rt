@@ -3,11 +3,12 @@
 ghost use Rattle.std.specs.Prelude.{◌≡◌, ◌≤◌, ⊤, IfSome, length};
 
 use crate::memory::OneFile;
-use crate::serving::{ANSWER, CONFIG, SYNC};
+use crate::serving::{ANSWER, SYNC};
+use crate::turns::{Served, served, takes};
 use std::alloc::Global;
 use wl_hub::{Hub, HubFault};
-use wl_server::{Connections, Service, turn};
-use wl_session::{Cause, Fed, Session};
+use wl_server::Connections;
+use wl_session::{Cause, Fed};
 
 /// A client's end.
 #[derive(Clone, Copy, Debug, PartialEq, Eq)]
@@ -126,11 +127,16 @@ impl Hub for SlowHub {
     }
 }
 
-/// A session that is served, whose report is kept.
-type Served = Service<Global, Vec<u8>, Vec<u8>>;
+/// Whether the client that floods stands so.
+fn stands(service: &Served, wanted: Fed) -> bool {
+    service.session.status(1) == wanted
+}
 
-/// Whether these turns were taken, from the one up to the other.
-fn takes(
+/// What is told of two clients that connected.
+const BOTH: &[u8] = b"client 1\nclient 2\n";
+
+/// Whether these turns were taken, from the one up to the other, where no side file is there.
+fn goes_on(
     hub: &mut SlowHub,
     service: &mut Served,
     connections: &mut Connections<Way>,
@@ -141,49 +147,54 @@ fn takes(
         name: "none",
         opened: 0,
     };
-    for time in from..to.saturating_add(1) {
-        if turn(hub, service, connections, &mut side, time).is_err() {
-            return false;
-        }
-    }
-    true
+    takes(hub, service, connections, &mut side, from, to)
 }
 
-/// Whether the client that floods stands so.
-fn stands(service: &Served, wanted: Fed) -> bool {
-    service.session.status(1) == wanted
-}
-
-/// What is told of two clients that connected.
-const BOTH: &[u8] = b"client 1\nclient 2\n";
-
-/// Whether nobody connects in the first turn, and both in the second; the client that never reads lives as long as what waits for it is
-/// within 1,048,576 bytes, and ends then, but isn't closed; and the one that sends a byte a turn is answered as its last one came.
+/// Whether nobody connects in the first turn, and both in the second; and the client that never reads lives as long as what waits for it is
+/// within 1,048,576 bytes, and ends then.
 ///
 /// Each turn reads 16 times 4,096 bytes, and 12 of them are answered by 24: after eight turns 43,690 syncs wait with 1,048,560 bytes, and in the
 /// ninth the next one passes the limit.
-fn serves_the_slow(alloc: Global, hub: &mut SlowHub) -> bool {
-    let Ok(session) = Session::new(alloc, CONFIG) else {
-        return false;
-    };
-    let mut service = Service::new(session, Vec::new(alloc), Vec::new(alloc), None::<Vec<u8>>);
-    let mut connections = Connections::new();
-    takes(hub, &mut service, &mut connections, 1, 1)
+fn ends_the_one(
+    hub: &mut SlowHub,
+    service: &mut Served,
+    connections: &mut Connections<Way>,
+) -> bool {
+    goes_on(hub, service, connections, 1, 1)
         && service.report.is_empty()
-        && takes(hub, &mut service, &mut connections, 2, 9)
-        && stands(&service, Fed::Alive)
-        && takes(hub, &mut service, &mut connections, 10, 10)
-        && stands(&service, Fed::Ended(Cause::Slow))
-        && takes(hub, &mut service, &mut connections, 11, 12)
+        && goes_on(hub, service, connections, 2, 9)
+        && stands(service, Fed::Alive)
+        && goes_on(hub, service, connections, 10, 10)
+        && stands(service, Fed::Ended(Cause::Slow))
+}
+
+/// Whether the client that ended isn't closed, and the one that sends a byte a turn is answered as its last one came.
+fn answers_the_other(
+    hub: &mut SlowHub,
+    service: &mut Served,
+    connections: &mut Connections<Way>,
+) -> bool {
+    goes_on(hub, service, connections, 11, 12)
         && hub.taken.is_empty()
-        && takes(hub, &mut service, &mut connections, 13, 13)
+        && goes_on(hub, service, connections, 13, 13)
         && hub.taken.as_slice() == ANSWER
         && service.report.as_slice() == BOTH
+}
+
+fn serves_the_slow(alloc: Global, hub: &mut SlowHub) -> bool {
+    let mut connections = Connections::new();
+    match served(alloc) {
+        Some(mut service) => {
+            ends_the_one(hub, &mut service, &mut connections)
+                && answers_the_other(hub, &mut service, &mut connections)
+                && hub.faults == 1
+        }
+        None => false,
+    }
 }
 
 #[test]
 fn slow_clients_hold_up_nobody(rt: HostRuntime) {
     let mut hub = SlowHub::new(rt.alloc());
     assert!(rt; serves_the_slow(rt.alloc(), &mut hub));
-    assert_eq!(rt; hub.faults, 1);
 }

@@ -1,14 +1,14 @@
 //! Turns over a real socket, whose both ends are of one process.
 
 use crate::memory::OneFile;
-use crate::serving::{ANSWER, CONFIG, SYNC};
+use crate::serving::{ANSWER, SYNC};
+use crate::turns::{Served, served, takes};
 use mio::net::UnixStream;
 use std::alloc::Global;
 use std::io::{Read, Write};
 use std::{env, fs, process};
 use wl_hub::SocketHub;
-use wl_server::{Connections, Service, turn};
-use wl_session::Session;
+use wl_server::Connections;
 
 /// A path for a socket of this process, in the folder of the system for files that don't last.
 fn socket_path(rt: &HostRuntime) -> Option<String> {
@@ -28,18 +28,18 @@ fn is_answered(near: &mut UnixStream) -> bool {
 }
 
 /// Whether the sync of a client is answered within 50 turns.
-fn answers(alloc: Global, hub: &mut SocketHub, near: &mut UnixStream) -> bool {
-    let Ok(session) = Session::new(alloc, CONFIG) else {
-        return false;
-    };
-    let mut service = Service::new(session, Vec::new(alloc), Vec::new(alloc), None::<Vec<u8>>);
-    let mut connections = Connections::new();
+fn answers_within_50(
+    hub: &mut SocketHub,
+    service: &mut Served,
+    connections: &mut Connections<UnixStream>,
+    near: &mut UnixStream,
+) -> bool {
     let mut side = OneFile {
         name: "1.1",
         opened: 0,
     };
     for time in 1..51_u32 {
-        if turn(hub, &mut service, &mut connections, &mut side, time).is_err() {
+        if !takes(hub, service, connections, &mut side, time, time) {
             return false;
         }
         if is_answered(near) {
@@ -47,6 +47,15 @@ fn answers(alloc: Global, hub: &mut SocketHub, near: &mut UnixStream) -> bool {
         }
     }
     false
+}
+
+/// Whether the sync of a client is answered by a new session.
+fn answers(alloc: Global, hub: &mut SocketHub, near: &mut UnixStream) -> bool {
+    let mut connections = Connections::new();
+    match served(alloc) {
+        Some(mut service) => answers_within_50(hub, &mut service, &mut connections, near),
+        None => false,
+    }
 }
 
 /// Whether two clients connect and stay, and the second is answered.
