@@ -1,6 +1,7 @@
 //! What many rows begin with: the globals that a client binds, its buffers, and a toplevel that is mapped.
 
-use crate::rows::{Message, Row};
+use crate::rows::{Case, Fault, Message, REGISTRY, Row, first_missed_case};
+use std::alloc::Global;
 use wl_session::Fed;
 use wl_wire::Arg;
 
@@ -109,3 +110,27 @@ pub(crate) const MAPS: &[Row] = &[
     Row::Sends(COMMIT),
     Row::Waits(1, Some(&[])),
 ];
+
+/// A toplevel whose configure was acknowledged, and its buffers.
+const ACKNOWLEDGED: &[&[Row]] = &[REGISTRY, GLOBALS, MADE, CONFIGURES, ACKNOWLEDGES, BUFFERS];
+
+/// A toplevel that shows the buffer 10, with the buffer 11 beside it.
+const MAPPED: &[&[Row]] = &[
+    REGISTRY,
+    GLOBALS,
+    MADE,
+    CONFIGURES,
+    ACKNOWLEDGES,
+    BUFFERS,
+    MAPS,
+];
+
+/// The first of the cases that isn't as wanted after the toplevel's configure was acknowledged and its buffers were made, and what wasn't.
+pub(crate) fn missed_after_buffers(alloc: Global, cases: &[Case]) -> Option<(usize, Fault)> {
+    first_missed_case(alloc, ACKNOWLEDGED, cases)
+}
+
+/// The first of the cases that isn't as wanted after the toplevel was mapped, and what wasn't.
+pub(crate) fn missed_after_map(alloc: Global, cases: &[Case]) -> Option<(usize, Fault)> {
+    first_missed_case(alloc, MAPPED, cases)
+}

@@ -1,10 +1,7 @@
 //! wl_surface.frame: after a frame a client is told that those of its callbacks are done whose requests a commit applied.
 
-use crate::begun::{
-    ACKNOWLEDGES, ATTACH_NONE, BUFFERS, COMMIT, CONFIGURES, GLOBALS, MADE, MAPS, RED_10,
-};
-use crate::rows::{Case, Fault, Message, Pixel, REGISTRY, Row, first_missed_case};
-use std::alloc::Global;
+use crate::begun::{ATTACH_NONE, COMMIT, MAPS, RED_10, missed_after_buffers};
+use crate::rows::{Case, Message, Pixel, Row};
 use wl_session::{Cause, Done, Fed, Step};
 use wl_wire::Arg;
 
@@ -133,34 +130,18 @@ const TOO_SLOW: &[Row] = &[
     Row::Shows(0, 0, &[Pixel(0, 0, 0, 0, 0)]),
 ];
 
-/// A toplevel that shows the buffer 10, all red.
-const MAPPED: &[&[Row]] = &[
-    REGISTRY,
-    GLOBALS,
-    MADE,
-    CONFIGURES,
-    ACKNOWLEDGES,
-    BUFFERS,
-    RED_10,
-    MAPS,
-];
-
+/// Each begins with a toplevel that shows the buffer 10, all red.
 const CASES: &[Case] = &[
-    ("a commit and a frame answer it", &[ANSWERED]),
-    ("no commit applied it", &[NOT_APPLIED]),
-    ("in the order of the requests", &[IN_ORDER]),
-    ("another surface commits", &[OF_ONE_SURFACE]),
-    ("its surface goes", &[SURFACE_GONE]),
-    ("its window is unmapped", &[UNMAPPED]),
-    ("the client is too slow", &[TOO_SLOW]),
+    ("a commit and a frame answer it", &[RED_10, MAPS, ANSWERED]),
+    ("no commit applied it", &[RED_10, MAPS, NOT_APPLIED]),
+    ("in the order of the requests", &[RED_10, MAPS, IN_ORDER]),
+    ("another surface commits", &[RED_10, MAPS, OF_ONE_SURFACE]),
+    ("its surface goes", &[RED_10, MAPS, SURFACE_GONE]),
+    ("its window is unmapped", &[RED_10, MAPS, UNMAPPED]),
+    ("the client is too slow", &[RED_10, MAPS, TOO_SLOW]),
 ];
-
-/// The first of the cases that isn't as wanted after the window was mapped, and what wasn't.
-fn missed_after_map(alloc: Global, cases: &[Case]) -> Option<(usize, Fault)> {
-    first_missed_case(alloc, MAPPED, cases)
-}
 
 #[test]
 fn callbacks_are_answered(rt: HostRuntime) {
-    assert_eq!(rt; missed_after_map(rt.alloc(), CASES), None);
+    assert_eq!(rt; missed_after_buffers(rt.alloc(), CASES), None);
 }

@@ -2,7 +2,7 @@
 
 use crate::begun::{
     ACKNOWLEDGES, ATTACH_NONE, BUFFERS, COMMIT, CONFIGURED, CONFIGURES, GLOBALS, GREEN, MADE, MAPS,
-    RED, RED_10,
+    RED, RED_10, missed_after_buffers,
 };
 use crate::rows::{
     Case, Fault, Message, Pixel, REGISTRY, Row, bytes_of, first_missed_case, is_pixel, play_after,
@@ -497,9 +497,6 @@ const SHOWS_SECOND_ALONE: &[Row] = &[Row::Shows(
     &[Pixel(0, 0, 128, 0, 0), Pixel(40, 40, 0, 0, 0)],
 )];
 
-/// A toplevel that was configured, and its buffers.
-const START: &[&[Row]] = &[REGISTRY, GLOBALS, MADE, CONFIGURES, ACKNOWLEDGES, BUFFERS];
-
 const CASES: &[Case] = &[
     (
         "a window shows what its store has",
@@ -535,14 +532,9 @@ const CASES: &[Case] = &[
     ),
 ];
 
-/// The first of the cases that isn't as wanted after the toplevel was configured, and what wasn't.
-fn missed_after_start(alloc: Global, cases: &[Case]) -> Option<(usize, Fault)> {
-    first_missed_case(alloc, START, cases)
-}
-
 #[test]
 fn frames_are_as_worked(rt: HostRuntime) {
-    assert_eq!(rt; missed_after_start(rt.alloc(), CASES), None);
+    assert_eq!(rt; missed_after_buffers(rt.alloc(), CASES), None);
 }
 
 /// A window that is all red, and a clean tick after its frame.

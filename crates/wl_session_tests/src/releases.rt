@@ -1,8 +1,7 @@
 //! wl_buffer.release: a buffer that no surface shows any more is told, while its wl_buffer is there.
 
-use crate::begun::{ACKNOWLEDGES, ATTACH_NONE, BUFFERS, COMMIT, CONFIGURES, GLOBALS, MADE, MAPS};
-use crate::rows::{Case, Fault, Message, Pixel, REGISTRY, Row, first_missed_case, play};
-use std::alloc::Global;
+use crate::begun::{ATTACH_NONE, BUFFERS, COMMIT, CONFIGURES, GLOBALS, missed_after_map};
+use crate::rows::{Case, Message, Pixel, REGISTRY, Row, play};
 use wl_session::{Cause, Done, Fed, Step};
 use wl_wire::Arg;
 
@@ -102,17 +101,6 @@ const TOO_SLOW: &[Row] = &[
     Row::Shows(0, 0, &[]),
 ];
 
-/// A toplevel that shows the buffer 10, with the buffer 11 beside it.
-const MAPPED: &[&[Row]] = &[
-    REGISTRY,
-    GLOBALS,
-    MADE,
-    CONFIGURES,
-    ACKNOWLEDGES,
-    BUFFERS,
-    MAPS,
-];
-
 const CASES: &[Case] = &[
     ("another buffer takes its place", &[REPLACED]),
     ("none takes its place", &[UNMAPPED]),
@@ -121,11 +109,6 @@ const CASES: &[Case] = &[
     ("the next toplevel is configured", &[CONFIGURED_AGAIN]),
     ("the client is too slow", &[TOO_SLOW]),
 ];
-
-/// The first of the cases that isn't as wanted after the window was mapped, and what wasn't.
-fn missed_after_map(alloc: Global, cases: &[Case]) -> Option<(usize, Fault)> {
-    first_missed_case(alloc, MAPPED, cases)
-}
 
 #[test]
 fn buffers_are_released(rt: HostRuntime) {

@@ -1,6 +1,6 @@
 //! Subsurfaces: when what they commit is shown, where they stand, and how deep they go.
 
-use crate::begun::{ACKNOWLEDGES, BUFFERS, COMMIT, CONFIGURES, GLOBALS, GREEN, MADE, MAPS, RED};
+use crate::begun::{COMMIT, GLOBALS, GREEN, RED, missed_after_map};
 use crate::rows::{Case, Fault, Message, Pixel, REGISTRY, Row, first_missed_case};
 use std::alloc::Global;
 use wl_session::Fed;
@@ -199,32 +199,30 @@ const RECTANGLES_1025: &[Row] = &[
     Row::Shows(16, 16, &[]),
 ];
 
-/// A subsurface of a toplevel, both shown.
-const MAPPED: &[&[Row]] = &[
-    REGISTRY,
-    GLOBALS,
-    MADE,
-    CONFIGURES,
-    ACKNOWLEDGES,
-    BUFFERS,
-    MAPS,
-    SUBSURFACE,
-    SHOWN,
-];
-
+/// Each begins with a subsurface of a toplevel, both shown.
 const CASES: &[Case] = &[
-    ("what it commits is held", &[HELD]),
-    ("it is synchronised no longer", &[SET_DESYNC]),
-    ("its parent hides it", &[HELD, PLACE_BELOW]),
-    ("its wl_subsurface goes", &[HELD, DESTROY]),
-    ("1,024 held rectangles", &[RECTANGLES_1024]),
-    ("1,025 held rectangles", &[RECTANGLES_1025]),
+    ("what it commits is held", &[SUBSURFACE, SHOWN, HELD]),
+    (
+        "it is synchronised no longer",
+        &[SUBSURFACE, SHOWN, SET_DESYNC],
+    ),
+    (
+        "its parent hides it",
+        &[SUBSURFACE, SHOWN, HELD, PLACE_BELOW],
+    ),
+    (
+        "its wl_subsurface goes",
+        &[SUBSURFACE, SHOWN, HELD, DESTROY],
+    ),
+    (
+        "1,024 held rectangles",
+        &[SUBSURFACE, SHOWN, RECTANGLES_1024],
+    ),
+    (
+        "1,025 held rectangles",
+        &[SUBSURFACE, SHOWN, RECTANGLES_1025],
+    ),
 ];
-
-/// The first of the cases that isn't as wanted after the window with its subsurface was mapped, and what wasn't.
-fn missed_after_map(alloc: Global, cases: &[Case]) -> Option<(usize, Fault)> {
-    first_missed_case(alloc, MAPPED, cases)
-}
 
 #[test]
 fn subsurfaces_are_as_worked(rt: HostRuntime) {

@@ -2,7 +2,7 @@
 
 use crate::begun::{
     ACKNOWLEDGES, ATTACH_10, ATTACH_NONE, BUFFER_10, BUFFERS, COMMIT, CONFIGURED, CONFIGURES,
-    GLOBALS, MADE, MAPS,
+    GLOBALS, MADE, missed_after_map,
 };
 use crate::rows::{Case, Fault, Message, REGISTRY, Row, first_missed_case, first_missed_row};
 use std::alloc::Global;
@@ -142,20 +142,6 @@ const MAPPED_CASES: &[Case] = &[
         &[WITHOUT_BUFFERS, STORE_GOES_WITH_ITS_SURFACE],
     ),
 ];
-
-/// The first of the cases that isn't as wanted after the toplevel was mapped, and what wasn't.
-fn missed_after_map(alloc: Global, cases: &[Case]) -> Option<(usize, Fault)> {
-    let parts: &[&[Row]] = &[
-        REGISTRY,
-        GLOBALS,
-        MADE,
-        CONFIGURES,
-        ACKNOWLEDGES,
-        BUFFERS,
-        MAPS,
-    ];
-    first_missed_case(alloc, parts, cases)
-}
 
 #[test]
 fn mapped_toplevels_are_as_worked(rt: HostRuntime) {
