@@ -45,16 +45,18 @@ turns_option = required (record (option_named (codes "turns")) { parser = Some (
 abbrev pub pointer_option : Rule
 pointer_option = option_named (codes "pointer")
 
+-- `[--size WxH] [--ppm FILE] [--dir DIR]`
+abbrev pub with_output : App → App
+with_output a = with_rule (with_rule (with_rule a size_option) ppm_option) dir_option
+
 -- `replay [--size WxH] [--ppm FILE] [--dir DIR]`
 abbrev pub replay_command : App
-replay_command = with_rule (with_rule (with_rule (new_app (codes "replay")) size_option) ppm_option) dir_option
+replay_command = with_output (new_app (codes "replay"))
 
 -- `serve --socket PATH --turns N [--size WxH] [--ppm FILE] [--dir DIR] [--pointer FILE]`
 abbrev pub serve_command : App
 serve_command =
-    with_rule (with_rule (with_rule (with_rule (with_rule (with_rule (new_app (codes "serve")) socket_option) turns_option) size_option)
-    ppm_option) dir_option)
-    pointer_option
+    with_rule (with_output (with_rule (with_rule (new_app (codes "serve")) socket_option) turns_option)) pointer_option
 
 -- a command that does nothing but by a subcommand
 abbrev pub with_required_subcommand : App → App

@@ -1,9 +1,9 @@
 //! The command line.
 
 ghost use Rattle.std.specs.Prelude.{◌≡◌, ◌≤◌, ℕ, IfErr, IfOk, MatchResult, Some, None, codes, false, map, string_bytes};
-ghost use Rattle.clap.specs.Words.{app_of, first_value, found_of, new_app, rule_of, with_rule};
+ghost use Rattle.clap.specs.Words.{app_of, first_value, found_of, new_app, rule_of};
 ghost use Rattle.wl_recording.specs.Line.{number_of};
-ghost use Rattle.wl_options.specs.Command.{Asks, IsAskedBy, IsGiven, IsRefused, IsServed, IsToldAs, asked_size, dir_option, option_named, pointer_option, ppm_option, program, replay_command, serve_command, size_option, socket_option, turns_option, with_required_subcommand};
+ghost use Rattle.wl_options.specs.Command.{Asks, IsAskedBy, IsGiven, IsRefused, IsServed, IsToldAs, asked_size, dir_option, option_named, pointer_option, ppm_option, program, replay_command, serve_command, size_option, socket_option, turns_option, with_output, with_required_subcommand};
 
 use crate::fault::Fault;
 use crate::size::Size;
@@ -145,7 +145,7 @@ fn serve_command<'a>(alloc: Global) -> Result<Command<'a>, AllocError>
 
 /// The subcommand with the options of its output: its size, the file of its images, and the folder of its side files.
 fn with_output<'a>(alloc: Global, subcommand: Command<'a>) -> Result<Command<'a>, AllocError>
-    ensures { IfOk result (λ r. app_of r ≡ with_rule (with_rule (with_rule (app_of subcommand.entry) size_option) ppm_option) dir_option) }
+    ensures { IfOk result (λ r. app_of r ≡ with_output (app_of subcommand.entry)) }
 {
     subcommand
         .arg(size_option(alloc))?

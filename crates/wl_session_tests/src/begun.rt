@@ -112,7 +112,7 @@ pub(crate) const MAPS: &[Row] = &[
 ];
 
 /// A toplevel whose configure was acknowledged, and its buffers.
-const ACKNOWLEDGED: &[&[Row]] = &[REGISTRY, GLOBALS, MADE, CONFIGURES, ACKNOWLEDGES, BUFFERS];
+const BUFFERED: &[&[Row]] = &[REGISTRY, GLOBALS, MADE, CONFIGURES, ACKNOWLEDGES, BUFFERS];
 
 /// A toplevel that shows the buffer 10, with the buffer 11 beside it.
 const MAPPED: &[&[Row]] = &[
@@ -127,7 +127,7 @@ const MAPPED: &[&[Row]] = &[
 
 /// The first of the cases that isn't as wanted after the toplevel's configure was acknowledged and its buffers were made, and what wasn't.
 pub(crate) fn missed_after_buffers(alloc: Global, cases: &[Case]) -> Option<(usize, Fault)> {
-    first_missed_case(alloc, ACKNOWLEDGED, cases)
+    first_missed_case(alloc, BUFFERED, cases)
 }
 
 /// The first of the cases that isn't as wanted after the toplevel was mapped, and what wasn't.
