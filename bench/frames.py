@@ -26,6 +26,9 @@ import tempfile
 import time
 
 ROOT = pathlib.Path(__file__).resolve().parent.parent
+sys.path.insert(0, str(ROOT / "tools"))
+import wayland_wire  # pylint: disable=wrong-import-position
+
 PROGRAM = ROOT / "crates" / "wlframe" / "out" / "wlframe"
 WHOLE = 1920, 1080
 LARGEST = 4096, 4096
@@ -34,14 +37,8 @@ ARGB8888, XRGB8888 = 0, 1
 
 def message(sender, opcode, *arguments):
     """A message whose arguments are words or strings."""
-    body = b""
-    for argument in arguments:
-        if isinstance(argument, str):
-            text = argument.encode() + b"\0"
-            body += struct.pack("<I", len(text)) + text + b"\0" * (-len(text) % 4)
-        else:
-            body += struct.pack("<I", argument & 0xFFFFFFFF)
-    return struct.pack("<IHH", sender, opcode, 8 + len(body)) + body
+    words = [wayland_wire.spelled_string(it) if isinstance(it, str) else struct.pack("<I", it & 0xFFFFFFFF) for it in arguments]
+    return wayland_wire.message(sender, opcode, b"".join(words))
 
 
 def mapped(width, height, form=XRGB8888, region=False):

@@ -1,14 +1,16 @@
 #!/usr/bin/env python3
 """What `wlframe serve` costs: round trips over its socket, and turns with clients that do nothing.
 
-    bench/server.py [--seconds S] [--turns N] [--peer]
+    bench/server.py [--seconds S] [--turns N] [--idle S] [--peer]
 
 Round trips: 1 and 31 clients that each send wl_display.sync and read its two events before they send the next, and one that sends 1,000 of
-them at once and then reads all 2,000 events. Turns: how long N turns take with 0, 1 and 32 connections that send nothing. With --peer the same
-clients ask libwayland's server too (bench/peers/libwayland_server.c), which needs a C compiler and Debian's libwayland-dev. The program has to be
-built before (`./wlframe --help` builds it).
+them at once and then reads all 2,000 events. Turns: how long N turns take with 0, 1 and 32 connections that send nothing. At a rate: how long a
+round trip takes at 60 and at 1,000 Hz, and which share of a processor the server takes at 60 Hz over S seconds with 0 and 32 connections that send
+nothing. With --peer the same clients ask libwayland's server too (bench/peers/libwayland_server.c), which needs a C compiler and Debian's
+libwayland-dev. The program has to be built before (`./wlframe --help` builds it).
 """
 import argparse
+import os
 import pathlib
 import resource
 import selectors
@@ -28,13 +30,15 @@ BATCH = 1000
 
 
 class Server:
-    """A server in a folder of its own, which takes so many turns."""
+    """A server in a folder of its own, which takes so many turns; or, at a rate, as many as it can until it is ended."""
 
-    def __init__(self, turns=FOREVER):
+    def __init__(self, turns=FOREVER, rate=None):
         self.turns = turns
+        self.rate = rate
 
     def words(self):
-        return [PROGRAM, "serve", "--socket", self.path, "--turns", str(self.turns), "--dir", self.room.name, "--size", "64x64"]
+        pace = ["--turns", str(self.turns)] if self.rate is None else ["--rate", str(self.rate)]
+        return [PROGRAM, "serve", "--socket", self.path, *pace, "--dir", self.room.name, "--size", "64x64"]
 
     def __enter__(self):
         self.room = tempfile.TemporaryDirectory()
@@ -124,10 +128,45 @@ def turns(count, number):
     return wall / number * 1e6, spent / number * 1e6
 
 
+def trip(rate, seconds):
+    """The milliseconds of a round trip at this rate, one at a time: the middle one, and the longest."""
+    with Server(rate=rate) as server:
+        client = server.connect()
+        begun, took = time.monotonic(), []
+        while (sent := time.monotonic()) - begun < seconds:
+            client.sendall(SYNC)
+            read(client, ANSWER)
+            took.append((time.monotonic() - sent) * 1e3)
+        took.sort()
+        return took[len(took) // 2], took[-1]
+
+
+def processor_seconds(process):
+    """What a process took of a processor until now."""
+    fields = pathlib.Path(f"/proc/{process.pid}/stat").read_text().rsplit(")", 1)[1].split()
+    return (int(fields[11]) + int(fields[12])) / os.sysconf("SC_CLK_TCK")
+
+
+def idle_share(count, rate, seconds):
+    """Which share of a processor the server takes at this rate with so many connections that send nothing."""
+    with Server(rate=rate) as server:
+        clients = [server.connect() for _ in range(count)] or [server.connect()]
+        for client in clients[count:]:
+            client.close()
+        time.sleep(0.5)
+        before, begun = processor_seconds(server.process), time.monotonic()
+        time.sleep(seconds)
+        spent, passed = processor_seconds(server.process) - before, time.monotonic() - begun
+        for client in clients:
+            client.close()
+    return spent / passed
+
+
 def main():
     parser = argparse.ArgumentParser(description="What wlframe serve costs.")
     parser.add_argument("--seconds", type=float, default=3.0)
     parser.add_argument("--turns", type=int, default=100_000)
+    parser.add_argument("--idle", type=float, default=20.0, help="how many seconds of an idle server are measured")
     parser.add_argument("--peer", action="store_true", help="measure libwayland's server too")
     asked = parser.parse_args()
     for name, kind in [("wlframe", Server), ("libwayland", Peer)][: 2 if asked.peer else 1]:
@@ -137,6 +176,11 @@ def main():
     for count in (0, 1, 32):
         wall, spent = turns(count, asked.turns)
         print(f"{count:2} idle clients: {wall:7.2f} us a turn, {spent:7.2f} us of processor time")
+    for rate in (60, 1000):
+        middle, longest = trip(rate, asked.seconds)
+        print(f"--rate {rate:4}, 1 client, one request at a time: {middle:7.2f} ms a round trip, {longest:7.2f} at most")
+    for count in (0, 32):
+        print(f"--rate   60, {count:2} idle clients: {idle_share(count, 60, asked.idle) * 100:5.2f} % of a processor")
 
 
 if __name__ == "__main__":

@@ -19,19 +19,17 @@ import sys
 import tempfile
 import time
 
-PROGRAM = pathlib.Path(__file__).resolve().parent.parent / "crates" / "wlframe" / "out" / "wlframe"
+TOP = pathlib.Path(__file__).resolve().parent.parent
+sys.path.insert(0, str(TOP / "tools"))
+from wayland_wire import message, spelled_string  # pylint: disable=wrong-import-position
+
+PROGRAM = TOP / "crates" / "wlframe" / "out" / "wlframe"
 BYTES_A_LINE = 60_000
 REGISTRY, COMPOSITOR, SHM, WM_BASE, POOL = 2, 3, 4, 5, 9
 
 
-def message(object_id, opcode, body):
-    return struct.pack("<II", object_id, (8 + len(body)) << 16 | opcode) + body
-
-
 def bind(name, interface, version, object_id):
-    text = interface.encode() + b"\0"
-    padded = struct.pack("<I", len(text)) + text + b"\0" * (-len(text) % 4)
-    return message(REGISTRY, 0, struct.pack("<I", name) + padded + struct.pack("<II", version, object_id))
+    return message(REGISTRY, 0, struct.pack("<I", name) + spelled_string(interface) + struct.pack("<II", version, object_id))
 
 
 def pool_of(size):

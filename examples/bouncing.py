@@ -10,8 +10,10 @@ are those of the rectangles that the ball's client said; where the report counts
 import pathlib
 import struct
 import sys
+import zlib
 
-import ppm_to_png
+sys.path.insert(0, str(pathlib.Path(__file__).resolve().parent.parent / "tools"))
+from pictures import SIGNATURE, chunk, read  # pylint: disable=wrong-import-position
 
 OUTPUT = 160, 96
 # The ball's window stands at the place of the second toplevel, and shows what is below it but for the ball.
@@ -119,14 +121,13 @@ def beside(pixels, points):
 
 def animated(images, width, height, milliseconds):
     """The bytes of an animated PNG file that loops for ever."""
-    chunk = ppm_to_png.chunk
-    yield b"\x89PNG\r\n\x1a\n" + chunk(b"IHDR", struct.pack(">IIBBBBB", width, height, 8, 2, 0, 0, 0))
+    yield SIGNATURE + chunk(b"IHDR", struct.pack(">IIBBBBB", width, height, 8, 2, 0, 0, 0))
     yield chunk(b"acTL", struct.pack(">II", len(images), 0))
     number = 0
     for at, image in enumerate(images):
         yield chunk(b"fcTL", struct.pack(">IIIIIHHBB", number, width, height, 0, 0, milliseconds, 1000, 0, 0))
         number += 1
-        content = ppm_to_png.zlib.compress(image, 9)
+        content = zlib.compress(image, 9)
         if at == 0:
             yield chunk(b"IDAT", content)
         else:
@@ -138,11 +139,12 @@ def animated(images, width, height, milliseconds):
 def picture(frames, report, to):
     counts = [int(line.split()[2]) for line in pathlib.Path(report).read_text().splitlines() if line.startswith("frame ")]
     images = []
-    for at, (width, height, pixels) in enumerate(ppm_to_png.frames(pathlib.Path(frames).read_bytes())):
-        points = damaged(at)
-        if (width, height) != OUTPUT or counts[at] != len(points):
-            sys.exit(f"frame {at}: {len(points)} damaged points are said, and the report counts {counts[at]}")
-        images.append(b"".join(beside(pixels, points)))
+    with open(frames, "rb") as stream:
+        for at, (width, height, pixels) in enumerate(read(stream)):
+            points = damaged(at)
+            if (width, height) != OUTPUT or counts[at] != len(points):
+                sys.exit(f"frame {at}: {len(points)} damaged points are said, and the report counts {counts[at]}")
+            images.append(b"".join(beside(pixels, points)))
     pathlib.Path(to).write_bytes(b"".join(animated(images, 2 * OUTPUT[0] + 4, OUTPUT[1], 60)))
 
 

@@ -22,75 +22,16 @@ that stands in the place of its NAME. An OBJECT may be given by its id too. An A
 `xrgb8888` or a string in quotation marks; new ids and descriptors are left out. A bind names the global and its version, as in
 `compositor = registry.bind(wl_compositor, 2)`. Whether the compositor accepts a request is for the replay to tell.
 """
+import pathlib
 import re
 import struct
 import sys
 
-# The requests of each interface in the order of their opcodes, with their arguments (docs/PROTOCOL.md).
-REQUESTS = {
-    "wl_display": ["sync new:wl_callback", "get_registry new:wl_registry"],
-    "wl_registry": ["bind uint string uint new:global"],
-    "wl_callback": [],
-    "wl_compositor": ["create_surface new:wl_surface", "create_region new:wl_region"],
-    "wl_region": ["destroy", "add int int int int", "subtract int int int int"],
-    "wl_surface": [
-        "destroy",
-        "attach object int int",
-        "damage int int int int",
-        "frame new:wl_callback",
-        "set_opaque_region object",
-        "set_input_region object",
-        "commit",
-        "set_buffer_transform int",
-    ],
-    "wl_shm": ["create_pool new:wl_shm_pool int"],
-    "wl_shm_pool": ["create_buffer new:wl_buffer int int int int uint", "destroy", "resize int"],
-    "wl_buffer": ["destroy"],
-    "wl_subcompositor": ["destroy", "get_subsurface new:wl_subsurface object object"],
-    "wl_subsurface": ["destroy", "set_position int int", "place_above object", "place_below object", "set_sync", "set_desync"],
-    "wl_output": [],
-    "wl_seat": ["get_pointer new:wl_pointer", "get_keyboard new:wl_keyboard", "get_touch new:wl_touch"],
-    "wl_pointer": ["set_cursor uint object int int"],
-    "wl_keyboard": [],
-    "wl_touch": [],
-    "xdg_wm_base": ["destroy", "create_positioner new:xdg_positioner", "get_xdg_surface new:xdg_surface object", "pong uint"],
-    "xdg_positioner": [
-        "destroy",
-        "set_size int int",
-        "set_anchor_rect int int int int",
-        "set_anchor uint",
-        "set_gravity uint",
-        "set_constraint_adjustment uint",
-        "set_offset int int",
-    ],
-    "xdg_surface": [
-        "destroy",
-        "get_toplevel new:xdg_toplevel",
-        "get_popup new:xdg_popup object object",
-        "set_window_geometry int int int int",
-        "ack_configure uint",
-    ],
-    "xdg_toplevel": [
-        "destroy",
-        "set_parent object",
-        "set_title string",
-        "set_app_id string",
-        "show_window_menu object uint int int",
-        "move object uint",
-        "resize object uint uint",
-        "set_max_size int int",
-        "set_min_size int int",
-        "set_maximized",
-        "unset_maximized",
-        "set_fullscreen object",
-        "unset_fullscreen",
-        "set_minimized",
-    ],
-    "xdg_popup": ["destroy", "grab object uint"],
-}
-# The globals in the order of their names, from 1.
-GLOBALS = ["wl_compositor", "wl_subcompositor", "wl_shm", "wl_output", "wl_seat", "xdg_wm_base"]
-FORMATS = {"argb8888": "0", "xrgb8888": "1"}
+sys.path.insert(0, str(pathlib.Path(__file__).resolve().parent.parent / "tools"))
+from wayland_table import GLOBALS, INTERFACES, Argument, enum_of  # pylint: disable=wrong-import-position
+from wayland_wire import message, spelled_string  # pylint: disable=wrong-import-position
+
+FORMATS = {name: str(value) for name, value in enum_of("wl_shm.format").values.items()}
 MAX_CLIENTS = 32
 # What a line of a recording, of at most 140,000 bytes, has room for, in bytes and in pixels.
 MAX_BODY = 60_000
@@ -126,16 +67,16 @@ def string(text):
     """The bytes of a string: its length with the final NUL, itself, and what fills up the last word."""
     if not re.fullmatch('"[^"]*"', text):
         raise Mistake(f"{text} is no string in quotation marks")
-    content = text[1:-1].encode() + b"\0"
-    return struct.pack("<I", len(content)) + content + b"\0" * (-len(content) % 4)
+    return spelled_string(text[1:-1])
 
 
 def bound(arguments):
-    """The kinds and the arguments of a bind as they are sent, from a global and its version."""
+    """What a bind takes, and its arguments as they are sent, from a global and its version."""
     if len(arguments) != 2 or arguments[0] not in GLOBALS:
         raise Mistake("bind takes a global and its version")
     interface, version = arguments
-    return ["uint", "string", "uint", f"new:{interface}"], [str(1 + GLOBALS.index(interface)), f'"{interface}"', version]
+    taken = [Argument("name", "uint"), Argument("interface", "string"), Argument("version", "uint"), Argument("id", "new_id", interface)]
+    return taken, [str(1 + GLOBALS.index(interface)), f'"{interface}"', version]
 
 
 class Client:
@@ -173,26 +114,25 @@ class Client:
         """The bytes of a request. What it makes has the name."""
         target = self.find(target)
         interface = self.interfaces[target]
-        for opcode, (known, *kinds) in enumerate(map(str.split, REQUESTS[interface])):
-            if known == request:
-                break
-        else:
+        known = INTERFACES[interface].named(request)
+        if known is None:
             raise Mistake(f"{interface} has no request {request}")
+        taken = [it for it in known.arguments if it.kind != "fd"]
         if request == "bind":
-            kinds, arguments = bound(arguments)
-        new = [kind[len("new:") :] for kind in kinds if kind.startswith("new:")]
+            taken, arguments = bound(arguments)
+        new = [it.interface for it in taken if it.kind == "new_id"]
         if bool(new) != bool(name):
             raise Mistake(f"{interface}.{request} makes {'an object: write NAME = in front' if new else 'no object'}")
-        if len(arguments) != len(kinds) - len(new):
-            raise Mistake(f"{interface}.{request} takes {len(kinds) - len(new)} arguments, not {len(arguments)}")
+        if len(arguments) != len(taken) - len(new):
+            raise Mistake(f"{interface}.{request} takes {len(taken) - len(new)} arguments, not {len(arguments)}")
         made = int(name) if new and name.isdecimal() else max(self.interfaces) + 1
         rest = iter(arguments)
-        body = b"".join(number("uint", str(made)) if kind.startswith("new:") else self.spelled(kind, next(rest)) for kind in kinds)
+        body = b"".join(number("uint", str(made)) if it.kind == "new_id" else self.spelled(it.kind, next(rest)) for it in taken)
         if len(body) > MAX_BODY:
             raise Mistake("the message is too long for a line of a recording")
         if new:
             self.add(name, made, new[0])
-        return struct.pack("<IHH", target, opcode, 8 + len(body)) + body
+        return message(target, known.opcode, body)
 
     def fill(self, pool, width, height, color, at, stride):
         """The lines that fill a rectangle, one for each row."""
@@ -252,8 +192,8 @@ class Composer:
         if fill:
             return self.client.fill(*fill.groups())
         name, target, request, arguments = request.groups()
-        message = self.client.request(name, target, request, [argument.strip() for argument in ARGUMENT.findall(arguments)])
-        return [f"bytes {self.client.number} {message.hex(' ', 4)}"]
+        sent = self.client.request(name, target, request, [argument.strip() for argument in ARGUMENT.findall(arguments)])
+        return [f"bytes {self.client.number} {sent.hex(' ', 4)}"]
 
 
 def main():

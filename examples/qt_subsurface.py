@@ -1,9 +1,9 @@
 #!/usr/bin/env python3
 """A Qt window with a child window inside it, a subsurface on Wayland, that moves to the right twenty times and then leaves.
 
-    QT_QPA_PLATFORM=wayland QT_WAYLAND_DISABLED_INTERFACES=wl_seat examples/qt_subsurface.py
+    tools/run --frames frames -- examples/qt_subsurface.py
 
-It needs PyQt 6 and the plugin of Qt for Wayland (Debian: python3-pyqt6, qt6-wayland). Without the variable Qt asks for the seat's pointer.
+It needs PyQt 6 and the plugin of Qt for Wayland (Debian: python3-pyqt6, qt6-wayland).
 """
 import sys
 

@@ -38,18 +38,17 @@ pub(crate) fn damage<A: Allocator + Copy>(
     surfaces.damage(0, rect)
 }
 
-/// Commits. What a commit tells is looked at by `Row::CommitTells`.
+/// Commits, and applies that at once.
 pub(crate) fn commit<A: Allocator + Copy>(
     surfaces: &mut Surfaces<A>,
     surface: SurfaceNo,
 ) -> Result<(), SurfaceError> {
-    match surfaces.commit(surface) {
-        Ok(_) => Ok(()),
-        Err(error) => Err(error),
-    }
+    surfaces.hold(surface)?;
+    surfaces.apply(surface);
+    Ok(())
 }
 
-/// Destroys a surface. What that tells is looked at by `Row::DestroyTells`.
+/// Destroys a surface.
 pub(crate) fn destroy<A: Allocator + Copy>(
     surfaces: &mut Surfaces<A>,
     surface: SurfaceNo,

@@ -1,6 +1,6 @@
 use std::alloc::{Allocator, Global};
 use test_support::Refusing;
-use wl_children::{Children, Member, Placed};
+use wl_children::{Children, Member, Placed, Side};
 
 // Three children, by their numbers.
 const FIRST: Member = Member::Child(1);
@@ -49,10 +49,8 @@ fn new_are_topmost<A: Allocator + Copy>(children: &mut Children<A>) -> bool {
         && stack_is(
             children.pending(),
             &[(Member::Itself, 0, 0), (FIRST, 0, 0), (SECOND, 0, 0)],
-        )
-        && children.has_child(2)
-        && !children.has_child(3);
-    children.commit();
+        );
+    children.hold();
     let wait = is_alone(children.applied());
     children.apply();
     are_pending && wait && order_is(children.applied(), &[Member::Itself, FIRST, SECOND])
@@ -68,11 +66,11 @@ fn a_new_child_is_topmost(rt: HostRuntime) {
 // Whether a place that is committed counts once the surface is applied, and none that was asked later.
 fn applies_what_was_committed<A: Allocator + Copy>(children: &mut Children<A>) -> bool {
     let is_added = added(children, 1);
-    children.commit();
+    children.hold();
     children.apply();
-    let is_placed = children.place_below(1, Member::Itself).is_ok()
+    let is_placed = children.place(1, Member::Itself, Side::Below).is_ok()
         && children.set_position(1, 4, -1).is_ok();
-    children.commit();
+    children.hold();
     let waits = stack_is(children.applied(), &[(Member::Itself, 0, 0), (FIRST, 0, 0)])
         && children.set_position(1, 9, 9).is_ok();
     children.apply();
@@ -94,30 +92,63 @@ fn a_commit_applies_nothing(rt: HostRuntime) {
 }
 
 // A place that is asked for, and the order of all that is wanted then.
-#[derive(Clone, Copy)]
-enum Place {
-    Above(usize, Member, [Member; 4]),
-    Below(usize, Member, [Member; 4]),
-}
+type Place = (usize, Side, Member, [Member; 4]);
 
 // Beside a sibling, beside the surface, and where nothing changes or there is no such child; worked by hand.
 const PLACES: [Place; 8] = [
-    Place::Above(1, THIRD, [Member::Itself, SECOND, THIRD, FIRST]),
-    Place::Below(3, Member::Itself, [THIRD, Member::Itself, SECOND, FIRST]),
-    Place::Below(1, SECOND, [THIRD, Member::Itself, FIRST, SECOND]),
-    Place::Above(2, THIRD, [THIRD, SECOND, Member::Itself, FIRST]),
-    Place::Above(2, SECOND, [THIRD, SECOND, Member::Itself, FIRST]),
-    Place::Below(2, Member::Child(4), [THIRD, SECOND, Member::Itself, FIRST]),
-    Place::Above(4, Member::Itself, [THIRD, SECOND, Member::Itself, FIRST]),
-    Place::Below(4, Member::Itself, [THIRD, SECOND, Member::Itself, FIRST]),
+    (
+        1,
+        Side::Above,
+        THIRD,
+        [Member::Itself, SECOND, THIRD, FIRST],
+    ),
+    (
+        3,
+        Side::Below,
+        Member::Itself,
+        [THIRD, Member::Itself, SECOND, FIRST],
+    ),
+    (
+        1,
+        Side::Below,
+        SECOND,
+        [THIRD, Member::Itself, FIRST, SECOND],
+    ),
+    (
+        2,
+        Side::Above,
+        THIRD,
+        [THIRD, SECOND, Member::Itself, FIRST],
+    ),
+    (
+        2,
+        Side::Above,
+        SECOND,
+        [THIRD, SECOND, Member::Itself, FIRST],
+    ),
+    (
+        2,
+        Side::Below,
+        Member::Child(4),
+        [THIRD, SECOND, Member::Itself, FIRST],
+    ),
+    (
+        4,
+        Side::Above,
+        Member::Itself,
+        [THIRD, SECOND, Member::Itself, FIRST],
+    ),
+    (
+        4,
+        Side::Below,
+        Member::Itself,
+        [THIRD, SECOND, Member::Itself, FIRST],
+    ),
 ];
 
 fn is_placed<A: Allocator + Copy>(children: &mut Children<A>, place: Place) -> bool {
-    let (answered, wanted) = match place {
-        Place::Above(child, beside, wanted) => (children.place_above(child, beside), wanted),
-        Place::Below(child, beside, wanted) => (children.place_below(child, beside), wanted),
-    };
-    answered.is_ok() && order_is(children.pending(), &wanted)
+    let (child, side, beside, wanted) = place;
+    children.place(child, beside, side).is_ok() && order_is(children.pending(), &wanted)
 }
 
 // The first of these that isn't as wanted.
@@ -150,10 +181,10 @@ fn siblings_stand_in_order(rt: HostRuntime) {
 // Whether a child that goes is at once in none of the three.
 fn goes_at_once<A: Allocator + Copy>(children: &mut Children<A>) -> bool {
     let is_added = added(children, 2);
-    children.commit();
+    children.hold();
     children.apply();
-    let is_below = children.place_below(1, Member::Itself).is_ok();
-    children.commit();
+    let is_below = children.place(1, Member::Itself, Side::Below).is_ok();
+    children.hold();
     let is_moved = children.set_position(2, 5, 6).is_ok();
     children.remove(1);
     let is_gone = stack_is(
@@ -172,7 +203,7 @@ fn goes_at_once<A: Allocator + Copy>(children: &mut Children<A>) -> bool {
             children.applied(),
             &[(Member::Itself, 0, 0), (SECOND, 0, 0)],
         )
-        && !children.has_child(1)
+        && order_is(children.pending(), &[Member::Itself, SECOND])
 }
 
 // wl_subsurface.destroy
@@ -185,8 +216,8 @@ fn a_child_that_goes_is_nowhere(rt: HostRuntime) {
 // Whether all that is asked of a surface without children leaves it alone.
 fn stays_alone<A: Allocator + Copy>(children: &mut Children<A>) -> bool {
     let is_answered = children.set_position(1, 1, 1).is_ok()
-        && children.place_above(1, Member::Itself).is_ok();
-    children.commit();
+        && children.place(1, Member::Itself, Side::Above).is_ok();
+    children.hold();
     children.apply();
     children.remove(1);
     is_answered && is_alone(children.applied())
@@ -205,12 +236,15 @@ fn no_child_needs_no_memory(rt: HostRuntime) {
 // doesn't leave the children as they were.
 fn refusals<A: Allocator + Copy>(children: &mut Children<A>) -> Option<usize> {
     if !added(children, 1) {
-        let is_as_before = is_alone(children.pending()) && !children.has_child(1);
-        return if is_as_before { Some(1) } else { None };
+        return if is_alone(children.pending()) {
+            Some(1)
+        } else {
+            None
+        };
     }
-    children.commit();
+    children.hold();
     children.apply();
-    let (refused, wanted) = match children.place_below(1, Member::Itself) {
+    let (refused, wanted) = match children.place(1, Member::Itself, Side::Below) {
         Ok(()) => (0, [FIRST, Member::Itself]),
         Err(_) => (1, [Member::Itself, FIRST]),
     };

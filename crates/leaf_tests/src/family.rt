@@ -1,7 +1,7 @@
 use std::alloc::Allocator;
 use test_support::Refusing;
 use wl_children::{Member, Placed};
-use wl_family::{Family, Link, PlaceError};
+use wl_family::{Family, Link, PlaceError, Side};
 use wl_trees::{MAX_DEPTH, SurfaceNo};
 
 // Adds so many surfaces, from 0 on.
@@ -14,9 +14,14 @@ fn added<A: Allocator + Copy>(family: &mut Family<A>, count: usize) -> bool {
     true
 }
 
+// Whether a surface is there: its tree has it then.
+fn has<A: Allocator + Copy>(family: &Family<A>, surface: SurfaceNo) -> bool {
+    !family.tree(surface).is_empty()
+}
+
 // wl_subcompositor.get_subsurface: whether it is let, and there is memory.
 fn joins<A: Allocator + Copy>(family: &mut Family<A>, child: SurfaceNo, parent: SurfaceNo) -> bool {
-    if !family.has(child) || !family.has(parent) {
+    if !has(family, child) || !has(family, parent) {
         return false;
     }
     if family.is_too_deep(child, parent) || family.is_under(child, parent) {
@@ -121,7 +126,7 @@ fn a_mode_holds_for_all_below(rt: HostRuntime) {
 fn a_link_ends_in_the_middle(rt: HostRuntime) {
     let mut family = Family::new(rt.alloc());
     assert!(rt; added(&mut family, 5) && chained(&mut family, 4) && joins(&mut family, 4, 1));
-    family.commit(1);
+    family.hold(1);
     assert!(rt; stack_is(&family, 1, &[]));
     family.apply(1);
     assert!(rt; stack_is(&family, 1, &[ITSELF, child_at(2, 0, 0), child_at(4, 0, 0)]));
@@ -130,7 +135,7 @@ fn a_link_ends_in_the_middle(rt: HostRuntime) {
     assert!(rt; family.link(2).is_none() && is_below(&family, 3, 2, true));
     assert!(rt; stack_is(&family, 1, &[ITSELF, child_at(4, 0, 0)]));
     family.remove(1);
-    assert!(rt; !family.has(1) && family.link(1).is_none() && family.link(4).is_none());
+    assert!(rt; !has(&family, 1) && family.link(1).is_none() && family.link(4).is_none());
     assert!(rt;
         tree_is(&family, 0, &[0]) && tree_is(&family, 4, &[4]) && stack_is(&family, 1, &[])
     );
@@ -157,15 +162,15 @@ fn a_child_is_placed_beside_its_siblings(rt: HostRuntime) {
     let mut family = Family::new(rt.alloc());
     assert!(rt; added(&mut family, 5));
     assert!(rt; joins(&mut family, 1, 0) && joins(&mut family, 2, 0) && joins(&mut family, 3, 1));
-    assert!(rt; family.place_below(2, 1).is_ok() && family.place_above(1, 0).is_ok());
-    assert!(rt; family.place_below(2, 0).is_ok() && family.set_position(1, 3, -4).is_ok());
-    assert!(rt; family.place_above(1, 3) == Err(PlaceError::BadSurface));
-    assert!(rt; family.place_below(1, 1) == Err(PlaceError::BadSurface));
-    assert!(rt; family.place_below(1, 4) == Err(PlaceError::BadSurface));
-    assert!(rt; family.place_above(4, 0).is_ok() && family.set_position(4, 1, 1).is_ok());
+    assert!(rt; family.place(2, 1, Side::Below).is_ok() && family.place(1, 0, Side::Above).is_ok());
+    assert!(rt; family.place(2, 0, Side::Below).is_ok() && family.set_position(1, 3, -4).is_ok());
+    assert!(rt; family.place(1, 3, Side::Above) == Err(PlaceError::BadSurface));
+    assert!(rt; family.place(1, 1, Side::Below) == Err(PlaceError::BadSurface));
+    assert!(rt; family.place(1, 4, Side::Below) == Err(PlaceError::BadSurface));
+    assert!(rt; family.place(4, 0, Side::Above).is_ok() && family.set_position(4, 1, 1).is_ok());
     family.apply(0);
     assert!(rt; stack_is(&family, 0, &[ITSELF]) || stack_is(&family, 0, &[]));
-    family.commit(0);
+    family.hold(0);
     family.apply(0);
     assert!(rt; stack_is(&family, 0, &[child_at(2, 0, 0), ITSELF, child_at(1, 3, -4)]));
 }

@@ -1,7 +1,7 @@
 use crate::calls::{attach, create, damage};
 use std::alloc::{Allocator, Global};
 use wl_geom::Rect;
-use wl_surface::{Applied, BufferNo, Offset, SurfaceError, Surfaces};
+use wl_surface::{BufferNo, Offset, SurfaceError, Surfaces};
 
 const CORNER: Rect = Rect {
     x: 0,
@@ -49,37 +49,33 @@ fn has_applied_none<A: Allocator + Copy>(surfaces: &mut Surfaces<A>) -> bool {
         && next_frame(surfaces).is_none()
 }
 
-// Whether it tells of the surface, that it looks otherwise or not, and how many rectangles of it are damaged.
-fn tells<A: Allocator + Copy>(surfaces: &mut Surfaces<A>, whole: bool, rects: usize) -> bool {
+// Whether it tells of the surface, and how many rectangles of it are damaged.
+fn tells<A: Allocator + Copy>(surfaces: &mut Surfaces<A>, rects: usize) -> bool {
     match surfaces.apply(0) {
-        Some(change) => {
-            change.surface == 0 && change.whole == whole && change.rects.len() == rects
-        }
+        Some(change) => change.surface == 0 && change.rects.len() == rects,
         None => false,
     }
 }
 
 // Both commits are applied at once, with both frames.
 fn applies_both<A: Allocator + Copy>(surfaces: &mut Surfaces<A>) -> bool {
-    tells(surfaces, true, 2)
+    tells(surfaces, 2)
         && shown(surfaces) == Some((8, Offset { x: 2, y: 0 }))
         && next_frame(surfaces) == Some(30)
         && next_frame(surfaces) == Some(31)
         && next_frame(surfaces).is_none()
 }
 
-fn callbacks<A: Allocator>(applied: Result<Applied<A>, SurfaceError>) -> Option<u32> {
-    match applied {
-        Ok(applied) => applied.callbacks.first().copied(),
+fn first<A: Allocator>(callbacks: Result<Vec<u32, A>, SurfaceError>) -> Option<u32> {
+    match callbacks {
+        Ok(callbacks) => callbacks.first().copied(),
         Err(_) => None,
     }
 }
 
 // Nothing is held any more, and the frame that wasn't committed goes with the surface.
 fn has_applied_all(surfaces: &mut Surfaces<Global>) -> bool {
-    tells(surfaces, false, 0)
-        && callbacks(surfaces.destroy(0)) == Some(32)
-        && surfaces.apply(0).is_none()
+    tells(surfaces, 0) && first(surfaces.destroy(0)) == Some(32) && surfaces.apply(0).is_none()
 }
 
 #[test]

@@ -121,6 +121,25 @@ fn has_child<A: Allocator + Copy>(linked: &mut Linked<A>) -> bool {
         && tells(linked.commit(ROOT), &[(ROOT, 0), (CHILD, 1)], &[])
 }
 
+// Whether surfaces without children tell what their commits and their ends change, and free a buffer once none of them shows it.
+fn tells_what_changes<A: Allocator + Copy>(linked: &mut Linked<A>) -> bool {
+    let is_shown = made(linked, 2) && commits(linked, 0, 7, &[(0, 1)], &[]);
+    attach(linked, 0, 8);
+    is_shown
+        && tells(linked.commit(0), &[(0, 0)], &[7])
+        && commits(linked, 1, 8, &[(1, 1)], &[])
+        && tells(linked.destroy(0), &[(0, 0)], &[])
+        && tells(linked.destroy(1), &[(1, 0)], &[8])
+        && tells(linked.destroy(1), &[], &[])
+}
+
+// wl_surface.commit and wl_surface.destroy, wl_buffer.release
+#[test]
+fn changes_are_told(rt: HostRuntime) {
+    let mut linked = Linked::new(rt.alloc());
+    assert!(rt; tells_what_changes(&mut linked));
+}
+
 // Whether commits of a synchronised child are held, the later in the place of the earlier with the damage of both, and applied by a commit of its
 // parent. A buffer is released where no surface holds or shows it any more.
 fn holds_commits<A: Allocator + Copy>(linked: &mut Linked<A>) -> bool {
@@ -337,4 +356,22 @@ fn a_commit_needs_memory(rt: HostRuntime) {
         }
     }
     assert!(rt; seen > 2);
+}
+
+// Without memory a surface isn't destroyed, and shows what it showed.
+#[test]
+fn an_end_needs_memory(rt: HostRuntime) {
+    let mut refused = 0_u32;
+    for served in 0..40_u64 {
+        let refusing = Refusing::new(rt.alloc(), served);
+        let mut linked = Linked::new(&refusing);
+        if made(&mut linked, 1) && commits(&mut linked, ROOT, 7, &[(ROOT, 1)], &[]) {
+            let is_gone = linked.destroy(ROOT).is_ok();
+            assert!(rt; is_gone == shown(&linked, ROOT).is_none(), "{served}");
+            if !is_gone {
+                refused = refused.saturating_add(1);
+            }
+        }
+    }
+    assert!(rt; refused > 0);
 }

@@ -47,11 +47,7 @@ fn marked(
     if rects.push(rect).is_err() {
         return None;
     }
-    let change = Change {
-        surface,
-        whole: false,
-        rects,
-    };
+    let change = Change { surface, rects };
     if changes.push(change).is_err() {
         return None;
     }

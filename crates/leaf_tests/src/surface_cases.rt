@@ -51,16 +51,6 @@ const ONE_AFTER_ANOTHER: &[Row] = &[
     Row::IsBusy(0, false),
 ];
 
-const TOLD: &[Row] = &[
-    Row::Creates(Ok(0)),
-    Row::Attaches(0, 7, 0, 0),
-    Row::Damages,
-    Row::CommitTells(true, 1, &[]),
-    Row::Attaches(0, 8, 0, 0),
-    Row::CommitTells(false, 0, &[7]),
-    Row::DestroyTells(true, 0, &[8]),
-];
-
 // Of two attaches the last one counts, and not before the commit.
 const OFFSETS: &[Row] = &[
     Row::Creates(Ok(0)),
@@ -211,7 +201,6 @@ const ASKED_OF_NONE: &[Row] = &[
 pub(crate) const CASES: &[(&str, &[&[Row]])] = &[
     ("a buffer from its attach on", &[FROM_ITS_ATTACH_ON]),
     ("one buffer after another", &[ONE_AFTER_ANOTHER]),
-    ("a commit tells what it changes", &[TOLD]),
     ("offsets add up", &[OFFSETS]),
     ("offsets are held within their bounds", &[BOUNDS]),
     ("transforms turn the size", &[TRANSFORMS]),

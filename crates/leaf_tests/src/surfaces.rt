@@ -5,7 +5,7 @@ use test_support::Refusing;
 use wl_geom::{Rect, Region};
 use wl_store::Transform;
 use wl_surface::{
-    Applied, Attached, BufferNo, MAX_SURFACES, Offset, Role, SurfaceError, SurfaceNo, Surfaces,
+    Attached, BufferNo, MAX_SURFACES, Offset, Role, SurfaceError, SurfaceNo, Surfaces,
 };
 
 const FOUR_BY_FOUR: Rect = Rect {
@@ -101,27 +101,6 @@ fn had<A: Allocator>(
     number(pending) == first && number(held) == second && number(applied) == third
 }
 
-// Whether an answer tells of one surface, whether that looks otherwise, how many rectangles of it are damaged, and which buffers are freed.
-fn tells<A: Allocator>(
-    applied: Result<Applied<A>, SurfaceError>,
-    whole: bool,
-    rects: usize,
-    freed: &[BufferNo],
-) -> bool {
-    match applied {
-        Ok(applied) => match applied.changes.first() {
-            Some(change) => {
-                applied.changes.len() == 1
-                    && change.whole == whole
-                    && change.rects.len() == rects
-                    && applied.freed.as_slice() == freed
-            }
-            None => false,
-        },
-        Err(_) => false,
-    }
-}
-
 // Attaches at this offset, commits, and says whether the surface is at that place then.
 fn moves<A: Allocator + Copy>(surfaces: &mut Surfaces<A>, by: (i32, i32), x: i32, y: i32) -> bool {
     attach(surfaces, 0, 7, by.0, by.1);
@@ -175,7 +154,7 @@ fn creates_256<A: Allocator + Copy>(surfaces: &mut Surfaces<A>) -> bool {
 
 /// What is done to surfaces or asked of them, with what is wanted of it.
 #[derive(Clone, Copy)]
-pub(crate) enum Row<'a> {
+pub(crate) enum Row {
     /// A surface is made, with this answer.
     Creates(Result<SurfaceNo, SurfaceError>),
     /// 256 surfaces are made.
@@ -190,10 +169,6 @@ pub(crate) enum Row<'a> {
     Destroys(SurfaceNo),
     /// The surface 0 is damaged.
     Damages,
-    /// What a commit of the surface 0 tells.
-    CommitTells(bool, usize, &'a [BufferNo]),
-    /// What it tells that the surface 0 is destroyed.
-    DestroyTells(bool, usize, &'a [BufferNo]),
     /// The surface 0 gets another transform, by its number, with this answer.
     Turns(i32, Result<(), SurfaceError>),
     /// A surface is given a role, with this answer.
@@ -237,8 +212,6 @@ fn is_met<A: Allocator + Copy>(surfaces: &mut Surfaces<A>, row: &Row) -> bool {
         Row::CannotCommit => commit(surfaces, 0) == Err(SurfaceError::Memory),
         Row::Destroys(surface) => destroy(surfaces, surface) == Ok(()),
         Row::Damages => damage(surfaces, FOUR_BY_FOUR) == Ok(()),
-        Row::CommitTells(whole, rects, freed) => tells(surfaces.commit(0), whole, rects, freed),
-        Row::DestroyTells(whole, rects, freed) => tells(surfaces.destroy(0), whole, rects, freed),
         Row::Turns(number, wanted) => surfaces.set_transform(0, number) == wanted,
         Row::TakesRole(surface, role, wanted) => surfaces.give_role(surface, role) == wanted,
         Row::Moves(by, x, y) => moves(surfaces, by, x, y),
@@ -352,11 +325,19 @@ fn regions_count_from_the_commit_on(rt: HostRuntime) {
     assert_eq!(rt; missed_row(&mut surfaces, UNSETS), None);
 }
 
-// The buffer is attached and nothing is applied, after one more commit that is refused too.
+// The buffer is attached and nothing is applied.
 const NOT_COMMITTED: &[Row] = &[
     Row::Reads(0, true, false, true),
     Row::IsPending(0, Some(7)),
+    Row::Shows(0, None),
+    Row::IsAt(0, 0),
+];
+
+// Nor is it after one more commit that is refused too.
+const REFUSED_AGAIN: &[Row] = &[
     Row::CannotCommit,
+    Row::Reads(0, true, false, true),
+    Row::IsPending(0, Some(7)),
     Row::Shows(0, None),
     Row::IsAt(0, 0),
 ];
@@ -390,22 +371,13 @@ fn has_only<A: Allocator + Copy>(surfaces: &mut Surfaces<A>, made: SurfaceNo) ->
     create(surfaces) == Err(SurfaceError::Memory) && surfaces.current(made).is_none()
 }
 
-// Whether surface 0 stays where there is no memory to destroy it.
-fn cannot_be_destroyed<A: Allocator + Copy>(surfaces: &mut Surfaces<A>) -> bool {
-    destroy(surfaces, 0) == Err(SurfaceError::Memory) && surfaces.current(0).is_some()
-}
-
 // Whether surfaces are made up to a refusal, and those stay.
 fn keeps_what_was_made<A: Allocator + Copy, B: Allocator>(
     surfaces: &mut Surfaces<A>,
     heap: &Refusing<B>,
 ) -> bool {
     match made(surfaces) {
-        Some(made) => {
-            heap.refused()
-                && has_only(surfaces, made)
-                && (made == 0 || cannot_be_destroyed(surfaces))
-        }
+        Some(made) => heap.refused() && has_only(surfaces, made),
         None => false,
     }
 }
@@ -452,8 +424,9 @@ fn leaves<A: Allocator + Copy, B: Allocator>(
     let done = done_before_a_refusal(surfaces)?;
     let is_left = match done {
         0 => heap.refused() && are_met(surfaces, NO_SURFACE),
-        3 => !heap.refused() && are_met(surfaces, COMMITTED),
-        _ => heap.refused() && are_met(surfaces, NOT_COMMITTED),
+        1 => heap.refused() && are_met(surfaces, NOT_COMMITTED),
+        2 => heap.refused() && are_met(surfaces, REFUSED_AGAIN),
+        _ => !heap.refused() && are_met(surfaces, COMMITTED),
     };
     if is_left { Some(done) } else { None }
 }

@@ -87,6 +87,36 @@ fn a_tree_is_seen_in_its_order(rt: HostRuntime) {
     assert!(rt; linked.commit(0).is_ok() && has(&linked, rt.alloc(), &[]));
 }
 
+// Attaches a buffer of 5 by 8 pixels to the surface 0, so many pixels to the right, turns it by 90 degrees and commits.
+fn shows_turned<A: Allocator + Copy>(linked: &mut Linked<A>, right: i32) -> bool {
+    if let Ok(layout) = layout(160, 0, 5, 8, 20, 1) {
+        let buffer = Attached {
+            number: 10,
+            object: 90,
+            store: 1,
+            layout,
+        };
+        linked.surfaces.attach(0, Some(buffer), right, 0);
+    }
+    linked.surfaces.set_transform(0, 1) == Ok(()) && linked.commit(0).is_ok()
+}
+
+// wl_surface.attach and set_buffer_transform: a window is as large as its turned buffer, and stands no farther than 16,777,216.
+#[test]
+fn a_window_is_turned_and_moved(rt: HostRuntime) {
+    let mut linked = Linked::new(rt.alloc());
+    assert!(rt; made(&mut linked, 1) && shows_turned(&mut linked, 16_777_216));
+    let window = TreeWindow {
+        surface: 0,
+        x: 16_777_216,
+        y: 20,
+        w: 8,
+        h: 5,
+        transform: Transform::Rotated90,
+    };
+    assert!(rt; has(&linked, rt.alloc(), &[window]));
+}
+
 // Without memory no window is added, and with it all are.
 #[test]
 fn windows_need_memory(rt: HostRuntime) {

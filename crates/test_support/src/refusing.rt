@@ -1,9 +1,9 @@
-ghost use Rattle.std.specs.Prelude.{◌≡◌, ◌<◌, ◌≤◌, true};
+ghost use Rattle.std.specs.Prelude.{◌≡◌, ◌<◌, ◌≤◌, ◌⊎◌, true, false};
 
 use std::alloc::{AllocError, Allocator};
 use std::cell::Cell;
 
-/// An allocator that serves a number of allocations by another one, and refuses every one after them.
+/// An allocator that serves a number of allocations by another one, and refuses every one after them, or only the next.
 ///
 /// `&Refusing<B>` is an allocator too, and is copied, so that one heap can be handed to many
 /// collections: `let heap = Refusing::new(rt.alloc(), 3); let list = Vec::new(&heap);`.
@@ -13,6 +13,8 @@ pub struct Refusing<B: Allocator> {
     inner: B,
     /// How many allocations are served.
     pub limit: u64,
+    /// Whether one is refused then, and those after it are served again.
+    pub once: bool,
     // How many were asked so far.
     asked: Cell<u64>,
 }
@@ -20,11 +22,26 @@ pub struct Refusing<B: Allocator> {
 impl<B: Allocator> Refusing<B> {
     /// Serves the first `served` allocations by `inner`.
     pub fn new(inner: B, served: u64) -> Refusing<B>
-        ensures { result.limit ≡ served }
+        ensures limit { result.limit ≡ served }
+        ensures once { result.once ≡ false }
     {
         Refusing {
             inner,
             limit: served,
+            once: false,
+            asked: Cell::new(0),
+        }
+    }
+
+    /// Serves all allocations by `inner` but the one after the first `served`.
+    pub fn once(inner: B, served: u64) -> Refusing<B>
+        ensures limit { result.limit ≡ served }
+        ensures once { result.once ≡ true }
+    {
+        Refusing {
+            inner,
+            limit: served,
+            once: true,
             asked: Cell::new(0),
         }
     }
@@ -36,7 +53,7 @@ impl<B: Allocator> Refusing<B> {
         self.asked.get() > self.limit
     }
 
-    /// How many allocations were passed on.
+    /// How many allocations were passed on before one was refused.
     pub fn served(&self) -> u64
         ensures { result ≤ self.now.limit }
     {
@@ -45,11 +62,11 @@ impl<B: Allocator> Refusing<B> {
 
     // Counts one more allocation, and says whether it is to be served.
     fn serves_next(&self) -> bool
-        ensures { result ≡ true → 0 < self.now.limit }
+        ensures { result ≡ true → (0 < self.now.limit) ⊎ (self.now.once ≡ true) }
     {
         let before = self.asked.get();
         self.asked.set(before.saturating_add(1));
-        before < self.limit
+        before < self.limit || (self.once && self.limit < before)
     }
 }
 

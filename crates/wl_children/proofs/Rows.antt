@@ -4,7 +4,7 @@ use Rattle.std.specs.Prelude.{pos, negsuc}
 use Rattle.wl_children.specs.declared.placed.Member.{Member}
 use Rattle.wl_children.specs.declared.placed.Member.TheVariants.{Itself, Child}
 use Rattle.wl_children.specs.declared.placed.Placed.{Placed}
-use Rattle.wl_children.specs.Stacks.{added, alone, moved, placed_above, placed_below, whole, without}
+use Rattle.wl_children.specs.Stacks.{above, added, alone, below, moved, placed, whole, without}
 
 abbrev at : Member → ℤ → ℤ → Placed
 at member x y = record { member = member; x = x; y = y }
@@ -18,21 +18,21 @@ row-added : moved 2 (pos 4) (negsuc 0) (added 2 (added 1 (whole []))) ≡ both
 row-added = refl
 
 -- below the surface, with its position
-row-below : placed_below 2 Itself both ≡ at (Child 2) (pos 4) (negsuc 0) ∷ at Itself (pos 0) (pos 0) ∷ at (Child 1) (pos 0) (pos 0) ∷ []
+row-below : placed below 2 Itself both ≡ at (Child 2) (pos 4) (negsuc 0) ∷ at Itself (pos 0) (pos 0) ∷ at (Child 1) (pos 0) (pos 0) ∷ []
 row-below = refl
 
 -- right above the surface is below its other children
-row-above : placed_above 2 Itself both ≡ at Itself (pos 0) (pos 0) ∷ at (Child 2) (pos 4) (negsuc 0) ∷ at (Child 1) (pos 0) (pos 0) ∷ []
+row-above : placed above 2 Itself both ≡ at Itself (pos 0) (pos 0) ∷ at (Child 2) (pos 4) (negsuc 0) ∷ at (Child 1) (pos 0) (pos 0) ∷ []
 row-above = refl
 
 -- a child beside itself, beside one that isn't there, and one that isn't there
-row-itself : placed_above 1 (Child 1) both ≡ both
+row-itself : placed above 1 (Child 1) both ≡ both
 row-itself = refl
 
-row-no_sibling : placed_below 1 (Child 3) both ≡ both
+row-no_sibling : placed below 1 (Child 3) both ≡ both
 row-no_sibling = refl
 
-row-no_child : placed_above 3 Itself both ≡ both
+row-no_child : placed above 3 Itself both ≡ both
 row-no_child = refl
 
 -- without its children a surface is alone

@@ -8,8 +8,8 @@ use Rattle.std.proofs.lemmas.Map.Views.{any-filter_same}
 use Rattle.wl_children.specs.declared.placed.Member.{Member}
 use Rattle.wl_children.specs.declared.placed.Member.TheVariants.{Itself, Child}
 use Rattle.wl_children.specs.declared.placed.Placed.{Placed}
-use Rattle.wl_children.specs.declared.stack.Side.{Side}
-use Rattle.wl_children.specs.declared.stack.Side.TheVariants.{Above, Below}
+use Rattle.wl_children.specs.declared.placed.Side.{Side}
+use Rattle.wl_children.specs.declared.placed.Side.TheVariants.{Above, Below}
 use Rattle.wl_children.specs.Stacks.{above, below, beside, has_member, is_member, is_of, moved, moved_beside, moved_place, placed, whole, without}
 
 -- a list with the surface itself is the whole stack

@@ -6,8 +6,8 @@ use Rattle.std.specs.Option.{option_map_or}
 use Rattle.wl_children.specs.declared.placed.Member.{Member}
 use Rattle.wl_children.specs.declared.placed.Member.TheVariants.{Itself, Child}
 use Rattle.wl_children.specs.declared.placed.Placed.{Placed}
-use Rattle.wl_children.specs.declared.stack.Side.{Side}
-use Rattle.wl_children.specs.declared.stack.Side.TheVariants.{Above, Below}
+use Rattle.wl_children.specs.declared.placed.Side.{Side}
+use Rattle.wl_children.specs.declared.placed.Side.TheVariants.{Above, Below}
 
 -- the stack pending, held and applied, each time as a whole
 pub record Stacks : Type 0 where
@@ -63,12 +63,6 @@ moved_beside beside child at places p =
 -- nothing changes (wayland.xml, wl_subsurface.place_above).
 abbrev pub placed : (Placed → Member → List Placed → List Placed) → ℕ → Member → List Placed → List Placed
 placed beside child at places = option_map_or (moved_beside beside child at places) (find (is_of (Child child)) places) places
-
-abbrev pub placed_above : ℕ → Member → List Placed → List Placed
-placed_above child at places = placed above child at places
-
-abbrev pub placed_below : ℕ → Member → List Placed → List Placed
-placed_below child at places = placed below child at places
 
 abbrev pub beside : Side → Placed → Member → List Placed → List Placed
 beside Above p at places = above p at places

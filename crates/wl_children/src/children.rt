@@ -1,10 +1,10 @@
 //! The stack of a surface and its children: pending, held and applied.
 
 ghost use Rattle.std.specs.Prelude.{◌≡◌, OnOk, OnErr, IfOk, option_map};
-ghost use Rattle.wl_children.specs.Stacks.{added, alone, beside, has_member, moved, placed, placed_above, placed_below, removed, whole, without};
+ghost use Rattle.wl_children.specs.Stacks.{added, alone, beside, moved, placed, removed, whole, without};
 
-use crate::placed::{Member, Placed, has_place};
-use crate::stack::{Side, Stack};
+use crate::placed::{Member, Placed, Side};
+use crate::stack::Stack;
 use std::alloc::{AllocError, Allocator};
 use std::marker::Model;
 use wl_trees::SurfaceNo;
@@ -83,19 +83,6 @@ impl<A: Allocator> Children<A> {
         }
     }
 
-    /// A child comes right above or right below a member. Without memory nothing changes.
-    fn place(&mut self, child: SurfaceNo, at: Member, side: Side) -> Result<(), AllocError>
-    where
-        A: Copy,
-        ensures ok { OnOk result (self.new ≡ record self.old { pending = placed (beside side) child at self.old.pending }) }
-        ensures err { OnErr result (self.new ≡ self.old) }
-    {
-        let mut stack = self.take_pending()?;
-        stack.place(child, at, side);
-        self.pending = Some(stack);
-        Ok(())
-    }
-
     /// wl_subcompositor.get_subsurface: pending, the child is topmost, at (0, 0). Without memory nothing changes.
     pub fn add(&mut self, child: SurfaceNo) -> Result<(), AllocError>
     where
@@ -123,30 +110,22 @@ impl<A: Allocator> Children<A> {
         Ok(())
     }
 
-    /// wl_subsurface.place_above: pending, the child comes right above a sibling, or above the surface itself, with its position. Nothing
-    /// changes where one of them isn't there, or both are the same, or there is no memory.
-    pub fn place_above(&mut self, child: SurfaceNo, at: Member) -> Result<(), AllocError>
+    /// wl_subsurface.place_above and place_below: pending, the child comes right above or right below a sibling, or the surface itself, with its
+    /// position. Nothing changes where one of them isn't there, or both are the same, or there is no memory.
+    pub fn place(&mut self, child: SurfaceNo, at: Member, side: Side) -> Result<(), AllocError>
     where
         A: Copy,
-        ensures ok { OnOk result (self.new ≡ record self.old { pending = placed_above child at self.old.pending }) }
+        ensures ok { OnOk result (self.new ≡ record self.old { pending = placed (beside side) child at self.old.pending }) }
         ensures err { OnErr result (self.new ≡ self.old) }
     {
-        self.place(child, at, Side::Above)
-    }
-
-    /// wl_subsurface.place_below: pending, the child comes right below a sibling, or below the surface itself, with its position. Nothing
-    /// changes where one of them isn't there, or both are the same, or there is no memory.
-    pub fn place_below(&mut self, child: SurfaceNo, at: Member) -> Result<(), AllocError>
-    where
-        A: Copy,
-        ensures ok { OnOk result (self.new ≡ record self.old { pending = placed_below child at self.old.pending }) }
-        ensures err { OnErr result (self.new ≡ self.old) }
-    {
-        self.place(child, at, Side::Below)
+        let mut stack = self.take_pending()?;
+        stack.place(child, at, side);
+        self.pending = Some(stack);
+        Ok(())
     }
 
     /// wl_surface.commit of the surface: what is pending is held.
-    pub fn commit(&mut self)
+    pub fn hold(&mut self)
         ensures { self.new ≡ record self.old { held = self.old.pending } }
     {
         if let Some(stack) = self.pending.take() {
@@ -184,12 +163,5 @@ impl<A: Allocator> Children<A> {
         ensures { whole result.now ≡ self.now.pending }
     {
         self.pending_stack().places()
-    }
-
-    /// Whether a surface is a child, pending.
-    pub fn has_child(&self, child: SurfaceNo) -> bool
-        ensures { result ≡ has_member (Member.Child child) self.now.pending }
-    {
-        has_place(self.pending(), Member::Child(child))
     }
 }

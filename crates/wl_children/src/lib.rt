@@ -6,4 +6,4 @@ mod placed;
 mod stack;
 
 pub use children::Children;
-pub use placed::{Member, Placed};
+pub use placed::{Member, Placed, Side};

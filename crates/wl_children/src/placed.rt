@@ -1,7 +1,7 @@
 //! Who stands in the stack of a surface, and where.
 
 ghost use Rattle.std.specs.Prelude.{◌≡◌, find, pos, position};
-ghost use Rattle.wl_children.specs.Stacks.{has_member, is_member, is_of, moved, moved_place};
+ghost use Rattle.wl_children.specs.Stacks.{is_member, is_of, moved, moved_place};
 
 use wl_trees::SurfaceNo;
 
@@ -12,6 +12,15 @@ pub enum Member {
     Itself,
     /// A child of the surface, by its number.
     Child(SurfaceNo),
+}
+
+/// On which side of a member another one comes.
+#[derive(Clone, Copy, Debug, PartialEq, Eq)]
+pub enum Side {
+    /// Right above it.
+    Above,
+    /// Right below it.
+    Below,
 }
 
 /// Who stands in the stack of a surface, and where its upper left corner is: in pixels right and down from that of the surface.
@@ -31,13 +40,6 @@ pub(crate) fn is_place_of(place: &Placed, member: Member) -> bool
         (Member::Child(child), Member::Child(other)) => child == other,
         _ => false,
     }
-}
-
-/// Whether a member has a place.
-pub(crate) fn has_place(places: &[Placed], member: Member) -> bool
-    ensures { result ≡ has_member member places.now }
-{
-    places.iter().any(|place| is_place_of(place, member))
 }
 
 /// The place of a member.

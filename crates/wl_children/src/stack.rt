@@ -3,17 +3,10 @@
 ghost use Rattle.std.specs.Prelude.{◌≡◌, ◌<◌, OnOk, OnErr, IfOk, vec_len, vec_capacity};
 ghost use Rattle.wl_children.specs.Stacks.{added, alone, beside, has_member, moved, placed, whole, without};
 
-use crate::placed::{Member, Placed, index_of, is_place_of, move_child, place_of};
+use crate::placed::{Member, Placed, Side, index_of, is_place_of, move_child, place_of};
 use std::alloc::{AllocError, Allocator};
 use std::marker::Model;
 use wl_trees::SurfaceNo;
-
-/// On which side of a member.
-#[derive(Clone, Copy)]
-pub(crate) enum Side {
-    Above,
-    Below,
-}
 
 /// The stack of a surface and its children from below, with their places. It is seen as that whole list. Without children it may be empty,
 /// and takes no memory then.

@@ -29,7 +29,7 @@ use Rattle.wl_peer.specs.Objects.{ById, Object, Objects, held_at, nothing, objec
 use Rattle.wl_peer.specs.Told.{Output, Said, bind_told, code_number, display_error, error_told, said_bytes}
 use Rattle.wl_peer.specs.Judgement.{Known, buffer_created, layout_refused}
 use Rattle.wl_peer.specs.Peer.{Peer, changed_region, ended, has_room, known_of, made, newcomer, no_stores, queued, removed, with_rest, IsUnqueuedFor, QueuesOr, Queues, Errs, LacksMemory, WantsOr}
-use Rattle.wl_client.specs.Agreement.{IsPeer, IsRegion, known_in, output_of}
+use Rattle.wl_client.specs.Agreement.{IsCount, IsPeer, IsRegion, known_in, most_counted, output_of}
 
 pub IsPeer-queued : (v : ClientView) (p : Peer) (e : Said) → IsPeer v p → IsPeer (record v { unsent = v.unsent ++ said_bytes e }) (queued e p)
 IsPeer-queued v p e is = record {
@@ -376,6 +376,10 @@ pub absent : (o : Option Cause) → false ≡ is_some o → o ≡ None
 absent None h = refl
 absent (Some cause) h = absurd (cc)
 
+-- what is counted is exact below the greatest number
+pub counted-below : (kept requests : ℕ) → IsCount kept requests → kept ≢ most_counted → kept ≡ requests
+counted-below kept requests is below = omega arith
+
 -- a client that has just connected
 pub IsPeer-new : (v : ClientView) (output : Output) (entry : Entry) → object_of entry ≡ record { interface = WlDisplay; version = 1 } → v.ended ≡ None → v.refused ≡ None → v.requests ≡ 0
     → v.serial ≡ 1 → v.rest ≡ [] → v.unsent ≡ [] → HoldsAt [] v.objects 1 (Some entry) → length v.objects ≡ 1 → v.regions ≡ [] → v.pools ≡ [] → v.buffers ≡ [] → v.stores ≡ no_stores
@@ -383,7 +387,7 @@ pub IsPeer-new : (v : ClientView) (output : Output) (entry : Entry) → object_o
 IsPeer-new v output entry display alive unrefused none first rest unsent holds held regions pools buffers stores shown = record {
   status = alive;
   «open» = unrefused;
-  requests = λ below. none;
+  requests = none;
   objects = objects_in-with [] v.objects 1 (Some entry) holds ∙ ap (λ (o : Object). with_id 1 (Some o) nothing) display;
   held = held;
   regions = λ id. rw regions tt;

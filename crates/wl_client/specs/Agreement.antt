@@ -1,5 +1,5 @@
 -- What is kept of a client agrees with a client of the plain desktop.
-use Rattle.std.specs.Prelude.{◌≡◌, ◌≢◌, ℕ, length, List, Option, Some, None}
+use Rattle.std.specs.Prelude.{◌≡◌, ℕ, length, min, List, Option, Some, None}
 use Rattle.std.specs.Option.{option_map}
 use Rattle.wl_geom.specs.Region.{Area, Change, Stands}
 use Rattle.wl_client.specs.declared.outputs.Output.{Output as Kept}
@@ -19,12 +19,12 @@ IsRegion (Some area) (Some changes) = Stands area changes
 IsRegion None (Some changes) = ⊥
 IsRegion (Some area) None = ⊥
 
--- Requests are counted up to the greatest number that 64 bits hold. No more are counted then.
+-- requests are counted up to the greatest number that 64 bits hold
 abbrev pub most_counted : ℕ
 most_counted = 18446744073709551615
 
 abbrev pub IsCount : ℕ → ℕ → Type 0
-IsCount kept requests = kept ≢ most_counted → kept ≡ requests
+IsCount kept requests = kept ≡ min requests most_counted
 
 -- what is kept of a client are its values, and each refusal of an event was acted upon
 pub record IsPeer (v : ClientView) (p : Peer) : Type 0 where

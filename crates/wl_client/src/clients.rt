@@ -1,8 +1,8 @@
 //! One client: what came from it, what is to be sent to it, and what its messages ask.
 
 ghost use Rattle.std.specs.Option.{option_copied, option_map};
-ghost use Rattle.std.specs.Prelude.{◌≡◌, ◌++◌, [], length, ◌≤◌, ◌∷◌, ◌==◌, ◌+◌, if◌then◌else◌, OnOk, OnErr, IfOk, IfErr, IsTrue, MatchBool, Some, None, true, false, is_some, is_none, map, nat_le, List};
-ghost use Rattle.wl_client.specs.Agreement.{output_of};
+ghost use Rattle.std.specs.Prelude.{◌≡◌, ◌++◌, [], length, ◌≤◌, ◌∷◌, ◌==◌, ◌+◌, if◌then◌else◌, OnOk, OnErr, IfOk, IfErr, IsTrue, MatchBool, Some, None, true, false, is_some, is_none, map, min, nat_le, List};
+ghost use Rattle.wl_client.specs.Agreement.{most_counted, output_of};
 ghost use Rattle.wl_peer.specs.Told.{Said, id_deleted, released_told, said, said_bytes};
 ghost use Rattle.wl_proto.specs.Messages.{says};
 ghost use Rattle.wl_wire.specs.Wire.{Word};
@@ -292,9 +292,10 @@ impl<A: Allocator + Copy> Client<A> {
         self.queue_all(&[frame_event(callback, time), deletion_event(callback)]);
     }
 
-    /// A request more is counted, as long as its number has 64 bits.
+    /// A request more is counted, as long as its number has 64 bits; past the greatest of those the count stays.
     pub fn count(&mut self)
         ensures only { self.new ≡ record self.old { requests = self.new.requests } }
+        ensures counted { self.new.requests ≡ min (self.old.requests + 1) most_counted }
         ensures counts { (p : Peer) → IsPeer self.old p → IsPeer self.new (counted p) }
         ensures rest { length self.new.rest ≡ length self.old.rest }
     {

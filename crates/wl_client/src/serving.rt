@@ -116,6 +116,7 @@ impl<A: Allocator + Copy> Client<A> {
         ensures idle { was_taken result ≡ false → self.new ≡ self.old }
         ensures more { result ≡ Served.More → IsIdleAt self.old.ended self.old.rest }
         ensures other { result ≡ Served.Other → (self.old.ended ≡ None) × PassesTo false self.old }
+        ensures passes { self.old.ended ≡ None → PassesTo false self.old → result ≡ Served.Other }
         ensures table { self.new.ended ≡ None → KeepsSurfaces self.old.objects self.new.objects }
         ensures cause { EndsSo result self.new.ended }
     {

@@ -214,21 +214,18 @@ module _ {A : Type 0} (output : Output) (rs : List (Option (Kept A))) (pile : Pi
       let n = through here.0 (sides.0 ∙ ap (λ (o : Shown). o.width) a.output) (sides.1 ∙ ap (λ (o : Shown). o.height) a.output) here.2 orderly in
       (n.0, n.2, n.3, put new now n.0 n.1 n.4, n.5)
 
-  -- what is there is left so, whether there is room for more or not
-  left : (room : Bool) → Matches (put-back (record v { has_room = room }) pile) d
-  left room =
-      let s = here.2 in
-      put (record v { has_room = room }) pile d here.0 (record { based = s.based; seat = s.seat; scene = s.scene; windows = s.windows; mapped = s.mapped })
+  -- what is there is left so
+  left : Matches (put-back v pile) d
+  left = put v pile d here.0 here.2
 
-  pub stays : (new : Kept A) (room : Bool) (now : Pile) → new ≡ record v { has_room = room } → now ≡ pile → Matches (put-back new now) d
-  stays new room now same still =
-      subst (λ (w : Kept A). Matches (put-back w now) d) (sym same) (subst (λ (t : Pile). Matches (put-back (record v { has_room = room }) t) d) (sym still) (left room))
+  pub stays : (new : Kept A) (now : Pile) → new ≡ v → now ≡ pile → Matches (put-back new now) d
+  stays new now same still = subst (λ (w : Kept A). Matches (put-back w now) d) (sym same) (subst (λ (t : Pile). Matches (put-back v t) d) (sym still) left)
 
   -- there was no message
-  pub idles : (new : Kept A) (now : Pile) → new ≡ record v { has_room = new.has_room } → now ≡ pile → IsIdleAt v.client.ended v.client.rest → Matches (put-back new now) d × IsIdleIn c d
+  pub idles : (new : Kept A) (now : Pile) → new ≡ v → now ≡ pile → IsIdleAt v.client.ended v.client.rest → Matches (put-back new now) d × IsIdleIn c d
   idles new now same still idle =
       let peer = here.2.seat.peer in (
-        stays new new.has_room now same still,
+        stays new now same still,
         subst IsIdleOf (sym here.1) (subst (λ ended. IsIdleAt ended here.0.peer.rest) peer.status (subst (λ rest. IsIdleAt v.client.ended rest) peer.rest idle)),
       )
 
@@ -258,7 +255,7 @@ module _ {A : Type 0} (output : Output) (rs : List (Option (Kept A))) (pile : Pi
       let s = here in
       let status : s.0.peer.status ≡ Some cause = sym s.2.seat.peer.status ∙ e in
       subst (λ r. Matches (put-back v pile) (kept_of c piece r d)) (sym s.1)
-      (subst (λ t. Matches (put-back v pile) (kept_by c piece t s.0 d)) (sym status) (left v.has_room))
+      (subst (λ t. Matches (put-back v pile) (kept_by c piece t s.0 d)) (sym status) left)
 
   pub keeps : (piece : List ℕ) (new : Kept A) → new ≡ record v { client = kept_while piece v.client.ended v.client } → Matches (put-back new pile) (kept_at c piece d)
   keeps piece new same = subst (λ (w : Kept A). Matches (put-back w pile) (kept_at c piece d)) (sym same) (by v.client.ended refl)

@@ -120,7 +120,6 @@ impl<A: Allocator + Copy> Desk<A> {
             client,
             owned: bare(alloc),
             subsurfaces: Subsurfaces::new(alloc),
-            has_room: false,
         });
         Ok(k as u32 + 1)
     }

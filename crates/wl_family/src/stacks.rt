@@ -1,12 +1,12 @@
 //! The stacks of those surfaces of a client that have had a child.
 
 ghost use Rattle.std.specs.Prelude.{◌≡◌, OnOk, OnErr};
-ghost use Rattle.wl_children.specs.Stacks.{added, moved, placed_above, placed_below, removed, whole};
+ghost use Rattle.wl_children.specs.Stacks.{added, beside, moved, placed, removed, whole};
 ghost use Rattle.wl_family.specs.Family.{applied, changed_at, committed, pending_as, stacks_kept};
 
 use std::alloc::{AllocError, Allocator};
 use std::collections::BTreeMap;
-use wl_children::{Children, Member, Placed};
+use wl_children::{Children, Member, Placed, Side};
 use wl_trees::SurfaceNo;
 
 /// A new child of a surface is topmost, pending. Without memory nothing changes.
@@ -47,34 +47,19 @@ pub(crate) fn move_child<A: Allocator + Copy>(
     }
 }
 
-/// Pending, a child of a surface comes right above a member. Without memory nothing changes.
-pub(crate) fn put_above<A: Allocator + Copy>(
+/// Pending, a child of a surface comes right above or right below a member. Without memory nothing changes.
+pub(crate) fn put_beside<A: Allocator + Copy>(
     stacks: &mut BTreeMap<SurfaceNo, Children<A>, A>,
     parent: SurfaceNo,
     child: SurfaceNo,
     at: Member,
+    side: Side,
 ) -> Result<(), AllocError>
-    ensures ok { OnOk result (stacks_kept stacks.new.entries ≡ changed_at parent (pending_as (placed_above child at)) (stacks_kept stacks.old.entries)) }
+    ensures ok { OnOk result (stacks_kept stacks.new.entries ≡ changed_at parent (pending_as (placed (beside side) child at)) (stacks_kept stacks.old.entries)) }
     ensures err { OnErr result (stacks.new.entries ≡ stacks.old.entries) }
 {
     match stacks.get_mut(&parent) {
-        Some(children) => children.place_above(child, at),
-        None => Ok(()),
-    }
-}
-
-/// Pending, a child of a surface comes right below a member. Without memory nothing changes.
-pub(crate) fn put_below<A: Allocator + Copy>(
-    stacks: &mut BTreeMap<SurfaceNo, Children<A>, A>,
-    parent: SurfaceNo,
-    child: SurfaceNo,
-    at: Member,
-) -> Result<(), AllocError>
-    ensures ok { OnOk result (stacks_kept stacks.new.entries ≡ changed_at parent (pending_as (placed_below child at)) (stacks_kept stacks.old.entries)) }
-    ensures err { OnErr result (stacks.new.entries ≡ stacks.old.entries) }
-{
-    match stacks.get_mut(&parent) {
-        Some(children) => children.place_below(child, at),
+        Some(children) => children.place(child, at, side),
         None => Ok(()),
     }
 }
@@ -100,7 +85,7 @@ pub(crate) fn hold<A: Allocator>(
     ensures { stacks_kept stacks.new.entries ≡ changed_at surface committed (stacks_kept stacks.old.entries) }
 {
     if let Some(children) = stacks.get_mut(&surface) {
-        children.commit();
+        children.hold();
     }
 }
 

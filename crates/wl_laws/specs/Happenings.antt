@@ -3,7 +3,7 @@ use Rattle.std.specs.Prelude.{ℕ, ℤ, ◌≡◌, false, List, [], ◌∷◌}
 use Rattle.wl_peer.specs.Told.{Output}
 use Rattle.wl_plain.specs.Act.{Feed}
 use Rattle.wl_plain.specs.Desktop.{Desktop, empty}
-use Rattle.wl_plain.specs.Happenings.{Happening, Leads, LeadsAll}
+use Rattle.wl_plain.specs.Happenings.{ArePiece, Happening, Leads, LeadsAll}
 use Rattle.wl_plain.specs.Happens.{Happens}
 use Rattle.wl_plain.specs.LeftOut.{LeftOut}
 use Rattle.wl_plain.specs.Marks.{AreDistinct}
@@ -12,13 +12,13 @@ use Rattle.wl_plain.specs.Stacked.{all_windows}
 use Rattle.wl_plain.specs.declared.answers.Done.{Done}
 use Rattle.wl_laws.specs.Soundness.{IsSound}
 
--- A piece of a client's stream leads where its bytes lead as they come, then the messages that they complete, and want of memory where it
--- was met.
+-- A piece of a client's stream leads where its bytes lead as they come, and then the messages that they complete, one after another, or so
+-- many of them and then want of memory; to a client that has ended, or isn't there, it does nothing. And wherever these lead a piece does.
 abbrev pub PieceIsMessages : Type 0
 PieceIsMessages =
-    (left : LeftOut) (c : ℕ) (piece : List ℕ) (done : Done) (d new : Desktop)
-    → Happens left (Feed c piece) done d new
-    → (hs : List Happening) × LeadsAll left hs d new
+    (left : LeftOut) (c : ℕ) (piece : List ℕ) (d new : Desktop)
+    → ((done : Done) → Happens left (Feed c piece) done d new → (hs : List Happening) × ArePiece c piece d hs new × LeadsAll left hs d new)
+    × ((hs : List Happening) → ArePiece c piece d hs new → LeadsAll left hs d new → (done : Done) × Happens left (Feed c piece) done d new)
 
 abbrev pub AreSound : List Desktop → Type 0
 AreSound [] = Unit {0}

@@ -79,7 +79,7 @@ impl<A: Allocator + Copy> Linked<A> {
         let shown = shown_of(&self.surfaces, &[surface], alloc)?;
         let mut freed = Vec::with_capacity(alloc, shown.len())?;
         self.surfaces.hold(surface)?;
-        self.family.commit(surface);
+        self.family.hold(surface);
         add_freed(&self.surfaces, &shown, &mut freed);
         let applied = Applied {
             changes: Vec::new(alloc),
@@ -108,7 +108,7 @@ impl<A: Allocator + Copy> Linked<A> {
     {
         let room = self.room(surface, Vec::new(self.alloc))?;
         self.surfaces.hold(surface)?;
-        self.family.commit(surface);
+        self.family.hold(surface);
         Ok(self.apply_tree(room))
     }
 
@@ -190,13 +190,13 @@ impl<A: Allocator + Copy> Linked<A> {
     {
         let own = self.own_end(surface)?;
         let room = self.room(surface, own)?;
-        let gone = self.surfaces.destroy(surface)?;
+        let callbacks = self.surfaces.destroy(surface)?;
         self.family.remove(surface);
         let Told { applied, shown } = self.apply_tree(room);
         let applied = Applied {
             changes: applied.changes,
             freed: applied.freed,
-            callbacks: gone.callbacks,
+            callbacks,
         };
         Ok(Told { applied, shown })
     }
@@ -237,7 +237,6 @@ impl<A: Allocator + Copy> Linked<A> {
         if self.is_shown(surface) {
             changes.push(Change {
                 surface,
-                whole: true,
                 rects: Vec::new(self.alloc),
             })?;
         }

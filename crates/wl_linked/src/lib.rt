@@ -8,6 +8,7 @@ mod tree;
 
 pub use commits::Told;
 pub use linked::Linked;
+pub use wl_family::Side;
 pub use wl_surface::{
     Applied, Attached, BufferNo, Change, Current, Role, SurfaceError, SurfaceNo, Surfaces,
 };

@@ -11,10 +11,10 @@ ghost use Rattle.wl_surface.specs.Surfaces.{Link, Surfaces as Asked, link_at, no
 ghost use Rattle.wl_surface.specs.Trees.{committed_in, linked, synchronised_in};
 ghost use Rattle.wl_surface.specs.Waiting.{AreWaiting, Callback};
 ghost use Rattle.wl_tree_laws.specs.Hanging.{kids_of};
-ghost use Rattle.wl_tree_laws.specs.Stacks.{IsKept};
+ghost use Rattle.wl_tree_laws.specs.Stacks.{IsKept, place_request};
 
 use std::alloc::{AllocError, Allocator};
-use wl_family::{Family, PlaceError};
+use wl_family::{Family, PlaceError, Side};
 use wl_surface::{Applied, BufferNo, Change, Role, SurfaceError, SurfaceNo, Surfaces};
 
 /// The surfaces of a client, and how they hang together. What is asked of one surface by itself is asked of `surfaces`; what is asked of a
@@ -114,12 +114,37 @@ impl<A: Allocator + Copy> Linked<A> {
         Ok(())
     }
 
-    /// wl_subsurface.place_above: once the parent is committed and applied, the child stands right above a sibling, or above the parent.
-    /// Nothing changes where the child has no link.
+    /// wl_subsurface.place_above and place_below: once the parent is committed and applied, the child stands right above or right below a
+    /// sibling, or the parent. Nothing changes where the child has no link.
     ///
     /// # Errors
     ///
     /// `NotSibling` where the other surface is neither the parent nor another child of it, or else `Memory`. Neither changes anything.
+    pub fn place(
+        &mut self,
+        child: SurfaceNo,
+        sibling: SurfaceNo,
+        side: Side,
+    ) -> Result<(), SurfaceError>
+        ensures ok { OnOk result ((all : Asked) (number : ℕ) (link : Link) (at : Member) → IsLink all number child link
+            → IsKept (kids_of all) at (member_of link.parent sibling) → Stand self.old.surfaces self.old.family all
+            → Stand self.new.surfaces self.new.family (with_change link.parent (asking (place_request side number at)) all)) }
+        ensures none { links_in self.old.family child ≡ None → OnOk result (self.new ≡ self.old) }
+        ensures bad { is_bad_sibling child sibling (links_in self.old.family) ≡ true → result ≡ Err SurfaceError.NotSibling }
+        ensures cause { is_bad_sibling child sibling (links_in self.old.family) ≡ false → IfErr result (λ e. e ≡ SurfaceError.Memory) }
+        ensures surfaces { self.new.surfaces ≡ self.old.surfaces }
+        ensures err { OnErr result (self.new ≡ self.old) }
+    {
+        if self.family.link(child).is_none() {
+            return Ok(());
+        }
+        match self.family.place(child, sibling, side) {
+            Ok(()) => Ok(()),
+            Err(error) => Err(place_error(error)),
+        }
+    }
+
+    /// wl_subsurface.place_above: [`Linked::place`] right above the sibling.
     pub fn place_above(&mut self, child: SurfaceNo, sibling: SurfaceNo) -> Result<(), SurfaceError>
         ensures ok { OnOk result ((all : Asked) (number : ℕ) (link : Link) (at : Member) → IsLink all number child link
             → IsKept (kids_of all) at (member_of link.parent sibling) → Stand self.old.surfaces self.old.family all
@@ -130,21 +155,10 @@ impl<A: Allocator + Copy> Linked<A> {
         ensures surfaces { self.new.surfaces ≡ self.old.surfaces }
         ensures err { OnErr result (self.new ≡ self.old) }
     {
-        if self.family.link(child).is_none() {
-            return Ok(());
-        }
-        match self.family.place_above(child, sibling) {
-            Ok(()) => Ok(()),
-            Err(error) => Err(place_error(error)),
-        }
+        self.place(child, sibling, Side::Above)
     }
 
-    /// wl_subsurface.place_below: once the parent is committed and applied, the child stands right below a sibling, or below the parent.
-    /// Nothing changes where the child has no link.
-    ///
-    /// # Errors
-    ///
-    /// `NotSibling` where the other surface is neither the parent nor another child of it, or else `Memory`. Neither changes anything.
+    /// wl_subsurface.place_below: [`Linked::place`] right below the sibling.
     pub fn place_below(&mut self, child: SurfaceNo, sibling: SurfaceNo) -> Result<(), SurfaceError>
         ensures ok { OnOk result ((all : Asked) (number : ℕ) (link : Link) (at : Member) → IsLink all number child link
             → IsKept (kids_of all) at (member_of link.parent sibling) → Stand self.old.surfaces self.old.family all
@@ -155,21 +169,19 @@ impl<A: Allocator + Copy> Linked<A> {
         ensures surfaces { self.new.surfaces ≡ self.old.surfaces }
         ensures err { OnErr result (self.new ≡ self.old) }
     {
-        if self.family.link(child).is_none() {
-            return Ok(());
-        }
-        match self.family.place_below(child, sibling) {
-            Ok(()) => Ok(()),
-            Err(error) => Err(place_error(error)),
-        }
+        self.place(child, sibling, Side::Below)
     }
 
     /// wl_subsurface.set_sync: the child's commits are held until its parent is applied. Nothing changes where it has no link.
     pub fn set_sync(&mut self, child: SurfaceNo)
         ensures stand { (all : Asked) (number : ℕ) (link : Link) → IsLink all number child link → Stand self.old.surfaces self.old.family all
             → Stand self.new.surfaces self.new.family (synchronised_in number all) }
+        ensures none { links_in self.old.family child ≡ None → self.new ≡ self.old }
         ensures surfaces { self.new.surfaces ≡ self.old.surfaces }
     {
+        if self.family.link(child).is_none() {
+            return;
+        }
         self.family.set_synchronised(child, true);
     }
 }

@@ -1,8 +1,7 @@
 -- Spans of surfaces on an output, and the damage that windows have there.
-use Rattle.std.proofs.Common.{◌≡◌, ◌≤◌, ◌<◌, ◌+◌, ℕ, ℤ, pos, Bool, true, false, List, Option, Some, cond, get_or, length, take, refl, ap, sym, ◌∙◌, arith}
+use Rattle.std.proofs.Common.{◌≡◌, ◌≤◌, ◌<◌, ◌+◌, ℕ, ℤ, pos, Bool, true, false, List, cond, get_or, length, take, refl, ap, sym, ◌∙◌, arith}
 use Rattle.std.specs.Prelude.{◌+ℤ◌, ◌-ℤ◌, ◌&&◌, ◌||◌, int_le, int_lt, nat_lt, unsigned_abs}
 use Rattle.std.specs.List.{list_any}
-use Rattle.std.proofs.Math.Bool.{or_assoc}
 use Rattle.std.proofs.lemmas.Bool.Decides.{nat_tests}
 use Rattle.std.proofs.lemmas.Int.{ints}
 use Rattle.std.proofs.lemmas.List.Folds.{list_any_more}
@@ -10,7 +9,7 @@ use Rattle.wl_geom.specs.declared.rect.Rect.{Rect}
 use Rattle.wl_geom.specs.Rect.{in_rect, in_span}
 use Rattle.wl_state.specs.State.{is_damaged}
 use Rattle.wl_paint.specs.Damage.{Damaged, has}
-use Rattle.wl_marking.specs.Marking.{AddsPoints, IsAsLarge, MarksChange, any_record_has, is_record_damaged, record_has}
+use Rattle.wl_marking.specs.Marking.{AddsPoints, IsAsLarge, is_record_damaged, record_has}
 use Rattle.wl_marking.specs.declared.record.WindowRecord.{WindowRecord}
 
 -- ---- spans
@@ -142,26 +141,3 @@ partly-more k rects n rect part old was new less is more lies sides small low = 
       ∙ ap (λ b. has old x y || (record_has (pos x) (pos y) k && b)) (sym (list_any_more p rects n rect less));
   sides = record { width = sides.width ∙ is.sides.width; height = sides.height ∙ is.sides.height };
 }
-
--- ---- one after the other
-
-pub both-marked : (p q : ℤ → ℤ → Bool) (old mid new : Damaged) → IsAsLarge old mid → AddsPoints p old mid → AddsPoints q mid new → AddsPoints (λ x y. p x y || q x y) old new
-both-marked p q old mid new sides first second = λ x y wide high.
-    second x y (rw sides.width wide) (rw sides.height high) ∙ ap (λ b. b || q (pos x) (pos y)) (first x y wide high) ∙ or_assoc (has old x y) (p (pos x) (pos y)) (q (pos x) (pos y))
-
-more-points : (p : ℤ → ℤ → Bool) (old new : Damaged) → AddsPoints p old new → (x y : ℕ) → x < old.width → y < old.height → has old x y ≡ true → has new x y ≡ true
-more-points p old new adds x y wide high there = adds x y wide high ∙ ap (λ b. b || p (pos x) (pos y)) there
-
--- where the record didn't stay, both windows are marked
-pub change-marked : (was is : Option WindowRecord) (rects : List Rect) (old mid new : Damaged) → ((k : WindowRecord) → was ≡ Some k → is ≡ Some k → ⊥)
-    → AddsPoints (λ x y. any_record_has x y was) old mid → IsAsLarge old mid
-    → AddsPoints (λ x y. any_record_has x y is) mid new → IsAsLarge mid new → MarksChange was is rects old new
-change-marked was is rects old mid new never first large second larger =
-    let both = both-marked (λ x y. any_record_has x y was) (λ x y. any_record_has x y is) old mid new large first second in record {
-      stayed = λ k a b. absurd (never k a b);
-      changed = λ other. both;
-      nothing = λ a b x y wide high. both x y wide high ∙ ap (λ k. has old x y || (any_record_has (pos x) (pos y) k || any_record_has (pos x) (pos y) is)) a
-          ∙ ap (λ k. has old x y || any_record_has (pos x) (pos y) k) b;
-      more = more-points (λ x y. any_record_has x y was || any_record_has x y is) old new both;
-      sides = record { width = larger.width ∙ large.width; height = larger.height ∙ large.height };
-    }

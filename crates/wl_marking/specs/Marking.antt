@@ -1,5 +1,5 @@
 -- What of an output is marked to be painted again, where a window changed.
-use Rattle.std.specs.Prelude.{ℕ, ℤ, List, ◌≡◌, ◌≢◌, ◌<◌, ◌-ℤ◌, ◌&&◌, ◌||◌, pos, unsigned_abs, Bool, false, true, Option, Some, None}
+use Rattle.std.specs.Prelude.{ℕ, ℤ, List, ◌≡◌, ◌<◌, ◌-ℤ◌, ◌&&◌, ◌||◌, pos, unsigned_abs, Bool, false, true, Option, Some, None}
 use Rattle.wl_geom.specs.declared.rect.Rect.{Rect}
 use Rattle.wl_geom.specs.Rect.{in_span}
 use Rattle.wl_paint.specs.Damage.{Damaged, has}
@@ -26,12 +26,3 @@ is_record_damaged rects x y k = record_has x y k && is_damaged k.w k.h rects (un
 -- these points are to be painted too, and no others
 abbrev pub AddsPoints : (ℤ → ℤ → Bool) → Damaged → Damaged → Type 0
 AddsPoints p old new = (x y : ℕ) → x < old.width → y < old.height → has new x y ≡ (has old x y || p (pos x) (pos y))
-
--- What changes of a surface's window is marked, whose record was this and is that: where the record stayed, the applied damage; else all of
--- the window, as it was and as it is.
-pub record MarksChange (was is : Option WindowRecord) (rects : List Rect) (old new : Damaged) : Type 0 where
-  pub stayed : (k : WindowRecord) → was ≡ Some k → is ≡ Some k → AddsPoints (λ x y. is_record_damaged rects x y k) old new
-  pub changed : was ≢ is → AddsPoints (λ x y. any_record_has x y was || any_record_has x y is) old new
-  pub nothing : was ≡ None → is ≡ None → AddsPoints (λ x y. false) old new
-  pub more : (x y : ℕ) → x < old.width → y < old.height → has old x y ≡ true → has new x y ≡ true
-  pub sides : IsAsLarge old new

@@ -6,5 +6,5 @@ mod marking;
 mod record;
 mod span;
 
-pub use marking::{mark_change, mark_damage, mark_window};
+pub use marking::{mark_damage, mark_window};
 pub use record::WindowRecord;

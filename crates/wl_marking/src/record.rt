@@ -1,6 +1,6 @@
 //! The record of a window: what of it is no colour.
 
-ghost use Rattle.std.specs.Prelude.{ℕ, ◌≡◌, ◌↔◌, ◌<◌, ◌-ℤ◌, ◌&&◌, pos, true};
+ghost use Rattle.std.specs.Prelude.{ℕ, ◌≡◌, ◌<◌, ◌-ℤ◌, ◌&&◌, pos};
 ghost use Rattle.wl_geom.specs.Rect.{in_rect};
 ghost use Rattle.wl_marking.specs.Marking.{record_has};
 
@@ -19,17 +19,6 @@ pub struct WindowRecord {
 }
 
 impl WindowRecord {
-    /// Whether both are the same.
-    pub(crate) fn is_same(self, other: WindowRecord) -> bool
-        ensures { (result ≡ true) ↔ (self ≡ other) }
-    {
-        self.x == other.x
-            && self.y == other.y
-            && self.w == other.w
-            && self.h == other.h
-            && self.transform == other.transform
-    }
-
     /// The window's points.
     pub(crate) fn rect(self) -> Rect
         ensures { (x y : ℕ) → x < 4096 → y < 4096 → in_rect (pos x) (pos y) result ≡ record_has (pos x) (pos y) self }

@@ -8,12 +8,12 @@ use Rattle.std.proofs.lemmas.List.Elements.{recursion_from_All}
 use Rattle.wl_children.specs.declared.placed.Member.TheVariants as kept
 use Rattle.wl_family.specs.Family.{member_of}
 use Rattle.wl_state.specs.declared.role.Role.TheVariants.{Subsurface}
-use Rattle.wl_state.specs.Request.{Child, Itself, Member, PlaceAbove, PlaceBelow, Request, SetPosition}
+use Rattle.wl_state.specs.Request.{Child, Itself, Member, Request, SetPosition}
 use Rattle.wl_state.specs.Surface.{asking}
 use Rattle.wl_surface.specs.Surfaces.{Link, Surfaces, link_at}
 use Rattle.wl_surface.specs.Trees.{ended_in, unlinked}
 use Rattle.wl_tree_laws.specs.Hanging.{AreNumbered, kid_of, kids_of}
-use Rattle.wl_tree_laws.specs.Stacks.{IsKept}
+use Rattle.wl_tree_laws.specs.Stacks.{IsKept, place_request}
 use Rattle.wl_tree_laws.proofs.Changing.{or-false}
 use Rattle.wl_linked.specs.Linked.{IsLink, Stand}
 use Rattle.wl_named.specs.Renaming.{HasEnds, IsRenaming, has_surface, renamed, renamed_link}
@@ -78,7 +78,7 @@ places-by request names slots new tied after all number sibling link at e lives 
     (kept-named names all by.renaming link.parent sibling ends.1 there at is) by.stands)
 
 pub places-named : PlacesNamed
-places-named = (places-by PlaceAbove, places-by PlaceBelow)
+places-named side = places-by (place_request side)
 
 -- ---- modes
 

@@ -3,14 +3,15 @@
 use Rattle.std.specs.Prelude.{ℕ, ℤ, ◌≡◌, ◌==◌, true, false, cond, Some, None}
 use Rattle.wl_family.specs.Family.{Tied, member_of}
 use Rattle.wl_state.specs.declared.role.Role.{Role}
-use Rattle.wl_state.specs.Request.{Member, PlaceAbove, PlaceBelow, Request, SetPosition}
+use Rattle.wl_children.specs.declared.placed.Side.{Side}
+use Rattle.wl_state.specs.Request.{Member, Request, SetPosition}
 use Rattle.wl_state.specs.State.{is_commit}
 use Rattle.wl_state.specs.Surface.{asking, new_surface, with_role}
 use Rattle.wl_surface.specs.Slots.{Changes, Numbered, Slots, StandForAll, with_at}
 use Rattle.wl_surface.specs.Surfaces.{Link, Surfaces, link_at, no_surfaces, surface_at, with_change, with_new}
 use Rattle.wl_surface.specs.Trees.{committed_in, desynchronised_in, destroyed_in, ended_in, linked, synchronised_in, unlinked}
 use Rattle.wl_tree_laws.specs.Hanging.{kids_of}
-use Rattle.wl_tree_laws.specs.Stacks.{IsKept, is_about_children}
+use Rattle.wl_tree_laws.specs.Stacks.{IsKept, is_about_children, place_request}
 use Rattle.wl_linked.specs.Linked.{IsLink, Stand}
 use Rattle.wl_named.specs.Renaming.{IsRenaming, has_surface, renamed}
 
@@ -95,7 +96,7 @@ PlacesBy request =
     → StandBy names new after (with_change link.parent (asking (request number at)) all)
 
 abbrev pub PlacesNamed : Type 0
-PlacesNamed = PlacesBy PlaceAbove × PlacesBy PlaceBelow
+PlacesNamed = (side : Side) → PlacesBy (place_request side)
 
 -- wl_subsurface.set_sync of a link that lives
 abbrev pub SynchronisesNamed : Type 0

@@ -1,5 +1,6 @@
 mod Accepted
 pub mod Locals
 mod Named
+mod Paced
 mod Rows
 mod Sides

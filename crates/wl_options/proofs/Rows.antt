@@ -1,8 +1,9 @@
 -- Worked command lines, computed on the definitions.
 use Rattle.std.proofs.Common.{◌≡◌, refl, codes, List, [], ◌∷◌, Some, None}
 use Rattle.clap.specs.Words.{Text}
-use Rattle.clap.specs.declared.error.kind.ErrorKind.TheVariants.{DisplayHelp, DisplayHelpOnMissingArgumentOrSubcommand, MissingRequiredArgument, UnknownArgument, ValueValidation}
+use Rattle.clap.specs.declared.error.kind.ErrorKind.TheVariants.{DisplayHelp, DisplayHelpOnMissingArgumentOrSubcommand, DisplayVersion, MissingRequiredArgument, UnknownArgument, ValueValidation}
 use Rattle.clap.proofs.OnLiterals.{clap_on_literals}
+use Rattle.wl_options.specs.Rate.{rate_of}
 use Rattle.wl_options.specs.Command.{asked_size, entered, given, program, refusals}
 
 abbrev replay : List Text → List Text
@@ -47,6 +48,10 @@ help-refusals : refusals (codes "wlframe" ∷ codes "--help" ∷ []) ≡ Display
 unfolding clap_on_literals refusals program
 help-refusals = refl
 
+version-refusals : refusals (codes "wlframe" ∷ codes "--version" ∷ []) ≡ DisplayVersion ∷ []
+unfolding clap_on_literals refusals program
+version-refusals = refl
+
 bare-refusals : refusals (codes "wlframe" ∷ []) ≡ DisplayHelpOnMissingArgumentOrSubcommand ∷ []
 unfolding clap_on_literals refusals program
 bare-refusals = refl
@@ -70,3 +75,27 @@ socketless-refusals = refl
 restless-refusals : refusals (serve (codes "--socket" ∷ codes "here" ∷ codes "--turns" ∷ codes "1000001" ∷ [])) ≡ ValueValidation ∷ []
 unfolding clap_on_literals refusals program
 restless-refusals = refl
+
+turnless-refusals : refusals (serve (codes "--socket" ∷ codes "here" ∷ [])) ≡ MissingRequiredArgument ∷ []
+unfolding clap_on_literals refusals program
+turnless-refusals = refl
+
+-- with a rate it needs no number of turns
+paced-accepted : refusals (serve (codes "--socket" ∷ codes "here" ∷ codes "--rate" ∷ codes "60" ∷ [])) ≡ []
+unfolding clap_on_literals refusals program
+paced-accepted = refl
+
+joined-accepted : refusals (serve (codes "--socket" ∷ codes "here" ∷ codes "--rate=60" ∷ [])) ≡ []
+unfolding clap_on_literals refusals program
+joined-accepted = refl
+
+joined-rate : given (serve (codes "--socket" ∷ codes "here" ∷ codes "--rate=60" ∷ [])) (codes "rate") ≡ Some (codes "60")
+unfolding clap_on_literals entered program
+joined-rate = refl
+
+-- a rate is a number from 1 to 1,000 without a sign
+rates : (rate_of (codes "1") ≡ Some 1) × (rate_of (codes "1000") ≡ Some 1000)
+rates = (refl, refl)
+
+no-rates : (rate_of (codes "0") ≡ None) × (rate_of (codes "1001") ≡ None) × (rate_of (codes "+4") ≡ None) × (rate_of (codes "x") ≡ None)
+no-rates = (refl, refl, refl, refl)

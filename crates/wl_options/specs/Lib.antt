@@ -1,5 +1,6 @@
 pub mod Command
 pub mod Folder
+pub mod Rate
 pub mod Size
 pub mod Status
 pub use Rattle.wl_paint.specs.Frame

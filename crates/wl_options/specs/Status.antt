@@ -1,6 +1,6 @@
 -- The exit status of a fault, and which fault a replay's error is.
 use Rattle.wl_options.specs.declared.fault.Fault.{Fault}
-use Rattle.wl_options.specs.declared.fault.Fault.TheVariants.{Read, Write, Side, Bind, Size, BadLine, Memory}
+use Rattle.wl_options.specs.declared.fault.Fault.TheVariants.{Read, Write, Side, Bind, Rate, Size, BadLine, Memory}
 use Rattle.wl_recording.specs.declared.error.ReplayError.{ReplayError}
 use Rattle.wl_recording.specs.declared.error.ReplayError.TheVariants as stopped
 use Rattle.wl_options.specs.declared.fault.Status.{Status}
@@ -11,6 +11,7 @@ status_of Read = status.Failed
 status_of Write = status.Failed
 status_of (Side line) = status.Failed
 status_of Bind = status.Failed
+status_of Rate = status.Usage
 status_of Size = status.Usage
 status_of (BadLine line) = status.BadLine
 status_of Memory = status.Memory

@@ -1,11 +1,12 @@
 //! The command line.
 
-ghost use Rattle.std.specs.Prelude.{◌≡◌, ◌≤◌, ℕ, IfErr, IfOk, MatchResult, Some, None, codes, false, map, string_bytes};
+ghost use Rattle.std.specs.Prelude.{◌≡◌, ◌≤◌, Bool, ℕ, IfErr, IfOk, IfSome, MatchResult, Some, None, codes, false, map, option_map, string_bytes};
 ghost use Rattle.clap.specs.Words.{app_of, first_value, found_of, new_app, rule_of};
 ghost use Rattle.wl_recording.specs.Line.{number_of};
-ghost use Rattle.wl_options.specs.Command.{Asks, IsAskedBy, IsGiven, IsRefused, IsServed, IsToldAs, asked_size, dir_option, option_named, pointer_option, ppm_option, program, replay_command, serve_command, size_option, socket_option, turns_option, with_output, with_required_subcommand};
+ghost use Rattle.wl_options.specs.Command.{AreTurns, Asks, IsAskedBy, IsFaulty, IsGiven, IsRate, IsRefused, IsServed, IsToldAs, bare_command, dir_option, is_paced, is_rate_word, option_named, pointer_option, ppm_option, program, rate_option, replay_command, serve_command, size_option, socket_option, turns_option, with_output};
 
 use crate::fault::Fault;
+use crate::rate::Rate;
 use crate::size::Size;
 use clap::builder::ValueParser;
 use clap::error::ErrorKind;
@@ -40,8 +41,10 @@ pub struct Replay<'a> {
 pub struct Serve<'a> {
     /// The path of the socket that clients connect to.
     pub socket: &'a str,
-    /// How many turns are taken, 1 to 1,000,000.
-    pub turns: u32,
+    /// How many turns are taken, 1 to 1,000,000. Where it isn't said, as many as can be counted.
+    pub turns: Option<u32>,
+    /// How often turns begin, where it is said.
+    pub rate: Option<Rate>,
     pub size: Size,
     /// The folder of the side files.
     pub dir: &'a str,
@@ -83,12 +86,12 @@ impl From<clap::Error> for CommandError {
 
 /// What these words ask, of which the first is the program's name.
 ///
-/// `Usage` is clap's answer where it refuses the words or shows its help; `Fault::Size` is for a size that is none, and
-/// `Fault::Memory` for want of memory.
+/// `Usage` is clap's answer where it refuses the words, or shows its help or the version; `Fault::Rate` is for a rate that is none,
+/// `Fault::Size` for a size that is none, and `Fault::Memory` for want of memory.
 pub fn parse<'a>(alloc: Global, words: &'a [String]) -> Result<Asked<'a>, CommandError>
     ensures { MatchResult result (Asks (map string_bytes words.entry.now)) (IsRefused (map string_bytes words.entry.now)) }
 {
-    let command = command(alloc)?;
+    let command = command(alloc, is_paced(words))?;
     let matches = command.try_get_matches_from(words)?;
     match matches.subcommand() {
         Some((name, matches)) => asked_of(name, matches),
@@ -96,32 +99,61 @@ pub fn parse<'a>(alloc: Global, words: &'a [String]) -> Result<Asked<'a>, Comman
     }
 }
 
-fn command<'a>(alloc: Global) -> Result<Command<'a>, AllocError>
-    ensures { IfOk result (λ command. app_of command ≡ program) }
+/// Whether a word says how often turns begin, so that it needn't be said how many are taken.
+fn is_paced(words: &[String]) -> bool
+    ensures { result ≡ is_paced (map string_bytes words.now) }
+{
+    for word in words {
+        if is_rate_word(word.as_str()) {
+            return true;
+        }
+    }
+    false
+}
+
+/// Whether this is the word `--rate`, or `--rate=` and a value.
+fn is_rate_word(word: &str) -> bool
+    ensures { result ≡ is_rate_word word.now }
+{
+    match word.split_once('=') {
+        Some((name, _)) => name == "--rate",
+        None => word == "--rate",
+    }
+}
+
+fn command<'a>(alloc: Global, is_paced: bool) -> Result<Command<'a>, AllocError>
+    ensures { IfOk result (λ command. app_of command ≡ program is_paced) }
 {
     let replay = replay_command(alloc)?;
-    let serve = serve_command(alloc)?;
+    let serve = serve_command(alloc, is_paced)?;
     bare_command(alloc).subcommand(replay)?.subcommand(serve)
 }
 
 /// The command without its subcommands.
 fn bare_command<'a>(alloc: Global) -> Command<'a>
-    ensures { app_of result ≡ with_required_subcommand (new_app (codes "wlframe")) }
+    ensures { app_of result ≡ bare_command }
 {
     Command::new(alloc, "wlframe")
         .about("A Wayland compositor without a screen")
+        .version(VERSION)
         .after_help(PROGRAM_EXAMPLE)
         .subcommand_required(true)
         .arg_required_else_help(true)
 }
 
-const PROGRAM_EXAMPLE: &str = "Example: wlframe replay --size 2x1 < examples/sync.rec";
+/// What `--version` prints behind the program's name.
+const VERSION: &str = "0.1.0";
+
+const PROGRAM_EXAMPLE: &str = "Examples:
+  wlframe replay --size 2x1 < examples/sync.rec
+  wlframe serve --socket wlframe.sock --rate 60 --ppm frames.ppm";
 
 const REPLAY_EXAMPLE: &str =
     "Example: wlframe replay --size 112x96 --ppm frames.ppm < examples/two_windows.rec";
 
-const SERVE_EXAMPLE: &str =
-    "Example: wlframe serve --socket wlframe.sock --turns 1000 --ppm frames.ppm";
+const SERVE_EXAMPLE: &str = "Examples:
+  wlframe serve --socket wlframe.sock --turns 1000 --ppm frames.ppm
+  wlframe serve --socket wlframe.sock --rate 60";
 
 fn replay_command<'a>(alloc: Global) -> Result<Command<'a>, AllocError>
     ensures { IfOk result (λ command. app_of command ≡ replay_command) }
@@ -132,14 +164,15 @@ fn replay_command<'a>(alloc: Global) -> Result<Command<'a>, AllocError>
     with_output(alloc, replay)
 }
 
-fn serve_command<'a>(alloc: Global) -> Result<Command<'a>, AllocError>
-    ensures { IfOk result (λ command. app_of command ≡ serve_command) }
+fn serve_command<'a>(alloc: Global, is_paced: bool) -> Result<Command<'a>, AllocError>
+    ensures { IfOk result (λ command. app_of command ≡ serve_command is_paced) }
 {
     let serve = Command::new(alloc, "serve")
         .about("Serves clients over a Unix socket")
         .after_help(SERVE_EXAMPLE)
         .arg(socket_option(alloc))?
-        .arg(turns_option(alloc))?;
+        .arg(turns_option(alloc, is_paced))?
+        .arg(rate_option(alloc))?;
     with_output(alloc, serve)?.arg(pointer_option(alloc))
 }
 
@@ -177,18 +210,30 @@ fn socket_option<'a>(alloc: Global) -> Arg<'a>
     .required(true)
 }
 
-fn turns_option<'a>(alloc: Global) -> Arg<'a>
-    ensures rule { rule_of result ≡ turns_option }
+fn turns_option<'a>(alloc: Global, is_paced: bool) -> Arg<'a>
+    ensures rule { rule_of result ≡ turns_option is_paced }
     ensures own { result.global ≡ false }
 {
     named_option(
         alloc,
         "turns",
         "N",
-        "How many turns are taken, 1 to 1000000",
+        "How many turns are taken, 1 to 1000000; with --rate it may be left out",
     )
-    .required(true)
+    .required(!is_paced)
     .value_parser(ValueParser::unsigned(1, u64::from(MAX_TURNS)))
+}
+
+fn rate_option<'a>(alloc: Global) -> Arg<'a>
+    ensures rule { rule_of result ≡ rate_option }
+    ensures own { result.global ≡ false }
+{
+    named_option(
+        alloc,
+        "rate",
+        "HZ",
+        "How often turns begin at most, 1 to 1000 times a second",
+    )
 }
 
 fn size_option<'a>(alloc: Global) -> Arg<'a>
@@ -232,7 +277,7 @@ fn pointer_option<'a>(alloc: Global) -> Arg<'a>
 /// What these matches of the subcommand of this name ask.
 fn asked_of<'a>(name: &str, matches: &ArgMatches<'a>) -> Result<Asked<'a>, CommandError>
     ensures asked { IfOk result (IsAskedBy name.now (first_value (found_of matches.now))) }
-    ensures no_size { IfErr result (λ e. (e ≡ CommandError.Fault Fault.Size) × (asked_size (first_value (found_of matches.now)) ≡ None)) }
+    ensures faulty { IfErr result (IsFaulty (first_value (found_of matches.now))) }
 {
     if name == "serve" {
         Ok(Asked::Serve(serve_of(matches)?))
@@ -244,7 +289,7 @@ fn asked_of<'a>(name: &str, matches: &ArgMatches<'a>) -> Result<Asked<'a>, Comma
 /// The replay that these matches ask.
 fn replay_of<'a>(matches: &ArgMatches<'a>) -> Result<Replay<'a>, CommandError>
     ensures asked { IfOk result (IsGiven (first_value (found_of matches.now))) }
-    ensures no_size { IfErr result (λ e. (e ≡ CommandError.Fault Fault.Size) × (asked_size (first_value (found_of matches.now)) ≡ None)) }
+    ensures faulty { IfErr result (IsFaulty (first_value (found_of matches.now))) }
 {
     let Some(size) = Size::parse(matches.get_str("size").unwrap_or("")) else {
         return Err(CommandError::Fault(Fault::Size));
@@ -259,12 +304,14 @@ fn replay_of<'a>(matches: &ArgMatches<'a>) -> Result<Replay<'a>, CommandError>
 /// What these matches ask to be served.
 fn serve_of<'a>(matches: &ArgMatches<'a>) -> Result<Serve<'a>, CommandError>
     ensures asked { IfOk result (IsServed (first_value (found_of matches.now))) }
-    ensures no_size { IfErr result (λ e. (e ≡ CommandError.Fault Fault.Size) × (asked_size (first_value (found_of matches.now)) ≡ None)) }
+    ensures faulty { IfErr result (IsFaulty (first_value (found_of matches.now))) }
 {
+    let rate = rate_of(matches)?;
     let Replay { size, dir, ppm } = replay_of(matches)?;
     Ok(Serve {
         socket: matches.get_str("socket").unwrap_or(""),
-        turns: turns_of(matches.get_str("turns").unwrap_or("")),
+        turns: turns_of(matches),
+        rate,
         size,
         dir,
         ppm,
@@ -272,8 +319,32 @@ fn serve_of<'a>(matches: &ArgMatches<'a>) -> Result<Serve<'a>, CommandError>
     })
 }
 
+/// How often turns begin, where these matches say it.
+fn rate_of(matches: &ArgMatches<'_>) -> Result<Option<Rate>, CommandError>
+    ensures asked { IfOk result (λ rate. IsRate (first_value (found_of matches.now) (codes "rate")) (option_map (λ r. r.hertz) rate)) }
+    ensures faulty { IfErr result (IsFaulty (first_value (found_of matches.now))) }
+{
+    let Some(word) = matches.get_str("rate") else {
+        return Ok(None);
+    };
+    match Rate::parse(word) {
+        Some(rate) => Ok(Some(rate)),
+        None => Err(CommandError::Fault(Fault::Rate)),
+    }
+}
+
+/// How many turns are taken, where these matches say it.
+fn turns_of(matches: &ArgMatches<'_>) -> Option<u32>
+    ensures { AreTurns (first_value (found_of matches.now) (codes "turns")) result }
+{
+    match matches.get_str("turns") {
+        Some(word) => Some(turns_in(word)),
+        None => None,
+    }
+}
+
 /// The number of turns that a word spells, which clap let pass. It may begin with a `+`.
-fn turns_of(word: &str) -> u32
+fn turns_in(word: &str) -> u32
     ensures within { (1 ≤ result) × (result ≤ 1000000) }
     ensures spelt { (n : ℕ) → number_of word.now ≡ Some n → 1 ≤ n → n ≤ 1000000 → result ≡ n }
 {

@@ -27,6 +27,8 @@ pub enum Fault {
     Side(u32),
     #[error("bind failed")]
     Bind,
+    #[error("bad rate: it is a number from 1 to 1000")]
+    Rate,
     #[error("bad size")]
     Size,
     #[error("bad line {0}")]
@@ -42,7 +44,7 @@ impl Fault {
     {
         match self {
             Fault::Read | Fault::Write | Fault::Side(_) | Fault::Bind => Status::Failed,
-            Fault::Size => Status::Usage,
+            Fault::Rate | Fault::Size => Status::Usage,
             Fault::BadLine(_) => Status::BadLine,
             Fault::Memory => Status::Memory,
         }

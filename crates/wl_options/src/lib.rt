@@ -4,9 +4,11 @@
 mod command;
 mod fault;
 mod folder;
+mod rate;
 mod size;
 
 pub use command::{Asked, CommandError, Replay, Serve, parse};
 pub use fault::{Fault, Status};
 pub use folder::Folder;
+pub use rate::Rate;
 pub use size::Size;

@@ -1,7 +1,8 @@
 -- What happens, one message at a time: each happening leads through the desktops of its own change, of each end and of each settling.
-use Rattle.std.specs.Prelude.{ℕ, ◌≡◌, Option, Some, None, List, [], ◌∷◌, ◌++◌}
+use Rattle.std.specs.Prelude.{ℕ, ◌≡◌, ◌⊎◌, Option, Some, None, List, [], ◌∷◌, ◌++◌, replicate}
+use Rattle.wl_peer.specs.declared.cause.Cause.{Cause}
 use Rattle.wl_peer.specs.declared.cause.Cause.TheVariants as cause
-use Rattle.wl_peer.specs.Peer.{ended, with_rest}
+use Rattle.wl_peer.specs.Peer.{IsIdle, ended, with_rest}
 use Rattle.wl_plain.specs.declared.answers.Done.{Done}
 use Rattle.wl_plain.specs.Desktop.{Desktop, Resident, client_at, with_client}
 use Rattle.wl_plain.specs.LeftOut.{LeftOut}
@@ -40,3 +41,31 @@ Leads left (Single act done) d path new = HappensThrough left act done d path ne
 abbrev pub LeadsAll : LeftOut → List Happening → Desktop → Desktop → Type 0
 LeadsAll left [] d new = new ≡ d
 LeadsAll left (h ∷ hs) d new = (path : List Desktop) × (mid : Desktop) × Leads left h d path mid × LeadsAll left hs mid new
+
+-- ---- a piece of a client's stream
+
+-- a client is there, and has no message left to be taken
+abbrev pub HasTakenAllAt : Option Resident → Type 0
+HasTakenAllAt None = ⊥
+HasTakenAllAt (Some r) = IsIdle r.peer
+
+abbrev pub HasTakenAll : ℕ → Desktop → Type 0
+HasTakenAll c d = HasTakenAllAt (client_at c d)
+
+-- its bytes as they come, and then so many messages of its client
+abbrev pub bytes_then_messages : ℕ → List ℕ → ℕ → List Happening
+bytes_then_messages c piece n = Receive c piece ∷ replicate n (Message c)
+
+-- Of a client that lives a piece is its bytes and then the messages that they complete, so that none is left at last; or so many of these
+-- and then want of memory. Of one that has ended, or isn't there, it is nothing.
+abbrev pub ArePieceBy : ℕ → List ℕ → Option Cause → List Happening → Desktop → Type 0
+ArePieceBy c piece (Some cause) parts last = parts ≡ []
+ArePieceBy c piece None parts last =
+    (n : ℕ) × (((parts ≡ bytes_then_messages c piece n) × HasTakenAll c last) ⊎ (parts ≡ bytes_then_messages c piece n ++ Starve c ∷ []))
+
+abbrev pub ArePieceAt : ℕ → List ℕ → Option Resident → List Happening → Desktop → Type 0
+ArePieceAt c piece None parts last = parts ≡ []
+ArePieceAt c piece (Some r) parts last = ArePieceBy c piece r.peer.status parts last
+
+abbrev pub ArePiece : ℕ → List ℕ → Desktop → List Happening → Desktop → Type 0
+ArePiece c piece first parts last = ArePieceAt c piece (client_at c first) parts last

@@ -10,15 +10,16 @@ use Rattle.wl_replay.specs.Told.{IsFirst, Stage}
 use Rattle.wl_recording.specs.declared.error.ReplayError.{ReplayError}
 use Rattle.wl_recording.specs.declared.error.ReplayError.TheVariants as stopped
 use Rattle.wl_recording.specs.declared.error.Summary.{Summary}
-use Rattle.wl_options.specs.Command.{Asks, refusals}
+use Rattle.wl_options.specs.Command.{Asks, IsRefused, refusals}
 use Rattle.wl_options.specs.Folder.{FolderView, folder_files}
 use Rattle.wl_program.specs.Run.{Ends, Fails, FailsServing, IsReported, IsToldBy, config_of, folder_of}
 use Rattle.wl_options.specs.Status.{fault_by, status_of}
 use Rattle.wl_options.specs.declared.command.Asked.TheVariants as asked
+use Rattle.wl_options.specs.declared.command.CommandError.TheVariants as refused
 use Rattle.wl_options.specs.declared.command.Replay.{Replay}
 use Rattle.wl_options.specs.declared.command.Serve.{Serve}
 use Rattle.wl_options.specs.declared.fault.Fault.{Fault}
-use Rattle.wl_options.specs.declared.fault.Fault.TheVariants.{Read, Write, Side, Bind, Size, BadLine, Memory}
+use Rattle.wl_options.specs.declared.fault.Fault.TheVariants.{Read, Write, Side, Bind, Rate, Size, BadLine, Memory}
 use Rattle.wl_options.specs.declared.fault.Status.{Status}
 use Rattle.wl_options.specs.declared.fault.Status.TheVariants as status
 
@@ -78,6 +79,7 @@ fails-ends words replay Read read report reported asks fails = tt
 fails-ends words replay Write read report reported asks fails = tt
 fails-ends words replay (Side line) read report reported asks fails = tt
 fails-ends words replay Bind read report reported asks fails = absurd fails
+fails-ends words replay Rate read report reported asks fails = absurd fails
 fails-ends words replay Size read report reported asks fails = absurd fails
 fails-ends words replay (BadLine line) read report reported asks fails = inl (replay, line, asks, fails)
 fails-ends words replay Memory read report reported asks fails = tt
@@ -89,6 +91,7 @@ serving-ends words serve Read read report reported asks fails = tt
 serving-ends words serve Write read report reported asks fails = tt
 serving-ends words serve (Side line) read report reported asks fails = absurd fails
 serving-ends words serve Bind read report reported asks fails = tt
+serving-ends words serve Rate read report reported asks fails = absurd fails
 serving-ends words serve Size read report reported asks fails = absurd fails
 serving-ends words serve (BadLine line) read report reported asks fails = inr (serve, asks, fails)
 serving-ends words serve Memory read report reported asks fails = tt
@@ -101,3 +104,15 @@ shown-ends words kind status.Failed read report among told = tt
 shown-ends words kind status.Usage read report among told = (inl (kind, among, told), refl)
 shown-ends words kind status.BadLine read report among told = absurd told
 shown-ends words kind status.Memory read report among told = absurd told
+
+-- and so does a fault of the words
+pub refused-ends : (words : List Text) (fault : Fault) (read report : Option (List ℕ)) → IsRefused words (refused.Fault fault)
+    → Ends words (status_of fault) read report report
+refused-ends words Rate read report has = (inr (refused.Fault Rate, has), refl)
+refused-ends words Size read report has = (inr (refused.Fault Size, has), refl)
+refused-ends words Memory read report has = tt
+refused-ends words Read read report has = tt
+refused-ends words Write read report has = tt
+refused-ends words (Side line) read report has = tt
+refused-ends words Bind read report has = tt
+refused-ends words (BadLine line) read report has = absurd has.1

@@ -1,7 +1,9 @@
+pub mod Pace
 pub mod Run
 pub mod Serving
 pub use Rattle.wl_options.specs.Command
 pub use Rattle.wl_options.specs.Folder
+pub use Rattle.wl_options.specs.Rate
 pub use Rattle.wl_options.specs.Size
 pub use Rattle.wl_options.specs.Status
 pub use Rattle.wl_recording.specs.Line
@@ -12,3 +14,4 @@ pub use Rattle.wl_replay.specs.Storing
 pub use Rattle.wl_replay.specs.Told
 pub use Rattle.wl_server.specs.Acting
 pub use Rattle.wl_server.specs.Phases
+pub use Rattle.wl_server.specs.Telling

@@ -9,13 +9,14 @@ use Rattle.wl_replay.specs.Config.{Config}
 use Rattle.wl_recording.specs.declared.error.ReplayError.{ReplayError}
 use Rattle.wl_recording.specs.declared.error.ReplayError.TheVariants as stopped
 use Rattle.wl_recording.specs.declared.error.Summary.{Summary}
-use Rattle.wl_options.specs.Command.{Asks, HasNoSize, refusals}
+use Rattle.wl_options.specs.Command.{Asks, HasFault, refusals}
 use Rattle.wl_options.specs.Folder.{FolderView, folder_files, new_folder}
 use Rattle.wl_options.specs.declared.command.Asked.TheVariants as asked
+use Rattle.wl_options.specs.declared.command.CommandError.{CommandError}
 use Rattle.wl_options.specs.declared.command.Replay.{Replay}
 use Rattle.wl_options.specs.declared.command.Serve.{Serve}
 use Rattle.wl_options.specs.declared.fault.Fault.{Fault}
-use Rattle.wl_options.specs.declared.fault.Fault.TheVariants.{Read, Write, Side, Bind, Size, BadLine, Memory}
+use Rattle.wl_options.specs.declared.fault.Fault.TheVariants.{Read, Write, Side, Bind, Rate, Size, BadLine, Memory}
 use Rattle.wl_options.specs.declared.fault.Status.{Status}
 use Rattle.wl_options.specs.declared.fault.Status.TheVariants as status
 use Rattle.wl_program.specs.Serving.{TakesTurns, output_of}
@@ -47,6 +48,7 @@ abbrev pub Fails : Fault → Replay → Option (List ℕ) → Option (List ℕ) 
 Fails (BadLine line) replay read report reported = IsReportedTo (stopped.BadLine line) replay read report reported
 Fails (Side line) replay read report reported = IsReportedTo (stopped.Side line) replay read report reported
 Fails Bind replay read report reported = ⊥
+Fails Rate replay read report reported = ⊥
 Fails Size replay read report reported = ⊥
 Fails Read replay read report reported = ⊤
 Fails Write replay read report reported = ⊤
@@ -60,6 +62,7 @@ IsUntold serve report reported = (is_some serve.pointer ≡ true) × (reported �
 abbrev pub FailsServing : Fault → Serve → Option (List ℕ) → Option (List ℕ) → Type 0
 FailsServing (BadLine line) serve report reported = IsUntold serve report reported
 FailsServing (Side line) serve report reported = ⊥
+FailsServing Rate serve report reported = ⊥
 FailsServing Size serve report reported = ⊥
 FailsServing Bind serve report reported = ⊤
 FailsServing Read serve report reported = ⊤
@@ -81,8 +84,7 @@ IsToldBy kind status.Failed = ⊤
 IsToldBy kind status.BadLine = ⊥
 IsToldBy kind status.Memory = ⊥
 
--- Done: the recording was played, or as many turns as were asked for were taken, or help was shown. Usage: the words are refused, or the
--- size is none. BadLine: the recording was played up to a line, or a pointer's file was asked for and nothing told. With Failed a stream,
+-- Done: the recording was played and told of, or as many turns as were asked for were taken, or help or the version was shown. Usage: the words are refused, or the size or the rate is none. BadLine: the recording was played up to a line, or a pointer's file was asked for and nothing told. With Failed a stream,
 -- a side file or the socket failed, and with Memory memory was wanted: nothing is said of them.
 abbrev pub Ends : List Text → Status → Option (List ℕ) → Option (List ℕ) → Option (List ℕ) → Type 0
 Ends words status.Done read report reported =
@@ -90,7 +92,7 @@ Ends words status.Done read report reported =
     ⊎ ((((kind : ErrorKind) × IsAmong kind (refusals words) × IsShown kind) × (reported ≡ report))
     ⊎ ((serve : Serve) × Asks words (asked.Serve serve) × TakesTurns serve))
 Ends words status.Usage read report reported =
-    (((kind : ErrorKind) × IsAmong kind (refusals words) × IsMisuse kind) ⊎ HasNoSize words)
+    (((kind : ErrorKind) × IsAmong kind (refusals words) × IsMisuse kind) ⊎ ((error : CommandError) × HasFault words error))
     × (reported ≡ report)
 Ends words status.BadLine read report reported =
     ((replay : Replay) × (line : ℕ) × Asks words (asked.Replay replay) × IsReportedTo (stopped.BadLine line) replay read report reported)

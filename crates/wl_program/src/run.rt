@@ -6,10 +6,12 @@ ghost use Rattle.wl_program.specs.Run.{Ends, Fails, IsReported, IsToldBy};
 
 use crate::serving::serve;
 use crate::streams::{create, flush};
+use clap::error::ErrorKind;
 use std::alloc::Allocator;
 use std::io::{BufRead, Write};
 use std::net::Net;
 use std::rt::Files;
+use std::time::Clock;
 use wl_options::{Asked, CommandError, Fault, Folder, Replay, Status, parse};
 use wl_replay::{Config, Rgb};
 
@@ -21,7 +23,7 @@ pub(crate) const BLACK: Rgb = Rgb { r: 0, g: 0, b: 0 };
 /// from `alloc`.
 pub fn run_program<
     T: Print + Eprint,
-    F: Files + Net + AllocGlobal,
+    F: Files + Net + Clock + AllocGlobal,
     A: Allocator + Copy,
     I: BufRead,
     W: Write,
@@ -38,22 +40,52 @@ pub fn run_program<
             Err(fault) => fault.report(terminal),
         },
         Err(CommandError::Fault(fault)) => fault.report(terminal),
-        Err(CommandError::Usage(error)) => show(terminal, error),
+        Err(CommandError::Usage(error)) => show(terminal, error, words),
     }
 }
 
-/// Prints what is to be said of the usage.
-fn show<T: Print + Eprint>(terminal: &T, error: clap::Error) -> Status
+/// Prints what is to be said of the usage of these words.
+fn show<T: Print + Eprint>(terminal: &T, error: clap::Error, words: &[String]) -> Status
     ensures { IsToldBy (kind_of error) result }
 {
+    let kind = error.kind();
     match error.print(terminal) {
         Ok(()) => if error.use_stderr() {
+            hint(terminal, kind, words);
             Status::Usage
         } else {
             Status::Done
         },
         Err(_) => Fault::Write.report(terminal),
     }
+}
+
+/// Where a word is left over in a replay's: from where a recording comes.
+const REPLAY_HINT: &str = "\nA recording comes on standard input: wlframe replay [OPTIONS] < FILE";
+
+/// Says from where a recording comes, where one may have been named by a word.
+fn hint<T: Eprint>(terminal: &T, kind: ErrorKind, words: &[String]) {
+    if kind == ErrorKind::UnknownArgument && names_recording(words) {
+        let _ = eprintln!(terminal; "{REPLAY_HINT}");
+    }
+}
+
+/// Whether these words are of a replay, and a word behind it is no option.
+fn names_recording(words: &[String]) -> bool {
+    match words {
+        [_, command, rest @ ..] => command.as_str() == "replay" && has_operand(rest),
+        _ => false,
+    }
+}
+
+/// Whether one of these words is no option.
+fn has_operand(words: &[String]) -> bool {
+    for word in words {
+        if !word.as_str().starts_with('-') {
+            return true;
+        }
+    }
+    false
 }
 
 /// Plays a recording from the input.

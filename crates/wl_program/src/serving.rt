@@ -5,12 +5,12 @@ ghost use Rattle.wl_plain.specs.Desktop.{empty};
 ghost use Rattle.wl_replay.specs.Told.{IsFirst};
 ghost use Rattle.wl_server.specs.Agreeing.{Agrees};
 ghost use Rattle.wl_server.specs.Liars.{IsRightBut, nobody};
-ghost use Rattle.wl_server.specs.Acting.{InTurn};
 ghost use Rattle.wl_server.specs.Phases.{IsTurn};
-ghost use Rattle.wl_server.specs.Telling.{Reports};
+ghost use Rattle.wl_server.specs.Telling.{Reports, Tells, images_in};
 ghost use Rattle.wl_program.specs.Run.{FailsServing};
-ghost use Rattle.wl_program.specs.Serving.{TakesTurns, moment_of, output_of, stage_of};
+ghost use Rattle.wl_program.specs.Serving.{AreTurns, TakesTurns, moment_of, output_of, stage_of};
 
+use crate::pace::{Pace, Timer};
 use crate::pointing::read_pointer;
 use crate::run::BLACK;
 use crate::streams::{create, flush};
@@ -18,6 +18,7 @@ use std::alloc::Allocator;
 use std::io::{self, ErrorKind, Write};
 use std::net::Net;
 use std::rt::Files;
+use std::time::Clock;
 use wl_hub::{Hub, SocketHub};
 use wl_options::{Fault, Folder, Serve, Size};
 use wl_recording::SideFiles;
@@ -25,7 +26,7 @@ use wl_replay::Config;
 use wl_server::{Connections, Service, Session, TurnError, turn};
 
 /// Serves the clients that connect to a socket, which is made at its path and stays there.
-pub(crate) fn serve<'a, F: Files + Net + AllocGlobal, A: Allocator + Copy, W: Write>(
+pub(crate) fn serve<'a, F: Files + Net + Clock + AllocGlobal, A: Allocator + Copy, W: Write>(
     files: &'a F,
     alloc: A,
     serve: Serve<'a>,
@@ -36,18 +37,36 @@ pub(crate) fn serve<'a, F: Files + Net + AllocGlobal, A: Allocator + Copy, W: Wr
 {
     let mut ppm = create(files, serve.ppm)?;
     let lines = read_pointer(files, alloc, serve.pointer)?;
-    let mut hub = SocketHub::bind(files, serve.socket).map_err(bind_failed)?;
+    let mut hub = bind(files, serve.socket)?;
     let mut side = Folder::new(files, serve.dir);
     let session = session_of(alloc, serve.size)?;
     let mut service = Service::new(session, lines, &mut *output, ppm.as_mut());
     let mut connections = Connections::new();
-    take_turns(
+    let pace = Pace {
+        turns: serve.turns,
+        rate: serve.rate,
+    };
+    serve_on(
+        files,
         &mut hub,
-        &mut service,
         &mut connections,
         &mut side,
-        serve.turns,
+        &mut service,
+        pace,
     )
+}
+
+/// Makes the socket at a path. An empty path names no file, so nothing is made there.
+fn bind<F: Files + Net>(files: &F, path: &str) -> Result<SocketHub, Fault>
+    ensures { IfErr result (λ fault. (fault ≡ Fault.Bind) ⊎ (fault ≡ Fault.Memory)) }
+{
+    if path.is_empty() {
+        return Err(Fault::Bind);
+    }
+    match SocketHub::bind(files, path) {
+        Ok(hub) => Ok(hub),
+        Err(error) => Err(bind_failed(error)),
+    }
 }
 
 fn bind_failed(error: io::Error) -> Fault
@@ -77,18 +96,19 @@ fn session_of<A: Allocator + Copy>(alloc: A, size: Size) -> Result<Session<A>, F
     }
 }
 
-/// Takes a turn, and writes what it reports, so that whoever reads along sees it before the next one.
+/// Takes a turn at this time, and writes what it reports, so that whoever reads along sees it before the next one.
 fn take_turn<A: Allocator + Copy, H: Hub, W: Write + Drop, P: Write + Drop, S: SideFiles>(
     hub: &mut H,
     service: &mut Service<A, W, P>,
     connections: &mut Connections<H::Conn>,
     side: &mut S,
-    number: u32,
+    time: u32,
 ) -> Result<(), Fault>
-    ensures taken { OnOk result (Reports (IsTurn number) service.old.session service.new.session (W.contents service.old.report) (W.contents service.new.report)) }
+    ensures taken { OnOk result (Tells (IsTurn time) service.old.session service.new.session (W.contents service.old.report) (W.contents service.new.report)
+        (images_in P.contents service.old.ppm) (images_in P.contents service.new.ppm)) }
     ensures failed { IfErr result (λ fault. fault ≡ Fault.Write) }
 {
-    let taken = turn(hub, service, connections, side, number);
+    let taken = turn(hub, service, connections, side, time);
     let flushed = flush(&mut service.report, &mut service.ppm);
     match taken {
         Ok(()) => flushed,
@@ -96,19 +116,35 @@ fn take_turn<A: Allocator + Copy, H: Hub, W: Write + Drop, P: Write + Drop, S: S
     }
 }
 
-/// Takes the turns 1 to this many, one after another.
-fn take_turns<A: Allocator + Copy, H: Hub, W: Write + Drop, P: Write + Drop, S: SideFiles>(
+/// Serves the clients of a hub over their connections: takes the turns 1 to as many as the pace has, one after another, each at its time.
+///
+/// Turns begin at most as often as the pace says, and between them it sleeps by the clock; no clause says how long. `Write` is answered where the report or the
+/// images couldn't be written; then no more turns are taken.
+pub fn serve_on<
+    C: Clock,
+    A: Allocator + Copy,
+    H: Hub,
+    W: Write + Drop,
+    P: Write + Drop,
+    S: SideFiles,
+>(
+    clock: &C,
     hub: &mut H,
-    service: &mut Service<A, W, P>,
     connections: &mut Connections<H::Conn>,
     side: &mut S,
-    turns: u32,
+    service: &mut Service<A, W, P>,
+    pace: Pace,
 ) -> Result<(), Fault>
-    ensures taken { OnOk result (Reports (InTurn IsTurn turns) service.old.session service.new.session (W.contents service.old.report) (W.contents service.new.report)) }
+    ensures reported { OnOk result (Reports (AreTurns pace.rate pace.turns) service.old.session service.new.session (W.contents service.old.report) (W.contents service.new.report)) }
+    ensures taken { OnOk result (Tells (AreTurns pace.rate pace.turns) service.old.session service.new.session (W.contents service.old.report) (W.contents service.new.report)
+        (images_in P.contents service.old.ppm) (images_in P.contents service.new.ppm)) }
     ensures failed { IfErr result (λ fault. fault ≡ Fault.Write) }
 {
-    for before in 0..turns {
-        take_turn(hub, service, connections, side, before + 1)?;
+    let mut timer = Timer::new(pace.rate);
+    for before in 0..pace.count() {
+        timer.wait(clock);
+        let time = pace.time_of(before + 1);
+        take_turn(hub, service, connections, side, time)?;
     }
     Ok(())
 }

@@ -2,6 +2,7 @@
 
 ghost use Rattle.std.specs.Prelude.{◌≡◌, ◌⊎◌, IfErr};
 ghost use Rattle.std.specs.Io.KnownBytes.{Keeps};
+ghost use Rattle.wl_server.specs.Telling.{images_in};
 
 use std::io::{BufWriter, ErrorKind, Write};
 use std::rt::Files;
@@ -40,6 +41,7 @@ fn opening_failed(error: io::Error) -> Fault
 /// Writes what is still to be written.
 pub(crate) fn flush<W: Write, P: Write>(output: &mut W, ppm: &mut Option<P>) -> Result<(), Fault>
     ensures kept { Keeps (W.contents output.old) (W.contents output.new) }
+    ensures images { Keeps (images_in P.contents ppm.old) (images_in P.contents ppm.new) }
     ensures failed { IfErr result (λ fault. fault ≡ Fault.Write) }
 {
     output.flush().map_err(|_| Fault::Write)?;

@@ -6,6 +6,8 @@ mod files;
 #[cfg(test)]
 mod replay;
 #[cfg(test)]
+mod served;
+#[cfg(test)]
 mod serving;
 #[cfg(test)]
 mod support;

@@ -5,4 +5,4 @@ mod files;
 mod limits;
 mod pools;
 mod reports;
-mod support;
+pub(crate) mod support;

@@ -31,6 +31,14 @@ fn fails(rt: &HostRuntime, options: &str, fault: &str) -> Option<Status> {
 #[test]
 fn serves_without_clients(rt: HostRuntime) {
     assert_eq!(rt; serves(&rt, "bare", ""), Some(Status::Done));
+    assert_eq!(rt; serves(&rt, "paced", " --rate 1000"), Some(Status::Done));
+}
+
+#[test]
+fn binds_no_empty_path(rt: HostRuntime) {
+    let text = "wlframe serve --turns 1 --socket=";
+    let status = plays(&rt, text, b"", "wlframe: bind failed\n", b"");
+    assert_eq!(rt; status, Some(Status::Failed));
 }
 
 /// Options, what is said of the fault, and how the program ends.

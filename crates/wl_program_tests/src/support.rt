@@ -64,6 +64,20 @@ fn words_of(text: &str, alloc: Global) -> Option<Vec<String>> {
     Some(words)
 }
 
+/// How the program ends that is run with these words, with what it printed, and what it said of a fault.
+pub(crate) fn printed<A: Allocator + Copy, I: BufRead, W: Write>(
+    rt: &HostRuntime,
+    alloc: A,
+    text: &str,
+    input: &mut I,
+    output: &mut W,
+) -> Option<(Status, String, String)> {
+    let terminal = Terminal::new(rt.alloc());
+    let words = words_of(text, rt.alloc())?;
+    let status = run_program(&terminal, rt, alloc, words.as_slice(), input, output);
+    Some((status, terminal.out.into_inner(), terminal.err.into_inner()))
+}
+
 /// How the program ends that is run with these words, with what it said of a fault.
 pub(crate) fn told<A: Allocator + Copy, I: BufRead, W: Write>(
     rt: &HostRuntime,
@@ -72,10 +86,8 @@ pub(crate) fn told<A: Allocator + Copy, I: BufRead, W: Write>(
     input: &mut I,
     output: &mut W,
 ) -> Option<(Status, String)> {
-    let terminal = Terminal::new(rt.alloc());
-    let words = words_of(text, rt.alloc())?;
-    let status = run_program(&terminal, rt, alloc, words.as_slice(), input, output);
-    Some((status, terminal.err.into_inner()))
+    let (status, _, said) = printed(rt, alloc, text, input, output)?;
+    Some((status, said))
 }
 
 /// How the program ends. None where it said something else of a fault.

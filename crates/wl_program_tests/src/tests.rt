@@ -1,4 +1,4 @@
-use crate::support::{ends, plays, told};
+use crate::support::{ends, plays, printed, told};
 use test_support::{FaultyReader, FaultyWriter, Refusing};
 use wl_program::Status;
 
@@ -33,6 +33,18 @@ const USES: &[(&str, Status)] = &[
     ("wlframe serve --turns 1", Status::Usage),
     ("wlframe serve --socket here", Status::Usage),
     ("wlframe serve --socket here --turns 0", Status::Usage),
+    ("wlframe serve --rate 60", Status::Usage),
+    ("wlframe serve --rate", Status::Usage),
+];
+
+/// Rates that are none, before a size that is none.
+const BAD_RATES: &[&str] = &[
+    "wlframe serve --socket here --rate 0 --size 0x0",
+    "wlframe serve --socket here --rate 1001 --size 0x0",
+    "wlframe serve --socket here --rate x --turns 1 --size 0x0",
+    "wlframe serve --socket here --rate +4 --turns 1 --size 0x0",
+    "wlframe serve --socket here --rate=-4 --turns 1 --size 0x0",
+    "wlframe serve --socket here --rate= --size 0x0",
 ];
 
 const BAD_SIZES: &[&str] = &[
@@ -61,10 +73,10 @@ fn tells_usage(rt: HostRuntime) {
     assert_eq!(rt; first_missed_use(&rt, USES), None);
 }
 
-/// The place of the first words whose size is taken.
-fn first_taken_size(rt: &HostRuntime, uses: &[&str]) -> Option<usize> {
+/// The place of the first words that end the program otherwise than as a fault of usage of which this is said.
+fn first_taken(rt: &HostRuntime, uses: &[&str], fault: &str) -> Option<usize> {
     for (place, &text) in uses.iter().enumerate() {
-        if plays(rt, text, b"", "wlframe: bad size\n", b"") != Some(Status::Usage) {
+        if plays(rt, text, b"", fault, b"") != Some(Status::Usage) {
             return Some(place);
         }
     }
@@ -73,7 +85,56 @@ fn first_taken_size(rt: &HostRuntime, uses: &[&str]) -> Option<usize> {
 
 #[test]
 fn tells_bad_sizes(rt: HostRuntime) {
-    assert_eq!(rt; first_taken_size(&rt, BAD_SIZES), None);
+    assert_eq!(rt; first_taken(&rt, BAD_SIZES, "wlframe: bad size\n"), None);
+}
+
+#[test]
+fn tells_bad_rates(rt: HostRuntime) {
+    let fault = "wlframe: bad rate: it is a number from 1 to 1000\n";
+    assert_eq!(rt; first_taken(&rt, BAD_RATES, fault), None);
+}
+
+/// How the program ends that is run with these words, and whether it printed just this and said what contains the other.
+fn prints(rt: &HostRuntime, text: &str, wanted: &str, said: &str) -> Option<Status> {
+    let mut input: &[u8] = b"";
+    let mut output = Vec::new(rt.alloc());
+    let (status, out, err) = printed(rt, rt.alloc(), text, &mut input, &mut output)?;
+    if out.as_str() == wanted && err.as_str().contains(said) && output.is_empty() {
+        Some(status)
+    } else {
+        None
+    }
+}
+
+#[test]
+fn prints_its_version(rt: HostRuntime) {
+    let version = prints(&rt, "wlframe --version", "wlframe 0.1.0\n", "");
+    assert_eq!(rt; version, Some(Status::Done));
+}
+
+/// Words of usage, and what is said of them.
+const SAID: &[(&str, &str)] = &[
+    (
+        "wlframe replay a.rec",
+        "A recording comes on standard input",
+    ),
+    ("wlframe serve --socket here", "--turns <N>"),
+    ("wlframe serve --rate 60", "--socket <PATH>"),
+];
+
+/// The place of the first words of which that isn't said.
+fn first_unsaid(rt: &HostRuntime, uses: &[(&str, &str)]) -> Option<usize> {
+    for (place, &(text, said)) in uses.iter().enumerate() {
+        if prints(rt, text, "", said) != Some(Status::Usage) {
+            return Some(place);
+        }
+    }
+    None
+}
+
+#[test]
+fn says_what_is_wrong(rt: HostRuntime) {
+    assert_eq!(rt; first_unsaid(&rt, SAID), None);
 }
 
 /// How the program ends that reads a bad line.

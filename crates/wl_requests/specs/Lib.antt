@@ -1,4 +1,5 @@
 pub mod Freed
+pub mod LetGo
 pub mod Linking
 pub mod Messages
 pub mod Residents

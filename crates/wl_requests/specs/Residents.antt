@@ -1,7 +1,7 @@
 -- What the desk keeps of a client agrees with a client of the plain desktop, and what a request makes of both.
 use Rattle.std.specs.List.{list_all}
 use Rattle.std.specs.Prelude.{ℕ, ◌≡◌, ◌⊎◌, ◌+◌, ◌-◌, IfSome, None, Some, is_some, Result, Ok, Err, Bool, true, false, Option, List, []}
-use Rattle.std.specs.Prelude.{take, drop}
+use Rattle.std.specs.Prelude.{◌≤◌, take, drop, length}
 use Rattle.wl_wire.specs.Wire.{split_of}
 use Rattle.wl_wire.specs.declared.header.Split.{Split}
 use Rattle.wl_wire.specs.declared.header.Split.TheVariants.{Message as Whole, More, Bad}
@@ -128,6 +128,10 @@ AnswersAs false (Err refusal) c r d old new = (q : Peer) × Errs refusal r.peer 
 abbrev pub AnswersDemandAs : {A : Type 0} → Bool → (Resident → Result Demand Refusal) → Kept A → Kept A → Type 0
 AnswersDemandAs done judged old new = (c : ℕ) (r : Resident) (d : Desktop) → IsResident old r → OwnsOrderly r
     → AnswersAs done (judged r) c r d old new
+
+-- what has come of a client and wasn't taken gets no longer
+abbrev pub Leaves : {A : Type 0} → Kept A → Kept A → Type 0
+Leaves old new = length new.client.rest ≤ length old.client.rest
 
 -- the wl_surface with this id has the surface of this number
 abbrev pub IsSurface : {A : Type 0} → Kept A → ℕ → ℕ → Type 0

@@ -1,6 +1,6 @@
 //! The messages of one client, one after another.
 
-ghost use Rattle.std.specs.Prelude.{ℕ, List, ◌≡◌, ◌<◌, ◌≤◌, IfNone, IfSome, None, Some, is_some, false, length, true};
+ghost use Rattle.std.specs.Prelude.{ℕ, List, ◌≡◌, ◌<◌, IfNone, IfSome, None, Some, is_some, false, length, true};
 ghost use Rattle.wl_table.specs.Objects.{entry_of};
 ghost use Rattle.wl_owning.specs.Subsurfaces.{AreOfSurfaces};
 ghost use Rattle.wl_peer.specs.Objects.{ById};
@@ -10,7 +10,7 @@ ghost use Rattle.wl_peer.specs.Peer.{IsIdleAt};
 ghost use Rattle.wl_client.specs.Serving.{is_own};
 ghost use Rattle.wl_requests.specs.Messages.{IsAsked, IsKind, IsTouchOf, IsTouchOfAsked};
 ghost use Rattle.wl_requests.specs.Touching.{IsTouched, Touch};
-ghost use Rattle.wl_requests.specs.Residents.{AnswersDemand, AnswersDemandAs, NewIsFree, ObjectsFit, Stacks, TakesMessage, TakesMessageAs};
+ghost use Rattle.wl_requests.specs.Residents.{AnswersDemand, AnswersDemandAs, Leaves, NewIsFree, ObjectsFit, Stacks, TakesMessage, TakesMessageAs};
 ghost use Rattle.wl_plain.specs.LeftOut.{served_now};
 ghost use Rattle.wl_plain.specs.Demanding.{demand_of};
 
@@ -112,8 +112,15 @@ impl<A: Allocator + Copy> Resident<A> {
         }
     }
 
-    /// Answers a request to an object, which has this version and target.
-    fn answer(&mut self, object: u32, version: u32, target: usize, kind: Kind) -> Outcome<A>
+    /// Answers a request to an object, which has this version and target. Where there is no room for windows nothing is applied.
+    fn answer(
+        &mut self,
+        object: u32,
+        version: u32,
+        target: usize,
+        kind: Kind,
+        has_room: bool,
+    ) -> Outcome<A>
         ensures answers { (m : Message) → IsKind kind m → entry_of self.old.client.objects object ≡ Some (record { interface = m.interface; version = version; target = target })
             → NewIsFree self.old m → ObjectsFit self.old m → AnswersDemand (λ r. demand_of served_now r object version m) self.old self.new }
         ensures stacks { (m : Message) → IsKind kind m → entry_of self.old.client.objects object ≡ Some (record { interface = m.interface; version = version; target = target })
@@ -124,11 +131,11 @@ impl<A: Allocator + Copy> Resident<A> {
         ensures touched { (touch : Touch) → IsTouchOf kind object target self.old touch
             → IsTouched touch self.old.owned.linked self.new.owned.linked result.applied }
         ensures nothing { ((touch : Touch) → IsTouchOf kind object target self.old touch → ⊥) → (numbers : ById ℕ) (subsurfaces : List Subsurface) → AreOfSurfaces self.old.subsurfaces numbers subsurfaces → result.applied ≡ None }
-        ensures rest { length self.new.client.rest ≤ length self.old.client.rest }
-        ensures room { is_some result.applied ≡ true → self.old.has_room ≡ true }
+        ensures rest { Leaves self.old self.new }
+        ensures room { is_some result.applied ≡ true → has_room ≡ true }
     {
         match kind {
-            Kind::Surface(request) => self.wl_surface(object, version, target, &request),
+            Kind::Surface(request) => self.wl_surface(object, version, target, &request, has_room),
             Kind::Toplevel(asked) => Outcome::of(self.xdg_toplevel(object, target, asked)),
             Kind::Compositor(request) => {
                 self.wl_compositor(object, version, &request);
@@ -138,7 +145,7 @@ impl<A: Allocator + Copy> Resident<A> {
                 self.wl_subcompositor(object, version, &request);
                 Outcome::of(Stacking::Stays)
             }
-            Kind::Subsurface(request) => self.wl_subsurface(object, version, &request),
+            Kind::Subsurface(request) => self.wl_subsurface(object, version, &request, has_room),
             Kind::Seat(request) => {
                 self.wl_seat(object, version, &request);
                 Outcome::of(Stacking::Stays)
@@ -159,8 +166,9 @@ impl<A: Allocator + Copy> Resident<A> {
     }
 
     /// Takes the first whole message of a client that lives, which asks this, and answers what that did. None where there is no whole message;
-    /// then nothing is changed. Where there is no room for windows nothing is applied.
-    pub fn serve(&mut self, asked: Asked) -> Option<Outcome<A>>
+    /// then nothing is changed. Where there is no room for the windows that it leads to, a request that may change what several surfaces show
+    /// lacks memory, and nothing is applied.
+    pub fn serve(&mut self, asked: Asked, has_room: bool) -> Option<Outcome<A>>
         requires { IsAsked self.old.client asked }
         ensures lives { IfSome result (λ s. self.old.client.ended ≡ None) }
         ensures takes { IfSome result (λ s. TakesMessage self.old self.new s.stacking) }
@@ -170,7 +178,7 @@ impl<A: Allocator + Copy> Resident<A> {
         ensures nothing { IfSome result (λ s. ((touch : Touch) → IsTouchOfAsked asked self.old touch → ⊥) → (numbers : ById ℕ) (subsurfaces : List Subsurface) → AreOfSurfaces self.old.subsurfaces numbers subsurfaces → s.applied ≡ None) }
         ensures idle { IfNone result ((self.new ≡ self.old) × IsIdleAt self.old.client.ended self.old.client.rest) }
         ensures less { IfSome result (λ s. length self.new.client.rest < length self.old.client.rest) }
-        ensures room { IfSome result (λ s. is_some s.applied ≡ true → self.old.has_room ≡ true) }
+        ensures room { IfSome result (λ s. is_some s.applied ≡ true → has_room ≡ true) }
     {
         if self.client.has_ended() {
             return None;
@@ -195,7 +203,7 @@ impl<A: Allocator + Copy> Resident<A> {
                 kind,
             } => {
                 self.client.take_first(size);
-                Some(self.answer(object, version, target, kind))
+                Some(self.answer(object, version, target, kind, has_room))
             }
         }
     }

@@ -1,6 +1,6 @@
 //! wl_buffer.release: a buffer that no surface shows any more may be written to again; and the stores of buffers that are over go.
 
-ghost use Rattle.std.specs.Prelude.{ℕ, ◌≡◌, ◌==◌, ◌&&◌, ◌||◌, ◌≤◌, ◌++◌, Option, None, find, is_some, length, map, true, [], IfOk, OnOk};
+ghost use Rattle.std.specs.Prelude.{ℕ, ◌≡◌, ◌==◌, ◌&&◌, ◌||◌, ◌++◌, Option, None, find, is_some, map, true, [], IfNone, IfOk, IfSome, OnOk};
 ghost use Rattle.std.specs.List.{list_any};
 ghost use Rattle.std.specs.List.Sorted.{IsStrictlyIncreasing};
 ghost use Rattle.std.specs.Option.{option_map};
@@ -11,21 +11,24 @@ ghost use Rattle.wl_owning.specs.Freed.{freed_of};
 ghost use Rattle.wl_owning.specs.Owning.{AreKept};
 ghost use Rattle.wl_peer.specs.Buffers.{Buffer as Made};
 ghost use Rattle.wl_peer.specs.Objects.{ById};
-ghost use Rattle.wl_peer.specs.Peer.{Peer, Queues};
+ghost use Rattle.wl_peer.specs.Peer.{LacksMemory, Peer, Queues};
 ghost use Rattle.wl_peer.specs.Told.{said};
 ghost use Rattle.wl_plain.specs.Desktop.{Resident as Plain};
 ghost use Rattle.wl_plain.specs.Releases.{let_if, same_number};
 ghost use Rattle.wl_plain.specs.Replies.{has_object};
 ghost use Rattle.wl_plain.specs.Step.{buffers_had, is_number, is_over, letting_go};
 ghost use Rattle.wl_proto.specs.Messages.{says};
+ghost use Rattle.wl_requests.specs.LetGo.{IsLetGo};
 ghost use Rattle.wl_xdg_state.specs.Popups.{is_among};
 ghost use Rattle.wl_state.specs.Kept.{buffer_of};
 ghost use Rattle.wl_state.specs.Surface.{Surface, listed};
 ghost use Rattle.wl_surface.specs.Slots.{had_at};
+ghost use Rattle.wl_requests.specs.Residents.{Leaves};
 
 use crate::residents::Resident;
 use std::alloc::{AllocError, Allocator};
 use wl_client::release_event;
+use wl_linked::Told;
 use wl_rising::put_rising;
 use wl_surface::{Attached, BufferNo};
 
@@ -122,7 +125,7 @@ impl<A: Allocator + Copy> Resident<A> {
     }
 
     /// Lets the stores of those buffers go that are over: of the buffers that were shown, those of these numbers are looked at.
-    pub(crate) fn let_go_of_freed(&mut self, freed: &[BufferNo], shown: &[Attached])
+    fn let_go_of_freed(&mut self, freed: &[BufferNo], shown: &[Attached])
         ensures stores { (r : Plain) (numbers : ById ℕ) → IsPeer self.old.client r.peer → AreKept numbers self.old.owned.linked.surfaces self.old.owned.linked.family r.owned.surfaces
             → AreOnce freed.now → IsPeer self.new.client (letting_go (freed_of freed.now (map buffer_of shown.now)) r).peer }
         ensures only { self.new.client ≡ record self.old.client { stores = self.new.client.stores } }
@@ -134,9 +137,33 @@ impl<A: Allocator + Copy> Resident<A> {
         }
     }
 
+    /// What a request applied to surfaces was told: of the buffers that it freed the stores of those go that are over, and the wl_buffers that are
+    /// released are answered, by their ids in rising order. None where there is no room for the windows that it leads to, or no memory; then the
+    /// client lacks that.
+    pub(crate) fn let_go_of_told(&mut self, told: &Told<A>, has_room: bool) -> Option<Vec<u32, A>>
+        ensures lacks { IfNone result ((p : Peer) → IsPeer self.old.client p → (q : Peer) × LacksMemory p q × IsPeer self.new.client q) }
+        ensures ended { IfNone result (is_some self.new.client.ended ≡ true) }
+        ensures lets_go { IfSome result (λ released. IsLetGo told.now released.items self.old self.new) }
+        ensures room { IfSome result (λ released. has_room ≡ true) }
+        ensures owned { self.new.owned ≡ self.old.owned }
+        ensures subsurfaces { self.new.subsurfaces ≡ self.old.subsurfaces }
+        ensures rest { Leaves self.old self.new }
+    {
+        if !has_room {
+            self.client.lack_memory();
+            return None;
+        }
+        let Ok(released) = self.released(&told.applied.freed, &told.shown) else {
+            self.client.lack_memory();
+            return None;
+        };
+        self.let_go_of_freed(&told.applied.freed, &told.shown);
+        Some(released)
+    }
+
     /// The wl_buffers that are released, by their ids in rising order: of the buffers that were shown, those of these numbers whose wl_buffers
     /// are there.
-    pub(crate) fn released(
+    fn released(
         &self,
         freed: &[BufferNo],
         shown: &Vec<Attached, A>,
@@ -177,7 +204,7 @@ impl<A: Allocator + Copy> Resident<A> {
         ensures ended { is_some self.old.client.ended ≡ true → self.new.client ≡ self.old.client }
         ensures owned { self.new.owned ≡ self.old.owned }
         ensures subsurfaces { self.new.subsurfaces ≡ self.old.subsurfaces }
-        ensures rest { length self.new.client.rest ≤ length self.old.client.rest }
+        ensures rest { Leaves self.old self.new }
     {
         for buffer in released {
             if self.client.has_ended() {

@@ -49,7 +49,4 @@ pub struct Resident<A: Allocator> {
     pub owned: Owned<A>,
     /// Which wl_subsurface was made of which surface.
     pub subsurfaces: Subsurfaces<A>,
-    /// Whether there is memory for the windows that a request leads to: where not, a request that may change what several surfaces show lacks
-    /// memory.
-    pub has_room: bool,
 }

@@ -1,6 +1,6 @@
 //! The requests of wl_surface.
 
-ghost use Rattle.std.specs.Prelude.{◌≡◌, ◌==◌, ◌≢◌, ◌≤◌, ◌+◌, length, ◌++◌, ◌||◌, ℕ, Bool, Ok, Option, None, Some, is_some, true, map, unsigned_abs};
+ghost use Rattle.std.specs.Prelude.{◌≡◌, ◌==◌, ◌≢◌, ◌+◌, ◌++◌, ◌||◌, ℕ, Bool, Ok, Option, None, Some, is_some, true, map, unsigned_abs};
 ghost use Rattle.std.specs.List.{list_any};
 ghost use Rattle.std.specs.Option.{option_map};
 ghost use Rattle.wl_client.specs.Agreement.{IsPeer};
@@ -22,7 +22,7 @@ ghost use Rattle.wl_plain.specs.LeftOut.{served_now};
 ghost use Rattle.wl_requests.specs.Freed.{is_freed_in};
 ghost use Rattle.wl_requests.specs.Messages.{IsTouchOf};
 ghost use Rattle.wl_requests.specs.Touching.{IsTouched, Touch, Commits, Destroys};
-ghost use Rattle.wl_requests.specs.Residents.{AnswersDemand, AnswersDemandAs, Does, IsFree, IsSurface, MeetsAs, MeetsTold, NewIsFree, Stacks, stacking_by};
+ghost use Rattle.wl_requests.specs.Residents.{AnswersDemand, AnswersDemandAs, Does, IsFree, IsSurface, Leaves, MeetsAs, MeetsTold, NewIsFree, stacking_by, Stacks};
 ghost use Rattle.wl_plain.specs.Demanding.{demand_of, effect_of_commit};
 ghost use Rattle.wl_plain.specs.WlSurface.{buffer_named, region_named};
 
@@ -31,7 +31,6 @@ use crate::residents::{Outcome, Resident, Stacking};
 use std::alloc::Allocator;
 use wl_client::{ErrorCode, Refusal};
 use wl_geom::Rect;
-use wl_linked::Told;
 use wl_proto::{Interface, WlSurfaceRequest};
 use wl_shell::ShellAct;
 use wl_surface::{Applied, Attached, BufferNo, SurfaceNo};
@@ -96,37 +95,37 @@ impl<A: Allocator + Copy> Resident<A> {
 
     /// wl_surface.destroy of a surface that has no xdg_surface. Its frame callbacks go with it, and their ids are given back after its own; its
     /// links end, and its wl_subsurface is inert. None without memory.
-    fn destroy_surface(&mut self, object: u32, surface: SurfaceNo) -> Option<Applied<A>>
+    fn destroy_surface(
+        &mut self,
+        object: u32,
+        surface: SurfaceNo,
+        has_room: bool,
+    ) -> Option<Applied<A>>
         ensures does { IsSurface self.old object surface → kept_of self.old.owned.shell surface ≡ None → MeetsTold (λ r. EndSurface object) result self.old self.new }
         ensures touched { IsTouched (Destroys surface) self.old.owned.linked self.new.owned.linked result }
-        ensures rest { length self.new.client.rest ≤ length self.old.client.rest }
-        ensures room { is_some result ≡ true → self.old.has_room ≡ true }
+        ensures rest { Leaves self.old self.new }
+        ensures room { is_some result ≡ true → has_room ≡ true }
     {
-        if !self.has_room {
-            self.client.lack_memory();
-            return None;
-        }
         let [pending, _, _] = self.owned.linked.surfaces.buffers(surface);
-        let Ok(Told { applied, shown }) = self.owned.linked.destroy(surface) else {
-            self.client.lack_memory();
-            return None;
-        };
-        let Ok(released) = self.released(&applied.freed, &shown) else {
+        let Ok(told) = self.owned.linked.destroy(surface) else {
             self.client.lack_memory();
             return None;
         };
         self.subsurfaces.clear(surface);
-        self.let_go_of_freed(&applied.freed, &shown);
-        self.let_go_if_over(pending, is_freed(pending, &applied.freed));
-        self.client.remove_with(object, &applied.callbacks, None);
+        let Some(released) = self.let_go_of_told(&told, has_room) else {
+            return None;
+        };
+        self.let_go_if_over(pending, is_freed(pending, &told.applied.freed));
+        self.client
+            .remove_with(object, &told.applied.callbacks, None);
         self.tell_releases(&released);
-        Some(applied)
+        Some(told.applied)
     }
 
     /// wl_surface.attach of the buffer with this id, or of none for null, at this offset in pixels.
     pub(crate) fn attach(&mut self, object: u32, surface: SurfaceNo, buffer: u32, x: i32, y: i32)
         ensures does { IsSurface self.old object surface → Does (λ r. AskSurface object (Attach (buffer_named r buffer) x y)) self.old self.new }
-        ensures rest { length self.new.client.rest ≤ length self.old.client.rest }
+        ensures rest { Leaves self.old self.new }
     {
         let had = self.owned.linked.surfaces.buffers(surface);
         let attached = self.attached(buffer);
@@ -137,7 +136,7 @@ impl<A: Allocator + Copy> Resident<A> {
     /// wl_surface.damage of a rectangle in surface pixels.
     pub(crate) fn damage(&mut self, object: u32, surface: SurfaceNo, rect: Rect)
         ensures does { IsSurface self.old object surface → Does (λ r. AskSurface object (DamageAsked rect)) self.old self.new }
-        ensures rest { length self.new.client.rest ≤ length self.old.client.rest }
+        ensures rest { Leaves self.old self.new }
     {
         match self.owned.linked.surfaces.damage(surface, rect) {
             Ok(()) => {}
@@ -148,7 +147,7 @@ impl<A: Allocator + Copy> Resident<A> {
     /// wl_surface.set_opaque_region of a copy of the region with this id, or of none for null.
     pub(crate) fn set_opaque_region(&mut self, object: u32, surface: SurfaceNo, region: u32)
         ensures does { IsSurface self.old object surface → Does (λ r. AskSurface object (SetOpaqueRegion (region_named r region))) self.old self.new }
-        ensures rest { length self.new.client.rest ≤ length self.old.client.rest }
+        ensures rest { Leaves self.old self.new }
     {
         let region = self.client.region(region);
         match self.owned.linked.surfaces.set_opaque(surface, region) {
@@ -160,7 +159,7 @@ impl<A: Allocator + Copy> Resident<A> {
     /// wl_surface.set_input_region of a copy of the region with this id, or of none for null.
     pub(crate) fn set_input_region(&mut self, object: u32, surface: SurfaceNo, region: u32)
         ensures does { IsSurface self.old object surface → Does (λ r. AskSurface object (SetInputRegion (region_named r region))) self.old self.new }
-        ensures rest { length self.new.client.rest ≤ length self.old.client.rest }
+        ensures rest { Leaves self.old self.new }
     {
         let region = self.client.region(region);
         match self.owned.linked.surfaces.set_input(surface, region) {
@@ -170,14 +169,20 @@ impl<A: Allocator + Copy> Resident<A> {
     }
 
     /// wl_surface.commit: what is pending counts, and the shell says what that comes to.
-    fn commit(&mut self, object: u32, version: u32, surface: SurfaceNo) -> Outcome<A>
+    fn commit(
+        &mut self,
+        object: u32,
+        version: u32,
+        surface: SurfaceNo,
+        has_room: bool,
+    ) -> Outcome<A>
         ensures answers { IsSurface self.old object surface
             → AnswersDemandAs (is_some result.applied) (λ r. demand_of served_now r object version (wl_surface_request Commit)) self.old self.new }
         ensures stacks { IsSurface self.old object surface
             → Stacks (λ r. demand_of served_now r object version (wl_surface_request Commit)) self.old result.stacking }
         ensures touched { IsTouched (Commits surface) self.old.owned.linked self.new.owned.linked result.applied }
-        ensures rest { length self.new.client.rest ≤ length self.old.client.rest }
-        ensures room { is_some result.applied ≡ true → self.old.has_room ≡ true }
+        ensures rest { Leaves self.old self.new }
+        ensures room { is_some result.applied ≡ true → has_room ≡ true }
     {
         let has_buffer = self.owned.linked.surfaces.pending_buffer(surface).is_some();
         let serial = self.client.serial();
@@ -188,7 +193,7 @@ impl<A: Allocator + Copy> Resident<A> {
         {
             Ok(act) => {
                 self.client.count();
-                let applied = self.apply(surface, act, serial);
+                let applied = self.apply(surface, act, serial, has_room);
                 Outcome {
                     stacking: stacking_of(act, surface),
                     applied,
@@ -203,7 +208,13 @@ impl<A: Allocator + Copy> Resident<A> {
     }
 
     /// What is pending of a surface counts, and what that came to for the shell is told. Answers what was applied; None without memory for it.
-    fn apply(&mut self, surface: SurfaceNo, act: ShellAct, serial: u32) -> Option<Applied<A>>
+    fn apply(
+        &mut self,
+        surface: SurfaceNo,
+        act: ShellAct,
+        serial: u32,
+        has_room: bool,
+    ) -> Option<Applied<A>>
         ensures applies { (c : ℕ) (r : Plain) (d : Desktop) (names : Names) (object : ℕ) (kept : ℕ → Option KeptXdg) (shows : Bool) → OwnsOrderly r
             → effect_of_commit r object ≡ effect_by act → r.peer.status ≡ None → IsPeer self.old.client r.peer → IsOwned names self.old.owned.linked.surfaces self.old.owned.linked.family kept r.owned
             → AreFramed self.old.owned.linked.surfaces.frames (by_number names.surfaces r.owned.surfaces) (r.peer.requests + 1) r.callbacks
@@ -212,32 +223,26 @@ impl<A: Allocator + Copy> Resident<A> {
             → kept_of self.old.owned.shell ≡ changing surface (kept_after r.peer.serial act) kept
             → MeetsAs (is_some result) c (CommitTree object) r d self.old self.new }
         ensures touched { IsTouched (Commits surface) self.old.owned.linked self.new.owned.linked result }
-        ensures rest { length self.new.client.rest ≤ length self.old.client.rest }
-        ensures room { is_some result ≡ true → self.old.has_room ≡ true }
+        ensures rest { Leaves self.old self.new }
+        ensures room { is_some result ≡ true → has_room ≡ true }
     {
-        if !self.has_room {
-            self.client.lack_memory();
-            return None;
-        }
-        let Ok(Told { applied, shown }) = self.owned.linked.commit(surface) else {
+        let Ok(told) = self.owned.linked.commit(surface) else {
             self.client.lack_memory();
             return None;
         };
-        let Ok(released) = self.released(&applied.freed, &shown) else {
-            self.client.lack_memory();
+        let Some(released) = self.let_go_of_told(&told, has_room) else {
             return None;
         };
-        self.let_go_of_freed(&applied.freed, &shown);
         self.tell_act(surface, act, serial);
         self.tell_releases(&released);
-        Some(applied)
+        Some(told.applied)
     }
 
     /// wl_surface.set_buffer_transform to one of the eight.
     pub(crate) fn set_buffer_transform(&mut self, object: u32, surface: SurfaceNo, transform: i32)
         ensures does { is_transform transform ≡ true → IsSurface self.old object surface
             → Does (λ r. AskSurface object (SetBufferTransform (unsigned_abs transform))) self.old self.new }
-        ensures rest { length self.new.client.rest ≤ length self.old.client.rest }
+        ensures rest { Leaves self.old self.new }
     {
         match self.owned.linked.surfaces.set_transform(surface, transform) {
             Ok(()) => {}
@@ -256,13 +261,19 @@ impl<A: Allocator + Copy> Resident<A> {
     }
 
     /// wl_surface.destroy: the xdg_surface of the surface must be gone.
-    fn destroy(&mut self, object: u32, version: u32, surface: SurfaceNo) -> Outcome<A>
+    fn destroy(
+        &mut self,
+        object: u32,
+        version: u32,
+        surface: SurfaceNo,
+        has_room: bool,
+    ) -> Outcome<A>
         ensures answers { IsSurface self.old object surface
             → AnswersDemandAs (is_some result.applied) (λ r. demand_of served_now r object version (wl_surface_request Destroy)) self.old self.new }
         ensures touched { IsTouched (Destroys surface) self.old.owned.linked self.new.owned.linked result.applied }
         ensures stays { result.stacking ≡ Stacking.Stays }
-        ensures rest { length self.new.client.rest ≤ length self.old.client.rest }
-        ensures room { is_some result.applied ≡ true → self.old.has_room ≡ true }
+        ensures rest { Leaves self.old self.new }
+        ensures room { is_some result.applied ≡ true → has_room ≡ true }
     {
         if self.has_xdg_surface(surface) {
             let refusal = Refusal::of(object, ErrorCode::SurfaceHasRoleObject);
@@ -272,7 +283,7 @@ impl<A: Allocator + Copy> Resident<A> {
         self.client.count();
         Outcome {
             stacking: Stacking::Stays,
-            applied: self.destroy_surface(object, surface),
+            applied: self.destroy_surface(object, surface, has_room),
         }
     }
 
@@ -280,7 +291,7 @@ impl<A: Allocator + Copy> Resident<A> {
     fn transform(&mut self, object: u32, version: u32, surface: SurfaceNo, transform: i32)
         ensures answers { IsSurface self.old object surface
             → AnswersDemand (λ r. demand_of served_now r object version (wl_surface_request (TransformAsked transform))) self.old self.new }
-        ensures rest { length self.new.client.rest ≤ length self.old.client.rest }
+        ensures rest { Leaves self.old self.new }
     {
         if !is_valid(transform) {
             let refusal = Refusal::of(object, ErrorCode::InvalidTransform);
@@ -295,7 +306,7 @@ impl<A: Allocator + Copy> Resident<A> {
     fn frame(&mut self, object: u32, version: u32, surface: SurfaceNo, callback: u32)
         ensures answers { IsSurface self.old object surface → IsFree self.old callback
             → AnswersDemand (λ r. demand_of served_now r object version (wl_surface_request (FrameAsked callback))) self.old self.new }
-        ensures rest { length self.new.client.rest ≤ length self.old.client.rest }
+        ensures rest { Leaves self.old self.new }
     {
         self.client.count();
         match self.owned.linked.surfaces.frame(surface, callback) {
@@ -318,6 +329,7 @@ impl<A: Allocator + Copy> Resident<A> {
         version: u32,
         surface: SurfaceNo,
         request: &WlSurfaceRequest,
+        has_room: bool,
     ) -> Outcome<A>
         ensures answers { IsSurface self.old object surface → NewIsFree self.old (wl_surface_request request.now)
             → AnswersDemand (λ r. demand_of served_now r object version (wl_surface_request request.now)) self.old self.new }
@@ -328,12 +340,12 @@ impl<A: Allocator + Copy> Resident<A> {
         ensures touched { (touch : Touch) → IsTouchOf (Kind.Surface request.now) object surface self.old touch
             → IsTouched touch self.old.owned.linked self.new.owned.linked result.applied }
         ensures nothing { ((touch : Touch) → IsTouchOf (Kind.Surface request.now) object surface self.old touch → ⊥) → result.applied ≡ None }
-        ensures rest { length self.new.client.rest ≤ length self.old.client.rest }
-        ensures room { is_some result.applied ≡ true → self.old.has_room ≡ true }
+        ensures rest { Leaves self.old self.new }
+        ensures room { is_some result.applied ≡ true → has_room ≡ true }
     {
         match *request {
-            WlSurfaceRequest::Commit => self.commit(object, version, surface),
-            WlSurfaceRequest::Destroy => self.destroy(object, version, surface),
+            WlSurfaceRequest::Commit => self.commit(object, version, surface, has_room),
+            WlSurfaceRequest::Destroy => self.destroy(object, version, surface, has_room),
             WlSurfaceRequest::Attach { buffer, x, y } => {
                 self.client.count();
                 self.attach(object, surface, buffer, x, y);

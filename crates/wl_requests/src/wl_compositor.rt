@@ -1,13 +1,13 @@
 //! The requests of wl_compositor.
 
-ghost use Rattle.std.specs.Prelude.{◌≡◌, ◌≤◌, ◌↔◌, IsTrue, Ok, length};
+ghost use Rattle.std.specs.Prelude.{◌≡◌, ◌↔◌, IsTrue, Ok};
 ghost use Rattle.wl_proto.specs.Messages.{wl_compositor_request};
 ghost use Rattle.wl_peer.specs.declared.actions.Action.TheVariants.{CreateRegion};
 ghost use Rattle.wl_plain.specs.Ask.{Own};
 ghost use Rattle.wl_plain.specs.Demand.{Asks};
 ghost use Rattle.wl_plain.specs.LeftOut.{served_now};
 ghost use Rattle.wl_plain.specs.Demanding.{demand_of, demands};
-ghost use Rattle.wl_requests.specs.Residents.{AnswersDemand, IsFree, NewIsFree};
+ghost use Rattle.wl_requests.specs.Residents.{AnswersDemand, IsFree, Leaves, NewIsFree};
 ghost use Rattle.wl_plain.specs.WlSurface.{surface_created};
 
 use crate::residents::Resident;
@@ -27,7 +27,7 @@ impl<A: Allocator + Copy> Resident<A> {
     /// wl_compositor.create_surface: a new surface under a free id. A client may have 256 surfaces.
     fn create_surface(&mut self, version: u32, id: u32)
         ensures answers { IsFree self.old id → AnswersDemand (λ r. demands (surface_created r id version)) self.old self.new }
-        ensures rest { length self.new.client.rest ≤ length self.old.client.rest }
+        ensures rest { Leaves self.old self.new }
     {
         match self.owned.linked.surfaces.create() {
             Ok(surface) => {
@@ -53,7 +53,7 @@ impl<A: Allocator + Copy> Resident<A> {
     /// wl_compositor.create_region: a new region, which is empty, under a free id.
     fn create_region(&mut self, version: u32, id: u32)
         ensures answers { IsFree self.old id → AnswersDemand (λ r. Ok (Asks (Own (CreateRegion id version)))) self.old self.new }
-        ensures rest { length self.new.client.rest ≤ length self.old.client.rest }
+        ensures rest { Leaves self.old self.new }
         ensures surfaces { self.new.owned.linked ≡ self.old.owned.linked }
     {
         self.client.count();
@@ -64,7 +64,7 @@ impl<A: Allocator + Copy> Resident<A> {
     pub(crate) fn wl_compositor(&mut self, object: u32, version: u32, request: &WlCompositorRequest)
         ensures answers { NewIsFree self.old (wl_compositor_request request.now)
             → AnswersDemand (λ r. demand_of served_now r object version (wl_compositor_request request.now)) self.old self.new }
-        ensures rest { length self.new.client.rest ≤ length self.old.client.rest }
+        ensures rest { Leaves self.old self.new }
     {
         match *request {
             WlCompositorRequest::CreateSurface { id } => self.create_surface(version, id),

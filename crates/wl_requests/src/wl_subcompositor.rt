@@ -1,11 +1,11 @@
 //! The requests of wl_subcompositor.
 
-ghost use Rattle.std.specs.Prelude.{ℕ, ◌≡◌, ◌≤◌, length, OnOk};
+ghost use Rattle.std.specs.Prelude.{ℕ, ◌≡◌, OnOk};
 ghost use Rattle.wl_proto.specs.Messages.{wl_subcompositor_request};
 ghost use Rattle.wl_proto.specs.declared.wl_subcompositor.WlSubcompositorRequest.TheVariants.{Destroy, GetSubsurface};
 ghost use Rattle.wl_plain.specs.Demanding.{demand_of};
 ghost use Rattle.wl_requests.specs.Linking.{IsLinkMade, LinksAsJudged, link_refused};
-ghost use Rattle.wl_requests.specs.Residents.{AnswersDemand, IsFree, IsSubcompositor, IsSurface, NewIsFree, ObjectsFit};
+ghost use Rattle.wl_requests.specs.Residents.{AnswersDemand, IsFree, IsSubcompositor, IsSurface, Leaves, NewIsFree, ObjectsFit};
 ghost use Rattle.wl_plain.specs.LeftOut.{served_now};
 
 use crate::residents::Resident;
@@ -31,7 +31,7 @@ impl<A: Allocator + Copy> Resident<A> {
     /// wl_subcompositor.destroy: its id is given back.
     fn destroy_subcompositor(&mut self, object: u32, version: u32)
         ensures answers { IsSubcompositor self.old object → AnswersDemand (λ r. demand_of served_now r object version (wl_subcompositor_request Destroy)) self.old self.new }
-        ensures rest { length self.new.client.rest ≤ length self.old.client.rest }
+        ensures rest { Leaves self.old self.new }
     {
         self.client.count();
         self.end_object(object);
@@ -68,7 +68,7 @@ impl<A: Allocator + Copy> Resident<A> {
     )
         ensures answers { (surface above : ℕ) → IsFree self.old id → IsSurface self.old surface child → IsSurface self.old above parent
             → AnswersDemand (λ r. demand_of served_now r object version (wl_subcompositor_request (GetSubsurface id surface above))) self.old self.new }
-        ensures rest { length self.new.client.rest ≤ length self.old.client.rest }
+        ensures rest { Leaves self.old self.new }
     {
         match self.link(id, child, parent) {
             Ok(()) => {
@@ -99,7 +99,7 @@ impl<A: Allocator + Copy> Resident<A> {
     )
         ensures answers { IsSubcompositor self.old object → NewIsFree self.old (wl_subcompositor_request request.now) → ObjectsFit self.old (wl_subcompositor_request request.now)
             → AnswersDemand (λ r. demand_of served_now r object version (wl_subcompositor_request request.now)) self.old self.new }
-        ensures rest { length self.new.client.rest ≤ length self.old.client.rest }
+        ensures rest { Leaves self.old self.new }
     {
         match *request {
             WlSubcompositorRequest::Destroy => self.destroy_subcompositor(object, version),

@@ -1,6 +1,6 @@
 //! The requests of wl_subsurface. One whose link has ended, or whose surface is gone, is inert: it does nothing but go.
 
-ghost use Rattle.std.specs.Prelude.{ℕ, List, ◌≡◌, ◌==◌, ◌≤◌, filter, is_some, length, not, true, None, Some};
+ghost use Rattle.std.specs.Prelude.{ℕ, List, ◌≡◌, ◌==◌, filter, is_some, not, true, None, Some};
 ghost use Rattle.wl_owning.specs.Subsurfaces.{AreOfSurfaces};
 ghost use Rattle.wl_peer.specs.Objects.{ById};
 ghost use Rattle.wl_plain.specs.Desktop.{Subsurface};
@@ -11,7 +11,7 @@ ghost use Rattle.wl_proto.specs.declared.wl_subsurface.WlSubsurfaceRequest.TheVa
 ghost use Rattle.wl_plain.specs.Demanding.{demand_of};
 ghost use Rattle.wl_requests.specs.Messages.{IsTouchOf};
 ghost use Rattle.wl_requests.specs.Linking.{IsChildOf, IsOnlyChild};
-ghost use Rattle.wl_requests.specs.Residents.{AnswersDemand, AnswersDemandAs, IsSubsurface, IsSurface, ObjectsFit};
+ghost use Rattle.wl_requests.specs.Residents.{AnswersDemand, AnswersDemandAs, IsSubsurface, IsSurface, Leaves, ObjectsFit};
 ghost use Rattle.wl_requests.specs.Touching.{IsTouched, Parts, Releases, Touch};
 ghost use Rattle.wl_plain.specs.LeftOut.{served_now};
 
@@ -19,7 +19,6 @@ use crate::messages::Kind;
 use crate::residents::{Outcome, Resident, Stacking};
 use std::alloc::Allocator;
 use wl_client::{ErrorCode, Refusal};
-use wl_linked::Told;
 use wl_proto::WlSubsurfaceRequest;
 use wl_surface::{Applied, SurfaceError, SurfaceNo};
 
@@ -38,7 +37,7 @@ impl<A: Allocator + Copy> Resident<A> {
     /// wl_subsurface.set_position of the child, relative to its parent, in pixels: once the parent is committed and applied.
     fn set_position(&mut self, object: u32, version: u32, x: i32, y: i32)
         ensures answers { IsSubsurface self.old object → AnswersDemand (λ r. demand_of served_now r object version (wl_subsurface_request (SetPosition x y))) self.old self.new }
-        ensures rest { length self.new.client.rest ≤ length self.old.client.rest }
+        ensures rest { Leaves self.old self.new }
     {
         self.client.count();
         let Some(child) = self.child_of(object) else {
@@ -57,7 +56,7 @@ impl<A: Allocator + Copy> Resident<A> {
             → (q : Peer) × Errs (record { object = object; code = ErrorCode.BadSurface }) p q × IsPeer self.new.client q }
         ensures lacks { (error ≡ SurfaceError.NotSibling → ⊥) → (p : Peer) → IsPeer self.old.client p
             → (q : Peer) × LacksMemory (counted p) q × IsPeer self.new.client q }
-        ensures rest { length self.new.client.rest ≤ length self.old.client.rest }
+        ensures rest { Leaves self.old self.new }
     {
         if error == SurfaceError::NotSibling {
             self.client
@@ -72,7 +71,7 @@ impl<A: Allocator + Copy> Resident<A> {
     fn place_above(&mut self, object: u32, version: u32, sibling: u32, beside: SurfaceNo)
         ensures answers { IsSubsurface self.old object → IsSurface self.old sibling beside
             → AnswersDemand (λ r. demand_of served_now r object version (wl_subsurface_request (PlaceAbove sibling))) self.old self.new }
-        ensures rest { length self.new.client.rest ≤ length self.old.client.rest }
+        ensures rest { Leaves self.old self.new }
     {
         let Some(child) = self.child_of(object) else {
             self.client.count();
@@ -88,7 +87,7 @@ impl<A: Allocator + Copy> Resident<A> {
     fn place_below(&mut self, object: u32, version: u32, sibling: u32, beside: SurfaceNo)
         ensures answers { IsSubsurface self.old object → IsSurface self.old sibling beside
             → AnswersDemand (λ r. demand_of served_now r object version (wl_subsurface_request (PlaceBelow sibling))) self.old self.new }
-        ensures rest { length self.new.client.rest ≤ length self.old.client.rest }
+        ensures rest { Leaves self.old self.new }
     {
         let Some(child) = self.child_of(object) else {
             self.client.count();
@@ -103,7 +102,7 @@ impl<A: Allocator + Copy> Resident<A> {
     /// wl_subsurface.set_sync: what the child commits is held until its parent is applied.
     fn set_sync(&mut self, object: u32, version: u32)
         ensures answers { IsSubsurface self.old object → AnswersDemand (λ r. demand_of served_now r object version (wl_subsurface_request SetSync)) self.old self.new }
-        ensures rest { length self.new.client.rest ≤ length self.old.client.rest }
+        ensures rest { Leaves self.old self.new }
     {
         self.client.count();
         if let Some(child) = self.child_of(object) {
@@ -113,33 +112,27 @@ impl<A: Allocator + Copy> Resident<A> {
 
     /// wl_subsurface.set_desync: what the child commits is applied at once, unless a surface above it is synchronised; and so is what was held,
     /// where that changes how it behaves.
-    fn set_desync(&mut self, object: u32, version: u32) -> Option<Applied<A>>
+    fn set_desync(&mut self, object: u32, version: u32, has_room: bool) -> Option<Applied<A>>
         ensures answers { IsSubsurface self.old object → AnswersDemand (λ r. demand_of served_now r object version (wl_subsurface_request SetDesync)) self.old self.new }
         ensures decides { (child : ℕ) → IsOnlyChild self.old object child → IsSubsurface self.old object
             → AnswersDemandAs (is_some result) (λ r. demand_of served_now r object version (wl_subsurface_request SetDesync)) self.old self.new }
         ensures touched { (child : ℕ) → IsOnlyChild self.old object child
             → IsTouched (Releases child) self.old.owned.linked self.new.owned.linked result }
         ensures nothing { ((child : ℕ) → IsOnlyChild self.old object child → ⊥) → (numbers : ById ℕ) (subsurfaces : List Subsurface) → AreOfSurfaces self.old.subsurfaces numbers subsurfaces → result ≡ None }
-        ensures rest { length self.new.client.rest ≤ length self.old.client.rest }
-        ensures room { is_some result ≡ true → self.old.has_room ≡ true }
+        ensures rest { Leaves self.old self.new }
+        ensures room { is_some result ≡ true → has_room ≡ true }
     {
         self.client.count();
         let child = self.child_of(object)?;
-        if !self.has_room {
-            self.client.lack_memory();
-            return None;
-        }
-        let Ok(Told { applied, shown }) = self.owned.linked.set_desync(child) else {
+        let Ok(told) = self.owned.linked.set_desync(child) else {
             self.client.lack_memory();
             return None;
         };
-        let Ok(released) = self.released(&applied.freed, &shown) else {
-            self.client.lack_memory();
+        let Some(released) = self.let_go_of_told(&told, has_room) else {
             return None;
         };
-        self.let_go_of_freed(&applied.freed, &shown);
         self.tell_releases(&released);
-        Some(applied)
+        Some(told.applied)
     }
 
     /// A wl_subsurface goes whose link has ended: its surface, if that is there, may have another.
@@ -156,15 +149,20 @@ impl<A: Allocator + Copy> Resident<A> {
     }
 
     /// wl_subsurface.destroy: the child's link to its parent ends, and its id is given back.
-    fn destroy_subsurface(&mut self, object: u32, version: u32) -> Option<Applied<A>>
+    fn destroy_subsurface(
+        &mut self,
+        object: u32,
+        version: u32,
+        has_room: bool,
+    ) -> Option<Applied<A>>
         ensures answers { IsSubsurface self.old object → AnswersDemand (λ r. demand_of served_now r object version (wl_subsurface_request Destroy)) self.old self.new }
         ensures decides { (child : ℕ) → IsOnlyChild self.old object child → IsSubsurface self.old object
             → AnswersDemandAs (is_some result) (λ r. demand_of served_now r object version (wl_subsurface_request Destroy)) self.old self.new }
         ensures touched { (child : ℕ) → IsOnlyChild self.old object child
             → IsTouched (Parts child) self.old.owned.linked self.new.owned.linked result }
         ensures nothing { ((child : ℕ) → IsOnlyChild self.old object child → ⊥) → (numbers : ById ℕ) (subsurfaces : List Subsurface) → AreOfSurfaces self.old.subsurfaces numbers subsurfaces → result ≡ None }
-        ensures rest { length self.new.client.rest ≤ length self.old.client.rest }
-        ensures room { is_some result ≡ true → self.old.has_room ≡ true }
+        ensures rest { Leaves self.old self.new }
+        ensures room { is_some result ≡ true → has_room ≡ true }
     {
         self.client.count();
         let Some(child) = self.child_of(object) else {
@@ -172,23 +170,17 @@ impl<A: Allocator + Copy> Resident<A> {
             self.client.remove(object);
             return None;
         };
-        if !self.has_room {
-            self.client.lack_memory();
-            return None;
-        }
-        let Ok(Told { applied, shown }) = self.owned.linked.remove_subsurface(child) else {
-            self.client.lack_memory();
-            return None;
-        };
-        let Ok(released) = self.released(&applied.freed, &shown) else {
+        let Ok(told) = self.owned.linked.remove_subsurface(child) else {
             self.client.lack_memory();
             return None;
         };
         self.subsurfaces.clear(child);
-        self.let_go_of_freed(&applied.freed, &shown);
+        let Some(released) = self.let_go_of_told(&told, has_room) else {
+            return None;
+        };
         self.client.remove(object);
         self.tell_releases(&released);
-        Some(applied)
+        Some(told.applied)
     }
 
     /// A request of a wl_subsurface whose siblings are there.
@@ -197,6 +189,7 @@ impl<A: Allocator + Copy> Resident<A> {
         object: u32,
         version: u32,
         request: &WlSubsurfaceRequest,
+        has_room: bool,
     ) -> Outcome<A>
         ensures answers { IsSubsurface self.old object → ObjectsFit self.old (wl_subsurface_request request.now)
             → AnswersDemand (λ r. demand_of served_now r object version (wl_subsurface_request request.now)) self.old self.new }
@@ -206,12 +199,14 @@ impl<A: Allocator + Copy> Resident<A> {
             → IsTouched touch self.old.owned.linked self.new.owned.linked result.applied }
         ensures nothing { (target : ℕ) → ((touch : Touch) → IsTouchOf (Kind.Subsurface request.now) object target self.old touch → ⊥) → (numbers : ById ℕ) (subsurfaces : List Subsurface) → AreOfSurfaces self.old.subsurfaces numbers subsurfaces → result.applied ≡ None }
         ensures stays { result.stacking ≡ Stacking.Stays }
-        ensures rest { length self.new.client.rest ≤ length self.old.client.rest }
-        ensures room { is_some result.applied ≡ true → self.old.has_room ≡ true }
+        ensures rest { Leaves self.old self.new }
+        ensures room { is_some result.applied ≡ true → has_room ≡ true }
     {
         let mut applied = None;
         match *request {
-            WlSubsurfaceRequest::Destroy => applied = self.destroy_subsurface(object, version),
+            WlSubsurfaceRequest::Destroy => applied = self.destroy_subsurface(
+                object, version, has_room,
+            ),
             WlSubsurfaceRequest::SetPosition { x, y } => self.set_position(object, version, x, y),
             WlSubsurfaceRequest::PlaceAbove { sibling } => {
                 if let Some(beside) = self.surface_of(sibling) {
@@ -224,7 +219,7 @@ impl<A: Allocator + Copy> Resident<A> {
                 }
             }
             WlSubsurfaceRequest::SetSync => self.set_sync(object, version),
-            WlSubsurfaceRequest::SetDesync => applied = self.set_desync(object, version),
+            WlSubsurfaceRequest::SetDesync => applied = self.set_desync(object, version, has_room),
         }
         Outcome {
             stacking: Stacking::Stays,

@@ -1,13 +1,13 @@
 //! The requests of xdg_surface.
 
-ghost use Rattle.std.specs.Prelude.{◌≡◌, is_some, true, ◌≤◌, length};
+ghost use Rattle.std.specs.Prelude.{◌≡◌, is_some, true};
 ghost use Rattle.wl_client.specs.Agreement.{IsPeer};
 ghost use Rattle.wl_peer.specs.Peer.{Errs, Peer};
 ghost use Rattle.wl_proto.specs.Messages.{xdg_surface_request};
 ghost use Rattle.wl_proto.specs.declared.xdg_surface.XdgSurfaceRequest.TheVariants.{AckConfigure, Destroy, GetToplevel, SetWindowGeometry};
 ghost use Rattle.wl_xdg_state.specs.Kept.{kept_of};
 ghost use Rattle.wl_owning.specs.Owning.{kept_base, kept_id, shell_refusal};
-ghost use Rattle.wl_requests.specs.Residents.{AnswersDemand, IsFree, IsXdgSurface, NewIsFree};
+ghost use Rattle.wl_requests.specs.Residents.{AnswersDemand, IsFree, IsXdgSurface, Leaves, NewIsFree};
 ghost use Rattle.wl_plain.specs.LeftOut.{served_now};
 ghost use Rattle.wl_plain.specs.Demanding.{demand_of};
 ghost use Rattle.wl_plain.specs.XdgShell.{is_no_toplevel};
@@ -81,7 +81,7 @@ impl<A: Allocator + Copy> Resident<A> {
         ensures ended { is_some self.new.client.ended ≡ true }
         ensures errs { (p : Peer) → IsPeer self.old.client p
             → (q : Peer) × Errs (shell_refusal (kept_base (kept_of self.old.owned.shell surface)) object object error) p q × IsPeer self.new.client q }
-        ensures rest { length self.new.client.rest ≤ length self.old.client.rest }
+        ensures rest { Leaves self.old self.new }
         ensures surfaces { self.new.owned.linked ≡ self.old.owned.linked }
     {
         let refusal = refusal_of(self.base_of(surface), object, object, error);
@@ -91,7 +91,7 @@ impl<A: Allocator + Copy> Resident<A> {
     /// xdg_surface.destroy: its id is given back.
     fn destroy_xdg_surface(&mut self, object: u32, version: u32, surface: SurfaceNo)
         ensures answers { IsXdgSurface self.old object surface → AnswersDemand (λ r. demand_of served_now r object version (xdg_surface_request Destroy)) self.old self.new }
-        ensures rest { length self.new.client.rest ≤ length self.old.client.rest }
+        ensures rest { Leaves self.old self.new }
         ensures surfaces { self.new.owned.linked ≡ self.old.owned.linked }
     {
         match self.owned.shell.destroy_xdg_surface(surface) {
@@ -107,7 +107,7 @@ impl<A: Allocator + Copy> Resident<A> {
     fn get_toplevel(&mut self, object: u32, version: u32, surface: SurfaceNo, id: u32)
         ensures answers { IsXdgSurface self.old object surface → IsFree self.old id
             → AnswersDemand (λ r. demand_of served_now r object version (xdg_surface_request (GetToplevel id))) self.old self.new }
-        ensures rest { length self.new.client.rest ≤ length self.old.client.rest }
+        ensures rest { Leaves self.old self.new }
     {
         let has_other_role = is_other_role(self.owned.linked.surfaces.role(surface));
         match self.owned.shell.get_toplevel(surface, id, has_other_role) {
@@ -133,7 +133,7 @@ impl<A: Allocator + Copy> Resident<A> {
     fn set_window_geometry(&mut self, object: u32, version: u32, surface: SurfaceNo, rect: Rect)
         ensures answers { IsXdgSurface self.old object surface
             → AnswersDemand (λ r. demand_of served_now r object version (xdg_surface_request (SetWindowGeometry rect.x rect.y rect.w rect.h))) self.old self.new }
-        ensures rest { length self.new.client.rest ≤ length self.old.client.rest }
+        ensures rest { Leaves self.old self.new }
         ensures surfaces { self.new.owned.linked ≡ self.old.owned.linked }
     {
         match self.owned.shell.geometry(surface, rect) {
@@ -146,7 +146,7 @@ impl<A: Allocator + Copy> Resident<A> {
     fn ack_configure(&mut self, object: u32, version: u32, surface: SurfaceNo, serial: u32)
         ensures answers { IsXdgSurface self.old object surface
             → AnswersDemand (λ r. demand_of served_now r object version (xdg_surface_request (AckConfigure serial))) self.old self.new }
-        ensures rest { length self.new.client.rest ≤ length self.old.client.rest }
+        ensures rest { Leaves self.old self.new }
         ensures surfaces { self.new.owned.linked ≡ self.old.owned.linked }
     {
         match self.owned.shell.ack(surface, serial) {
@@ -165,7 +165,7 @@ impl<A: Allocator + Copy> Resident<A> {
     )
         ensures answers { IsXdgSurface self.old object surface → NewIsFree self.old (xdg_surface_request request.now)
             → AnswersDemand (λ r. demand_of served_now r object version (xdg_surface_request request.now)) self.old self.new }
-        ensures rest { length self.new.client.rest ≤ length self.old.client.rest }
+        ensures rest { Leaves self.old self.new }
     {
         match *request {
             XdgSurfaceRequest::Destroy => self.destroy_xdg_surface(object, version, surface),

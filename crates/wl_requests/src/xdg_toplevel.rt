@@ -1,6 +1,6 @@
 //! The requests of xdg_toplevel.
 
-ghost use Rattle.std.specs.Prelude.{◌≡◌, ◌∷◌, ◌++◌, ℕ, [], None, ◌≤◌, length};
+ghost use Rattle.std.specs.Prelude.{◌≡◌, ◌∷◌, ◌++◌, ℕ, [], None};
 ghost use Rattle.std.specs.Option.{option_and_then, option_map};
 ghost use Rattle.wl_client.specs.Agreement.{IsPeer};
 ghost use Rattle.wl_peer.specs.Peer.{Peer, Queues};
@@ -12,7 +12,7 @@ ghost use Rattle.wl_xdg_state.specs.Shell.{xdg_with};
 ghost use Rattle.wl_plain.specs.Demanding.{demand_of, demands, toplevel_destroyed};
 ghost use Rattle.wl_plain.specs.LeftOut.{served_now};
 ghost use Rattle.wl_plain.specs.Releases.{release_told};
-ghost use Rattle.wl_requests.specs.Residents.{AnswersDemand, IsToplevel, Stacks, asked_by, drawn_by, told_by};
+ghost use Rattle.wl_requests.specs.Residents.{AnswersDemand, asked_by, drawn_by, IsToplevel, Leaves, Stacks, told_by};
 ghost use Rattle.wl_plain.specs.Step.{toplevel_configured, xdg_configured};
 ghost use Rattle.wl_peer.specs.Requests.{toplevel_request};
 ghost use Rattle.wl_plain.specs.XdgShell.{state_asked};
@@ -88,7 +88,7 @@ impl<A: Allocator + Copy> Resident<A> {
     /// xdg_toplevel.destroy: its id is given back.
     fn destroy_toplevel(&mut self, object: u32, surface: SurfaceNo)
         ensures answers { IsToplevel self.old object surface → AnswersDemand (λ r. toplevel_destroyed object (xdg_with object r.owned.shell)) self.old self.new }
-        ensures rest { length self.new.client.rest ≤ length self.old.client.rest }
+        ensures rest { Leaves self.old self.new }
         ensures surfaces { self.new.owned.linked ≡ self.old.owned.linked }
     {
         self.client.count();
@@ -103,7 +103,7 @@ impl<A: Allocator + Copy> Resident<A> {
             → (q : Peer) × Queues (toplevel_configured toplevel ∷ xdg_configured xdg_surface serial ∷ []) p q × IsPeer self.new.client q }
         ensures owned { self.new.owned ≡ self.old.owned }
         ensures subsurfaces { self.new.subsurfaces ≡ self.old.subsurfaces }
-        ensures rest { length self.new.client.rest ≤ length self.old.client.rest }
+        ensures rest { Leaves self.old self.new }
     {
         let first = toplevel_event(toplevel);
         let second = xdg_surface_event(xdg_surface, serial);
@@ -125,7 +125,7 @@ impl<A: Allocator + Copy> Resident<A> {
             → (q : Peer) × Queues (told_by act serial (kept_of self.old.owned.shell surface)) (drawn_by act p) q × IsPeer self.new.client q }
         ensures owned { self.new.owned ≡ self.old.owned }
         ensures subsurfaces { self.new.subsurfaces ≡ self.old.subsurfaces }
-        ensures rest { length self.new.client.rest ≤ length self.old.client.rest }
+        ensures rest { Leaves self.old self.new }
     {
         let ShellAct::Configure(_) = act else {
             return;
@@ -140,7 +140,7 @@ impl<A: Allocator + Copy> Resident<A> {
     /// A request for another state, as xdg_toplevel.set_maximized: the toplevel is configured again, if it was configured before.
     fn configure_again(&mut self, object: u32, surface: SurfaceNo)
         ensures answers { IsToplevel self.old object surface → AnswersDemand (λ r. demands (state_asked (xdg_with object r.owned.shell))) self.old self.new }
-        ensures rest { length self.new.client.rest ≤ length self.old.client.rest }
+        ensures rest { Leaves self.old self.new }
         ensures surfaces { self.new.owned.linked ≡ self.old.owned.linked }
     {
         let xdg_surface = self.xdg_surface_of(surface);
@@ -167,7 +167,7 @@ impl<A: Allocator + Copy> Resident<A> {
             → AnswersDemand (λ r. demand_of served_now r object version m) self.old self.new }
         ensures stacks { IsToplevel self.old object surface → (version : ℕ) (m : Message) → m.interface ≡ XdgToplevel → asked ≡ asked_by (toplevel_request m.opcode m.fields)
             → Stacks (λ r. demand_of served_now r object version m) self.old result }
-        ensures rest { length self.new.client.rest ≤ length self.old.client.rest }
+        ensures rest { Leaves self.old self.new }
         ensures surfaces { self.new.owned.linked ≡ self.old.owned.linked }
     {
         match asked {

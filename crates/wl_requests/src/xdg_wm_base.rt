@@ -1,13 +1,13 @@
 //! The requests of xdg_wm_base.
 
-ghost use Rattle.std.specs.Prelude.{◌≡◌, ◌↔◌, IsTrue, Ok, ◌≤◌, length};
+ghost use Rattle.std.specs.Prelude.{◌≡◌, ◌↔◌, IsTrue, Ok};
 ghost use Rattle.wl_proto.specs.Messages.{xdg_wm_base_request};
 ghost use Rattle.wl_interface.specs.declared.interface.Interface.TheVariants.{WlSurface};
 ghost use Rattle.wl_proto.specs.declared.xdg_wm_base.XdgWmBaseRequest.TheVariants.{Destroy, GetXdgSurface};
 ghost use Rattle.wl_plain.specs.Ask.{EndObject, Ignore};
 ghost use Rattle.wl_plain.specs.Demand.{Asks};
 ghost use Rattle.wl_owning.specs.Owning.{targets_in};
-ghost use Rattle.wl_requests.specs.Residents.{AnswersDemand, Does, GoesAlone, IsBase, IsFree, IsSurface, NewIsFree, ObjectsFit};
+ghost use Rattle.wl_requests.specs.Residents.{AnswersDemand, Does, GoesAlone, IsBase, IsFree, IsSurface, Leaves, NewIsFree, ObjectsFit};
 ghost use Rattle.wl_plain.specs.LeftOut.{served_now};
 ghost use Rattle.wl_plain.specs.Demanding.{demand_of};
 ghost use Rattle.wl_plain.specs.WlSubsurface.{past_limit};
@@ -43,7 +43,7 @@ impl<A: Allocator + Copy> Resident<A> {
     /// A request that has no effect is counted.
     pub(crate) fn ignore(&mut self)
         ensures answers { AnswersDemand (λ r. Ok (Asks Ignore)) self.old self.new }
-        ensures rest { length self.new.client.rest ≤ length self.old.client.rest }
+        ensures rest { Leaves self.old self.new }
         ensures surfaces { self.new.owned.linked ≡ self.old.owned.linked }
     {
         self.client.count();
@@ -52,7 +52,7 @@ impl<A: Allocator + Copy> Resident<A> {
     /// A request that isn't served is refused as a limit would be.
     pub(crate) fn refuse_unserved(&mut self)
         ensures answers { AnswersDemand (λ r. past_limit) self.old self.new }
-        ensures rest { length self.new.client.rest ≤ length self.old.client.rest }
+        ensures rest { Leaves self.old self.new }
         ensures surfaces { self.new.owned.linked ≡ self.old.owned.linked }
     {
         self.client
@@ -73,7 +73,7 @@ impl<A: Allocator + Copy> Resident<A> {
     /// An object goes with which nothing else of the client does: its id is given back.
     pub(crate) fn end_object(&mut self, object: u32)
         ensures does { GoesAlone self.old object → Does (λ r. EndObject object) self.old self.new }
-        ensures rest { length self.new.client.rest ≤ length self.old.client.rest }
+        ensures rest { Leaves self.old self.new }
         ensures surfaces { self.new.owned.linked ≡ self.old.owned.linked }
     {
         self.client.remove(object);
@@ -82,7 +82,7 @@ impl<A: Allocator + Copy> Resident<A> {
     /// xdg_wm_base.destroy: its id is given back.
     fn destroy_base(&mut self, object: u32, version: u32)
         ensures answers { IsBase self.old object → AnswersDemand (λ r. demand_of served_now r object version (xdg_wm_base_request Destroy)) self.old self.new }
-        ensures rest { length self.new.client.rest ≤ length self.old.client.rest }
+        ensures rest { Leaves self.old self.new }
         ensures surfaces { self.new.owned.linked ≡ self.old.owned.linked }
     {
         match self.owned.shell.check_base(object) {
@@ -107,7 +107,7 @@ impl<A: Allocator + Copy> Resident<A> {
     )
         ensures answers { IsFree self.old id → IsSurface self.old surface number
             → AnswersDemand (λ r. demand_of served_now r object version (xdg_wm_base_request (GetXdgSurface id surface))) self.old self.new }
-        ensures rest { length self.new.client.rest ≤ length self.old.client.rest }
+        ensures rest { Leaves self.old self.new }
         ensures surfaces { self.new.owned.linked ≡ self.old.owned.linked }
     {
         let has_other_role = is_foreign_role(self.owned.linked.surfaces.role(number));
@@ -141,7 +141,7 @@ impl<A: Allocator + Copy> Resident<A> {
     pub(crate) fn xdg_wm_base(&mut self, object: u32, version: u32, request: &XdgWmBaseRequest)
         ensures answers { IsBase self.old object → NewIsFree self.old (xdg_wm_base_request request.now) → ObjectsFit self.old (xdg_wm_base_request request.now)
             → AnswersDemand (λ r. demand_of served_now r object version (xdg_wm_base_request request.now)) self.old self.new }
-        ensures rest { length self.new.client.rest ≤ length self.old.client.rest }
+        ensures rest { Leaves self.old self.new }
         ensures surfaces { self.new.owned.linked ≡ self.old.owned.linked }
     {
         match *request {

@@ -1,6 +1,6 @@
 -- A message that is served, from what its parts say: the client lives on.
 use Rattle.std.proofs.Common.{◌≡◌, ℕ, ◌<◌, ◌≤◌, Bool, true, false, Option, Some, None, List, ◌∷◌, ◌++◌, map, refl, ap, sym, subst, ◌∙◌, inl, inr, arith, []}
-use Rattle.std.specs.Prelude.{is_some, length, pos, ◌||◌, ◌+◌, vec_capacity, vec_len}
+use Rattle.std.specs.Prelude.{is_some, length, pos, ◌||◌, ◌+◌, vec_capacity}
 use Rattle.std.proofs.lemmas.Bool.{or_left, or_right}
 use Rattle.std.proofs.lemmas.Int.{ints}
 use Rattle.wl_wire.specs.Wire.{split_of}
@@ -14,14 +14,14 @@ use Rattle.wl_stacking.specs.Windows.{Owner}
 use Rattle.wl_surface.specs.Slots.{count}
 use Rattle.wl_surface.specs.Surfaces.{Surfaces}
 use Rattle.wl_surface.specs.declared.applied.Applied.{Applied}
-use Rattle.wl_plain.specs.Desktop.{Desktop, Resident, status_in, status_of}
+use Rattle.wl_plain.specs.Desktop.{Desktop, Resident, client_at, status_in, status_of}
 use Rattle.wl_plain.specs.Happens.{Serves}
 use Rattle.wl_plain.specs.LeftOut.{served_now}
 use Rattle.wl_plain.specs.Marks.{in_output}
 use Rattle.wl_plain.specs.Moments.{marks_at_least_through, marks_at_most, marks_at_most_through}
 use Rattle.wl_plain.specs.Stacked.{all_windows}
 use Rattle.wl_plain.specs.Through.{ServesThrough}
-use Rattle.wl_laws.proofs.Lists.Keys.{differ}
+use Rattle.wl_laws.proofs.Lists.Keys.{differ, none-some}
 use Rattle.wl_laws.proofs.Marks.Stacks.{unless}
 use Rattle.wl_laws.proofs.Runs.Through.{messages_lead_through}
 use Rattle.wl_lending.specs.Stacked.{AreStacked}
@@ -35,7 +35,7 @@ use Rattle.wl_requests.specs.declared.residents.Resident.{Resident as Kept}
 use Rattle.wl_requests.specs.declared.residents.Stacking.{Stacking}
 use Rattle.wl_requests.specs.declared.residents.Stacking.TheVariants as on
 use Rattle.wl_requests.specs.Messages.{IsAsked, IsTouchOfAsked}
-use Rattle.wl_requests.specs.Residents.{IsResident, TakesMessage, TakesMessageAs}
+use Rattle.wl_requests.specs.Residents.{IsResident, Owns, TakesMessage, TakesMessageAs}
 use Rattle.wl_requests.specs.Touching.{IsTouched, Touch}
 use Rattle.wl_stacked.specs.declared.stacked.Stacked.{Stacked}
 use Rattle.wl_windows.specs.Windows.{told_of}
@@ -54,9 +54,6 @@ use Rattle.wl_resident.proofs.Living.{some-applied, top-applied}
 use Rattle.wl_resident.proofs.Serving.{marks-least, marks-most, told-fit, windows-after}
 use Rattle.wl_resident.proofs.Sitting.{IsSettled, Sits, numbers}
 use Rattle.wl_resident.proofs.Taking.{served, sits-seated}
-use Rattle.wl_owning.specs.Owning.{AreKept, number_in}
-use Rattle.wl_owning.proofs.Keeping.OwningTies.{stand-by}
-use Rattle.wl_named.specs.Renaming.{renamed}
 use Rattle.wl_resident.proofs.Turning as turning
 
 -- ---- what is known before a message
@@ -75,18 +72,14 @@ pub record Asks {A : Type 0} (c : ℕ) (old mid : Kept A) (was ready : Screen A)
   pub nothing : ((touch : Touch) → IsTouchOfAsked asked old touch → ⊥) → applied ≡ None
   pub same : IsSameScreen was ready
   pub kept : is_some applied ≡ true → ready.spare.was.items ≡ tree_kept c root was.stacked.windows
-  pub unkept : root ≡ None → ready.spare.was.items ≡ []
   pub room : is_some applied ≡ true → HasRoom (count old.owned.linked.surfaces) ready
-  pub empty : ready.spare.is.items ≡ []
+  pub empty : is_some applied ≡ true → ready.spare.is.items ≡ []
 
 pub within-output : (width height x y : ℕ) → x < width → y < height → in_output width height (pos x) (pos y) ≡ true
 within-output width height x y w h = grind (arith, ints)
 
 pub fits-so : (a b c d : ℕ) → a + b ≤ d → c ≤ b → a + c ≤ d
 fits-so a b c d e f = omega (arith)
-
-plus-none : (a b : ℕ) → a ≤ b → a + 0 ≤ b
-plus-none a b e = omega (arith)
 
 -- what is marked once is marked along a way that leads there at once
 twice-through : (d e : Desktop) (path : List Desktop) (d0 d2 : Damaged) → path ≡ e ∷ e ∷ [] → HasTrees e → MarksAtLeast d e d0 d2 → MarksMost d e d0 d2 → MarksThrough d path d0 d2
@@ -108,167 +101,172 @@ twice-through d e path d0 d2 is trees least most x y wide high = (
 
 module _ {A : Type 0} (c : ℕ) (others : ℕ → ById ℕ) (base d : Desktop) (r : Resident) (old mid : Kept A) (was ready new : Screen A) (before : IsSeated c others base old (pile_of was) d r)
     (orderly : Orderly d) (asked : Asked) (root : Option ℕ) (stacking : Stacking) (applied : Option (Applied A)) (a : Asks c old mid was ready asked root stacking applied)
-    (alive : mid.client.ended ≡ None) (f : IsFollowed c root mid stacking applied ready new) where
+    (alive : mid.client.ended ≡ None) where
   abbrev pile : Pile
   pile = pile_of was
 
-  resident : IsResident old r
+  pub resident : IsResident old r
   resident = turning.resident c others base d r old pile before orderly a.lives
 
-  owns : OwnsOrderly r
+  pub owns : OwnsOrderly r
   owns = turning.owns c others base d r old pile before orderly a.lives
 
-  is-applied : (touch : Touch) → IsTouchOfAsked asked old touch → is_some applied ≡ true
+  pub is-applied : (touch : Touch) → IsTouchOfAsked asked old touch → is_some applied ≡ true
   is-applied = some-applied c r d old mid resident owns asked a.asks applied a.decides alive
 
-  has-place : HasPlace stacking ready.scene (vec_capacity ready.spare.toplevels)
-  has-place = at stacking refl
-    where
-      at : (s : Stacking) → stacking ≡ s → HasPlace s ready.scene (vec_capacity ready.spare.toplevels)
-      at on.Stays e = tt
-      at (on.Out n) e = tt
-      at (on.ToTop n) e = (a.room (top-applied c r d old mid resident owns asked a.asks applied a.decides alive stacking a.takes n e)).place
-
-  done : IsRestacked c stacking was.scene new.scene
-  done = subst (λ (s : Stack). IsRestacked c stacking s new.scene) a.same.scene (f.scene has-place)
-
-  settled : IsSettled mid.client.ended applied c stacking mid mid was.scene new.scene
-  settled = subst (λ (o : Option Cause). IsSettled o applied c stacking mid mid was.scene new.scene) (sym alive) (refl, done)
-
-  trees : HasTrees d
+  pub trees : HasTrees d
   trees = orderly_has_trees d orderly before.mapped
 
-  filled : is_some applied ≡ true → (all : Surfaces) (owner : Owner) → Stand mid.owned.linked.surfaces mid.owned.linked.family all
-      → length (tree_on c owner all root new.scene.standing) ≤ count old.owned.linked.surfaces → f.is ≡ map told_of (tree_on c owner all root new.scene.standing)
-  filled some all owner stand fits =
-      f.told all owner stand (fits-so _ _ _ _ (a.room some).tree fits) ∙ ap (λ (ws : List TreeWindow). ws ++ map told_of (tree_on c owner all root new.scene.standing)) a.empty
+  -- What it leads to, where the toplevels are restacked, and the windows are those of any desktop to which it leads.
+  module _ (done : IsRestacked c stacking was.scene new.scene)
+      (windows : (e : Desktop) (s : Resident) → HasTrees e → Serves served_now c d e → status_in c e ≡ None → client_at c e ≡ Some s → Owns mid s
+      → AreStacked (with_numbers c (numbers mid) others) new.stacked.windows (all_windows e)) where
+    settled : IsSettled mid.client.ended applied c stacking mid mid was.scene new.scene
+    settled = subst (λ (o : Option Cause). IsSettled o applied c stacking mid mid was.scene new.scene) (sym alive) (refl, done)
 
-  kept : is_some applied ≡ true → ready.spare.was.items ≡ tree_kept c root pile.windows
-  kept some = a.kept some
+    m : (e : Desktop) × (s : Resident) × (b : Bool) × TakesAs b (split_of r.peer.rest) c r d e × Sits c others base mid new.scene e s
+        × ((touch : Touch) → IsTouchOfAsked asked old touch → b ≡ is_some applied)
+    m = served c others base d r asked stacking applied old mid mid pile new.scene before orderly a.lives a.asks a.takes a.decides a.nothing settled
 
-  -- where no tree is touched no windows are told
-  none-told : (numbered : ById ℕ) (all : Surfaces) → AreKept numbered mid.owned.linked.surfaces mid.owned.linked.family all → root ≡ None → f.is ≡ []
-  none-told numbered all are none =
-      let stand = stand-by numbered mid.owned.linked.surfaces mid.owned.linked.family all are in
-      let owner : Owner = record { client = c; root = 0; toplevel = 0 } in
-      let told = subst (λ (o : Option ℕ). vec_len ready.spare.is + length (tree_on c owner (renamed (number_in numbered) all) o new.scene.standing) ≤ vec_capacity ready.spare.is
-      → f.is ≡ ready.spare.is.items ++ map told_of (tree_on c owner (renamed (number_in numbered) all) o new.scene.standing)) none
-      (f.told (renamed (number_in numbered) all) owner stand.stands) in
-      told (plus-none _ _ ready.spare.is.ok.1) ∙ ap (λ (ws : List TreeWindow). ws ++ []) a.empty
+    abbrev e : Desktop
+    e = m.0
 
-  -- ---- any desktop to which it leads
+    abbrev s : Resident
+    s = m.1
 
-  module _ (e : Desktop) (q : Resident) (serves : Serves served_now c d e) (after : IsSeated c others base mid (pile_of new) e q) where
-    status : status_in c e ≡ None
-    status = ap (λ (o : Option Resident). status_of o) after.based.there ∙ (sym after.seat.peer.status ∙ alive)
+    lead : (path : List Desktop) × ServesThrough served_now c d path e × RouteBy m.2 c r d path e
+    lead = messages_lead_so m.2 c r d e orderly before.mapped before.based.there (turning.alive c others base d r old pile before orderly a.lives) m.3
 
-    trees-after : HasTrees e
-    trees-after = orderly_has_trees e (messages_keep_order c d e orderly serves) after.mapped
+    serves : Serves served_now c d e
+    serves = (messages_lead_through served_now c d e).0 lead.0 lead.1
 
-    points : (x y : ℕ) → x < was.damage.width → y < was.damage.height
-        → has new.damage x y ≡ (has was.damage x y || turned_has stacking (tree_kept c root pile.windows) ready.spare.was.items f.is (changes_in applied) (pos x) (pos y))
-    points =
-        subst (λ (m : Damaged). (x y : ℕ) → x < m.width → y < m.height
-        → has new.damage x y ≡ (has m x y || turned_has stacking (tree_kept c root pile.windows) ready.spare.was.items f.is (changes_in applied) (pos x) (pos y))) a.same.damage
-        (subst (λ (ws : List Stacked). (x y : ℕ) → x < ready.damage.width → y < ready.damage.height
-        → has new.damage x y ≡ (has ready.damage x y || turned_has stacking (tree_kept c root ws) ready.spare.was.items f.is (changes_in applied) (pos x) (pos y))) a.same.windows f.points)
+    stands : MappedStand e
+    stands = messages_keep_mapped served_now (λ request e. e) c d e orderly before.mapped serves
 
-    no-is : root ≡ None → f.is ≡ []
-    no-is = none-told (numbers mid) q.owned.surfaces after.seat.owns.surfaces
+    trees-e : HasTrees e
+    trees-e = orderly_has_trees e (messages_keep_order c d e orderly serves) stands
 
-    pub lives-least : MarksAtLeast d e was.damage new.damage
-    lives-least =
-        marks-least c others base d r old mid pile before orderly a.lives asked a.asks stacking a.takes alive e q trees trees-after serves status after.based.there after.seat.owns
-        a.touched root a.by a.root_is a.rootless applied a.touched_so is-applied
-        new.scene done ready.spare.was.items f.is kept filled was.damage new.damage points a.unkept no-is
+    status-e : status_in c e ≡ None
+    status-e = ap (λ (o : Option Resident). status_of o) m.4.based.there ∙ (sym m.4.seat.peer.status ∙ alive)
 
-    pub lives-most : was.damage.width ≡ d.output.width → was.damage.height ≡ d.output.height → MarksMost d e was.damage new.damage
-    lives-most width height =
-        marks-most c others base d r old mid pile before orderly a.lives asked a.asks stacking a.takes alive e q trees trees-after serves status after.based.there after.seat.owns
-        a.touched root a.by a.root_is a.rootless applied a.touched_so is-applied
-        new.scene done ready.spare.was.items f.is kept filled was.damage new.damage points a.unkept no-is
-        (λ x y wide high. within-output d.output.width d.output.height x y (subst (λ (n : ℕ). x < n) width wide) (subst (λ (n : ℕ). y < n) height high))
+    seated : IsSeated c others base mid (pile_of new) e s
+    seated = sits-seated c others base mid new.scene new.stacked.windows e s m.4 stands (windows e s trees-e serves status-e m.4.based.there m.4.seat.owns)
 
-  -- ---- one to which it leads
+    -- What is kept stands for a desktop to which the message leads.
+    pub leads-seated : (e : Desktop) × (q : Resident) × Serves served_now c d e × IsSeated c others base mid (pile_of new) e q
+    leads-seated = (e, s, serves, seated)
 
-  m : (e : Desktop) × (s : Resident) × (b : Bool) × TakesAs b (split_of r.peer.rest) c r d e × Sits c others base mid new.scene e s
-      × ((touch : Touch) → IsTouchOfAsked asked old touch → b ≡ is_some applied)
-  m = served c others base d r asked stacking applied old mid mid pile new.scene before orderly a.lives a.asks a.takes a.decides a.nothing settled
+    -- And along the way what is marked is what has to be and may be.
+    pub leads-through : ((e : Desktop) (q : Resident) → Serves served_now c d e → IsSeated c others base mid (pile_of new) e q → MarksAtLeast d e was.damage new.damage)
+        → ((e : Desktop) (q : Resident) → Serves served_now c d e → IsSeated c others base mid (pile_of new) e q → MarksMost d e was.damage new.damage)
+        → (e : Desktop) × (q : Resident) × (path : List Desktop) × ServesThrough served_now c d path e × IsSeated c others base mid (pile_of new) e q
+        × MarksThrough d path was.damage new.damage
+    leads-through least most = (e, s, lead.0, lead.1, seated, by m.2 lead.2)
+      where
+        over : is_some (status_in c e) ≡ true → ⊥
+        over some = differ (sym some ∙ ap (λ (o : Option Cause). is_some o) status-e)
 
-  abbrev e : Desktop
-  e = m.0
+        once : lead.0 ≡ e ∷ e ∷ [] → MarksThrough d lead.0 was.damage new.damage
+        once is = twice-through d e lead.0 was.damage new.damage is trees-e (least e s serves seated) (most e s serves seated)
 
-  abbrev s : Resident
-  s = m.1
+        by : (b : Bool) → RouteBy b c r d lead.0 e → MarksThrough d lead.0 was.damage new.damage
+        by false route = absurd (over route.1)
+        by true (inl route) = once route.0
+        by true (inr struck) = absurd (over struck.over)
 
-  lead : (path : List Desktop) × ServesThrough served_now c d path e × RouteBy m.2 c r d path e
-  lead = messages_lead_so m.2 c r d e orderly before.mapped before.based.there (turning.alive c others base d r old pile before orderly a.lives) m.3
+  -- ---- it touched a tree
 
-  serves : Serves served_now c d e
-  serves = (messages_lead_through served_now c d e).0 lead.0 lead.1
+  module _ (top : ℕ) (rooted : root ≡ Some top) (f : IsFollowed c root mid stacking applied ready new) where
+    has-place : HasPlace stacking ready.scene (vec_capacity ready.spare.toplevels)
+    has-place = at stacking refl
+      where
+        at : (s : Stacking) → stacking ≡ s → HasPlace s ready.scene (vec_capacity ready.spare.toplevels)
+        at on.Stays e = tt
+        at (on.Out n) e = tt
+        at (on.ToTop n) e = (a.room (top-applied c r d old mid resident owns asked a.asks applied a.decides alive stacking a.takes n e)).place
 
-  stands : MappedStand e
-  stands = messages_keep_mapped served_now (λ request e. e) c d e orderly before.mapped serves
+    done : IsRestacked c stacking was.scene new.scene
+    done = subst (λ (s : Stack). IsRestacked c stacking s new.scene) a.same.scene (f.scene has-place)
 
-  trees-e : HasTrees e
-  trees-e = orderly_has_trees e (messages_keep_order c d e orderly serves) stands
+    filled : is_some applied ≡ true → (all : Surfaces) (owner : Owner) → Stand mid.owned.linked.surfaces mid.owned.linked.family all
+        → length (tree_on c owner all root new.scene.standing) ≤ count old.owned.linked.surfaces → f.is ≡ map told_of (tree_on c owner all root new.scene.standing)
+    filled some all owner stand fits =
+        f.told all owner stand (fits-so _ _ _ _ (a.room some).tree fits) ∙ ap (λ (ws : List TreeWindow). ws ++ map told_of (tree_on c owner all root new.scene.standing)) (a.empty some)
 
-  status-e : status_in c e ≡ None
-  status-e = ap (λ (o : Option Resident). status_of o) m.4.based.there ∙ (sym m.4.seat.peer.status ∙ alive)
+    kept : is_some applied ≡ true → ready.spare.was.items ≡ tree_kept c root pile.windows
+    kept some = a.kept some
 
-  -- ---- the windows
+    -- there is a tree
+    no-tree : (ws : List TreeWindow) → root ≡ None → ws ≡ []
+    no-tree ws none = absurd (none-some top (sym none ∙ rooted))
 
-  no-is-here : root ≡ None → f.is ≡ []
-  no-is-here = none-told (numbers mid) s.owned.surfaces m.4.seat.owns.surfaces
+    -- ---- any desktop to which it leads
 
-  fit : Fit stacking (length f.is) ready.stacked.room
-  fit = at stacking refl
-    where
-      fits : ((n : ℕ) → stacking ≡ on.Out n → ⊥) → length f.is ≤ ready.stacked.room
-      fits never =
-          told-fit c others base d r old mid pile before orderly a.lives asked a.asks stacking a.takes alive e s trees trees-e serves status-e m.4.based.there m.4.seat.owns
+    module _ (e : Desktop) (q : Resident) (serves : Serves served_now c d e) (after : IsSeated c others base mid (pile_of new) e q) where
+      status : status_in c e ≡ None
+      status = ap (λ (o : Option Resident). status_of o) after.based.there ∙ (sym after.seat.peer.status ∙ alive)
+
+      trees-after : HasTrees e
+      trees-after = orderly_has_trees e (messages_keep_order c d e orderly serves) after.mapped
+
+      points : (x y : ℕ) → x < was.damage.width → y < was.damage.height
+          → has new.damage x y ≡ (has was.damage x y || turned_has stacking (tree_kept c root pile.windows) ready.spare.was.items f.is (changes_in applied) (pos x) (pos y))
+      points =
+          subst (λ (m : Damaged). (x y : ℕ) → x < m.width → y < m.height
+          → has new.damage x y ≡ (has m x y || turned_has stacking (tree_kept c root pile.windows) ready.spare.was.items f.is (changes_in applied) (pos x) (pos y))) a.same.damage
+          (subst (λ (ws : List Stacked). (x y : ℕ) → x < ready.damage.width → y < ready.damage.height
+          → has new.damage x y ≡ (has ready.damage x y || turned_has stacking (tree_kept c root ws) ready.spare.was.items f.is (changes_in applied) (pos x) (pos y))) a.same.windows f.points)
+
+      pub lives-least : MarksAtLeast d e was.damage new.damage
+      lives-least =
+          marks-least c others base d r old mid pile before orderly a.lives asked a.asks stacking a.takes alive e q trees trees-after serves status after.based.there after.seat.owns
           a.touched root a.by a.root_is a.rootless applied a.touched_so is-applied
-          new.scene done ready.spare.was.items f.is kept filled ready.stacked.room (λ some. (a.room some).stack) no-is-here never
+          new.scene done ready.spare.was.items f.is kept filled was.damage new.damage points (no-tree ready.spare.was.items) (no-tree f.is)
 
-      at : (t : Stacking) → stacking ≡ t → Fit t (length f.is) ready.stacked.room
-      at (on.Out n) is = tt
-      at on.Stays is = fits (λ n out. stays-out n (sym is ∙ out))
+      pub lives-most : was.damage.width ≡ d.output.width → was.damage.height ≡ d.output.height → MarksMost d e was.damage new.damage
+      lives-most width height =
+          marks-most c others base d r old mid pile before orderly a.lives asked a.asks stacking a.takes alive e q trees trees-after serves status after.based.there after.seat.owns
+          a.touched root a.by a.root_is a.rootless applied a.touched_so is-applied
+          new.scene done ready.spare.was.items f.is kept filled was.damage new.damage points (no-tree ready.spare.was.items) (no-tree f.is)
+          (λ x y wide high. within-output d.output.width d.output.height x y (subst (λ (n : ℕ). x < n) width wide) (subst (λ (n : ℕ). y < n) height high))
+
+    -- ---- the windows
+
+    module _ (e : Desktop) (s : Resident) (trees_e : HasTrees e) (serves : Serves served_now c d e) (status : status_in c e ≡ None) (there : client_at c e ≡ Some s) (own : Owns mid s) where
+      fit : Fit stacking (length f.is) ready.stacked.room
+      fit = at stacking refl
         where
-          stays-out : (n : ℕ) → on.Stays ≡ on.Out n → ⊥
-          stays-out n e = absurd (cc)
-      at (on.ToTop k) is = fits (λ n out. top-out n (sym is ∙ out))
-        where
-          top-out : (n : ℕ) → on.ToTop k ≡ on.Out n → ⊥
-          top-out n e = absurd (cc)
+          fits : ((n : ℕ) → stacking ≡ on.Out n → ⊥) → length f.is ≤ ready.stacked.room
+          fits never =
+              told-fit c others base d r old mid pile before orderly a.lives asked a.asks stacking a.takes alive e s trees trees_e serves status there own
+              a.touched root a.by a.root_is a.rootless applied a.touched_so is-applied
+              new.scene done ready.spare.was.items f.is kept filled ready.stacked.room (λ some. (a.room some).stack) (no-tree f.is) never
 
-  windows-are : new.stacked.windows ≡ restacked_if c root stacking f.is was.stacked.windows
-  windows-are = f.windows fit ∙ ap (λ (ws : List Stacked). restacked_if c root stacking f.is ws) a.same.windows
+          at : (t : Stacking) → stacking ≡ t → Fit t (length f.is) ready.stacked.room
+          at (on.Out n) is = tt
+          at on.Stays is = fits (λ n out. stays-out n (sym is ∙ out))
+            where
+              stays-out : (n : ℕ) → on.Stays ≡ on.Out n → ⊥
+              stays-out n e = absurd (cc)
+          at (on.ToTop k) is = fits (λ n out. top-out n (sym is ∙ out))
+            where
+              top-out : (n : ℕ) → on.ToTop k ≡ on.Out n → ⊥
+              top-out n e = absurd (cc)
 
-  seated : IsSeated c others base mid (pile_of new) e s
-  seated =
-      sits-seated c others base mid new.scene new.stacked.windows e s m.4 stands
-      (subst (λ (ws : List Stacked). AreStacked (with_numbers c (numbers mid) others) ws (all_windows e)) (sym windows-are)
-      (windows-after c others base d r old mid pile before orderly a.lives asked a.asks stacking a.takes alive e s trees trees-e serves status-e m.4.based.there m.4.seat.owns
-      a.touched root a.by a.root_is a.rootless applied a.touched_so is-applied
-      new.scene done ready.spare.was.items f.is kept filled))
+      windows-are : new.stacked.windows ≡ restacked_if c root stacking f.is was.stacked.windows
+      windows-are = f.windows fit ∙ ap (λ (ws : List Stacked). restacked_if c root stacking f.is ws) a.same.windows
 
-  -- What is kept stands for a desktop to which the message leads.
-  pub lives-seated : (e : Desktop) × (q : Resident) × Serves served_now c d e × IsSeated c others base mid (pile_of new) e q
-  lives-seated = (e, s, serves, seated)
+      lives-windows : AreStacked (with_numbers c (numbers mid) others) new.stacked.windows (all_windows e)
+      lives-windows =
+          subst (λ (ws : List Stacked). AreStacked (with_numbers c (numbers mid) others) ws (all_windows e)) (sym windows-are)
+          (windows-after c others base d r old mid pile before orderly a.lives asked a.asks stacking a.takes alive e s trees trees_e serves status there own
+          a.touched root a.by a.root_is a.rootless applied a.touched_so is-applied
+          new.scene done ready.spare.was.items f.is kept filled)
 
-  -- And along the way what is marked is what has to be and may be.
-  pub lives-through : was.damage.width ≡ d.output.width → was.damage.height ≡ d.output.height
-      → (e : Desktop) × (q : Resident) × (path : List Desktop) × ServesThrough served_now c d path e × IsSeated c others base mid (pile_of new) e q
-      × MarksThrough d path was.damage new.damage
-  lives-through width height = (e, s, lead.0, lead.1, seated, by m.2 lead.2)
-    where
-      over : is_some (status_in c e) ≡ true → ⊥
-      over some = differ (sym some ∙ ap (λ (o : Option Cause). is_some o) status-e)
+    pub lives-seated : (e : Desktop) × (q : Resident) × Serves served_now c d e × IsSeated c others base mid (pile_of new) e q
+    lives-seated = leads-seated done lives-windows
 
-      once : lead.0 ≡ e ∷ e ∷ [] → MarksThrough d lead.0 was.damage new.damage
-      once is = twice-through d e lead.0 was.damage new.damage is trees-e (lives-least e s serves seated) (lives-most e s serves seated width height)
-
-      by : (b : Bool) → RouteBy b c r d lead.0 e → MarksThrough d lead.0 was.damage new.damage
-      by false route = absurd (over route.1)
-      by true (inl route) = once route.0
-      by true (inr struck) = absurd (over struck.over)
+    pub lives-through : was.damage.width ≡ d.output.width → was.damage.height ≡ d.output.height
+        → (e : Desktop) × (q : Resident) × (path : List Desktop) × ServesThrough served_now c d path e × IsSeated c others base mid (pile_of new) e q
+        × MarksThrough d path was.damage new.damage
+    lives-through width height = leads-through done lives-windows lives-least (λ e q serves after. lives-most e q serves after width height)

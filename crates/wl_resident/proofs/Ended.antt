@@ -1,5 +1,5 @@
 -- A message that is served, from what its parts say: the client ended by it.
-use Rattle.std.proofs.Common.{◌≡◌, ℕ, ◌<◌, ◌≤◌, Bool, true, Option, Some, None, List, [], ◌++◌, map, refl, ap, sym, subst, ◌∙◌}
+use Rattle.std.proofs.Common.{◌≡◌, ℕ, ◌<◌, ◌≤◌, Bool, true, false, Option, Some, None, List, [], ◌++◌, map, refl, ap, sym, subst, ◌∙◌}
 use Rattle.std.specs.Prelude.{is_some, length, pos, ◌||◌, vec_capacity, filter, not, ◌==◌}
 use Rattle.std.specs.List.{list_any}
 use Rattle.wl_wire.specs.Wire.{split_of}
@@ -33,7 +33,6 @@ use Rattle.wl_requests.specs.declared.residents.Stacking.TheVariants as on
 use Rattle.wl_requests.specs.Messages.{IsTouchOfAsked}
 use Rattle.wl_requests.specs.Touching.{Touch}
 use Rattle.wl_stacked.specs.declared.stacked.Stacked.{Stacked}
-use Rattle.wl_stacked.specs.Stacked.{without_client as without_client_of}
 use Rattle.wl_windows.specs.Windows.{told_of}
 use Rattle.wl_windows.specs.declared.window.TreeWindow.{TreeWindow}
 use Rattle.wl_changes.specs.Ways.{RouteBy, TakesAs}
@@ -54,59 +53,103 @@ use Rattle.wl_resident.proofs.Sitting.{IsRestackedIf, IsSettled, Sits, numbers}
 use Rattle.wl_resident.proofs.Taking.{served, sits-seated}
 use Rattle.wl_resident.proofs.Turning as turning
 
-module _ {A : Type 0} (c : ℕ) (others : ℕ → ById ℕ) (base d : Desktop) (r : Resident) (old mid left : Kept A) (was ready new : Screen A) (before : IsSeated c others base old (pile_of was) d r)
-    (orderly : Orderly d) (asked : Asked) (root : Option ℕ) (stacking : Stacking) (applied : Option (Applied A)) (a : Asks c old mid was ready asked root stacking applied)
-    (cause : Cause) (ended : mid.client.ended ≡ Some cause) (p : IsParted c root mid left stacking applied ready new) where
-  abbrev pile : Pile
-  pile = pile_of was
+or-none : (b : Bool) → (b || false) ≡ b
+or-none true = refl
+or-none false = refl
 
+-- What the message did to the stack, what it told of the windows of a tree for a moment, and what is left and marked.
+pub record Ending {A : Type 0} (c : ℕ) (old mid left : Kept A) (was new : Screen A) (root : Option ℕ) (stacking : Stacking) (applied : Option (Applied A)) : Type 0 where
+  pub between : Stack
+  pub is : List TreeWindow
+  pub restacked : IsRestackedIf applied c stacking was.scene between
+  pub clears : IsClearedBy mid.client.ended c mid left (record { scene = between; windows = was.stacked.windows }) (pile_of new)
+  pub none_told : applied ≡ None → is ≡ []
+  pub filled :
+      is_some applied ≡ true → (all : Surfaces) (owner : Owner) → Stand mid.owned.linked.surfaces mid.owned.linked.family all
+      → length (tree_on c owner all root between.standing) ≤ count old.owned.linked.surfaces → is ≡ map told_of (tree_on c owner all root between.standing)
+  pub points :
+      (x y : ℕ) → x < was.damage.width → y < was.damage.height
+      → has new.damage x y ≡ ((has was.damage x y || has_own c (pos x) (pos y) was.stacked.windows) || list_any (window_has (pos x) (pos y)) is)
+
+-- ---- from what its parts say
+
+module _ {A : Type 0} (c : ℕ) (old mid left : Kept A) (was ready new : Screen A) (asked : Asked) (root : Option ℕ) (stacking : Stacking) (applied : Option (Applied A))
+    (a : Asks c old mid was ready asked root stacking applied) where
   -- there is a place for a toplevel that is mapped
   has-place : is_some applied ≡ true → (s : Stacking) → HasPlace s ready.scene (vec_capacity ready.spare.toplevels)
   has-place some on.Stays = tt
   has-place some (on.Out n) = tt
   has-place some (on.ToTop n) = (a.room some).place
 
-  restacked : (o : Option (Applied A)) → applied ≡ o → IsRestackedWhere o c stacking ready.scene p.between (vec_capacity ready.spare.toplevels) → IsRestackedIf o c stacking was.scene p.between
-  restacked None e h = h ∙ a.same.scene
-  restacked (Some x) e h =
-      subst (λ (s : Stack). IsRestacked c stacking s p.between) a.same.scene (h (has-place (ap (λ (o : Option (Applied A)). is_some o) e) stacking))
+  -- it touched a tree
+  pub ending-tree : ready.spare.is.items ≡ [] → IsParted c root mid left stacking applied ready new → Ending c old mid left was new root stacking applied
+  ending-tree empty p =
+      record {
+        between = p.between;
+        is = p.is;
+        restacked = restacked applied refl p.scene;
+        clears = subst (λ (ws : List Stacked). IsClearedBy mid.client.ended c mid left (record { scene = p.between; windows = ws }) (pile_of new)) a.same.windows p.clears;
+        none_told = λ none. subst (λ (o : Option (Applied A)). IsToldIf o c root mid p.between.standing ready p.is) none p.told ∙ empty;
+        filled = λ some all owner stand fits. filled some all owner stand fits applied refl p.told;
+        points =
+            subst (λ (m : Damaged). (x y : ℕ) → x < m.width → y < m.height
+            → has new.damage x y ≡ ((has m x y || has_own c (pos x) (pos y) was.stacked.windows) || list_any (window_has (pos x) (pos y)) p.is)) a.same.damage
+            (subst (λ (ws : List Stacked). (x y : ℕ) → x < ready.damage.width → y < ready.damage.height
+            → has new.damage x y ≡ ((has ready.damage x y || has_own c (pos x) (pos y) ws) || list_any (window_has (pos x) (pos y)) p.is)) a.same.windows p.points);
+      }
+    where
+      restacked : (o : Option (Applied A)) → applied ≡ o → IsRestackedWhere o c stacking ready.scene p.between (vec_capacity ready.spare.toplevels) → IsRestackedIf o c stacking was.scene p.between
+      restacked None e h = h ∙ a.same.scene
+      restacked (Some x) e h =
+          subst (λ (s : Stack). IsRestacked c stacking s p.between) a.same.scene (h (has-place (ap (λ (o : Option (Applied A)). is_some o) e) stacking))
 
-  cleared : IsClearedBy (Some cause) c mid left (record { scene = p.between; windows = ready.stacked.windows }) (pile_of new)
-  cleared = subst (λ (o : Option Cause). IsClearedBy o c mid left (record { scene = p.between; windows = ready.stacked.windows }) (pile_of new)) ended p.clears
+      filled : is_some applied ≡ true → (all : Surfaces) (owner : Owner) → Stand mid.owned.linked.surfaces mid.owned.linked.family all
+          → length (tree_on c owner all root p.between.standing) ≤ count old.owned.linked.surfaces
+          → (o : Option (Applied A)) → applied ≡ o → IsToldIf o c root mid p.between.standing ready p.is → p.is ≡ map told_of (tree_on c owner all root p.between.standing)
+      filled some all owner stand fits None e h = absurd (differ (sym some ∙ ap (λ (o : Option (Applied A)). is_some o) e))
+      filled some all owner stand fits (Some x) e h =
+          h all owner stand (fits-so _ _ _ _ (a.room some).tree fits) ∙ ap (λ (ws : List TreeWindow). ws ++ map told_of (tree_on c owner all root p.between.standing)) (a.empty some)
+
+  -- it touched none
+  pub ending-apart : applied ≡ None → IsClearedBy mid.client.ended c mid left (pile_of was) (pile_of new)
+      → ((x y : ℕ) → x < was.damage.width → y < was.damage.height → has new.damage x y ≡ (has was.damage x y || has_own c (pos x) (pos y) was.stacked.windows))
+      → Ending c old mid left was new root stacking applied
+  ending-apart none clears points =
+      record {
+        between = was.scene;
+        is = [];
+        restacked = subst (λ (o : Option (Applied A)). IsRestackedIf o c stacking was.scene was.scene) (sym none) refl;
+        clears = clears;
+        none_told = λ n. refl;
+        filled = λ some. absurd (differ (sym some ∙ ap (λ (o : Option (Applied A)). is_some o) none));
+        points = λ x y wide high. points x y wide high ∙ sym (or-none (has was.damage x y || has_own c (pos x) (pos y) was.stacked.windows));
+      }
+
+-- ---- the client ended
+
+module _ {A : Type 0} (c : ℕ) (others : ℕ → ById ℕ) (base d : Desktop) (r : Resident) (old mid left : Kept A) (was ready new : Screen A) (before : IsSeated c others base old (pile_of was) d r)
+    (orderly : Orderly d) (asked : Asked) (root : Option ℕ) (stacking : Stacking) (applied : Option (Applied A)) (a : Asks c old mid was ready asked root stacking applied)
+    (cause : Cause) (ended : mid.client.ended ≡ Some cause) (p : Ending c old mid left was new root stacking applied) where
+  abbrev pile : Pile
+  pile = pile_of was
+
+  cleared : IsClearedBy (Some cause) c mid left (record { scene = p.between; windows = was.stacked.windows }) (pile_of new)
+  cleared = subst (λ (o : Option Cause). IsClearedBy o c mid left (record { scene = p.between; windows = was.stacked.windows }) (pile_of new)) ended p.clears
 
   settled : IsSettled mid.client.ended applied c stacking mid left was.scene new.scene
   settled =
       subst (λ (o : Option Cause). IsSettled o applied c stacking mid left was.scene new.scene) (sym ended)
-      (p.between, restacked applied refl p.scene, cleared.0, cleared.1, cleared.2, cleared.3, cleared.4)
+      (p.between, p.restacked, cleared.0, cleared.1, cleared.2, cleared.3, cleared.4)
 
   trees : HasTrees d
   trees = orderly_has_trees d orderly before.mapped
 
   done : is_some applied ≡ true → IsRestacked c stacking was.scene p.between
-  done some = at applied refl some (restacked applied refl p.scene)
+  done some = at applied refl some p.restacked
     where
       at : (o : Option (Applied A)) → applied ≡ o → is_some o ≡ true → IsRestackedIf o c stacking was.scene p.between → IsRestacked c stacking was.scene p.between
       at None e some h = absurd (differ (sym some))
       at (Some x) e some h = h
-
-  none-told : applied ≡ None → p.is ≡ []
-  none-told none = subst (λ (o : Option (Applied A)). IsToldIf o c root mid p.between.standing ready p.is) none p.told ∙ a.empty
-
-  filled : is_some applied ≡ true → (all : Surfaces) (owner : Owner) → Stand mid.owned.linked.surfaces mid.owned.linked.family all
-      → length (tree_on c owner all root p.between.standing) ≤ count old.owned.linked.surfaces → p.is ≡ map told_of (tree_on c owner all root p.between.standing)
-  filled some all owner stand fits = at applied refl p.told
-    where
-      at : (o : Option (Applied A)) → applied ≡ o → IsToldIf o c root mid p.between.standing ready p.is → p.is ≡ map told_of (tree_on c owner all root p.between.standing)
-      at None e h = absurd (differ (sym some ∙ ap (λ (o : Option (Applied A)). is_some o) e))
-      at (Some x) e h = h all owner stand (fits-so _ _ _ _ (a.room some).tree fits) ∙ ap (λ (ws : List TreeWindow). ws ++ map told_of (tree_on c owner all root p.between.standing)) a.empty
-
-  points : (x y : ℕ) → x < was.damage.width → y < was.damage.height
-      → has new.damage x y ≡ ((has was.damage x y || has_own c (pos x) (pos y) pile.windows) || list_any (window_has (pos x) (pos y)) p.is)
-  points =
-      subst (λ (m : Damaged). (x y : ℕ) → x < m.width → y < m.height
-      → has new.damage x y ≡ ((has m x y || has_own c (pos x) (pos y) pile.windows) || list_any (window_has (pos x) (pos y)) p.is)) a.same.damage
-      (subst (λ (ws : List Stacked). (x y : ℕ) → x < ready.damage.width → y < ready.damage.height
-      → has new.damage x y ≡ ((has ready.damage x y || has_own c (pos x) (pos y) ws) || list_any (window_has (pos x) (pos y)) p.is)) a.same.windows p.points)
 
   -- ---- any desktop to which it leads
 
@@ -119,7 +162,7 @@ module _ {A : Type 0} (c : ℕ) (others : ℕ → ById ℕ) (base d : Desktop) (
   pub ended-least : (e : Desktop) (q : Resident) → Serves served_now c d e → IsSeated c others base left (pile_of new) e q → MarksAtLeast d e was.damage new.damage
   ended-least e q serves after =
       parted-least c others base d r old mid pile before orderly a.lives asked a.asks stacking a.takes a.touched root a.by a.root_is a.rootless applied a.touched_so a.nothing e trees
-      (orderly_has_trees e (messages_keep_order c d e orderly serves) after.mapped) serves (over-at e q after) p.between done p.is none-told filled was.damage new.damage points
+      (orderly_has_trees e (messages_keep_order c d e orderly serves) after.mapped) serves (over-at e q after) p.between done p.is p.none_told p.filled was.damage new.damage p.points
 
   pub ended-on : (e : Desktop) (q : Resident) → IsSeated c others base left (pile_of new) e q → status_in c e ≡ None → ⊥
   ended-on e q after lives = differ (sym (over-at e q after) ∙ ap (λ (o : Option Cause). is_some o) lives)
@@ -159,7 +202,7 @@ module _ {A : Type 0} (c : ℕ) (others : ℕ → ById ℕ) (base d : Desktop) (
       subst (λ (ws : List Window). AreStacked (with_numbers c (numbers left) others) new.stacked.windows ws)
       (sym (gone_windows c d e trees.no_popups trees-e.no_popups (ended_is_gone c r d e orderly before.based.there serves over)))
       (subst (λ (ss : List Stacked). AreStacked (with_numbers c (numbers left) others) ss (filter (λ w. not (w.owner.client == c)) (all_windows d)))
-      (sym (cleared.5 ∙ ap (λ (ss : List Stacked). without_client_of c ss) a.same.windows))
+      (sym cleared.5)
       (left-stacked c (numbers old) (numbers left) others pile.windows (all_windows d) before.windows))
 
   seated : IsSeated c others base left (pile_of new) e s
@@ -180,6 +223,6 @@ module _ {A : Type 0} (c : ℕ) (others : ℕ → ById ℕ) (base d : Desktop) (
     lead.1,
     seated,
     parted-through c others base d r old mid pile before orderly a.lives asked a.asks stacking a.takes a.touched root a.by a.root_is a.rootless applied a.touched_so a.nothing e trees trees-e
-        serves over p.between done p.is none-told filled was.damage new.damage points m.2 m.5 lead.0 lead.2
+        serves over p.between done p.is p.none_told p.filled was.damage new.damage p.points m.2 m.5 lead.0 lead.2
         (λ x y wide high. within-output d.output.width d.output.height x y (subst (λ (n : ℕ). x < n) width wide) (subst (λ (n : ℕ). y < n) height high)),
   )

@@ -1,3 +1,4 @@
+pub mod Apart
 pub mod Assembling
 pub mod Commits
 pub mod Ended

@@ -17,8 +17,9 @@ use Rattle.wl_plain.specs.Demand.{Demand, CommitTree, EndToplevel}
 use Rattle.wl_plain.specs.Demanding.{effect_of_commit, judge_all}
 use Rattle.wl_plain.specs.Desktop.{Desktop, Resident}
 use Rattle.wl_plain.specs.LeftOut.{served_now}
-use Rattle.wl_laws.proofs.Lists.Keys.{differ}
+use Rattle.wl_laws.proofs.Lists.Keys.{differ, none-some}
 use Rattle.wl_changes.specs.Changes.{IsDemanded}
+use Rattle.wl_changes.specs.Trees.{touched_by}
 use Rattle.wl_invariants.specs.Orderly.{OwnsOrderly}
 use Rattle.wl_requests.specs.declared.messages.Asked.{Asked}
 use Rattle.wl_requests.specs.declared.residents.Resident.{Resident as Kept}
@@ -29,7 +30,9 @@ use Rattle.wl_requests.specs.Residents.{AnswersAs, AnswersSo, IsResident, Stacks
 use Rattle.wl_requests.specs.Touching.{Touch}
 use Rattle.wl_resident.proofs.Commits.{asked-touches, untouched-never}
 use Rattle.wl_resident.proofs.Ends.{errs-over, lacks-over, over-ended}
+use Rattle.wl_resident.specs.Screens.{IsTouchedBy}
 use Rattle.wl_resident.proofs.Sitting.{numbers}
+use Rattle.wl_resident.proofs.Touches.{IsTouchNamed, touch-named}
 
 -- ---- what isn't done ends the client
 
@@ -79,6 +82,25 @@ top-demanded {A} (Whole object opcode size) c r d old mid n h alive = at (judge_
 top-demanded Bad c r d old mid n h alive = absurd (differ (ended-by-peer mid h.0 h.2.peer (over-ended h.0 (errs-over (display_error InvalidMethod) r.peer h.0 h.1)) alive))
 top-demanded More c r d old mid n h alive = absurd h
 
+-- ---- what touches no tree leaves the stack as it is
+
+untouched-stays : {A : Type 0} (old : Kept A) (r : Resident) (demand : Demand) (stacking : Stacking) → StacksFor old r demand stacking → touched_by demand r ≡ None → stacking ≡ on.Stays
+untouched-stays old r (CommitTree id) stacking h none = absurd (none-some id (sym none))
+untouched-stays old r (EndToplevel id xdg surface) stacking h none = absurd (none-some surface (sym none))
+untouched-stays old r demand stacking h none = h
+
+demanded-stays : {A : Type 0} (split : Split) (c : ℕ) (r : Resident) (d : Desktop) (old mid : Kept A) (stacking : Stacking) → TakesSo split c r d old mid stacking → mid.client.ended ≡ None
+    → ((demand : Demand) → IsDemanded split r demand → touched_by demand r ≡ None) → stacking ≡ on.Stays
+demanded-stays (Whole object opcode size) c r d old mid stacking h alive none = at (judge_all served_now r object opcode (take (size - 8) (drop 8 r.peer.rest))) refl h.0 h.1
+  where
+    at : (judged : Result Demand Refusal) → judge_all served_now r object opcode (take (size - 8) (drop 8 r.peer.rest)) ≡ judged
+        → AnswersSo judged c (with_peer (with_rest (drop size r.peer.rest) r.peer) r) d old mid → StacksSo old r judged stacking → stacking ≡ on.Stays
+    at (Ok demand) is told stacks = untouched-stays old r demand stacking stacks (none demand is)
+    at (Err refusal) is told stacks = absurd (differ (ended-by-peer mid told.0 told.2.peer (over-ended told.0 (errs-over refusal (with_rest (drop size r.peer.rest) r.peer) told.0 told.1)) alive))
+demanded-stays Bad c r d old mid stacking h alive none =
+    absurd (differ (ended-by-peer mid h.0 h.2.peer (over-ended h.0 (errs-over (display_error InvalidMethod) r.peer h.0 h.1)) alive))
+demanded-stays More c r d old mid stacking h alive none = absurd h
+
 module _ {A : Type 0} (c : ℕ) (r : Resident) (d : Desktop) (old mid : Kept A) (resident : IsResident old r) (owns : OwnsOrderly r) (asked : Asked) (asks : IsAsked old.client asked)
     (applied : Option (Applied A)) (decides : (touch : Touch) → IsTouchOfAsked asked old touch → TakesMessageAs (is_some applied) old mid) (alive : mid.client.ended ≡ None) where
   -- What may change what several surfaces show was done.
@@ -101,3 +123,13 @@ module _ {A : Type 0} (c : ℕ) (r : Resident) (d : Desktop) (old mid : Kept A) 
       by (inr none) =
           let top = top-demanded (split_of r.peer.rest) c r d old mid n answers alive in
           absurd (untouched-never old r resident asked asks none top.0 top.1 top.2)
+
+  -- What touches no tree leaves the stack as it is.
+  pub stays-apart : (stacking : Stacking) → TakesMessage old mid stacking → IsTouchedBy old asked None → stacking ≡ on.Stays
+  stays-apart stacking takes by =
+      demanded-stays (split_of r.peer.rest) c r d old mid stacking (takes c r d resident owns) alive
+      (λ demand told. untouched demand (touch-named old r asked demand None resident owns asks told by))
+    where
+      untouched : (demand : Demand) → IsTouchNamed old r demand None → touched_by demand r ≡ None
+      untouched demand (inl h) = h.0
+      untouched demand (inr h) = absurd (none-some h.1 h.3)

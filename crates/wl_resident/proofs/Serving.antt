@@ -29,14 +29,14 @@ use Rattle.wl_plain.specs.Happens.{Serves}
 use Rattle.wl_plain.specs.LeftOut.{served_now}
 use Rattle.wl_plain.specs.Stacked.{all_windows}
 use Rattle.wl_plain.specs.Step.{with_peer}
-use Rattle.wl_laws.proofs.Lists.Keys.{differ}
+use Rattle.wl_laws.proofs.Lists.Keys.{differ, none-some}
 use Rattle.wl_lending.specs.Stacked.{AreStacked, told_by}
 use Rattle.wl_named.specs.Named.{StandBy}
 use Rattle.wl_named.specs.Renaming.{has_surface, renamed}
 use Rattle.wl_windows.specs.Windows.{told_of}
 use Rattle.wl_windows.specs.declared.window.TreeWindow.{TreeWindow}
 use Rattle.wl_invariants.specs.Orderly.{Orderly, OwnsOrderly}
-use Rattle.wl_changes.specs.Changes.{ChangesTree, IsDemanded, MessageChanges}
+use Rattle.wl_changes.specs.Changes.{ChangesTree, IsDemanded, MessageChanges, StaysPainted}
 use Rattle.wl_changes.specs.Trees.{HasTrees, touched_by}
 use Rattle.wl_changes.proofs.OneTree.There.{no-surface-comes}
 use Rattle.wl_requests.specs.declared.messages.Asked.{Asked}
@@ -163,6 +163,29 @@ module _ {A : Type 0} (c : ℕ) (others : ℕ → ById ℕ) (base d : Desktop) (
       at true here =
           same-number-of id (subst (λ (m : ℕ). has_surface id (owned_in d m).surfaces ≡ true) (eqb-true n c here) was)
           (subst (λ (m : ℕ). has_surface id (owned_in e m).surfaces ≡ true) (eqb-true n c here) is)
+
+  -- ---- no tree is touched
+
+  module _ (by : IsTouchedBy old asked None) where
+    untouched : touched_by message.demand r ≡ None
+    untouched = at (touch-named old r asked message.demand None resident owns asks message.demanded by)
+      where
+        at : IsTouchNamed old r message.demand None → touched_by message.demand r ≡ None
+        at (inl h) = h.0
+        at (inr h) = absurd (none-some h.1 h.3)
+
+    stays : StaysPainted d e
+    stays = turning.stays-painted c others base d r old pile before orderly lives message.demand message.peer e trees after message.done untouched
+
+    -- The windows are those that are kept, and nothing has to be marked.
+    pub apart-windows : AreStacked news pile.windows (all_windows e)
+    apart-windows = renumbered-since nums news pile.windows d e trees.no_popups after.no_popups stays.windows same-numbers before.windows
+
+    pub apart-least : (m : Damaged) → MarksAtLeast d e m m
+    apart-least m = untouched-least d e stays m m (λ x y wide high. refl)
+
+    pub apart-most : (m : Damaged) → MarksMost d e m m
+    apart-most m = untouched-most d e m m (λ x y wide high. refl)
 
   -- ---- what is touched
 

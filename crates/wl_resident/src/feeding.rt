@@ -1,6 +1,6 @@
 //! What a client sends is taken one message at a time, and its toplevels and their windows follow; a client ends, and goes.
 
-ghost use Rattle.std.specs.Prelude.{ℕ, ◌≡◌, ◌<◌, List, length, true, false};
+ghost use Rattle.std.specs.Prelude.{ℕ, ◌≡◌, ◌<◌, ◌||◌, List, None, Some, length, is_some, pos, true, false};
 ghost use Rattle.wl_marking.specs.Marking.{IsAsLarge};
 ghost use Rattle.wl_resident.specs.Marking.{MarksAtLeast, MarksAtMost, MarksOwn, MarksThrough};
 ghost use Rattle.wl_peer.specs.Objects.{ById};
@@ -8,7 +8,8 @@ ghost use Rattle.wl_store.specs.Stores.{write_refusal};
 ghost use Rattle.wl_client.specs.Agreement.{IsPeer};
 ghost use Rattle.wl_peer.specs.Peer.{IsIdleAt, Peer, stored_at};
 ghost use Rattle.wl_plain.specs.Desktop.{Desktop, Resident as Plain, become};
-ghost use Rattle.wl_resident.specs.Screens.{IsFollowed, IsParted};
+ghost use Rattle.wl_paint.specs.Damage.{has};
+ghost use Rattle.wl_resident.specs.Screens.{IsFollowed, IsParted, has_own};
 ghost use Rattle.wl_resident.specs.Seats.{IsBare, IsChangedSo, IsClearedBy, IsSeated, ended_by};
 ghost use Rattle.wl_resident.specs.View.{Pile, pile_of};
 ghost use Rattle.wl_plain.specs.LeftOut.{served_now};
@@ -59,10 +60,10 @@ impl<A: Allocator + Copy> Screen<A> {
         &mut self,
         resident: &Resident<A>,
         client: ClientNo,
-        root: Option<SurfaceNo>,
+        root: SurfaceNo,
         outcome: &Outcome<A>,
     )
-        ensures follows { IsFollowed client root resident.now outcome.now.stacking outcome.now.applied self.old self.new }
+        ensures follows { IsFollowed client (Some root) resident.now outcome.now.stacking outcome.now.applied self.old self.new }
         ensures sides { IsAsLarge self.old.damage self.new.damage }
     {
         self.restack(client, outcome.stacking);
@@ -77,11 +78,11 @@ impl<A: Allocator + Copy> Screen<A> {
         &mut self,
         resident: &mut Resident<A>,
         client: ClientNo,
-        root: Option<SurfaceNo>,
+        root: SurfaceNo,
         outcome: &Outcome<A>,
         alloc: A,
     )
-        ensures parts { IsParted client root resident.old resident.new outcome.now.stacking outcome.now.applied self.old self.new }
+        ensures parts { IsParted client (Some root) resident.old resident.new outcome.now.stacking outcome.now.applied self.old self.new }
         ensures sides { IsAsLarge self.old.damage self.new.damage }
         ensures client { resident.new.client ≡ resident.old.client }
     {
@@ -91,6 +92,22 @@ impl<A: Allocator + Copy> Screen<A> {
         }
         self.mark_client(client);
         self.mark_new();
+        self.clear(resident, client, alloc);
+    }
+
+    /// A message that touched no tree of surfaces: where the client ended by it, its windows are marked, and nothing is left of what it owned.
+    fn part_alone(&mut self, resident: &mut Resident<A>, client: ClientNo, alloc: A)
+        ensures clears { IsClearedBy resident.old.client.ended client resident.old resident.new (pile_of self.old) (pile_of self.new) }
+        ensures points { is_some resident.old.client.ended ≡ true → (x y : ℕ) → x < self.old.damage.width → y < self.old.damage.height
+            → has self.new.damage x y ≡ (has self.old.damage x y || has_own client (pos x) (pos y) self.old.stacked.windows) }
+        ensures lives { resident.old.client.ended ≡ None → (resident.new ≡ resident.old) × (self.new ≡ self.old) }
+        ensures sides { IsAsLarge self.old.damage self.new.damage }
+        ensures client { resident.new.client ≡ resident.old.client }
+    {
+        if !resident.client.has_ended() {
+            return;
+        }
+        self.mark_client(client);
         self.clear(resident, client, alloc);
     }
 
@@ -113,7 +130,7 @@ impl<A: Allocator + Copy> Screen<A> {
             → IsSeated client others base resident.old (pile_of self.old) d r → Orderly d
             → (e : Desktop) × (q : Plain) × (path : List Desktop) × ServesThrough served_now client d path e
             × IsSeated client others base resident.new (pile_of self.new) e q × MarksThrough d path self.old.damage self.new.damage }
-        ensures idle { result ≡ false → (resident.new ≡ record resident.old { has_room = resident.new.has_room }) × (pile_of self.new ≡ pile_of self.old)
+        ensures idle { result ≡ false → (resident.new ≡ resident.old) × (pile_of self.new ≡ pile_of self.old)
             × (self.new.damage ≡ self.old.damage) × IsIdleAt resident.old.client.ended resident.old.client.rest }
         ensures sides { IsAsLarge self.old.damage self.new.damage }
         ensures less { result ≡ true → length resident.new.client.rest < length resident.old.client.rest }
@@ -122,10 +139,17 @@ impl<A: Allocator + Copy> Screen<A> {
             return false;
         }
         let asked = resident.asked();
-        let root = root_of(resident, touched_by(resident, &asked));
+        let Some(surface) = touched_by(resident, &asked) else {
+            let Some(_outcome) = resident.serve(asked, false) else {
+                return false;
+            };
+            self.part_alone(resident, client, alloc);
+            return true;
+        };
+        let root = root_of(resident, surface);
         let surfaces = resident.owned.linked.surfaces.len();
-        resident.has_room = self.prepare(client, root, surfaces).is_ok();
-        let Some(outcome) = resident.serve(asked) else {
+        let has_room = self.prepare(client, root, surfaces).is_ok();
+        let Some(outcome) = resident.serve(asked, has_room) else {
             return false;
         };
         if resident.client.has_ended() {

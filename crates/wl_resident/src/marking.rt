@@ -98,30 +98,28 @@ impl<A: Allocator + Copy> Screen<A> {
     }
 
     /// All points of the windows are marked that are kept of the tree of this root.
-    fn mark_gone(&mut self, client: ClientNo, root: Option<SurfaceNo>)
+    fn mark_gone(&mut self, client: ClientNo, root: SurfaceNo)
         ensures points { (x y : ℕ) → x < self.old.damage.width → y < self.old.damage.height
-            → has self.new.damage x y ≡ (has self.old.damage x y || list_any (window_has (pos x) (pos y)) (tree_kept client root self.old.stacked.windows)) }
+            → has self.new.damage x y ≡ (has self.old.damage x y || list_any (window_has (pos x) (pos y)) (tree_kept client (Some root) self.old.stacked.windows)) }
         ensures sides { IsAsLarge self.old.damage self.new.damage }
         ensures scene { self.new.scene ≡ self.old.scene }
         ensures stacked { self.new.stacked ≡ self.old.stacked }
         ensures spare { self.new.spare ≡ self.old.spare }
     {
-        if let Some(root) = root {
-            mark_kept(&mut self.damage, self.stacked.tree(client, root));
-        }
+        mark_kept(&mut self.damage, self.stacked.tree(client, root));
     }
 
     /// What a message changes of the windows of a tree is marked: all of those that are kept of it, where its toplevel goes.
     pub(crate) fn mark_turned(
         &mut self,
         client: ClientNo,
-        root: Option<SurfaceNo>,
+        root: SurfaceNo,
         stacking: Stacking,
         applied: &Option<Applied<A>>,
     )
         ensures points { (x y : ℕ) → x < self.old.damage.width → y < self.old.damage.height
             → has self.new.damage x y ≡ (has self.old.damage x y
-            || turned_has stacking (tree_kept client root self.old.stacked.windows) self.old.spare.was.items self.old.spare.is.items (changes_in applied.now) (pos x) (pos y)) }
+            || turned_has stacking (tree_kept client (Some root) self.old.stacked.windows) self.old.spare.was.items self.old.spare.is.items (changes_in applied.now) (pos x) (pos y)) }
         ensures sides { IsAsLarge self.old.damage self.new.damage }
         ensures scene { self.new.scene ≡ self.old.scene }
         ensures stacked { self.new.stacked ≡ self.old.stacked }

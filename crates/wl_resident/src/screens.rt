@@ -1,6 +1,6 @@
 //! What of the output the clients change: the toplevels and their windows, and which points are to be painted again.
 
-ghost use Rattle.std.specs.Prelude.{◌≡◌, ◌++◌, ◌+◌, ◌≤◌, [], None, OnOk, find, length, map, vec_capacity, vec_len};
+ghost use Rattle.std.specs.Prelude.{◌≡◌, ◌++◌, ◌+◌, ◌≤◌, [], OnOk, find, length, map, vec_capacity, vec_len};
 ghost use Rattle.std.specs.Option.{option_map};
 ghost use Rattle.wl_linked.specs.Linked.{Stand};
 ghost use Rattle.wl_stacking.specs.Stacking.{is_of};
@@ -8,7 +8,7 @@ ghost use Rattle.wl_scene.specs.Kept.{standing_of};
 ghost use Rattle.wl_stacking.specs.Windows.{Owner};
 ghost use Rattle.wl_surface.specs.Surfaces.{Surfaces as AskedOf};
 ghost use Rattle.wl_windows.specs.Windows.{told_of};
-ghost use Rattle.wl_resident.specs.Screens.{Fit, HasPlace, HasRoom, IsSameScreen, restacked_if, tree_kept, tree_on};
+ghost use Rattle.wl_resident.specs.Screens.{Fit, HasPlace, HasRoom, IsSameScreen, restacked, tree_kept, tree_on};
 ghost use Rattle.wl_resident.specs.Seats.{IsRestacked};
 
 use std::alloc::{AllocError, Allocator};
@@ -74,16 +74,12 @@ impl<A: Allocator + Copy> Screen<A> {
     }
 
     /// The windows of the tree of this root are kept as they are, to be compared with those afterwards.
-    fn keep_tree(&mut self, client: ClientNo, root: Option<SurfaceNo>) -> Result<(), AllocError>
-        ensures was { OnOk result (self.new.spare.was.items ≡ tree_kept client root self.old.stacked.windows) }
-        ensures none { root ≡ None → self.new.spare.was.items ≡ [] }
+    fn keep_tree(&mut self, client: ClientNo, root: SurfaceNo) -> Result<(), AllocError>
+        ensures was { OnOk result (self.new.spare.was.items ≡ tree_kept client (Some root) self.old.stacked.windows) }
         ensures same { IsSameScreen self.old self.new }
         ensures is { self.new.spare.is ≡ self.old.spare.is }
     {
         self.spare.was.clear();
-        let Some(root) = root else {
-            return Ok(());
-        };
         let tree = self.stacked.tree(client, root);
         self.spare
             .was
@@ -112,11 +108,10 @@ impl<A: Allocator + Copy> Screen<A> {
     pub(crate) fn prepare(
         &mut self,
         client: ClientNo,
-        root: Option<SurfaceNo>,
+        root: SurfaceNo,
         surfaces: usize,
     ) -> Result<(), AllocError>
-        ensures was { OnOk result (self.new.spare.was.items ≡ tree_kept client root self.old.stacked.windows) }
-        ensures none { root ≡ None → self.new.spare.was.items ≡ [] }
+        ensures was { OnOk result (self.new.spare.was.items ≡ tree_kept client (Some root) self.old.stacked.windows) }
         ensures room { OnOk result (HasRoom surfaces self.new) }
         ensures is { self.new.spare.is.items ≡ [] }
         ensures same { IsSameScreen self.old self.new }
@@ -145,22 +140,14 @@ impl<A: Allocator + Copy> Screen<A> {
     }
 
     /// The windows that the tree of this root has now are kept beside those that it had, if its toplevel stands: there is room for them.
-    pub(crate) fn add_tree(
-        &mut self,
-        resident: &Resident<A>,
-        client: ClientNo,
-        root: Option<SurfaceNo>,
-    )
+    pub(crate) fn add_tree(&mut self, resident: &Resident<A>, client: ClientNo, surface: SurfaceNo)
         ensures is { (all : AskedOf) (owner : Owner) → Stand resident.now.owned.linked.surfaces resident.now.owned.linked.family all
-            → vec_len self.old.spare.is + length (tree_on client owner all root self.old.scene.standing) ≤ vec_capacity self.old.spare.is
-            → self.new.spare.is.items ≡ self.old.spare.is.items ++ map told_of (tree_on client owner all root self.old.scene.standing) }
+            → vec_len self.old.spare.is + length (tree_on client owner all (Some surface) self.old.scene.standing) ≤ vec_capacity self.old.spare.is
+            → self.new.spare.is.items ≡ self.old.spare.is.items ++ map told_of (tree_on client owner all (Some surface) self.old.scene.standing) }
         ensures same { IsSameScreen self.old self.new }
         ensures stacked { self.new.stacked ≡ self.old.stacked }
         ensures was { self.new.spare.was ≡ self.old.spare.was }
     {
-        let Some(surface) = root else {
-            return;
-        };
         let Some(toplevel) = toplevel_of(&self.scene, Surface { client, surface }) else {
             return;
         };
@@ -169,22 +156,14 @@ impl<A: Allocator + Copy> Screen<A> {
     }
 
     /// The windows of the tree of this root are those that it has now: there is room for them.
-    pub(crate) fn restack_windows(
-        &mut self,
-        client: ClientNo,
-        root: Option<SurfaceNo>,
-        stacking: Stacking,
-    )
+    pub(crate) fn restack_windows(&mut self, client: ClientNo, root: SurfaceNo, stacking: Stacking)
         ensures windows { Fit stacking (length self.old.spare.is.items) self.old.stacked.room
-            → self.new.stacked.windows ≡ restacked_if client root stacking self.old.spare.is.items self.old.stacked.windows }
+            → self.new.stacked.windows ≡ restacked client root stacking self.old.spare.is.items self.old.stacked.windows }
         ensures scene { self.new.scene ≡ self.old.scene }
         ensures damage { self.new.damage ≡ self.old.damage }
         ensures was { self.new.spare.was ≡ self.old.spare.was }
         ensures is { self.new.spare.is ≡ self.old.spare.is }
     {
-        let Some(root) = root else {
-            return;
-        };
         let is = &self.spare.is;
         match stacking {
             Stacking::Out(_) => self.stacked.remove(client, root),

@@ -1,6 +1,6 @@
 //! Which tree of surfaces a message may change.
 
-ghost use Rattle.std.specs.Prelude.{◌≡◌, IfSome, None};
+ghost use Rattle.std.specs.Prelude.{◌≡◌, None, Some};
 ghost use Rattle.wl_family.specs.Family.{links_in};
 ghost use Rattle.wl_resident.specs.Screens.{IsTouchedBy, IsTouchedIn, root_in};
 
@@ -46,14 +46,10 @@ pub(crate) fn touched_by<A: Allocator + Copy>(
     }
 }
 
-/// The root of the tree of a surface, if there is one (wayland.xml, wl_subsurface).
-pub(crate) fn root_of<A: Allocator + Copy>(
-    resident: &Resident<A>,
-    touched: Option<SurfaceNo>,
-) -> Option<SurfaceNo>
-    ensures root { result ≡ root_in resident.now touched }
-    ensures none { IfSome result (λ root. links_in resident.now.owned.linked.family root ≡ None) }
+/// The root of the tree of a surface (wayland.xml, wl_subsurface).
+pub(crate) fn root_of<A: Allocator + Copy>(resident: &Resident<A>, surface: SurfaceNo) -> SurfaceNo
+    ensures root { root_in resident.now (Some surface) ≡ Some result }
+    ensures none { links_in resident.now.owned.linked.family result ≡ None }
 {
-    let surface = touched?;
-    Some(resident.owned.linked.family.root(surface))
+    resident.owned.linked.family.root(surface)
 }

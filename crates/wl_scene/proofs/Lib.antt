@@ -1,4 +1,1 @@
-pub mod Lends
-pub mod Lone
-pub mod Shown
 pub mod Stacks

@@ -1,13 +1,9 @@
 //! Which toplevels are mapped, and where they stand.
 
-ghost use Rattle.std.specs.Prelude.{ℕ, ◌≡◌, ◌==◌, ◌<◌, ◌++◌, ◌∷◌, [], IsOk, OnOk, OnErr, vec_capacity, Some, length, map, position, remove, slice_get, slice_index_or};
-ghost use Rattle.wl_scene.specs.Lent.{Stands, shown_by, told};
-ghost use Rattle.wl_stacking.specs.Stacking.{AllShow};
-ghost use Rattle.wl_stacking.specs.Stacking.{Owned as Asked, is_of, moved_to, raised, windows_on, without_client, without_surface_of};
+ghost use Rattle.std.specs.Prelude.{◌≡◌, ◌==◌, ◌<◌, ◌++◌, ◌∷◌, [], IsOk, OnOk, OnErr, vec_capacity, Some, length, map, position, remove, slice_index_or};
+ghost use Rattle.wl_stacking.specs.Stacking.{is_of, moved_to, raised, without_client, without_surface_of};
 ghost use Rattle.wl_scene.specs.Kept.{mapped_on, standing_of};
 
-use crate::owned::Owned;
-use crate::window::{Window, window_of};
 use std::alloc::{AllocError, Allocator};
 use std::marker::Model;
 use std::mem;
@@ -98,24 +94,6 @@ impl<A: Allocator> Scene<A> {
         ensures { map standing_of result.now ≡ self.now.standing }
     {
         &self.standing[..]
-    }
-
-    /// How many windows there are. The surfaces and xdg_surfaces of client c are lent at index c - 1, and nothing of one that isn't there.
-    pub fn len(&self, lent: &[Option<Owned<A>>]) -> usize
-        ensures count { result ≡ length self.now.standing }
-        ensures windows { (owned : ℕ → Asked) → Stands lent.now owned → AllShow owned self.now.standing → result ≡ length (windows_on owned self.now.standing) }
-    {
-        self.toplevels().len()
-    }
-
-    /// The k-th window from the bottom, of those that are as many as `len` says. A toplevel whose surface isn't there has one without a
-    /// size, at its place.
-    pub fn window(&self, lent: &[Option<Owned<A>>], k: usize) -> Window
-        requires { k < length self.now.standing }
-        ensures shown { (owned : ℕ → Asked) → Stands lent.now owned → slice_get (map (shown_by owned) self.now.standing) k ≡ Some result }
-        ensures windows { (owned : ℕ → Asked) → Stands lent.now owned → AllShow owned self.now.standing → slice_get (map told (windows_on owned self.now.standing)) k ≡ Some result }
-    {
-        window_of(&self.standing[k], lent)
     }
 
     /// A toplevel is mapped: it stands on top, in the next place (xdg-shell.xml, xdg_surface: mapping). That it isn't mapped yet is the

@@ -53,7 +53,7 @@ impl<A: Allocator, W: Drop, P: Drop> Service<A, W, P> {
     }
 }
 
-/// Takes one turn of a session with its clients' connections at this time, which is its number, from 1: pointer lines that are due are taken, which have no effect yet; connections
+/// Takes one turn of a session with its clients' connections at this time: pointer lines that are due are taken, which have no effect yet; connections
 /// that wait are accepted; clients are read, one after another; those that sent bytes get their side files; a frame is shown; clients are
 /// written to, one after another; and those that ended are closed.
 ///

@@ -3,8 +3,7 @@
 
 #[cfg(test)]
 mod hub;
-#[cfg(test)]
-mod memory;
+pub mod memory;
 #[cfg(test)]
 mod own;
 #[cfg(test)]

@@ -9,20 +9,20 @@ use wl_recording::{SideFault, SideFiles};
 
 /// A client's end. Where it is open, it may send more later.
 #[derive(Drop)]
-pub(crate) struct Client<'a> {
-    pub(crate) sends: &'a [u8],
-    pub(crate) is_open: bool,
+pub struct Client<'a> {
+    pub sends: &'a [u8],
+    pub is_open: bool,
     /// Whether its reads fail.
-    pub(crate) is_broken: bool,
+    pub is_broken: bool,
     /// How many bytes it takes before a write fails.
-    pub(crate) room: usize,
-    pub(crate) taken: Vec<u8>,
-    pub(crate) is_closed: bool,
+    pub room: usize,
+    pub taken: Vec<u8>,
+    pub is_closed: bool,
 }
 
 impl<'a> Client<'a> {
     /// A client that sends these bytes, stays, and takes everything.
-    pub(crate) fn new(alloc: Global, sends: &'a [u8]) -> Client<'a> {
+    pub fn new(alloc: Global, sends: &'a [u8]) -> Client<'a> {
         Client {
             sends,
             is_open: true,
@@ -36,19 +36,19 @@ impl<'a> Client<'a> {
 
 /// The number of a client, from 0.
 #[derive(Clone, Copy, Debug, PartialEq, Eq)]
-pub(crate) struct Place(usize);
+pub struct Place(usize);
 
 /// A hub whose clients connect in turn, and whose writes move at most `largest` bytes a call.
 #[derive(Drop)]
-pub(crate) struct MemoryHub<'a> {
-    pub(crate) clients: Vec<Client<'a>>,
-    pub(crate) largest: usize,
+pub struct MemoryHub<'a> {
+    pub clients: Vec<Client<'a>>,
+    pub largest: usize,
     accepted: usize,
     faults: u64,
 }
 
 impl<'a> MemoryHub<'a> {
-    pub(crate) fn new(clients: Vec<Client<'a>>, largest: usize) -> MemoryHub<'a> {
+    pub fn new(clients: Vec<Client<'a>>, largest: usize) -> MemoryHub<'a> {
         MemoryHub {
             clients,
             largest,
@@ -151,9 +151,9 @@ impl<'a> Hub for MemoryHub<'a> {
 
 /// Side files of which there is none but one, which is empty. It counts how often that one was opened.
 #[derive(Drop)]
-pub(crate) struct OneFile<'a> {
-    pub(crate) name: &'a str,
-    pub(crate) opened: u64,
+pub struct OneFile<'a> {
+    pub name: &'a str,
+    pub opened: u64,
 }
 
 impl SideFiles for OneFile<'_> {

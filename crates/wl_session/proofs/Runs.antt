@@ -26,7 +26,7 @@ use Rattle.wl_session.specs.Step.{act_of}
 use Rattle.wl_session.specs.View.{SessionView}
 use Rattle.wl_session.specs.declared.steps.Step.{Step}
 use Rattle.wl_session.proofs.Courses.{apart-then, events-then}
-use Rattle.wl_session.proofs.Seen.{frame-scratch, sees-scratch}
+use Rattle.wl_session.proofs.Seen.{frame-scratch, holds-after, sees-scratch}
 use Rattle.wl_session.proofs.Stays.{stays_right}
 
 -- ---- steps one after another
@@ -186,6 +186,7 @@ ran-seen acts films old new takes = λ d a.
     let leads = runs-events acts (moment d old) (moment ran.desktop new) ran.events ran.runs in (
       ran,
       (λ liars sight right held. sees-scratch served_now (moment d old) (moment ran.desktop new) ran.events films liars sight ran.apart leads ran.shots right held),
+      (λ sight held. holds-after served_now (moment d old) (moment ran.desktop new) ran.events films sight leads ran.shots held),
       (λ liars last broke right. stays_right served_now (moment d old) (moment ran.desktop new) ran.events liars last ran.apart leads broke right),
     )
 

@@ -19,7 +19,7 @@ use Rattle.wl_laws.proofs.Marks.Stacks.{differ}
 use Rattle.wl_session.specs.Events.{AreApart, AreEvents, Event, IsEvent, IsMarked, IsShown, Moment, PaintsIf, frames_of, is_frame}
 use Rattle.wl_session.specs.Liars.{AreLiars, HoldsLiars, IsRightBut, gives_back}
 use Rattle.wl_session.specs.Run.{Film, in_runs}
-use Rattle.wl_session.specs.Seen.{AreShots, Holds, IsShot, SeenIsScratch, SeesScratch}
+use Rattle.wl_session.specs.Seen.{AreShots, Holds, IsShot, SeenIsScratch, SeesScratch, seen_after}
 use Rattle.wl_session.specs.Unmarked.{is_covered}
 use Rattle.wl_session.specs.Viewer.{Sight, copied}
 use Rattle.wl_session.proofs.Stays.{both, covers-less, event-right, frame-right, keeps-opaque}
@@ -148,6 +148,28 @@ module _ (left : LeftOut) (width height : ℕ) (background : Rgb) (to : Moment) 
           let marked : IsMarked e.happening e.before e.path e.after = subst (λ b. PaintsIf b e.happening e.before e.path e.after) is leads.1.paints in
           rest films sight (subst (λ (i : Image). Holds sight i) (sym marked.frame) began.1) shots
 
+  -- a viewer that held the first frame holds the last one
+  holds-last : (events : List Event) (from : Moment) (films : List Film) (sight : Sight) → AreEvents left from events to → AreShots (frames_of events) films → Holds sight from.frame → IsOf from.frame
+      → Holds (fold (copied width) sight (take (length (frames_of events)) films)) to.frame
+  holds-last [] from films sight leads shots held kind = subst (λ (m : Moment). Holds sight m.frame) (sym leads) held
+  holds-last (e ∷ es) from films sight leads shots held kind =
+      let began : Holds sight e.before.frame × IsOf e.before.frame = subst (λ (m : Moment). Holds sight m.frame × IsOf m.frame) (sym leads.0) (held, kind) in
+      let kind_after : IsOf e.after.frame = of-next e began.1 (is_frame e.happening) leads.1.paints in
+      by began (λ films sight held shots. holds-last es e.after films sight leads.2 shots held kind_after) (is_frame e.happening) refl films shots
+    where
+      by : Holds sight e.before.frame × IsOf e.before.frame
+          → ((films : List Film) (sight : Sight) → Holds sight e.after.frame → AreShots (frames_of es) films
+          → Holds (fold (copied width) sight (take (length (frames_of es)) films)) to.frame)
+          → (b : Bool) → is_frame e.happening ≡ b → (films : List Film) → AreShots (cond b (e ∷ frames_of es) (frames_of es)) films
+          → Holds (fold (copied width) sight (take (length (cond b (e ∷ frames_of es) (frames_of es))) films)) to.frame
+      by began rest true is [] shots = absurd shots
+      by began rest true is (film ∷ films) shots =
+          let shown : IsShown e.before e.path e.after = subst (λ b. PaintsIf b e.happening e.before e.path e.after) is leads.1.paints in
+          rest films (copied width sight film) (subst (λ n. Holds (copied n sight film) e.after.frame) began.1.wide (copied-holds e film sight shown shots.0 began.0)) shots.1
+      by began rest false is films shots =
+          let marked : IsMarked e.happening e.before e.path e.after = subst (λ b. PaintsIf b e.happening e.before e.path e.after) is leads.1.paints in
+          rest films sight (subst (λ (i : Image). Holds sight i) (sym marked.frame) began.0) shots
+
 -- ---- what a frame shows
 
 -- A frame shows the desktop as it began, painted from nothing, after whatever came before it.
@@ -174,6 +196,11 @@ sees-scratch left from to events films liars sight apart leads shots right held 
     sees-each left from.frame.width from.frame.height from.frame.background to before frame later from films liars broke sight x y
     (subst (λ es. AreEvents left from es to) same leads) (subst AreApart same apart) tick (subst (λ es. AreShots (frames_of es) films) same shots) holds right held
     (record { wide = refl; high = refl; over = refl }) w h clear
+
+pub holds-after : (left : LeftOut) (from to : Moment) (events : List Event) (films : List Film) (sight : Sight) → AreEvents left from events to → AreShots (frames_of events) films
+    → Holds sight from.frame → Holds (seen_after from.frame sight events films) to.frame
+holds-after left from to events films sight leads shots held =
+    holds-last left from.frame.width from.frame.height from.frame.background to events from films sight leads shots held (record { wide = refl; high = refl; over = refl })
 
 pub seen_is_scratch : SeenIsScratch
 seen_is_scratch left output from to events films liars sight first leads shots right held =

@@ -3,14 +3,14 @@ use Rattle.std.specs.Prelude.{ℕ, ◌≡◌, ◌⊎◌, Bool, List, [], ◌∷�
 use Rattle.wl_desk.specs.Agreeing.{Agrees}
 use Rattle.wl_plain.specs.Act.{Act, Connect, Feed, Store, Leave, Tick, Send, Close, Motion, Button}
 use Rattle.wl_plain.specs.Desktop.{Desktop}
-use Rattle.wl_plain.specs.Happenings.{Happening, Message, Receive, Single, Starve}
+use Rattle.wl_plain.specs.Happenings.{Happening, Message, Single, Starve, bytes_then_messages}
 use Rattle.wl_plain.specs.Happens.{Happens, Reaches}
 use Rattle.wl_plain.specs.LeftOut.{LeftOut, served_now}
 use Rattle.wl_plain.specs.declared.answers.Done.{Done}
 use Rattle.wl_session.specs.Events.{AreApart, AreEvents, Event, Moment, frames_of}
 use Rattle.wl_session.specs.Liars.{AreLiars, IsRightBut}
 use Rattle.wl_session.specs.Run.{Film}
-use Rattle.wl_session.specs.Seen.{AreShots, Holds, SeesScratch}
+use Rattle.wl_session.specs.Seen.{AreShots, Holds, SeesScratch, seen_after}
 use Rattle.wl_session.specs.View.{SessionView}
 use Rattle.wl_session.specs.Viewer.{Sight}
 
@@ -23,7 +23,7 @@ moment d v = record { desktop = d; damage = v.damage; frame = v.frame }
 abbrev pub AreParts : Act → Done → List Happening → Type 0
 AreParts Connect done parts = parts ≡ Single Connect done ∷ []
 AreParts (Feed client piece) done parts =
-    (parts ≡ []) ⊎ ((parts ≡ Starve client ∷ []) ⊎ ((n : ℕ) × (parts ≡ Receive client piece ∷ replicate n (Message client))))
+    (parts ≡ []) ⊎ ((parts ≡ Starve client ∷ []) ⊎ ((n : ℕ) × (parts ≡ bytes_then_messages client piece n)))
 AreParts (Store client store at bytes) done parts = parts ≡ Single (Store client store at bytes) done ∷ []
 AreParts (Leave client) done parts = parts ≡ Single (Leave client) done ∷ []
 AreParts (Tick time) done parts = parts ≡ Single (Tick time) done ∷ []
@@ -87,12 +87,14 @@ abbrev pub TakesSteps : List Act → List Film → SessionView → SessionView �
 TakesSteps acts films old new = (d : Desktop) → Agrees old.desk d → Ran acts films old new d
 
 -- The same, and a viewer that held the frame before it sees each frame painted from nothing, but where those clients' windows cover it for
--- which it wasn't right before, or of which it saw a promise broken.
+-- which it wasn't right before, or of which it saw a promise broken. It holds the last frame then, and what was right before but for some
+-- clients is so but for them and those that broke a promise: so what comes next is seen too.
 abbrev pub IsSeen : List Act → List Film → SessionView → SessionView → Type 0
 IsSeen acts films old new =
     (d : Desktop) → Agrees old.desk d
     → (ran : Ran acts films old new d)
     × ((liars : ℕ → Bool) (sight : Sight) → IsRightBut liars (moment d old) → Holds sight old.frame
     → SeesScratch liars sight old.frame ran.events films)
+    × ((sight : Sight) → Holds sight old.frame → Holds (seen_after old.frame sight ran.events films) new.frame)
     × ((liars last : ℕ → Bool) → AreLiars liars ran.events last → IsRightBut liars (moment d old)
     → IsRightBut last (moment ran.desktop new))

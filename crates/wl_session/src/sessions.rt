@@ -244,10 +244,11 @@ impl<A: Allocator + Copy> Session<A> {
     /// A viewer that held the frame before and then copied only the runs of each shot holds, at each tick, every window painted from nothing in
     /// stacking order, at each point that no window covers of a client that broke a promise since it connected (`seen`): to damage what it
     /// changes, to leave a buffer that is shown as it is, and to call only opaque pixels opaque (wayland.xml, wl_surface.damage, wl_buffer.release,
-    /// wl_surface.set_opaque_region).
+    /// wl_surface.set_opaque_region). It holds the last frame then, and what comes next is seen from there. After an `Err` the shots of the steps
+    /// that were taken are lost, but what they left is as right as after any others (`err`).
     pub fn run(&mut self, steps: &[Step]) -> Result<Vec<Shot<A>, A>, RunError>
         ensures ok { IfOk result (λ shots. TakesSteps (map act_of steps.now) (map film_of shots.items) self.old self.new) }
-        ensures err { IfErr result (λ e. (films : List Film) × TakesSteps (map act_of (take (taken_by e) steps.now)) films self.old self.new) }
+        ensures err { IfErr result (λ e. (films : List Film) × IsSeen (map act_of (take (taken_by e) steps.now)) films self.old self.new) }
         ensures stopped { IfErr result (λ e. MayStopAt steps.now (taken_by e)) }
         ensures seen { IfOk result (λ shots. IsSeen (map act_of steps.now) (map film_of shots.items) self.old self.new) }
     {

@@ -2,4 +2,3 @@ pub mod Commits
 pub mod Records
 pub mod Rows
 pub mod Scales
-pub mod Shapes

@@ -2,6 +2,5 @@ pub mod Frames
 pub mod Kept
 pub mod Laws
 pub mod Request
-pub mod Shape
 pub mod State
 pub mod Surface

@@ -28,18 +28,24 @@ pub struct Offset {
     pub y: i32,
 }
 
+/// A place, in pixels, held within -16,777,216 to 16,777,216: the nearest bound where it is farther.
+pub fn held(place: i64) -> i32
+    ensures { result ≡ within_bounds place }
+{
+    if place < -BOUND {
+        return -16_777_216;
+    }
+    if place > BOUND {
+        return 16_777_216;
+    }
+    place as i32
+}
+
 /// The sum of a place and an offset, in pixels, held within -16,777,216 to 16,777,216.
 pub fn bounded_sum(a: i32, b: i32) -> i32
     ensures { result ≡ within_bounds (a +ℤ b) }
 {
-    let exact = i64::from(a) + i64::from(b);
-    if exact < -BOUND {
-        return -16_777_216;
-    }
-    if exact > BOUND {
-        return 16_777_216;
-    }
-    exact as i32
+    held(i64::from(a) + i64::from(b))
 }
 
 impl Offset {

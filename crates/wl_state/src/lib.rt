@@ -6,12 +6,10 @@ ghost use Rattle.wl_state.specs.Laws.{CommitTakesAll};
 
 mod content;
 mod role;
-mod shape;
 mod state;
 
-pub use content::{Attached, BufferNo, Offset, bounded_sum};
+pub use content::{Attached, BufferNo, Offset, bounded_sum, held};
 pub use role::Role;
-pub use shape::Shape;
 pub use state::{Current, SurfaceState};
 
 /// After a commit what is held is what was pending, and once the surface is applied that is what counts.

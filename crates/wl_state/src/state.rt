@@ -1,9 +1,8 @@
 //! One surface: what is pending, held and applied of it.
 
-ghost use Rattle.std.specs.Prelude.{ℕ, ◌≡◌, ◌↔◌, ◌≢◌, ◌||◌, is_some, MatchBool, false, ◌++◌, ◌∷◌, [], ◌<◌, Some, None, List, IfOk, OnOk, OnErr, take};
+ghost use Rattle.std.specs.Prelude.{ℕ, ◌≡◌, ◌↔◌, ◌≢◌, ◌||◌, is_some, MatchBool, false, ◌++◌, ◌∷◌, [], Some, None, List, OnOk, OnErr, take};
 ghost use Rattle.std.specs.Option.{option_map, option_or};
 ghost use Rattle.wl_store.specs.Transform.{transform_of};
-ghost use Rattle.wl_state.specs.Shape.{HasShape, newly_damaged};
 ghost use Rattle.wl_state.specs.Kept.{IsCurrent, IsFarther, StandsFor, buffer_of, counting_in, counting_of, kept_has, kept_shows, latest, turned_height, turned_width};
 ghost use Rattle.wl_geom.specs.Region.{Change as RegionChange, Stands as Covers};
 ghost use Rattle.wl_state.specs.Request.{Attach, Commit, Damage, SetBufferTransform, SetInputRegion, SetOpaqueRegion};
@@ -11,7 +10,6 @@ ghost use Rattle.wl_state.specs.Surface.{Surface as Asked, applying, asking, nam
 
 use crate::content::{Attached, BufferNo, Offset};
 use crate::role::Role;
-use crate::shape::Shape;
 use std::alloc::{AllocError, Allocator};
 use std::marker::Model;
 use std::mem;
@@ -225,7 +223,7 @@ impl<A: Allocator> SurfaceState<A> {
     }
 
     /// wl_surface.commit: what is pending is held. Without memory nothing changes.
-    pub fn commit(&mut self) -> Result<(), AllocError>
+    pub fn hold(&mut self) -> Result<(), AllocError>
         ensures ok { OnOk result ((s : Asked) → StandsFor self.old s → StandsFor self.new (asking Commit s)) }
         ensures err { OnErr result (self.new ≡ self.old) }
     {
@@ -281,13 +279,6 @@ impl<A: Allocator> SurfaceState<A> {
         }
     }
 
-    /// The buffers that are applied and held.
-    pub fn shown(&self) -> (Option<Attached>, Option<Attached>)
-        ensures { result ≡ (self.now.current_buffer, self.now.held_buffer) }
-    {
-        (self.current_buffer, self.held_buffer)
-    }
-
     /// Whether the buffer is what is held or applied.
     pub fn shows(&self, buffer: BufferNo) -> bool
         ensures { result ≡ kept_shows buffer self.now }
@@ -300,30 +291,6 @@ impl<A: Allocator> SurfaceState<A> {
         ensures { result ≡ kept_has buffer self.now }
     {
         is_buffer(buffer, &self.pending_buffer) || self.shows(buffer)
-    }
-
-    /// wl_surface.commit of a surface that isn't synchronised: what is pending is held, and then applied. Without memory nothing changes.
-    pub fn commit_now(&mut self, alloc: A) -> Result<Vec<Rect, A>, AllocError>
-        ensures ok { OnOk result ((s : Asked) → StandsFor self.old s → StandsFor self.new (applying (asking Commit s))) }
-        ensures damage { IfOk result (λ damage. (s : Asked) → StandsFor self.old s → damage.items ≡ newly_damaged s.history) }
-        ensures err { OnErr result (self.new ≡ self.old) }
-    {
-        self.commit()?;
-        Ok(self.apply(alloc))
-    }
-
-    /// How the surface stands.
-    pub fn shape(&self) -> Shape
-        ensures { (s : Asked) → StandsFor self.now s → HasShape result s.history }
-    {
-        let (w, h) = size_of(&self.current_buffer, self.current_transform);
-        Shape {
-            w,
-            h,
-            transform: self.current_transform,
-            is_mapped: self.current_buffer.is_some(),
-            offset: self.current_offset,
-        }
     }
 
     /// What counts.

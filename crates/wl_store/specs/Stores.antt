@@ -33,6 +33,10 @@ bytes_of number stock = option_map (λ s. s.bytes) (store_at number stock)
 abbrev pub size_of : ℕ → Stock → ℕ
 size_of number stock = option_map_or (λ s. length s.bytes) (store_at number stock) 0
 
+-- the least number of a live store that is above this one, if there is any
+abbrev pub next_after : ℕ → Stock → Option ℕ
+next_after number stock = option_map (λ s. s.number) (find (λ s. nat_lt number s.number) stock.held)
+
 -- how many bytes the live stores have together
 abbrev pub total_size : Stock → ℕ
 total_size stock = sum_by (λ s. length s.bytes) stock.held

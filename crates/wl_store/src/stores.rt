@@ -127,7 +127,7 @@ fn size_refusal(total: u32, present: u32, size: i32) -> Option<StoreError>
 }
 
 impl<A: Allocator> Stores<A> {
-    ghost use Rattle.wl_store.specs.Stores.{bytes_of, can_hold, create_refusal, is_full, let_go, picture_of, picture_turned, resize_refusal, store_at, total_size, used, write_refusal, written};
+    ghost use Rattle.wl_store.specs.Stores.{bytes_of, can_hold, create_refusal, is_full, let_go, next_after, picture_of, picture_turned, resize_refusal, store_at, total_size, used, write_refusal, written};
 
     fn is_full(&self) -> bool
         ensures { result ≡ is_full self.now }
@@ -149,6 +149,15 @@ impl<A: Allocator> Stores<A> {
     {
         let found = self.held.iter().find(|held| held.number() == store)?;
         Some(found.bytes())
+    }
+
+    /// The least number of a live store that is above this one; None where there is none. It takes no memory.
+    pub fn next_after(&self, number: StoreNo) -> Option<StoreNo>
+        ensures next { result ≡ next_after number self.now }
+        ensures rises { IfSome result (λ next. number < next) }
+    {
+        let found = self.held.iter().find(|held| held.number() > number)?;
+        Some(found.number())
     }
 
     /// Puts these bytes in place of those from `at` on.

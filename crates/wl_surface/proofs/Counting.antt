@@ -13,7 +13,7 @@ use Rattle.wl_state.specs.declared.role.Role.{Role}
 use Rattle.wl_state.specs.Request.{Commit, Request}
 use Rattle.wl_state.specs.Surface.{Surface, applying, asking, new_surface, with_role}
 use Rattle.wl_surface.specs.Waiting.{AreUndue, AreWaiting, Callback, IsNextDue, IsUndue, IsWaiting, applied_at, applied_by}
-use Rattle.wl_surface.specs.Waiting.{committed_by, counted_at, frames_at, held_at, held_by, is_in, next_of, without_next}
+use Rattle.wl_surface.specs.Waiting.{counted_at, frames_at, held_at, held_by, is_in, next_of, without_next}
 use Rattle.wl_surface.proofs.Framed.{uncounted}
 use Rattle.wl_state.proofs.Records.{applied-kept, held-committed, held-kept}
 use Rattle.wl_state.specs.State.{is_commit}
@@ -100,7 +100,7 @@ pub counts-in-role : (role : Role) (at : Option Surface) → counted_at (option_
 counts-in-role role None = refl
 counts-in-role role (Some s) = refl
 
--- ---- a commit that is held, a surface that is applied, and a commit that is applied at once
+-- ---- a commit that is held, and a surface that is applied
 
 commit-asks : (at : Option Surface) → frames_at (option_map (asking Commit) at) ≡ frames_at at
 commit-asks None = refl
@@ -121,10 +121,6 @@ apply-holds (Some s) = refl
 apply-applies : (at : Option Surface) → applied_at (option_map applying at) ≡ held_at at
 apply-applies None = refl
 apply-applies (Some s) = refl
-
-in-turn : (at : Option Surface) → option_map (λ s. applying (asking Commit s)) at ≡ option_map applying (option_map (asking Commit) at)
-in-turn None = refl
-in-turn (Some s) = refl
 
 module _ (surface : ℕ) (all : Numbered) where
   asked-so : (change : Surface → Surface) → ((at : Option Surface) → frames_at (option_map change at) ≡ frames_at at) → (number : ℕ)
@@ -177,36 +173,6 @@ module _ (surface : ℕ) (all : Numbered) where
   waiting-applied [] (c ∷ cs) t = absurd t
   waiting-applied (w ∷ ws) [] t = absurd t
   waiting-applied (w ∷ ws) (c ∷ cs) t = (waits-applied w c t.0, waiting-applied ws cs t.1)
-
-  abbrev committing : Surface → Surface
-  committing s = applying (asking Commit s)
-
-  waits-committed : (w : Waiting) (c : Callback) → IsWaiting w all c → IsWaiting (applied_by surface (held_by surface w)) (changed_at surface (λ s. applying (asking Commit s)) all) c
-  waits-committed w c t = record {
-    id = t.id;
-    asked = λ number. ap (λ ns. is_in ns c) (asked-so committing (λ at. ap frames_at (in-turn at) ∙ apply-asks (option_map (asking Commit) at) ∙ commit-asks at) number) ∙ t.asked number;
-    held = holds (w.surface == surface);
-    applied = counts (w.surface == surface);
-  } where
-    here : (at : Option Surface) → all w.surface ≡ at → is_in (frames_at at) c ≡ true
-    here at e = ap (λ x. is_in (frames_at x) c) (sym e) ∙ t.asked w.surface ∙ same-number w.surface
-
-    of-both : is_in (held_at (option_map (asking Commit) (all w.surface))) c ≡ true
-    of-both = ap (λ ns. is_in ns c) (commit-holds (all w.surface)) ∙ here (all w.surface) refl
-
-    holds : (b : Bool) → is_in (held_at (cond b (option_map committing (all w.surface)) (all w.surface))) c ≡ (w.is_held || b)
-    holds true = ap (λ at. is_in (held_at at) c) (in-turn (all w.surface)) ∙ ap (λ ns. is_in ns c) (apply-holds (option_map (asking Commit) (all w.surface))) ∙ of-both ∙ sym (or-true w.is_held)
-    holds false = t.held ∙ sym (or-false w.is_held)
-
-    counts : (b : Bool) → is_in (applied_at (cond b (option_map committing (all w.surface)) (all w.surface))) c ≡ cond b (w.is_held || b) w.is_applied
-    counts true = ap (λ at. is_in (applied_at at) c) (in-turn (all w.surface)) ∙ ap (λ ns. is_in ns c) (apply-applies (option_map (asking Commit) (all w.surface))) ∙ of-both ∙ sym (or-true w.is_held)
-    counts false = t.applied
-
-  pub waiting-committed : (ws : List Waiting) (cs : List Callback) → AreWaiting ws all cs → AreWaiting (committed_by surface ws) (changed_at surface (λ s. applying (asking Commit s)) all) cs
-  waiting-committed [] [] t = tt
-  waiting-committed [] (c ∷ cs) t = absurd t
-  waiting-committed (w ∷ ws) [] t = absurd t
-  waiting-committed (w ∷ ws) (c ∷ cs) t = (waits-committed w c t.0, waiting-committed ws cs t.1)
 
 -- ---- the next frame
 

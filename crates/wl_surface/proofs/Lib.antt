@@ -4,5 +4,4 @@ pub mod Framed
 pub mod Gone
 pub mod Slots
 pub mod Waiting
-pub mod Left
 pub mod Callbacks

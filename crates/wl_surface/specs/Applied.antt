@@ -1,36 +1,21 @@
 -- What a call changes of what surfaces show.
-use Rattle.std.specs.Prelude.{ℕ, ◌≡◌, ◌==◌, ◌&&◌, ◌↔◌, ◌++◌, Bool, true, false, not, ◌||◌, if◌then◌else◌, cond, Option, Some, None, List}
+use Rattle.std.specs.Prelude.{ℕ, ◌≡◌, ◌==◌, ◌&&◌, Bool, true, false, not, cond, Option, Some, None, List}
 use Rattle.std.specs.Prelude.{[], ◌∷◌, count_by, take}
-use Rattle.std.specs.List.{list_any}
 use Rattle.wl_surface.specs.declared.applied.Change.{Change}
-use Rattle.wl_state.specs.Shape.{IsSameShape, committed_now, newly_damaged}
 use Rattle.wl_surface.specs.Slots.{IsAny, Numbered, shows_at}
-use Rattle.wl_state.specs.Request.{Buffer}
-use Rattle.wl_state.specs.State.{History, applied, apply, between, committed, damaged_rects}
+use Rattle.wl_state.specs.State.{History, applied, between, committed, damaged_rects}
 use Rattle.wl_state.specs.Surface.{Surface, is_there}
-
--- what is told of a surface that is committed; it is whole where its size, transform or offset changed, or it got or lost its buffer
-pub record IsChange {A : Type 0} (number : ℕ) (h : History) (c : Change A) : Type 0 where
-  pub surface : c.surface ≡ number
-  pub whole : (c.whole ≡ false) ↔ IsSameShape h (committed_now h)
-  pub rects : c.rects.items ≡ newly_damaged h
 
 -- What is told of a surface that is applied. Its damage is what was asked for since it was applied before: of the rectangles the first
 -- 1,025, since more than 1,024 damage the whole surface.
 pub record IsApplied {A : Type 0} (number : ℕ) (h : History) (c : Change A) : Type 0 where
   pub surface : c.surface ≡ number
-  pub whole : (c.whole ≡ false) ↔ IsSameShape h (apply h)
   pub rects : c.rects.items ≡ take 1025 (damaged_rects (between h.cut (committed h.requests) h.requests))
 
 -- it is told of a surface that is there
 abbrev pub AreApplied : {A : Type 0} → ℕ → Option Surface → Option (Change A) → Type 0
 AreApplied number None change = change ≡ None
 AreApplied {A} number (Some s) change = (c : Change A) × (change ≡ Some c) × IsApplied number s.history c
-
--- one change is told of a surface that is there
-abbrev pub AreChanges : {A : Type 0} → ℕ → Option Surface → List (Change A) → Type 0
-AreChanges number None changes = changes ≡ []
-AreChanges {A} number (Some s) changes = (c : Change A) × (changes ≡ c ∷ []) × IsChange number s.history c
 
 -- it shows a buffer
 abbrev pub is_shown_at : Option Surface → Bool
@@ -40,15 +25,10 @@ is_shown_at (Some s) = is_there (applied s.history).buffer
 -- a surface that goes is told of where it showed a buffer
 abbrev pub AreGoneIf : {A : Type 0} → Bool → ℕ → List (Change A) → Type 0
 AreGoneIf false number changes = changes ≡ []
-AreGoneIf {A} true number changes = (c : Change A) × (changes ≡ c ∷ []) × (c.surface ≡ number) × (c.whole ≡ true) × (c.rects.items ≡ [])
+AreGoneIf {A} true number changes = (c : Change A) × (changes ≡ c ∷ []) × (c.surface ≡ number) × (c.rects.items ≡ [])
 
 abbrev pub AreGone : {A : Type 0} → ℕ → Option Surface → List (Change A) → Type 0
 AreGone number at changes = AreGoneIf (is_shown_at at) number changes
-
--- a buffer of these that isn't busy is freed, once
-abbrev pub with_freed : (ℕ → Bool) → Option Buffer → List ℕ → List ℕ
-with_freed busy None freed = freed
-with_freed busy (Some b) freed = if busy b.number || list_any (λ n. n == b.number) freed then freed else freed ++ b.number ∷ []
 
 -- Freed are the buffers that were busy and aren't any more, each once.
 abbrev pub AreFreed : List ℕ → Numbered → Numbered → Type 0

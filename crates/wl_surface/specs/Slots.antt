@@ -3,7 +3,6 @@ use Rattle.std.specs.Prelude.{ℕ, ℤ, pos, int_le, ◌&&◌, ◌≡◌, ◌==�
 use Rattle.std.specs.Prelude.{◌∷◌, count_by, is_some, slice_index_or}
 use Rattle.std.specs.Option.{option_map}
 use Rattle.wl_geom.specs.Region.{Area, Change, Stands as Covers}
-use Rattle.wl_state.specs.declared.content.Attached.{Attached}
 use Rattle.wl_surface.specs.declared.frames.Waiting.{Waiting}
 use Rattle.wl_state.specs.Kept.{IsCurrent, Kept, StandsFor}
 use Rattle.wl_state.specs.Request.{Buffer}
@@ -49,11 +48,6 @@ count slots = count_by is_some slots.places
 
 abbrev pub one_if_kept : Option Kept → ℕ
 one_if_kept slot = cond (is_some slot) 1 0
-
--- the buffers that are applied and held
-abbrev pub shown_of : Option Kept → Option Attached × Option Attached
-shown_of None = (None, None)
-shown_of (Some k) = (k.current_buffer, k.held_buffer)
 
 abbrev pub StandsAt : Option Kept → Option Surface → Type 0
 StandsAt None None = Unit {0}

@@ -29,10 +29,6 @@ held_by surface w = record w { is_held = w.is_held || is_of surface w }
 abbrev pub applied_by : ℕ → Waiting → Waiting
 applied_by surface w = record w { is_applied = if is_of surface w then w.is_held else w.is_applied }
 
--- both: a commit that is applied at once
-abbrev pub committed_by : ℕ → List Waiting → List Waiting
-committed_by surface frames = map (applied_by surface) (map (held_by surface) frames)
-
 -- the callbacks of a surface, in the order of their requests
 abbrev pub callbacks_of : ℕ → List Waiting → List ℕ
 callbacks_of surface frames = map (λ (w : Waiting). w.callback) (filter (is_of surface) frames)

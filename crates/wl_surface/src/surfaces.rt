@@ -1,22 +1,22 @@
 //! The surfaces of a client.
 
-ghost use Rattle.std.specs.Prelude.{ℕ, [], ◌≡◌, ◌≢◌, ◌+◌, ◌<◌, ◌≤◌, ◌||◌, ◌==◌, vec_len, vec_capacity, ◌↔◌, List, map, Option, Some, None, IfOk, OnOk, OnErr, IfErr, IfNone, IfSome, IsErr, IsOk, MatchBool, OnSome, if◌then◌else◌, is_some, ◌++◌, ◌∷◌, nat_le, length, unsigned_abs, option_copied, true, false, filter, not};
+ghost use Rattle.std.specs.Prelude.{ℕ, [], ◌≡◌, ◌≢◌, ◌+◌, ◌<◌, ◌==◌, ◌↔◌, List, map, Option, Some, None, IfOk, OnOk, OnErr, IfErr, IfNone, IfSome, IsErr, IsOk, MatchBool, OnSome, if◌then◌else◌, is_some, ◌++◌, ◌∷◌, nat_le, length, unsigned_abs, option_copied, true, false, filter, not};
 ghost use Rattle.std.specs.List.{list_any};
 ghost use Rattle.std.specs.Option.{option_map};
 ghost use Rattle.slab.specs.Slab.{entries};
 ghost use Rattle.wl_geom.specs.Region.{Change as RegionChange, Stands as Covers};
-ghost use Rattle.wl_surface.specs.Applied.{AreApplied, AreChanges, AreFreed, AreGone, with_freed, is_shown_at};
+ghost use Rattle.wl_surface.specs.Applied.{AreApplied};
 ghost use Rattle.wl_state.specs.Kept.{buffer_of, counting_in, counting_of, kept_has, kept_shows};
-ghost use Rattle.wl_surface.specs.Slots.{Changes, IsAny, changed_at, shown_of, IsCopied, IsCurrentAt, kept_at, one_if_kept, Numbered, StandForAll, content_at, count, had_at, has_at, is_transform, nobody, pending_at, role_at, shows_at, with_at};
+ghost use Rattle.wl_surface.specs.Slots.{Changes, IsAny, changed_at, IsCopied, IsCurrentAt, kept_at, one_if_kept, Numbered, StandForAll, content_at, count, had_at, has_at, is_transform, nobody, pending_at, role_at, shows_at, with_at};
 ghost use Rattle.wl_state.specs.Request.{Attach, Commit, Damage, Frame, SetBufferTransform, SetInputRegion, SetOpaqueRegion};
 ghost use Rattle.wl_state.specs.Surface.{applying, asking, new_surface, with_role};
-ghost use Rattle.wl_surface.specs.Waiting.{AreUndue, AreWaiting, Callback, IsNewNumber, IsNextDue, applied_by, committed_by, frames_at, held_by, is_in, callbacks_of as those_of, next_of, without_next, without_those_of};
+ghost use Rattle.wl_surface.specs.Waiting.{AreUndue, AreWaiting, Callback, IsNewNumber, IsNextDue, applied_by, frames_at, held_by, is_in, callbacks_of as those_of, next_of, without_next, without_those_of};
 
-use crate::applied::{Applied, Change, apply_change, commit_change};
+use crate::applied::{Change, apply_change};
 use crate::error::SurfaceError;
 use crate::frames::{Waiting, apply_all, callbacks_of, hold_all, next_place};
 use slab::Slab;
-use std::alloc::{AllocError, Allocator};
+use std::alloc::Allocator;
 use std::marker::Model;
 use wl_geom::{Rect, Region};
 use wl_state::{Attached, BufferNo, Current, Role, SurfaceState};
@@ -67,42 +67,6 @@ fn any_has<A: Allocator>(slots: &Slab<SurfaceState<A>, A>, buffer: BufferNo) -> 
         }
     }
     false
-}
-
-/// Whether the number is among these.
-fn is_among(numbers: &[BufferNo], number: BufferNo) -> bool
-    ensures { result ≡ list_any (λ n. n == number) numbers.now }
-{
-    numbers.iter().any(|other| *other == number)
-}
-
-/// Whether the buffer is busy, or among those that are freed.
-fn is_busy_or_among<A: Allocator>(
-    slots: &Slab<SurfaceState<A>, A>,
-    freed: &[BufferNo],
-    number: BufferNo,
-) -> bool
-    ensures { result ≡ (list_any (λ e. kept_shows number e.1) (entries slots.now) || list_any (λ n. n == number) freed.now) }
-{
-    any_shows(slots, number) || is_among(freed, number)
-}
-
-/// Adds the buffer, if it isn't busy and isn't among them. There is room for it.
-fn add_freed<A: Allocator>(
-    slots: &Slab<SurfaceState<A>, A>,
-    buffer: Option<Attached>,
-    freed: &mut Vec<BufferNo, A>,
-)
-    requires { vec_len freed.old < vec_capacity freed.old }
-    ensures items { freed.new.items ≡ with_freed (λ b. list_any (λ e. kept_shows b e.1) (entries slots.now)) (option_map buffer_of buffer) freed.old.items }
-    ensures len { vec_len freed.new ≤ vec_len freed.old + 1 }
-    ensures capacity { vec_capacity freed.new ≡ vec_capacity freed.old }
-{
-    if let Some(attached) = buffer {
-        if !is_busy_or_among(slots, freed, attached.number) {
-            freed.push_reserved(attached.number);
-        }
-    }
 }
 
 /// A copy of the region, as it is set.
@@ -194,38 +158,6 @@ impl<A: Allocator + Copy> Surfaces<A> {
         Ok(())
     }
 
-    /// wl_surface.commit: what is pending is applied, the surface's frame requests with it, and what that changes is told. Without memory
-    /// nothing changes.
-    pub fn commit(&mut self, surface: SurfaceNo) -> Result<Applied<A>, SurfaceError>
-        ensures ok { OnOk result (Changes self.old self.new surface (λ s. applying (asking Commit s))) }
-        ensures frames { OnOk result (self.new.frames ≡ committed_by surface self.old.frames) }
-        ensures waits { OnOk result ((all : Numbered) (cs : List Callback) → AreWaiting self.old.frames all cs
-            → AreWaiting self.new.frames (changed_at surface (λ s. applying (asking Commit s)) all) cs) }
-        ensures changes { IfOk result (λ applied. (all : Numbered) → StandForAll self.old all → AreChanges surface (all surface) applied.changes.items) }
-        ensures freed { IfOk result (λ applied. (all : Numbered) → StandForAll self.old all
-            → AreFreed applied.freed.items all (changed_at surface (λ s. applying (asking Commit s)) all)) }
-        ensures callbacks { IfOk result (λ applied. applied.callbacks.items ≡ []) }
-        ensures err { OnErr result (self.new ≡ self.old) }
-        ensures cause { IfErr result (λ e. e ≡ SurfaceError.Memory) }
-    {
-        let alloc = self.alloc;
-        let mut changes = Vec::with_capacity(alloc, 1)?;
-        let mut freed = Vec::with_capacity(alloc, 2)?;
-        let (current, held) = self.shown(surface);
-        if let Some(kept) = self.slots.get_mut(surface) {
-            changes.push_reserved(commit_change(kept, surface, alloc)?);
-        }
-        hold_all(&mut self.frames, surface);
-        apply_all(&mut self.frames, surface);
-        add_freed(&self.slots, current, &mut freed);
-        add_freed(&self.slots, held, &mut freed);
-        Ok(Applied {
-            changes,
-            freed,
-            callbacks: Vec::new(alloc),
-        })
-    }
-
     /// The surface is applied: what is held of it counts, its frame requests among that, and what that changes is told. Nothing is told where
     /// there is none of this number.
     pub fn apply(&mut self, surface: SurfaceNo) -> Option<Change<A>>
@@ -243,52 +175,23 @@ impl<A: Allocator + Copy> Surfaces<A> {
         }
     }
 
-    /// wl_surface.destroy: the surface is gone, its frame requests with it, and what that changes is told. Nothing changes where there is
-    /// none of this number, nor without memory.
-    pub fn destroy(&mut self, surface: SurfaceNo) -> Result<Applied<A>, SurfaceError>
+    /// wl_surface.destroy: the surface is gone, and its frame requests with it, whose callbacks are told. Nothing changes where there is none of
+    /// this number, nor without memory.
+    pub fn destroy(&mut self, surface: SurfaceNo) -> Result<Vec<u32, A>, SurfaceError>
         ensures ok { OnOk result ((all : Numbered) → StandForAll self.old all → StandForAll self.new (with_at surface None all)) }
         ensures count { OnOk result (count self.new + one_if_kept (kept_at self.old surface) ≡ count self.old) }
-        ensures changes { IfOk result (λ applied. (all : Numbered) → StandForAll self.old all → AreGone surface (all surface) applied.changes.items) }
-        ensures freed { IfOk result (λ applied. (all : Numbered) → StandForAll self.old all
-            → AreFreed applied.freed.items all (with_at surface None all)) }
-        ensures callbacks { IfOk result (λ applied. applied.callbacks.items ≡ those_of surface self.old.frames) }
+        ensures callbacks { IfOk result (λ callbacks. callbacks.items ≡ those_of surface self.old.frames) }
         ensures frames { OnOk result (self.new.frames ≡ without_those_of surface self.old.frames) }
-        ensures ids { IfOk result (λ applied. (all : Numbered) (cs : List Callback) → AreWaiting self.old.frames all cs
-            → applied.callbacks.items ≡ map (λ (c : Callback). c.id) (filter (is_in (frames_at (all surface))) cs)) }
+        ensures ids { IfOk result (λ callbacks. (all : Numbered) (cs : List Callback) → AreWaiting self.old.frames all cs
+            → callbacks.items ≡ map (λ (c : Callback). c.id) (filter (is_in (frames_at (all surface))) cs)) }
         ensures waits { OnOk result ((all : Numbered) (cs : List Callback) → AreWaiting self.old.frames all cs
             → AreWaiting self.new.frames (with_at surface None all) (filter (λ c. not (is_in (frames_at (all surface)) c)) cs)) }
         ensures err { OnErr result (self.new ≡ self.old) }
         ensures cause { IfErr result (λ e. e ≡ SurfaceError.Memory) }
     {
-        let alloc = self.alloc;
-        let changes = self.going(surface)?;
-        let mut freed = Vec::with_capacity(alloc, 2)?;
-        let callbacks = callbacks_of(&self.frames, surface, alloc)?;
-        let (current, held) = self.shown(surface);
+        let callbacks = callbacks_of(&self.frames, surface, self.alloc)?;
         self.remove(surface);
-        add_freed(&self.slots, current, &mut freed);
-        add_freed(&self.slots, held, &mut freed);
-        Ok(Applied {
-            changes,
-            freed,
-            callbacks,
-        })
-    }
-
-    /// What it changes that a surface goes.
-    fn going(&self, surface: SurfaceNo) -> Result<Vec<Change<A>, A>, AllocError>
-        ensures { IfOk result (λ changes. (all : Numbered) → StandForAll self.now all → AreGone surface (all surface) changes.items) }
-    {
-        let mut changes = Vec::new(self.alloc);
-        if !self.is_shown(surface) {
-            return Ok(changes);
-        }
-        changes.push(Change {
-            surface,
-            whole: true,
-            rects: Vec::new(self.alloc),
-        })?;
-        Ok(changes)
+        Ok(callbacks)
     }
 
     fn clear_opaque(&mut self, surface: SurfaceNo)
@@ -323,8 +226,8 @@ impl<A: Allocator> Surfaces<A> {
         Ok(())
     }
 
-    /// wl_surface.commit of a surface that behaves synchronised (wayland.xml, wl_subsurface): what is pending is held, the surface's frame
-    /// requests with it, and counts once the surface is applied. Without memory nothing changes.
+    /// wl_surface.commit: what is pending is held, the surface's frame requests with it, and counts once the surface is applied: at once, unless
+    /// it behaves synchronised (wayland.xml, wl_subsurface). Without memory nothing changes.
     pub fn hold(&mut self, surface: SurfaceNo) -> Result<(), SurfaceError>
         ensures ok { OnOk result (Changes self.old self.new surface (asking Commit)) }
         ensures frames { OnOk result (self.new.frames ≡ map (held_by surface) self.old.frames) }
@@ -334,7 +237,7 @@ impl<A: Allocator> Surfaces<A> {
         ensures cause { IfErr result (λ e. e ≡ SurfaceError.Memory) }
     {
         if let Some(kept) = self.slots.get_mut(surface) {
-            kept.commit()?;
+            kept.hold()?;
         }
         hold_all(&mut self.frames, surface);
         Ok(())
@@ -498,26 +401,6 @@ impl<A: Allocator> Surfaces<A> {
     {
         self.slots.try_remove(surface);
         self.frames.retain(|waiting| waiting.surface != surface);
-    }
-
-    /// Whether a surface shows a buffer.
-    fn is_shown(&self, surface: SurfaceNo) -> bool
-        ensures { (all : Numbered) → StandForAll self.now all → result ≡ is_shown_at (all surface) }
-    {
-        match self.slots.get(surface) {
-            Some(kept) => kept.shown().0.is_some(),
-            None => false,
-        }
-    }
-
-    /// The buffers that a surface has applied and held.
-    fn shown(&self, surface: SurfaceNo) -> (Option<Attached>, Option<Attached>)
-        ensures { result ≡ shown_of (kept_at self.now surface) }
-    {
-        match self.slots.get(surface) {
-            Some(kept) => kept.shown(),
-            None => (None, None),
-        }
     }
 
     /// What counts of a surface, if there is such a one.

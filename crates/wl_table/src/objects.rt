@@ -1,6 +1,6 @@
 //! A map from ids to objects.
 
-ghost use Rattle.std.specs.Prelude.{◌≡◌, ◌≢◌, ℕ, ◌+◌, ◌-◌, ◌++◌, replicate, ◌<◌, ◌≤◌, ◌↔◌, ◌⊎◌, [], if◌then◌else◌, length, is_some, IsTrue, IsSome, IfSome, IfNone, IfErr, None, Some, MatchOption, slice_index_or, OnOk, OnErr, IsOkUnless, Err};
+ghost use Rattle.std.specs.Prelude.{◌≡◌, ◌≢◌, ℕ, ◌+◌, ◌-◌, ◌++◌, replicate, ◌<◌, ◌≤◌, ◌⊎◌, [], if◌then◌else◌, length, is_some, IsSome, IfSome, IfNone, None, Some, MatchOption, slice_index_or, OnOk, OnErr, IsOkUnless, Err};
 ghost use Rattle.std.specs.Option.{option_map};
 ghost use Rattle.wl_table.specs.Objects.{Held, entry_of, refusal, with_target, HoldsAt};
 
@@ -48,13 +48,6 @@ impl<A: Allocator> Objects<A> {
         ensures { result ≡ length self.now }
     {
         self.count as usize
-    }
-
-    /// There are no objects.
-    pub fn is_empty(&self) -> bool
-        ensures { IsTrue result ↔ (length self.now ≡ 0) }
-    {
-        self.count == 0
     }
 
     /// What is held under an id.

@@ -6,18 +6,20 @@ use Rattle.std.specs.Option.{option_map}
 use Rattle.std.proofs.lemmas.Bool.{eqb-true}
 use Rattle.wl_children.specs.declared.placed.Member.{Member as Kept}
 use Rattle.wl_children.specs.declared.placed.Placed.{Placed}
-use Rattle.wl_children.specs.Stacks.{Stacks, moved, placed_above, placed_below}
+use Rattle.wl_children.specs.declared.placed.Side.{Side}
+use Rattle.wl_children.specs.declared.placed.Side.TheVariants.{Above, Below}
+use Rattle.wl_children.specs.Stacks.{Stacks, beside, moved, placed as placed_kept}
 use Rattle.wl_family.specs.declared.link.Link.{Link as KeptLink}
 use Rattle.wl_family.specs.Family.{Tied, at_parent, childless, links_in, pending_as, stacks_in}
-use Rattle.wl_state.specs.Request.{Child, Itself, Member, PlaceAbove, PlaceBelow, Request, SetPosition}
+use Rattle.wl_state.specs.Request.{Child, Itself, Member, Request, SetPosition}
 use Rattle.wl_state.specs.State.{History, above, below, committed as committed_at, is_commit, is_member, order, placed, position, position_asked, without}
 use Rattle.wl_state.specs.Surface.{asking}
 use Rattle.wl_surface.specs.Surfaces.{Link, Surfaces, history_in, link_at, with_change}
 use Rattle.wl_tree_laws.specs.Hanging.{AreTied, Hang, MovesChild, PlacesChild, kid_of, kids_of, stacks_by}
 use Rattle.wl_tree_laws.specs.Laws.{AreOnceLinked, is_live_of}
-use Rattle.wl_tree_laws.specs.Stacks.{AreApart, IsKept, Kids, has_child, stack_by}
+use Rattle.wl_tree_laws.specs.Stacks.{AreApart, IsKept, Kids, has_child, is_about_children, place_request, stack_by}
 use Rattle.wl_tree_laws.proofs.Hanging.{changed-pointwise, committed-same, committed-within, hangs-changed, same-stacks, take-more, tied-changed, with_asked}
-use Rattle.wl_tree_laws.proofs.Stacking.{follow-above, follow-below, follow-move, order-last, position-last}
+use Rattle.wl_tree_laws.proofs.Stacking.{beside_asked, follow-move, follow-place, order-last, order-placed, position-last, position-placed}
 
 -- ---- links by their numbers and by their children
 
@@ -185,6 +187,11 @@ any-there l c ms there = at (is_member (Child l) c) refl
     at true e = sym (ap (λ m. list_any (is_member m) ms) (is-itself (Child l) c e) ∙ there)
     at false e = refl
 
+any-beside : (side : Side) (q : Member → Bool) (c at : Member) (ms : List Member) → list_any (is_member at) ms ≡ true
+    → list_any q (beside_asked side c at ms) ≡ (q c || list_any q ms)
+any-beside Above q c at ms there = any-above q c at ms there
+any-beside Below q c at ms there = any-below q c at ms there
+
 any-placed : (beside : Member → Member → List Member → List Member)
     → ((q : Member → Bool) (c at : Member) (ms : List Member) → list_any (is_member at) ms ≡ true → list_any q (beside c at ms) ≡ (q c || list_any q ms)) → (l k : ℕ) (at : Member)
     → (ms : List Member) → list_any (is_member (Child k)) ms ≡ true → list_any (is_member (Child l)) (placed beside k at ms) ≡ list_any (is_member (Child l)) ms
@@ -198,6 +205,10 @@ any-placed beside besides l k at ms there = here (list_any (is_member at) (witho
 
 -- ---- placing
 
+pub about-placing : (side : Side) (l : ℕ) (at : Member) → is_about_children (place_request side l at) ≡ true
+about-placing Above l at = refl
+about-placing Below l at = refl
+
 module _ (old new : Tied) (all : Surfaces) (number : ℕ) (link : Link) (at : Member) (sibling : Kept) (there : link_at number all ≡ Some link) (lives : link.has_ended ≡ false)
     (is : IsKept (kids_of all) at sibling) (links : links_in new ≡ links_in old) (hang : Hang old all) where
   named-there : (h : History) → history_in link.parent all ≡ Some h → has_child number h.requests ≡ true
@@ -207,34 +218,26 @@ module _ (old new : Tied) (all : Surfaces) (number : ℕ) (link : Link) (at : Me
       let same : parent.0 ≡ h = cc in
       subst (λ (h : History). has_child number h.requests ≡ true) same parent.2
 
-  places-above : stacks_in new ≡ at_parent (λ parent. pending_as (placed_above link.child sibling)) (links_in old link.child) (stacks_in old)
-      → (placed_above link.child sibling (childless.pending) ≡ childless.pending) → Hang new (with_change link.parent (asking (PlaceAbove number at)) all)
-  places-above stacks none = (
-    hangs-changed all link.parent (asking (PlaceAbove number at)) (with_asked (PlaceAbove number at)) (λ s. refl) (λ s. refl) old new (pending_as (placed_above link.child sibling)) links
-        (parent-pointwise old all number link (pending_as (placed_above link.child sibling)) (stacks_in new) hang there lives stacks)
-        (same-stacks none refl refl)
-        (λ h here. stacks-pending (kids_of all) h (PlaceAbove number at) (placed_above link.child sibling) refl (hang.1.cuts link.parent h here)
-        (follow-above (kids_of all) h.requests number link.child at sibling (apart-kids all hang.1) (kid-is all number link there lives) (named-there h here) is)) hang.0,
-    tied-changed all link.parent (asking (PlaceAbove number at)) (with_asked (PlaceAbove number at)) (λ s. refl) (λ s. refl)
-        (λ h le. let same = committed-same h.requests (PlaceAbove number at) refl in omega (arith, le, same))
-        (λ l h here. ap (list_any (is_member (Child l))) (order-last h.requests (PlaceAbove number at)) ∙ any-placed above any-above l number at (order h.requests) (named-there h here))
-        (λ l h gone. position-last l h.requests (PlaceAbove number at)) hang.1,
-  )
-
-  places-below : stacks_in new ≡ at_parent (λ parent. pending_as (placed_below link.child sibling)) (links_in old link.child) (stacks_in old)
-      → (placed_below link.child sibling (childless.pending) ≡ childless.pending) → Hang new (with_change link.parent (asking (PlaceBelow number at)) all)
-  places-below stacks none = (
-    hangs-changed all link.parent (asking (PlaceBelow number at)) (with_asked (PlaceBelow number at)) (λ s. refl) (λ s. refl) old new (pending_as (placed_below link.child sibling)) links
-        (parent-pointwise old all number link (pending_as (placed_below link.child sibling)) (stacks_in new) hang there lives stacks)
-        (same-stacks none refl refl)
-        (λ h here. stacks-pending (kids_of all) h (PlaceBelow number at) (placed_below link.child sibling) refl (hang.1.cuts link.parent h here)
-        (follow-below (kids_of all) h.requests number link.child at sibling (apart-kids all hang.1) (kid-is all number link there lives) (named-there h here) is)) hang.0,
-    tied-changed all link.parent (asking (PlaceBelow number at)) (with_asked (PlaceBelow number at)) (λ s. refl) (λ s. refl)
-        (λ h le. let same = committed-same h.requests (PlaceBelow number at) refl in omega (arith, le, same))
-        (λ l h here. ap (list_any (is_member (Child l))) (order-last h.requests (PlaceBelow number at)) ∙ any-placed below any-below l number at (order h.requests) (named-there h here))
-        (λ l h gone. position-last l h.requests (PlaceBelow number at)) hang.1,
-  )
+  places : (side : Side) → stacks_in new ≡ at_parent (λ parent. pending_as (placed_kept (beside side) link.child sibling)) (links_in old link.child) (stacks_in old)
+      → Hang new (with_change link.parent (asking (place_request side number at)) all)
+  places side stacks =
+      let r = place_request side number at in
+      let change : List Placed → List Placed = placed_kept (beside side) link.child sibling in (
+        hangs-changed all link.parent (asking r) (with_asked r) (λ s. refl) (λ s. refl) old new (pending_as change) links
+            (parent-pointwise old all number link (pending_as change) (stacks_in new) hang there lives stacks)
+            refl
+            (λ h here. stacks-pending (kids_of all) h r change (no-commit side) (hang.1.cuts link.parent h here)
+            (follow-place side (kids_of all) h.requests number link.child at sibling (apart-kids all hang.1) (kid-is all number link there lives) (named-there h here) is)) hang.0,
+        tied-changed all link.parent (asking r) (with_asked r) (λ s. refl) (λ s. refl)
+            (λ h le. let same = committed-same h.requests r (no-commit side) in omega (arith, le, same))
+            (λ l h here. ap (list_any (is_member (Child l))) (order-placed side number at h.requests)
+            ∙ any-placed (beside_asked side) (any-beside side) l number at (order h.requests) (named-there h here))
+            (λ l h gone. position-placed side l number at h.requests) hang.1,
+      )
+    where
+      no-commit : (side : Side) → is_commit (place_request side number at) ≡ false
+      no-commit Above = refl
+      no-commit Below = refl
 
 pub places-child : PlacesChild
-places-child old new all number link at sibling there lives is links hang =
-    (λ stacks. places-above old new all number link at sibling there lives is links hang stacks refl, λ stacks. places-below old new all number link at sibling there lives is links hang stacks refl)
+places-child side old new all number link at sibling there lives is links hang stacks = places old new all number link at sibling there lives is links hang side stacks

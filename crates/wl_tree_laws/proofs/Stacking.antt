@@ -9,11 +9,13 @@ use Rattle.std.proofs.lemmas.List.Sums.{fold-append}
 use Rattle.wl_children.specs.declared.placed.Member.{Member as Kept}
 use Rattle.wl_children.specs.declared.placed.Member.TheVariants as kept
 use Rattle.wl_children.specs.declared.placed.Placed.{Placed}
-use Rattle.wl_children.specs.Stacks.{above as above_kept, added, below as below_kept, has_member, is_of, moved, moved_place, placed as placed_kept, placed_above, placed_below, without as without_kept}
+use Rattle.wl_children.specs.declared.placed.Side.{Side}
+use Rattle.wl_children.specs.declared.placed.Side.TheVariants.{Above, Below}
+use Rattle.wl_children.specs.Stacks.{above as above_kept, added, below as below_kept, beside, has_member, is_of, moved, moved_place, placed as placed_kept, without as without_kept}
 use Rattle.wl_state.specs.Request.{AddChild, Attach, Child, Commit, Damage, Frame, Itself, Member, PlaceAbove, PlaceBelow, Request, SetBufferTransform}
 use Rattle.wl_state.specs.Request.{SetInputRegion, SetOpaqueRegion, SetPosition, SetWindowGeometry}
 use Rattle.wl_state.specs.State.{above, below, is_member, order, ordered, placed, position, position_asked, without}
-use Rattle.wl_tree_laws.specs.Stacks.{AreApart, IsKept, Kids, StacksFollow, has_child, is_about_children, place_of, stack_by, with_kid}
+use Rattle.wl_tree_laws.specs.Stacks.{AreApart, IsKept, Kids, StacksFollow, has_child, is_about_children, place_of, place_request, stack_by, with_kid}
 
 -- ---- one request more
 
@@ -256,21 +258,31 @@ follow-placed kids rs l child at k beside beside_kept apart is there sibling bes
     choose true put new e = sym e
     choose false put new e = refl
 
-pub follow-above : (kids : Kids) (rs : List Request) (l child : ℕ) (at : Member) (k : Kept) → AreApart kids → kids l ≡ Some child → has_child l rs ≡ true → IsKept kids at k
-    → stack_by kids (rs ++ PlaceAbove l at ∷ []) ≡ placed_above child k (stack_by kids rs)
-follow-above kids rs l child at k apart is there sibling =
-    let new = rs ++ PlaceAbove l at ∷ [] in
-    ap (filter_map (place_of kids new)) (order-last rs (PlaceAbove l at))
-    ∙ same-places (place_of kids new) (place_of kids rs) (same-place kids rs new (λ n. position-last n rs (PlaceAbove l at))) (placed above l at (order rs))
-    ∙ follow-placed kids rs l child at k above above_kept apart is there sibling (λ q. above-filtered (place_of kids rs) at k q)
+-- on either side
+abbrev pub beside_asked : Side → Member → Member → List Member → List Member
+beside_asked Above c at ms = above c at ms
+beside_asked Below c at ms = below c at ms
 
-pub follow-below : (kids : Kids) (rs : List Request) (l child : ℕ) (at : Member) (k : Kept) → AreApart kids → kids l ≡ Some child → has_child l rs ≡ true → IsKept kids at k
-    → stack_by kids (rs ++ PlaceBelow l at ∷ []) ≡ placed_below child k (stack_by kids rs)
-follow-below kids rs l child at k apart is there sibling =
-    let new = rs ++ PlaceBelow l at ∷ [] in
-    ap (filter_map (place_of kids new)) (order-last rs (PlaceBelow l at))
-    ∙ same-places (place_of kids new) (place_of kids rs) (same-place kids rs new (λ n. position-last n rs (PlaceBelow l at))) (placed below l at (order rs))
-    ∙ follow-placed kids rs l child at k below below_kept apart is there sibling (λ q. below-filtered (place_of kids rs) at k q)
+beside-filtered : (side : Side) (f : Member → Option Placed) (at : Member) (k : Kept) (q : Placed) → Tells f at k → Finds f at q → (c : Member) (p : Placed) → f c ≡ Some p
+    → (ms : List Member) → beside side p k (filter_map f ms) ≡ filter_map f (beside_asked side c at ms)
+beside-filtered Above f at k q tells there c p is ms = above-filtered f at k q tells there c p is ms
+beside-filtered Below f at k q tells there c p is ms = below-filtered f at k q tells there c p is ms
+
+pub order-placed : (side : Side) (l : ℕ) (at : Member) (rs : List Request) → order (rs ++ place_request side l at ∷ []) ≡ placed (beside_asked side) l at (order rs)
+order-placed Above l at rs = order-last rs (PlaceAbove l at)
+order-placed Below l at rs = order-last rs (PlaceBelow l at)
+
+pub position-placed : (side : Side) (k l : ℕ) (at : Member) (rs : List Request) → position k (rs ++ place_request side l at ∷ []) ≡ position k rs
+position-placed Above k l at rs = position-last k rs (PlaceAbove l at)
+position-placed Below k l at rs = position-last k rs (PlaceBelow l at)
+
+pub follow-place : (side : Side) (kids : Kids) (rs : List Request) (l child : ℕ) (at : Member) (k : Kept) → AreApart kids → kids l ≡ Some child → has_child l rs ≡ true
+    → IsKept kids at k → stack_by kids (rs ++ place_request side l at ∷ []) ≡ placed_kept (beside side) child k (stack_by kids rs)
+follow-place side kids rs l child at k apart is there sibling =
+    let new = rs ++ place_request side l at ∷ [] in
+    ap (filter_map (place_of kids new)) (order-placed side l at rs)
+    ∙ same-places (place_of kids new) (place_of kids rs) (same-place kids rs new (λ n. position-placed side n l at rs)) (placed (beside_asked side) l at (order rs))
+    ∙ follow-placed kids rs l child at k (beside_asked side) (beside side) apart is there sibling (λ q. beside-filtered side (place_of kids rs) at k q)
 
 -- ---- positions
 
@@ -336,8 +348,7 @@ follow = record {
   still = follow-still;
   add = follow-add;
   move = follow-move;
-  above = follow-above;
-  below = follow-below;
+  place = follow-place;
   lose = follow-lose;
   others = follow-others;
 }

@@ -4,16 +4,17 @@ use Rattle.std.specs.Prelude.{ℕ, ℤ, pos, ◌≡◌, ◌≤◌, ◌==◌, ◌
 use Rattle.std.specs.List.{list_any}
 use Rattle.std.specs.Option.{option_map}
 use Rattle.wl_children.specs.declared.placed.Member.{Member as Kept}
-use Rattle.wl_children.specs.Stacks.{Stacks, added, moved, placed_above, placed_below}
+use Rattle.wl_children.specs.declared.placed.Side.{Side}
+use Rattle.wl_children.specs.Stacks.{Stacks, added, beside, moved, placed}
 use Rattle.wl_family.specs.Family.{HangTogether, Tied, applied, at_parent, changed_at, childless, committed, in_mode, joined, left}
 use Rattle.wl_family.specs.Family.{links_in, orphaned, pending_as, stacks_in, unlinked, with_at}
-use Rattle.wl_state.specs.Request.{Commit, Member, PlaceAbove, PlaceBelow, Request, SetPosition}
+use Rattle.wl_state.specs.Request.{Commit, Member, Request, SetPosition}
 use Rattle.wl_state.specs.State.{History, committed as committed_at, counting, is_commit, position}
 use Rattle.wl_state.specs.Surface.{applying, asking}
 use Rattle.wl_surface.specs.Surfaces.{Link, Surfaces, history_in, link_at, surface_at, with_change, with_new, without_surface}
 use Rattle.wl_surface.specs.Trees.{applied_tree, descends_from, destroyed_in, ending, in_mode as with_mode, levels, linked, with_link}
 use Rattle.wl_tree_laws.specs.Laws.{AreOnceLinked, applied_where, ended_with, links_of}
-use Rattle.wl_tree_laws.specs.Stacks.{IsKept, Kids, has_child, is_about_children, stack_by}
+use Rattle.wl_tree_laws.specs.Stacks.{IsKept, Kids, has_child, is_about_children, place_request, stack_by}
 
 -- the child of each link that lives
 abbrev pub kid_of : Option Link → Option ℕ
@@ -95,12 +96,10 @@ MovesChild =
 -- place_above and place_below of a link that lives, with the parent or another child of it: so is the child placed in what is pending.
 abbrev pub PlacesChild : Type 0
 PlacesChild =
-    (old new : Tied) (all : Surfaces) (number : ℕ) (link : Link) (at : Member) (sibling : Kept) → link_at number all ≡ Some link
-    → link.has_ended ≡ false → IsKept (kids_of all) at sibling → links_in new ≡ links_in old → Hang old all
-    → (stacks_in new ≡ at_parent (λ parent. pending_as (placed_above link.child sibling)) (links_in old link.child) (stacks_in old)
-    → Hang new (with_change link.parent (asking (PlaceAbove number at)) all))
-    × (stacks_in new ≡ at_parent (λ parent. pending_as (placed_below link.child sibling)) (links_in old link.child) (stacks_in old)
-    → Hang new (with_change link.parent (asking (PlaceBelow number at)) all))
+    (side : Side) (old new : Tied) (all : Surfaces) (number : ℕ) (link : Link) (at : Member) (sibling : Kept)
+    → link_at number all ≡ Some link → link.has_ended ≡ false → IsKept (kids_of all) at sibling → links_in new ≡ links_in old → Hang old all
+    → stacks_in new ≡ at_parent (λ parent. pending_as (placed (beside side) link.child sibling)) (links_in old link.child) (stacks_in old)
+    → Hang new (with_change link.parent (asking (place_request side number at)) all)
 
 -- get_subsurface, where the child has no link that lives and the number is new: it is synchronised, and topmost in what is pending of its
 -- parent.

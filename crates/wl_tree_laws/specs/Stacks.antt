@@ -5,7 +5,9 @@ use Rattle.std.specs.Option.{option_map}
 use Rattle.wl_children.specs.declared.placed.Member.{Member as Kept}
 use Rattle.wl_children.specs.declared.placed.Member.TheVariants as kept
 use Rattle.wl_children.specs.declared.placed.Placed.{Placed}
-use Rattle.wl_children.specs.Stacks.{added, alone, moved, placed_above, placed_below, without}
+use Rattle.wl_children.specs.declared.placed.Side.{Side}
+use Rattle.wl_children.specs.declared.placed.Side.TheVariants.{Above, Below}
+use Rattle.wl_children.specs.Stacks.{added, alone, beside, moved, placed, without}
 use Rattle.wl_state.specs.Request.{AddChild, Child, Itself, Member, PlaceAbove, PlaceBelow, Request, SetPosition}
 use Rattle.wl_state.specs.State.{is_member, order, position}
 
@@ -41,6 +43,11 @@ IsKept kids (Child link) (kept.Child child) = kids link ≡ Some child
 IsKept kids Itself (kept.Child child) = ⊥
 IsKept kids (Child link) kept.Itself = ⊥
 
+-- a child is placed on this side of a member
+abbrev pub place_request : Side → ℕ → Member → Request
+place_request Above link at = PlaceAbove link at
+place_request Below link at = PlaceBelow link at
+
 -- the requests that change a stack
 abbrev pub is_about_children : Request → Bool
 is_about_children (AddChild link) = true
@@ -59,14 +66,10 @@ pub record StacksFollow : Type 0 where
       → stack_by (with_kid link (Some child) kids) (requests ++ AddChild link ∷ []) ≡ added child (stack_by kids requests)
   pub move : (kids : Kids) (requests : List Request) (link child : ℕ) (x y : ℤ) → AreApart kids → kids link ≡ Some child
       → stack_by kids (requests ++ SetPosition link x y ∷ []) ≡ moved child x y (stack_by kids requests)
-  pub above :
-      (kids : Kids) (requests : List Request) (link child : ℕ) (at : Member) (sibling : Kept) → AreApart kids → kids link ≡ Some child
-      → has_child link requests ≡ true → IsKept kids at sibling
-      → stack_by kids (requests ++ PlaceAbove link at ∷ []) ≡ placed_above child sibling (stack_by kids requests)
-  pub below :
-      (kids : Kids) (requests : List Request) (link child : ℕ) (at : Member) (sibling : Kept) → AreApart kids → kids link ≡ Some child
-      → has_child link requests ≡ true → IsKept kids at sibling
-      → stack_by kids (requests ++ PlaceBelow link at ∷ []) ≡ placed_below child sibling (stack_by kids requests)
+  pub place :
+      (side : Side) (kids : Kids) (requests : List Request) (link child : ℕ) (at : Member) (sibling : Kept) → AreApart kids
+      → kids link ≡ Some child → has_child link requests ≡ true → IsKept kids at sibling
+      → stack_by kids (requests ++ place_request side link at ∷ []) ≡ placed (beside side) child sibling (stack_by kids requests)
   pub lose : (kids : Kids) (requests : List Request) (link child : ℕ) → AreApart kids → kids link ≡ Some child
       → stack_by (with_kid link None kids) requests ≡ without (kept.Child child) (stack_by kids requests)
   pub others : (kids : Kids) (requests : List Request) (link : ℕ) (child : Option ℕ) → has_child link requests ≡ false

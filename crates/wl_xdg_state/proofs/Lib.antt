@@ -3,3 +3,4 @@ pub mod Rows
 pub mod Serials
 pub mod Standing
 pub mod Waiting
+pub mod Places

@@ -6,11 +6,14 @@ ghost use Rattle.wl_xdg_state.specs.Laws.{AcknowledgementForgets, ChangesStand, 
 
 mod acts;
 mod error;
+mod placing;
+mod positioner;
 mod stage;
 mod xdg_surface;
 
 pub use acts::{Placed, ShellAct};
 pub use error::ShellError;
+pub use positioner::Positioner;
 pub use stage::Stage;
 pub use xdg_surface::{Toplevel, XdgSurface};
 

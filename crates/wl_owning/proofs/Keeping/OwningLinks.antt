@@ -6,6 +6,8 @@ use Rattle.std.specs.Option.{option_map}
 use Rattle.std.proofs.Math.Path.{fun_ext}
 use Rattle.std.proofs.lemmas.Bool.{eqb-true}
 use Rattle.wl_geom.specs.declared.rect.Rect.{Rect}
+use Rattle.wl_children.specs.declared.placed.Side.{Side}
+use Rattle.wl_children.specs.declared.placed.Side.TheVariants.{Above, Below}
 use Rattle.wl_family.specs.Family.{Tied, member_of}
 use Rattle.wl_state.specs.Request.{AddChild, Member, PlaceAbove, PlaceBelow, Request, SetPosition}
 use Rattle.wl_state.specs.State.{History, geometry_asked}
@@ -16,7 +18,7 @@ use Rattle.wl_surface.specs.Surfaces.{Link, Surfaces, history_in, link_at, with_
 use Rattle.wl_surface.specs.Trees.{desynchronised_in, ended_in, linked, synchronised_in, unlinked}
 use Rattle.wl_tree_laws.specs.Hanging.{AreNumbered, kids_of}
 use Rattle.wl_tree_laws.specs.Laws.{AreOnceLinked}
-use Rattle.wl_tree_laws.specs.Stacks.{IsKept}
+use Rattle.wl_tree_laws.specs.Stacks.{IsKept, place_request}
 use Rattle.wl_tree_laws.proofs.Hanging.{history-changed}
 use Rattle.wl_invariants.proofs.TreeSteps.Ends.{end-keeps-others}
 use Rattle.wl_invariants.proofs.TreeSteps.Modes.{mode-keeps-others}
@@ -145,21 +147,27 @@ module _ (names : Names) (slots : Slots) (tied : Tied) (kept : ℕ → Option Ke
         subst (λ m. PlacesSo request m (number_in names.surfaces sibling)) (sym named)
         (subst (λ n. PlacesSo request below n) (sym (number-of-name names.surfaces sibling beside other)) makes)
 
+    pub owned-placed : (side : Side) (above sibling beside : ℕ) (at : Member) → names.surfaces link.parent ≡ Some above → names.surfaces sibling ≡ Some beside
+        → IsKept (kids_of o.surfaces) at (member_of link.parent sibling) → PlacesSo (place_request side) below beside
+        → IsOwned names new after kept (record o { surfaces = with_change link.parent (asking (place_request side number at)) o.surfaces })
+    owned-placed side above sibling beside at parent other kept_at makes =
+        asked-parent above (place_request side number at) parent (no-geometry side)
+        (places-named side (number_in names.surfaces) slots new tied after o.surfaces number sibling link at here lives (there-by sibling beside other) kept_at by-numbers
+        (places-so (place_request side) sibling beside other makes))
+      where
+        no-geometry : (side : Side) (asked : Option Rect) → geometry_asked asked (place_request side number at) ≡ asked
+        no-geometry Above asked = refl
+        no-geometry Below asked = refl
+
     pub owned-above : (above sibling beside : ℕ) (at : Member) → names.surfaces link.parent ≡ Some above → names.surfaces sibling ≡ Some beside
         → IsKept (kids_of o.surfaces) at (member_of link.parent sibling) → PlacesSo PlaceAbove below beside
         → IsOwned names new after kept (record o { surfaces = with_change link.parent (asking (PlaceAbove number at)) o.surfaces })
-    owned-above above sibling beside at parent other kept_at makes =
-        asked-parent above (PlaceAbove number at) parent (λ asked. refl)
-        (places-named.0 (number_in names.surfaces) slots new tied after o.surfaces number sibling link at here lives (there-by sibling beside other) kept_at by-numbers
-        (places-so PlaceAbove sibling beside other makes))
+    owned-above = owned-placed Above
 
     pub owned-below : (above sibling beside : ℕ) (at : Member) → names.surfaces link.parent ≡ Some above → names.surfaces sibling ≡ Some beside
         → IsKept (kids_of o.surfaces) at (member_of link.parent sibling) → PlacesSo PlaceBelow below beside
         → IsOwned names new after kept (record o { surfaces = with_change link.parent (asking (PlaceBelow number at)) o.surfaces })
-    owned-below above sibling beside at parent other kept_at makes =
-        asked-parent above (PlaceBelow number at) parent (λ asked. refl)
-        (places-named.1 (number_in names.surfaces) slots new tied after o.surfaces number sibling link at here lives (there-by sibling beside other) kept_at by-numbers
-        (places-so PlaceBelow sibling beside other makes))
+    owned-below = owned-placed Below
 
     -- wl_subsurface.set_sync
     pub owned-synchronised : MakesBy below slots tied new after (λ number link. synchronised_in number)

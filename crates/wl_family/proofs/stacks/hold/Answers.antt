@@ -5,8 +5,8 @@ use Rattle.wl_family.proofs.stacks.hold.Goals as goal
 
 pub returns-in-Some : goal.returns-in-Some
 returns-in-Some g c =
-    stacks-changed c.args.stacks.now (c.get_mut.follows.lender c.commit.new.self) c.args.surface c.in-Some.children.now c.commit.new.self c.in-Some.ensures.value
-    (c.get_mut.follows.holds c.commit.new.self) committed c.commit.ensures
+    stacks-changed c.args.stacks.now (c.get_mut.follows.lender c.hold.new.self) c.args.surface c.in-Some.children.now c.hold.new.self c.in-Some.ensures.value
+    (c.get_mut.follows.holds c.hold.new.self) committed c.hold.ensures
 
 pub returns-in_default : goal.returns-in_default
 returns-in_default g c = stacks-none c.args.stacks.now c.get_mut.follows.lender-at-none c.args.surface committed c.in_default.ensures.value c.get_mut.follows.holds-at-none refl

@@ -1,6 +1,6 @@
 -- The program ends as what the words ask ends.
 use Rattle.std.proofs.Common.{inl, inr}
-use Rattle.wl_program.proofs.Ending.{fails-ends, serving-ends, shown-ends}
+use Rattle.wl_program.proofs.Ending.{fails-ends, refused-ends, serving-ends, shown-ends}
 use Rattle.wl_program.proofs.run.run_program.Goals as goal
 
 pub returns-in-Ok : goal.returns-in-Ok
@@ -27,3 +27,8 @@ pub returns-in-Err-Usage : goal.returns-in-Err-Usage
 returns-in-Err-Usage g c =
     let among = rw c.in-Err-Usage.field-0-is at c.in-Err-Usage.ensures in
     shown-ends _ _ c.show.result _ _ among (rw c.in-Err-Usage.error-is at c.show.ensures)
+
+pub returns-in-Err-Fault : goal.returns-in-Err-Fault
+returns-in-Err-Fault g c =
+    let has = rw c.in-Err-Fault.field-0-is at c.in-Err-Fault.ensures in
+    rw (c.report-in-Err-Fault.ensures, c.in-Err-Fault.fault-is) (refused-ends _ c.in-Err-Fault.fault _ _ has)

@@ -1,12 +1,13 @@
 -- The turns of a new session are those that were asked.
+use Rattle.std.proofs.Common.{refl}
 use Rattle.std.proofs.lemmas.Result.{err_from_is_err_and}
 use Rattle.wl_program.proofs.Served.{pointer-fails, turns-ok, write-fails}
 use Rattle.wl_program.proofs.serving.serve.Goals as goal
 
 pub returns-clause-served : goal.returns-clause-served
 returns-clause-served g c =
-    turns-ok c.take_turns.result c.args.serve _ _ _ _ _ c.new-service.ensures.session c.in_ok-session.ensures.desk c.in_ok-session.ensures.right c.in_ok-session.ensures.first
-    c.take_turns.ensures.taken
+    turns-ok c.serve_on.result c.args.serve _ _ _ _ _ _ _ c.new-service.ensures.session c.in_ok-session.ensures.desk c.in_ok-session.ensures.right c.in_ok-session.ensures.first refl refl
+    c.serve_on.ensures.reported
 
 pub returns-in_err-lines-clause-failed : goal.returns-in_err-lines-clause-failed
 returns-in_err-lines-clause-failed g c =
@@ -14,4 +15,4 @@ returns-in_err-lines-clause-failed g c =
     rw (p.1, p.2) (pointer-fails c.args.serve _ _ c.in_err-lines.ensures)
 
 pub returns-clause-failed : goal.returns-clause-failed
-returns-clause-failed g c = write-fails c.take_turns.result c.args.serve _ _ c.take_turns.ensures.failed
+returns-clause-failed g c = write-fails c.serve_on.result c.args.serve _ _ c.serve_on.ensures.failed

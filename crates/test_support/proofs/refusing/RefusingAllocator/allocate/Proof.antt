@@ -1,5 +1,5 @@
 -- A call is counted. Within the limit it is passed on, and past it the answer is `Err`. Assumes `Logic`.
-use Rattle.std.proofs.Common.{◌≡◌, ℕ, Bool, true, false, ◌^◌, ◌<◌, List, [], ◌∷◌, refl, sym, ap, subst, w64, Bor}
+use Rattle.std.proofs.Common.{◌≡◌, ◌⊎◌, ℕ, Bool, true, false, ◌^◌, ◌<◌, List, [], ◌∷◌, refl, sym, ap, subst, w64, Bor}
 use lib.Dec.{T}
 use seplogic.Ra.Ura.{Ura}
 use mir.Syntax.{Ty, Args, Fn, a_type, dnil, dcons}
@@ -117,7 +117,7 @@ module _ (Z : Al) {M : Type 1} {𝓤 : Ura M} (𝓛 : Logic 𝓤) (at_mem : Memo
         nothing ! $ move ! (5 ∷ 0 ∷ []) $ join ! $ move ! (4 ∷ 0 ∷ []) $ join ! $ join ! $ join ! $ use1 𝓛 (raw (Counts.pre counted)) (id⊢ 𝓤 _) $
         calls_at ! (fm_of 𝓤 H 𝓛.laws 𝓣) Counts counts counted (and_then ! (get ! refl) (no_more !)) (λ u.
         use1 𝓛 (later (some (λ (serves : Bool). ((‵ (flft κ q) ⊛ ‵ (flft ρ qρ) ⊛ ‵ ftrue) ⊛ ‵ (bool.own_val serves (u ∷ [])))
-        ⊛ some (λ (ws : Unit {0} × Unit {0}). ‵ (lasts (N.ended Z.row Z.g Z.d Z.drops) counted.0.0 counted.0.3 ws) ⊛ raw (fact 𝓤 (serves ≡ true → 0 < r.now.limit)))))) (id⊢ 𝓤 _) $
+        ⊛ some (λ (ws : Unit {0} × Unit {0}). ‵ (lasts (N.ended Z.row Z.g Z.d Z.drops) counted.0.0 counted.0.3 ws) ⊛ raw (fact 𝓤 (serves ≡ true → (0 < r.now.limit) ⊎ (r.now.once ≡ true))))))) (id⊢ 𝓤 _) $
         await ! tt $ pick ! (λ serves. split ! $ split ! $ split3 ! $ move ! (3 ∷ []) $ feq_l ! (λ is_serves. lands_as ! (ap only is_serves) refl (tt, tt) $
         -- [the two tokens; nothing; what the count says; the inner allocator]
         first ! $ branches ! (get ! refl)

@@ -3,7 +3,7 @@ use Rattle.std.specs.BTreeMap.{UpdatesBy}
 use Rattle.std.specs.Ordering.{nat_cmp}
 use Rattle.wl_store.specs.Stores.{used}
 use Rattle.wl_peer.specs.Buffers.{Buffer, numbered}
-use Rattle.wl_client.proofs.Peers.{IsPeer-buffers, IsPeer-stores}
+use Rattle.wl_client.proofs.Peers.{IsPeer-buffers, IsPeer-stores, counted-below}
 use Rattle.wl_client.proofs.clients.Client.create_buffer.Goals as goal
 
 pub returns-then-number-clause-acts : goal.returns-then-number-clause-acts
@@ -23,7 +23,7 @@ returns-in-Ok-clause-acts g c = λ p is.
     let seen = rw (← c.self.view_is) at is in
     let held = rw (c.if-not-hold.false, c.store.ensures) at c.hold.ensures.counted in
     let stored = IsPeer-stores _ p (used c.args.place.store) _ held seen in
-    let number : c.self.inside.requests ≡ p.requests = seen.requests c.if-number.false in
+    let number : c.self.inside.requests ≡ p.requests = counted-below _ p.requests seen.requests c.if-number.false in
     let is_new : c.new.result ≡ numbered p.requests c.args.place = c.new.ensures ∙ ap (λ (n : ℕ). numbered n c.args.place) number in
     let updates = subst (λ (b : Buffer). UpdatesBy nat_cmp (nat_cmp c.args.id) c.self.inside.buffers c.insert.new.self (Some b)) is_new c.in-Ok.ensures.updates in
     c.make.ensures.makes _ (IsPeer-buffers _ _ c.self.inside.buffers c.insert.new.self c.args.id (Some (numbered p.requests c.args.place)) refl updates stored)

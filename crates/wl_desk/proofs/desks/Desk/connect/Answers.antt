@@ -28,7 +28,7 @@ returns-clause-step g c =
     let pile = pile_of c.self.inside.screen in
     steps-whole Connect tt _ _ _ (λ d a.
     Connects-new c.self.inside.output c.self.inside.residents.items pile c.in-Some.k
-    (record { client = c.in-Ok.client; owned = c.bare.result; subsurfaces = c.new-2.result; has_room = false }) d
+    (record { client = c.in-Ok.client; owned = c.bare.result; subsurfaces = c.new-2.result }) d
     (c.in-Some.ensures.lowest ∙ ap (λ xs. lowest xs) c.deref.ensures.value) (rw (← c.deref.ensures.value) c.in-Some.ensures.within) c.in-Ok.ensures c.bare.ensures c.new-2.ensures
     (rw (← c.self.view_is) at a))
 

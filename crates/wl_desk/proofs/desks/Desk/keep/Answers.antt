@@ -39,7 +39,7 @@ returns-clause-err g c =
     err-then c.keep_in.result (λ kept d a. (
       stays-whole _ _ (λ d a. stays c.self.inside.output c.self.inside.residents.items pile c.args.client c.in-Some.k c.in-Some-index_mut.resident
           (found _ _ _ _ _ _ c.deref.ensures.value c.in-Some.ensures.some c.index_mut.ensures.value c.in-Some-index_mut.is) d (rw (← c.self.view_is) at a)
-          c.keep_in.new.resident _ pile kept.0 refl) d a,
+          c.keep_in.new.resident pile kept.0 refl) d a,
       lives-there c.self.inside.output c.self.inside.residents.items pile c.args.client c.in-Some.k c.in-Some-index_mut.resident
           (found _ _ _ _ _ _ c.deref.ensures.value c.in-Some.ensures.some c.index_mut.ensures.value c.in-Some-index_mut.is) d (rw (← c.self.view_is) at a.matches) kept.1,
     )) c.keep_in.ensures.err

@@ -15,8 +15,8 @@ pub returns-clause-ok : goal.returns-clause-ok
 returns-clause-ok g c = λ all stand.
     let v = c.args.self.now in
     let e = c.apply_tree.ensures in
-    now-stands v.surfaces c.hold.new.self c.apply_tree.new.self.surfaces v.family c.commit.new.self c.apply_tree.new.self.family all c.args.surface c.in_ok-room.room.below.items
-    c.in_ok-hold.ensures.ok c.commit.ensures.stacks c.commit.ensures.places c.commit.ensures.links c.in_ok-room.ensures.those stand e.stand e.links e.places e.stacks
+    now-stands v.surfaces c.hold.new.self c.apply_tree.new.self.surfaces v.family c.hold-2.new.self c.apply_tree.new.self.family all c.args.surface c.in_ok-room.room.below.items
+    c.in_ok-hold.ensures.ok c.hold-2.ensures.stacks c.hold-2.ensures.places c.hold-2.ensures.links c.in_ok-room.ensures.those stand e.stand e.links e.places e.stacks
 
 pub returns-clause-waits : goal.returns-clause-waits
 returns-clause-waits g c = λ all cs stand are.
@@ -24,19 +24,19 @@ returns-clause-waits g c = λ all cs stand are.
     let new = c.apply_tree.new.self in
     let mid = subst (λ (named : Numbered). AreWaiting c.hold.new.self.frames named cs) (sym (numbered-held c.args.surface all)) (c.in_ok-hold.ensures.waits (numbered all) cs stand.surfaces are) in
     subst (λ (named : Numbered). AreWaiting new.surfaces.frames named cs)
-    (sym (now-numbered v.surfaces c.hold.new.self new.surfaces v.family c.commit.new.self new.family all c.args.surface c.in_ok-room.room.below.items
-    c.in_ok-hold.ensures.ok c.commit.ensures.stacks c.commit.ensures.places c.commit.ensures.links c.in_ok-room.ensures.those stand))
+    (sym (now-numbered v.surfaces c.hold.new.self new.surfaces v.family c.hold-2.new.self new.family all c.args.surface c.in_ok-room.room.below.items
+    c.in_ok-hold.ensures.ok c.hold-2.ensures.stacks c.hold-2.ensures.places c.hold-2.ensures.links c.in_ok-room.ensures.those stand))
     (c.apply_tree.ensures.waits (numbered (held c.args.surface all)) cs mid)
 
 pub returns-clause-changes : goal.returns-clause-changes
 returns-clause-changes g c = λ all stand.
     let v = c.args.self.now in
     let new = c.apply_tree.new.self in
-    let mid = mid-stands v.surfaces c.hold.new.self new.surfaces v.family c.commit.new.self new.family all c.args.surface c.in_ok-room.room.below.items
-    c.in_ok-hold.ensures.ok c.commit.ensures.stacks c.commit.ensures.places c.commit.ensures.links c.in_ok-room.ensures.those stand in
-    let those = mid-those v.surfaces c.hold.new.self new.surfaces v.family c.commit.new.self new.family all c.args.surface c.in_ok-room.room.below.items
-    c.in_ok-hold.ensures.ok c.commit.ensures.stacks c.commit.ensures.places c.commit.ensures.links c.in_ok-room.ensures.those stand in
-    tree-told c.hold.new.self new.surfaces c.commit.new.self new.family (held c.args.surface all) c.args.surface c.in_ok-room.room.below.items mid those
+    let mid = mid-stands v.surfaces c.hold.new.self new.surfaces v.family c.hold-2.new.self new.family all c.args.surface c.in_ok-room.room.below.items
+    c.in_ok-hold.ensures.ok c.hold-2.ensures.stacks c.hold-2.ensures.places c.hold-2.ensures.links c.in_ok-room.ensures.those stand in
+    let those = mid-those v.surfaces c.hold.new.self new.surfaces v.family c.hold-2.new.self new.family all c.args.surface c.in_ok-room.room.below.items
+    c.in_ok-hold.ensures.ok c.hold-2.ensures.stacks c.hold-2.ensures.places c.hold-2.ensures.links c.in_ok-room.ensures.those stand in
+    tree-told c.hold.new.self new.surfaces c.hold-2.new.self new.family (held c.args.surface all) c.args.surface c.in_ok-room.room.below.items mid those
     c.in_ok-room.room.changes.items c.apply_tree.result.applied.changes.items
     (c.in_ok-room.ensures.told ∙ c.new.ensures.items) c.in_ok-room.ensures.once (c.apply_tree.ensures.told (numbered (held c.args.surface all)) mid.surfaces c.in_ok-room.ensures.once)
 
@@ -45,8 +45,8 @@ returns-clause-freed g c = λ all stand.
     let v = c.args.self.now in
     let new = c.apply_tree.new.self in
     let after = (returns-clause-ok g c all stand).surfaces in
-    now-freed v.surfaces c.hold.new.self new.surfaces v.family c.commit.new.self new.family all c.args.surface c.in_ok-room.room.below.items
-    c.in_ok-hold.ensures.ok c.commit.ensures.stacks c.commit.ensures.places c.commit.ensures.links c.in_ok-room.ensures.those stand
+    now-freed v.surfaces c.hold.new.self new.surfaces v.family c.hold-2.new.self new.family all c.args.surface c.in_ok-room.room.below.items
+    c.in_ok-hold.ensures.ok c.hold-2.ensures.stacks c.hold-2.ensures.places c.hold-2.ensures.links c.in_ok-room.ensures.those stand
     (numbers_of (map buffer_of c.in_ok-room.room.shown.items)) c.apply_tree.result.applied.freed.items
     (among-shown c.in_ok-room.room.below.items (numbered all) c.in_ok-room.room.shown.items (c.in_ok-room.ensures.shown (numbered all) stand.surfaces))
     (c.apply_tree.ensures.freed _ after)

@@ -19,7 +19,7 @@ returns-clause-ok g c = λ all stand.
     let e = c.apply_tree-applied.ensures in
     destroyed-stands v.surfaces c.destroy.new.self new.surfaces v.family c.remove.new.self new.family all c.args.surface c.in_ok-room.room.below.items
     c.in_ok-room.ensures.hang stand c.in_ok-room.ensures.those
-    (c.in_ok-gone.ensures.ok (numbered all) stand.surfaces) e.stand c.remove.ensures.links c.remove.ensures.stacks c.remove.ensures.there e.links e.places e.stacks
+    (c.in_ok-callbacks.ensures.ok (numbered all) stand.surfaces) e.stand c.remove.ensures.links c.remove.ensures.stacks c.remove.ensures.there e.links e.places e.stacks
 
 pub returns-clause-waits : goal.returns-clause-waits
 returns-clause-waits g c = λ all cs stand are.
@@ -29,7 +29,7 @@ returns-clause-waits g c = λ all cs stand are.
     subst (λ (named : Numbered). AreWaiting new.surfaces.frames named others)
     (sym (numbered-destroyed v.surfaces c.destroy.new.self new.surfaces v.family c.remove.new.self new.family all c.args.surface c.in_ok-room.room.below.items
     c.in_ok-room.ensures.hang stand c.in_ok-room.ensures.those))
-    (c.apply_tree-applied.ensures.waits (with_at c.args.surface None (numbered all)) others (c.in_ok-gone.ensures.waits (numbered all) cs are))
+    (c.apply_tree-applied.ensures.waits (with_at c.args.surface None (numbered all)) others (c.in_ok-callbacks.ensures.waits (numbered all) cs are))
 
 pub returns-clause-changes : goal.returns-clause-changes
 returns-clause-changes g c = λ all stand.
@@ -39,7 +39,7 @@ returns-clause-changes g c = λ all stand.
     c.in_ok-room.ensures.hang stand c.in_ok-room.ensures.those
     c.in_ok-own.own.items c.apply_tree-applied.result.applied.changes.items c.in_ok-room.room.changes.items (c.in_ok-own.ensures (numbered all) stand.surfaces) c.in_ok-room.ensures.told
     c.in_ok-room.ensures.once
-    (c.apply_tree-applied.ensures.told (with_at c.args.surface None (numbered all)) (c.in_ok-gone.ensures.ok (numbered all) stand.surfaces) c.in_ok-room.ensures.once)
+    (c.apply_tree-applied.ensures.told (with_at c.args.surface None (numbered all)) (c.in_ok-callbacks.ensures.ok (numbered all) stand.surfaces) c.in_ok-room.ensures.once)
 
 pub returns-clause-freed : goal.returns-clause-freed
 returns-clause-freed g c = λ all stand.
@@ -53,7 +53,7 @@ returns-clause-freed g c = λ all stand.
     (c.apply_tree-applied.ensures.freed _ after)
 
 pub returns-clause-callbacks : goal.returns-clause-callbacks
-returns-clause-callbacks g c = λ all cs are. c.in_ok-gone.ensures.ids (numbered all) cs are
+returns-clause-callbacks g c = λ all cs are. c.in_ok-callbacks.ensures.ids (numbered all) cs are
 
 pub returns-clause-shown : goal.returns-clause-shown
 returns-clause-shown g c = λ all stand.

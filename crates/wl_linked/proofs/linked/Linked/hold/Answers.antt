@@ -12,7 +12,7 @@ use Rattle.wl_linked.proofs.linked.Linked.hold.Goals as goal
 pub returns-clause-ok : goal.returns-clause-ok
 returns-clause-ok g c = λ all stand.
     let v = c.args.self.now in
-    held-stands v.surfaces c.hold.new.self v.family c.commit.new.self all c.args.surface c.in_ok-hold.ensures.ok c.commit.ensures.stacks c.commit.ensures.places c.commit.ensures.links stand
+    held-stands v.surfaces c.hold.new.self v.family c.hold-2.new.self all c.args.surface c.in_ok-hold.ensures.ok c.hold-2.ensures.stacks c.hold-2.ensures.places c.hold-2.ensures.links stand
 
 pub returns-clause-waits : goal.returns-clause-waits
 returns-clause-waits g c = λ all cs stand are.

@@ -1,6 +1,11 @@
 use Rattle.std.proofs.Common.{true}
 use Rattle.wl_tree_laws.proofs.Linking.{sets-mode}
+use Rattle.wl_linked.proofs.Ending.{never-none}
 use Rattle.wl_linked.proofs.linked.Linked.set_sync.Goals as goal
+
+pub returns-then-is_none-clause-stand : goal.returns-then-is_none-clause-stand
+returns-then-is_none-clause-stand g c = λ all number link is stand.
+    never-none c.args.self.now.surfaces c.args.self.now.family all number c.args.child link c.link.result is stand c.link.ensures c.if-is_none.ensures
 
 pub returns-clause-stand : goal.returns-clause-stand
 returns-clause-stand g c = λ all number link is stand.

@@ -39,22 +39,16 @@ use Rattle.wl_requests.proofs.Simply.{meets-as}
 use Rattle.wl_requests.proofs.Trees.{are-one, lived, told-all, tree-lets-go}
 use Rattle.wl_requests.proofs.residents.Resident.apply.Goals as goal
 
-pub returns-then-not-self-clause-applies : goal.returns-then-not-self-clause-applies
-returns-then-not-self-clause-applies g c = λ client r on names object kept shows only comes lives is owned framed subs names_are named answer serial shell.
+pub returns-in_default-clause-applies : goal.returns-in_default-clause-applies
+returns-in_default-clause-applies g c = λ client r on names object kept shows only comes lives is owned framed subs names_are named answer serial shell.
     meets-as _ _ client on (CommitTree object) r only.no_popups tt false (
     let lacks = lacked c.args.self.now _ _ r (c.lack_memory.ensures.lacks r.peer is) c.lack_memory.ensures.ended in
     (refl, lacks.0, lacks.1, lacks.2))
 
-pub returns-in_default-clause-applies : goal.returns-in_default-clause-applies
-returns-in_default-clause-applies g c = λ client r on names object kept shows only comes lives is owned framed subs names_are named answer serial shell.
+pub returns-in_default-let_go_of_told-clause-applies : goal.returns-in_default-let_go_of_told-clause-applies
+returns-in_default-let_go_of_told-clause-applies g c = λ client r on names object kept shows only comes lives is owned framed subs names_are named answer serial shell.
     meets-as _ _ client on (CommitTree object) r only.no_popups tt false (
-    let lacks = lacked c.args.self.now _ _ r (c.lack_memory-in_default.ensures.lacks r.peer is) c.lack_memory-in_default.ensures.ended in
-    (refl, lacks.0, lacks.1, lacks.2))
-
-pub returns-in_default-released-clause-applies : goal.returns-in_default-released-clause-applies
-returns-in_default-released-clause-applies g c = λ client r on names object kept shows only comes lives is owned framed subs names_are named answer serial shell.
-    meets-as _ _ client on (CommitTree object) r only.no_popups tt false (
-    let lacks = lacked c.args.self.now _ _ r (c.lack_memory-in_default-released.ensures.lacks r.peer is) c.lack_memory-in_default-released.ensures.ended in
+    let lacks = lacked c.args.self.now _ _ r (c.in_default-let_go_of_told.ensures.lacks r.peer is) c.in_default-let_go_of_told.ensures.ended in
     (refl, lacks.0, lacks.1, lacks.2))
 
 pub returns-clause-applies : goal.returns-clause-applies
@@ -67,37 +61,37 @@ returns-clause-applies g c = λ client r on names object kept shows only comes l
     let all = committed_in object r.owned.surfaces in
     let then = with_surfaces all r in
     let after = tree_committed object r in
-    let freed = c.in-Ok.field-0.applied.freed.items in
-    let shown = map buffer_of c.in-Ok.field-0.shown.items in
+    let freed = c.in-Ok.told.applied.freed.items in
+    let shown = map buffer_of c.in-Ok.told.shown.items in
     let called = commit-called names.surfaces slots c.commit.new.self.surfaces tied c.commit.new.self.family r owned.surfaces object number named freed shown
     c.in-Ok.ensures.among c.in-Ok.ensures.ok c.in-Ok.ensures.waits c.in-Ok.ensures.freed c.in-Ok.ensures.shown in
-    let stores = rw (c.deref-2.ensures.value, c.deref-3.ensures.value) at c.let_go_of_freed.ensures.stores in
-    let peer_then = subst (λ (x : Resident). IsPeer c.let_go_of_freed.new.self.client x.peer) (tree-lets-go r then freed shown only.buffers called.frees (waits-committed object r.owned.surfaces))
+    let stores = c.in-Some.ensures.lets_go.stores in
+    let peer_then = subst (λ (x : Resident). IsPeer c.let_go_of_told.new.self.client x.peer) (tree-lets-go r then freed shown only.buffers called.frees (waits-committed object r.owned.surfaces))
     (stores then names.surfaces is called.are (once-freed freed shown r.owned.surfaces all called.frees)) in
     let told = c.tell_act.ensures.told after.peer peer_then in
     let o = xdg_of object r.owned.shell in
     let made = effect_on object (effect_by act) o after in
-    let same : kept_of c.let_go_of_freed.new.self.owned.shell number ≡ changing number (kept_after c.args.serial act) kept number =
-    ap (λ o. kept_of o.shell number) c.let_go_of_freed.ensures.owned ∙ ap (λ (k : ℕ → Option Kept). k number) (shell ∙ ap (λ n. changing number (kept_after n act) kept) (sym serial)) in
-    let events : told_by act c.args.serial (kept_of c.let_go_of_freed.new.self.owned.shell number) ≡ answers_on (effect_by act) object r =
+    let same : kept_of c.let_go_of_told.new.self.owned.shell number ≡ changing number (kept_after c.args.serial act) kept number =
+    ap (λ o. kept_of o.shell number) c.let_go_of_told.ensures.owned ∙ ap (λ (k : ℕ → Option Kept). k number) (shell ∙ ap (λ n. changing number (kept_after n act) kept) (sym serial)) in
+    let events : told_by act c.args.serial (kept_of c.let_go_of_told.new.self.owned.shell number) ≡ answers_on (effect_by act) object r =
     ap (told_by act c.args.serial) same ∙ commit-told names slots tied kept r owned object number named shows act c.args.serial answer serial in
     let surfaces : made.owned.surfaces ≡ all = effect-surfaces object (effect_by act) o after in
     let buffers : made.peer.buffers ≡ r.peer.buffers = effect-buffers object (effect_by act) o after in
-    let ids = c.in-Ok-released.released.items in
+    let ids = c.in-Some.released.items in
     let releasing = map (λ object. said object (says WlBuffer 0 [])) ids in
-    let telling = told_by act c.args.serial (kept_of c.let_go_of_freed.new.self.owned.shell number) in
-    let those = rw c.deref.ensures.value at c.in-Ok-released.ensures.those in
+    let telling = told_by act c.args.serial (kept_of c.let_go_of_told.new.self.owned.shell number) in
+    let those = c.in-Some.ensures.lets_go.those in
     let rel = releases-freed r made freed shown (are-one r only.buffers) (subst (λ (x : Surfaces). AreFreedOf freed shown r.owned.surfaces x) (sym surfaces) called.frees)
-    ids c.in-Ok-released.ensures.rising
+    ids c.in-Some.ensures.lets_go.rising
     (λ thing. those r is thing
     ∙ ap (λ (f : ById Made). list_any (λ b. (b.object == thing) && is_same_buffer b.number (option_map (λ (m : Made). m.number) (f b.object))) (freed_of freed shown)) (sym buffers)) in
-    let queues = rw c.deref-4.ensures.value at c.tell_releases.ensures.queues in
+    let queues = rw c.deref.ensures.value at c.tell_releases.ensures.queues in
     let next = told-all c.tell_act.new.self.client c.tell_releases.new.self.client telling releasing (drawn_by act after.peer) told.0 (drawn-status act after.peer ∙ lives) told.1 told.2
     queues c.tell_releases.ensures.ended in
-    let kept_owned = c.tell_releases.ensures.owned ∙ c.tell_act.ensures.owned ∙ c.let_go_of_freed.ensures.owned in
+    let kept_owned = c.tell_releases.ensures.owned ∙ c.tell_act.ensures.owned ∙ c.let_go_of_told.ensures.owned in
     let table = λ (alive : c.tell_releases.new.self.client.ended ≡ None).
     c.tell_releases.ensures.table alive ∙ c.tell_act.ensures.table (lived c.tell_act.new.self.client c.tell_releases.new.self.client c.tell_releases.ensures.ended alive)
-    ∙ ap (λ (w : ClientView). w.objects) c.let_go_of_freed.ensures.only in
+    ∙ ap (λ (w : ClientView). w.objects) c.in-Some.ensures.lets_go.only in
     meets-as _ _ client on (CommitTree object) r only.no_popups tt true (
     subst (λ (f : Effect). (q : Peer) × Queues (answers_on f object r ++ releases r (effect_on object f o after)) (effect_on object f o after).peer q
     × IsLeft v c.tell_releases.new.self (effect_on object f o after) q)
@@ -127,7 +121,7 @@ returns-clause-applies g c = λ client r on names object kept shows only comes l
             rw (
               c.tell_releases.ensures.subsurfaces,
               c.tell_act.ensures.subsurfaces,
-              c.let_go_of_freed.ensures.subsurfaces,
+              c.let_go_of_told.ensures.subsurfaces,
               table alive,
               ap (λ (n : Names). n.surfaces) names_are,
               effect-subsurfaces object (effect_by act) o after,
@@ -138,7 +132,7 @@ returns-clause-applies g c = λ client r on names object kept shows only comes l
 
 pub returns-clause-touched : goal.returns-clause-touched
 returns-clause-touched g c = (
-  subst (λ (o : Lent _). IsMade (Commits c.args.surface) c.args.self.now.owned.linked o.linked) (sym (c.tell_releases.ensures.owned ∙ c.tell_act.ensures.owned ∙ c.let_go_of_freed.ensures.owned))
+  subst (λ (o : Lent _). IsMade (Commits c.args.surface) c.args.self.now.owned.linked o.linked) (sym (c.tell_releases.ensures.owned ∙ c.tell_act.ensures.owned ∙ c.let_go_of_told.ensures.owned))
       c.in-Ok.ensures.ok,
   c.in-Ok.ensures.changes,
 )

@@ -100,48 +100,35 @@ returns-in_default-clause-answers g c = λ here client r d is orderly.
 pub returns-in_default-clause-decides : goal.returns-in_default-clause-decides
 returns-in_default-clause-decides g c = λ child of here client r d is orderly. absurd (gone _ of.0.1 (c.in_default.ensures _ _ is.subsurfaces child of.0.0))
 
-pub returns-then-not-self-clause-decides : goal.returns-then-not-self-clause-decides
-returns-then-not-self-clause-decides g c = λ child of here client r d is orderly.
-    let then = with_peer (counted r.peer) r in
-    meets-as c.args.self.now _ client d (EndSubsurface c.args.object) then (counted-orderly r orderly).no_popups tt false (
-    let lacks = lacked c.args.self.now _ _ then (c.lack_memory.ensures.lacks (counted r.peer) (c.count.ensures.counts r.peer is.peer)) c.lack_memory.ensures.ended in
-    (refl, lacks.0, lacks.1, lacks.2))
-
-pub returns-then-not-self-clause-answers : goal.returns-then-not-self-clause-answers
-returns-then-not-self-clause-answers g c = λ here client r d is orderly.
-    let only = λ (other : ℕ) (there : _). only-number _ _ _ c.args.object other c.in-Some.child is.subsurfaces there c.in-Some.ensures.0 in
-    answered-so false (Ok (EndSubsurface c.args.object)) client r d c.args.self.now (record c.args.self.now { client = c.lack_memory.new.self })
-    (returns-then-not-self-clause-decides g c c.in-Some.child (c.in-Some.ensures, only) here client r d is orderly)
-
 pub returns-in_default-remove_subsurface-clause-decides : goal.returns-in_default-remove_subsurface-clause-decides
 returns-in_default-remove_subsurface-clause-decides g c = λ child of here client r d is orderly.
     let then = with_peer (counted r.peer) r in
     meets-as c.args.self.now _ client d (EndSubsurface c.args.object) then (counted-orderly r orderly).no_popups tt false (
-    let lacks = lacked c.args.self.now _ _ then (c.lack_memory-in_default-remove_subsurface.ensures.lacks (counted r.peer) (c.count.ensures.counts r.peer is.peer))
-    c.lack_memory-in_default-remove_subsurface.ensures.ended in
+    let lacks = lacked c.args.self.now _ _ then (c.lack_memory.ensures.lacks (counted r.peer) (c.count.ensures.counts r.peer is.peer))
+    c.lack_memory.ensures.ended in
     (refl, lacks.0, lacks.1, lacks.2))
 
 pub returns-in_default-remove_subsurface-clause-answers : goal.returns-in_default-remove_subsurface-clause-answers
 returns-in_default-remove_subsurface-clause-answers g c = λ here client r d is orderly.
     let only = λ (other : ℕ) (there : _). only-number _ _ _ c.args.object other c.in-Some.child is.subsurfaces there c.in-Some.ensures.0 in
     answered-so false (Ok (EndSubsurface c.args.object)) client r d c.args.self.now
-    (record c.args.self.now { client = c.lack_memory-in_default-remove_subsurface.new.self; owned = record c.args.self.now.owned { linked = c.remove_subsurface.new.self } })
+    (record c.args.self.now { client = c.lack_memory.new.self; owned = record c.args.self.now.owned { linked = c.remove_subsurface.new.self } })
     (returns-in_default-remove_subsurface-clause-decides g c c.in-Some.child (c.in-Some.ensures, only) here client r d is orderly)
 
-pub returns-in_default-released-clause-decides : goal.returns-in_default-released-clause-decides
-returns-in_default-released-clause-decides g c = λ child of here client r d is orderly.
+pub returns-in_default-let_go_of_told-clause-decides : goal.returns-in_default-let_go_of_told-clause-decides
+returns-in_default-let_go_of_told-clause-decides g c = λ child of here client r d is orderly.
     let then = with_peer (counted r.peer) r in
     meets-as c.args.self.now _ client d (EndSubsurface c.args.object) then (counted-orderly r orderly).no_popups tt false (
-    let lacks = lacked c.args.self.now _ _ then (c.lack_memory-in_default-released.ensures.lacks (counted r.peer) (c.count.ensures.counts r.peer is.peer))
-    c.lack_memory-in_default-released.ensures.ended in
+    let lacks = lacked c.args.self.now _ _ then (c.in_default-let_go_of_told.ensures.lacks (counted r.peer) (c.count.ensures.counts r.peer is.peer))
+    c.in_default-let_go_of_told.ensures.ended in
     (refl, lacks.0, lacks.1, lacks.2))
 
-pub returns-in_default-released-clause-answers : goal.returns-in_default-released-clause-answers
-returns-in_default-released-clause-answers g c = λ here client r d is orderly.
+pub returns-in_default-let_go_of_told-clause-answers : goal.returns-in_default-let_go_of_told-clause-answers
+returns-in_default-let_go_of_told-clause-answers g c = λ here client r d is orderly.
     let only = λ (other : ℕ) (there : _). only-number _ _ _ c.args.object other c.in-Some.child is.subsurfaces there c.in-Some.ensures.0 in
     answered-so false (Ok (EndSubsurface c.args.object)) client r d c.args.self.now
-    (record c.args.self.now { client = c.lack_memory-in_default-released.new.self; owned = record c.args.self.now.owned { linked = c.remove_subsurface.new.self } })
-    (returns-in_default-released-clause-decides g c c.in-Some.child (c.in-Some.ensures, only) here client r d is orderly)
+    c.let_go_of_told.new.self
+    (returns-in_default-let_go_of_told-clause-decides g c c.in-Some.child (c.in-Some.ensures, only) here client r d is orderly)
 
 pub returns-clause-decides : goal.returns-clause-decides
 returns-clause-decides g c = λ child of here client r d is orderly.
@@ -158,29 +145,29 @@ returns-clause-decides g c = λ child of here client r d is orderly.
     let order = counted-orderly r orderly in
     let then = with_surfaces (unlinked number r.owned.surfaces) (record one_more { subsurfaces = filter (λ (s : Subsurface). not (s.id == object)) r.subsurfaces }) in
     let after = after_all one_more then in
-    let freed = c.in-Ok.field-0.applied.freed.items in
-    let shown = map buffer_of c.in-Ok.field-0.shown.items in
+    let freed = c.in-Ok.told.applied.freed.items in
+    let shown = map buffer_of c.in-Ok.told.shown.items in
     let called = part-called names.surfaces slots c.remove_subsurface.new.self.surfaces tied c.remove_subsurface.new.self.family one_more is.owns.surfaces its.link below its.here its.lives its.named
     freed shown c.in-Ok.ensures.among c.in-Ok.ensures.ok c.in-Ok.ensures.waits c.in-Ok.ensures.freed c.in-Ok.ensures.shown in
-    let stores = rw (c.deref-2.ensures.value, c.deref-3.ensures.value) at c.let_go_of_freed.ensures.stores in
-    let peer_then = subst (λ (x : Resident). IsPeer c.let_go_of_freed.new.self.client x.peer)
+    let stores = c.in-Some-let_go_of_told.ensures.lets_go.stores in
+    let peer_then = subst (λ (x : Resident). IsPeer c.let_go_of_told.new.self.client x.peer)
     (tree-lets-go one_more then freed shown order.buffers called.frees (waits-unlinked (Some number) r.owned.surfaces))
     (stores then names.surfaces peer_one called.are (once-freed freed shown r.owned.surfaces then.owned.surfaces called.frees)) in
     let made = ended_by object (Some number) one_more in
     let told = c.remove-2.ensures.removes after.peer peer_then in
-    let ids = c.in-Ok-released.released.items in
+    let ids = c.in-Some-let_go_of_told.released.items in
     let releasing = map (λ thing. said thing (says WlBuffer 0 [])) ids in
-    let those = rw c.deref.ensures.value at c.in-Ok-released.ensures.those in
-    let rel = releases-freed one_more made freed shown (are-one one_more order.buffers) called.frees ids c.in-Ok-released.ensures.rising (λ thing. those one_more peer_one thing) in
-    let queues = rw c.deref-4.ensures.value at c.tell_releases.ensures.queues in
+    let those = c.in-Some-let_go_of_told.ensures.lets_go.those in
+    let rel = releases-freed one_more made freed shown (are-one one_more order.buffers) called.frees ids c.in-Some-let_go_of_told.ensures.lets_go.rising (λ thing. those one_more peer_one thing) in
+    let queues = rw c.deref.ensures.value at c.tell_releases.ensures.queues in
     let next = told-all c.remove-2.new.self c.tell_releases.new.self.client (id_deleted object ∷ []) releasing made.peer told.0 (sym is.peer.status ∙ is.lives) told.1 told.2
     queues c.tell_releases.ensures.ended in
-    let kept_owned = c.tell_releases.ensures.owned ∙ c.let_go_of_freed.ensures.owned in
+    let kept_owned = c.tell_releases.ensures.owned ∙ c.let_go_of_told.ensures.owned in
     let table = λ (alive : c.tell_releases.new.self.client.ended ≡ None).
     ap names_in (c.tell_releases.ensures.table alive)
     ∙ object-gone v.client.objects c.remove-2.new.self.objects object here
     (subst (λ (held : Held). HoldsAt held c.remove-2.new.self.objects object None)
-    (ap (λ (w : ClientView). w.objects) c.let_go_of_freed.ensures.only ∙ ap (λ (w : ClientView). w.objects) c.count.ensures.only)
+    (ap (λ (w : ClientView). w.objects) c.in-Some-let_go_of_told.ensures.lets_go.only ∙ ap (λ (w : ClientView). w.objects) c.count.ensures.only)
     (c.remove-2.ensures.table (lived c.remove-2.new.self c.tell_releases.new.self.client c.tell_releases.ensures.ended alive))) in
     let done : EndsSo object one_more v c.tell_releases.new.self made = (
       next.0,
@@ -192,7 +179,7 @@ returns-clause-decides g c = λ child of here client r d is orderly.
             c.remove_subsurface.new.self.family orderly.once orderly.numbered orderly.roots c.in-Ok.ensures.ok);
         frames = λ alive. rw (kept_owned, ap (λ (n : Names). n.surfaces) (table alive))
             (called.framed (framed-names slots.frames v.client.objects v.client.objects r one_more refl (one-more r.peer.requests) is.frames refl refl));
-        subsurfaces = λ alive. rw (c.tell_releases.ensures.subsurfaces, c.let_go_of_freed.ensures.subsurfaces, ap (λ (n : Names). n.surfaces) (table alive))
+        subsurfaces = λ alive. rw (c.tell_releases.ensures.subsurfaces, c.let_go_of_told.ensures.subsurfaces, ap (λ (n : Names). n.surfaces) (table alive))
             (ended-subsurfaces v.subsurfaces c.clear.new.self names.surfaces r.subsurfaces object below c.in-Some.ensures.0 is.owns.surfaces.once c.clear.ensures is.subsurfaces);
         numbers = λ alive. keeps-names v.client.objects c.tell_releases.new.self.client.objects (table alive);
       },
@@ -209,8 +196,8 @@ returns-clause-answers g c = λ here client r d is orderly.
 pub returns-clause-touched : goal.returns-clause-touched
 returns-clause-touched g c = λ child of.
     let same : c.in-Some.child ≡ child = of.1 c.in-Some.child c.in-Some.ensures.0 in
-    subst (λ (n : ℕ). IsTouched (Parts n) c.args.self.now.owned.linked c.tell_releases.new.self.owned.linked (Some c.in-Ok.field-0.applied)) same (
-      subst (λ (o : Lent _). IsMade (Parts c.in-Some.child) c.args.self.now.owned.linked o.linked) (sym (c.tell_releases.ensures.owned ∙ c.let_go_of_freed.ensures.owned)) c.in-Ok.ensures.ok,
+    subst (λ (n : ℕ). IsTouched (Parts n) c.args.self.now.owned.linked c.tell_releases.new.self.owned.linked (Some c.in-Ok.told.applied)) same (
+      subst (λ (o : Lent _). IsMade (Parts c.in-Some.child) c.args.self.now.owned.linked o.linked) (sym (c.tell_releases.ensures.owned ∙ c.let_go_of_told.ensures.owned)) c.in-Ok.ensures.ok,
       λ all number link is stands. c.in-Ok.ensures.changes all number link is stands,
     )
 

@@ -51,22 +51,16 @@ use Rattle.wl_requests.proofs.Subsurfaces.{gone-subsurfaces}
 use Rattle.wl_requests.proofs.Trees.{are-one, destroy-lets-go, goes-too, is-freed, lived, pending-had, told-all}
 use Rattle.wl_requests.proofs.residents.Resident.destroy_surface.Goals as goal
 
-pub returns-then-not-self-clause-does : goal.returns-then-not-self-clause-does
-returns-then-not-self-clause-does g c = λ named bare client r on is only.
+pub returns-in_default-clause-does : goal.returns-in_default-clause-does
+returns-in_default-clause-does g c = λ named bare client r on is only.
     meets-as _ _ client on (EndSurface c.args.object) r only.no_popups tt false (
     let lacks = lacked c.args.self.now _ _ r (c.lack_memory.ensures.lacks r.peer is.peer) c.lack_memory.ensures.ended in
     (refl, lacks.0, lacks.1, lacks.2))
 
-pub returns-in_default-clause-does : goal.returns-in_default-clause-does
-returns-in_default-clause-does g c = λ named bare client r on is only.
+pub returns-in_default-let_go_of_told-clause-does : goal.returns-in_default-let_go_of_told-clause-does
+returns-in_default-let_go_of_told-clause-does g c = λ named bare client r on is only.
     meets-as _ _ client on (EndSurface c.args.object) r only.no_popups tt false (
-    let lacks = lacked c.args.self.now _ _ r (c.lack_memory-in_default.ensures.lacks r.peer is.peer) c.lack_memory-in_default.ensures.ended in
-    (refl, lacks.0, lacks.1, lacks.2))
-
-pub returns-in_default-released-clause-does : goal.returns-in_default-released-clause-does
-returns-in_default-released-clause-does g c = λ named bare client r on is only.
-    meets-as _ _ client on (EndSurface c.args.object) r only.no_popups tt false (
-    let lacks = lacked c.args.self.now _ _ r (c.lack_memory-in_default-released.ensures.lacks r.peer is.peer) c.lack_memory-in_default-released.ensures.ended in
+    let lacks = lacked c.args.self.now _ _ r (c.in_default-let_go_of_told.ensures.lacks r.peer is.peer) c.in_default-let_go_of_told.ensures.ended in
     (refl, lacks.0, lacks.1, lacks.2))
 
 pub returns-clause-does : goal.returns-clause-does
@@ -84,21 +78,21 @@ returns-clause-does g c = λ named bare client r on is only.
     let had = had-by names.surfaces slots tied r.owned.surfaces id number c.buffers.result is.owns.surfaces named c.buffers.ensures ∙ ap had_at there.1 in
     let element = slice_index_or c.buffers.result 0 c.index-buffers-0.result in
     let first : option_map buffer_of element ≡ extra = ap (option_map buffer_of) (sym c.index-buffers-0.is) ∙ pending-had c.buffers.result c.index-buffers-0.result there.0 c.index-buffers-0.is had in
-    let freed = c.in-Ok.field-0.applied.freed.items in
-    let shown = map buffer_of c.in-Ok.field-0.shown.items in
+    let freed = c.in-Ok.told.applied.freed.items in
+    let shown = map buffer_of c.in-Ok.told.shown.items in
     let left = fold ended_in r.owned.surfaces (links_with id r.owned.surfaces) in
     let then : Resident = with_surfaces (destroyed_in id r.owned.surfaces) (record r { subsurfaces = map (without_child id) r.subsurfaces }) in
     let without = with_id id None names.surfaces in
     let called = destroy-called names.surfaces slots c.destroy.new.self.surfaces tied c.destroy.new.self.family r is.owns.surfaces id number named freed shown
     c.in-Ok.ensures.among c.in-Ok.ensures.ok c.in-Ok.ensures.waits c.in-Ok.ensures.freed c.in-Ok.ensures.shown in
     let gone = freed_of freed shown in
-    let stores = rw (c.deref-2.ensures.value, c.deref-3.ensures.value) at c.let_go_of_freed.ensures.stores in
+    let stores = c.in-Some.ensures.lets_go.stores in
     let one = stores then without is.peer called.are (once-freed freed shown r.owned.surfaces then.owned.surfaces called.frees) in
     let went = c.is_freed.result in
     let same_went = λ (b : Buffer) (e : extra ≡ Some b).
-    c.is_freed.ensures ∙ ap (λ ns. is_freed_in ns (option_map buffer_of element)) c.deref-4.ensures.value ∙ ap (is_freed_in freed) (first ∙ e)
+    c.is_freed.ensures ∙ ap (λ ns. is_freed_in ns (option_map buffer_of element)) c.deref.ensures.value ∙ ap (is_freed_in freed) (first ∙ e)
     ∙ is-freed freed shown r.owned.surfaces then.owned.surfaces b called.frees in
-    let kept_there = kept-there _ _ without then.owned.surfaces c.let_go_of_freed.ensures.owned called.are in
+    let kept_there = kept-there _ _ without then.owned.surfaces c.let_go_of_told.ensures.owned called.are in
     let two = one-let _ _ (letting_go gone then) (let_if (is_over then) went (option_map buffer_of element)) one c.let_go_if_over.ensures.only
     (c.let_go_if_over.ensures.stores (letting_go gone then) without one kept_there) in
     let after = after_all r then in
@@ -108,32 +102,32 @@ returns-clause-does g c = λ named bare client r on is only.
     (ap (λ (o : Option Buffer). let_if (is_over then) went o (letting_go gone then).peer.stores) first ∙ goes-too then gone extra went same_went) two) in
     let asked = asked-read v.client.objects r slots tied is.owns.surfaces id number named in
     let cs = callbacks_of id r in
-    let calls = c.deref-5.result.now in
+    let calls = c.deref-2.result.now in
     let waits = is.frames.waits in
     let ids : calls ≡ map (λ (x : Callback). x.id) cs =
-    c.deref-5.ensures.value ∙ calls-here names.surfaces slots tied r.owned.surfaces is.owns.surfaces number c.in-Ok.field-0.applied.callbacks.items r.callbacks c.in-Ok.ensures.callbacks waits
+    c.deref-2.ensures.value ∙ calls-here names.surfaces slots tied r.owned.surfaces is.owns.surfaces number c.in-Ok.told.applied.callbacks.items r.callbacks c.in-Ok.ensures.callbacks waits
     ∙ ap (λ ns. map (λ (x : Callback). x.id) (filter (is_in ns) r.callbacks)) asked in
     let made = surface_ended id r in
     let told = c.remove_with.ensures.removes after.peer peer_then in
-    let released = c.in-Ok-released.released.items in
+    let released = c.in-Some.released.items in
     let releasing = map (λ object. said object (says WlBuffer 0 [])) released in
     let telling : List Said = id_deleted id ∷ map (λ (x : Callback). id_deleted x.id) cs in
     let first_told : Queues telling made.peer told.0 =
     subst (λ (p : Peer). Queues telling (removed id p) told.0) (going-removed cs calls after.peer ids)
     (subst (λ (es : List Said). Queues es (removed id (all_removed calls after.peer)) told.0) (going-told id cs calls ids) told.1) in
-    let those = rw c.deref.ensures.value at c.in-Ok-released.ensures.those in
-    let rel = releases-freed r made freed shown (are-one r only.buffers) called.frees released c.in-Ok-released.ensures.rising
+    let those = c.in-Some.ensures.lets_go.those in
+    let rel = releases-freed r made freed shown (are-one r only.buffers) called.frees released c.in-Some.ensures.lets_go.rising
     (λ thing. those r is.peer thing
     ∙ ap (λ (f : ById Made). list_any (λ b. (b.object == thing) && is_same_buffer b.number (option_map (λ (m : Made). m.number) (f b.object))) gone) (sym (going-buffers cs after.peer))) in
-    let queues = rw c.deref-6.ensures.value at c.tell_releases.ensures.queues in
+    let queues = rw c.deref-3.ensures.value at c.tell_releases.ensures.queues in
     let next = told-all c.remove_with.new.self c.tell_releases.new.self.client telling releasing made.peer told.0
     (going-status cs after.peer ∙ sym is.peer.status ∙ is.lives) first_told told.2 queues c.tell_releases.ensures.ended in
-    let kept_owned = c.tell_releases.ensures.owned ∙ c.let_go_if_over.ensures.owned ∙ c.let_go_of_freed.ensures.owned in
+    let kept_owned = c.tell_releases.ensures.owned ∙ c.let_go_if_over.ensures.owned ∙ c.let_go_of_told.ensures.owned in
     let table = λ (alive : c.tell_releases.new.self.client.ended ≡ None).
     ap names_in (c.tell_releases.ensures.table alive)
     ∙ surface-gone-with v.client.objects c.remove_with.new.self.objects id calls (are-heard id r v.client.objects calls only.no_popups is.peer.objects ids)
     (subst (λ (held : Held). HoldsWithout held c.remove_with.new.self.objects (id ∷ calls))
-    (ap (λ (w : ClientView). w.objects) (c.let_go_if_over.ensures.only) ∙ ap (λ (w : ClientView). w.objects) c.let_go_of_freed.ensures.only)
+    (ap (λ (w : ClientView). w.objects) (c.let_go_if_over.ensures.only) ∙ ap (λ (w : ClientView). w.objects) c.in-Some.ensures.lets_go.only)
     (c.remove_with.ensures.table (lived c.remove_with.new.self c.tell_releases.new.self.client c.tell_releases.ensures.ended alive)))
     number named in
     meets-as _ _ client on (EndSurface id) r only.no_popups tt true (
@@ -147,7 +141,7 @@ returns-clause-does g c = λ named bare client r on is only.
         frames = λ alive. rw (kept_owned, ap (λ (n : Names). n.surfaces) (table alive), going-requests cs after.peer)
             (subst (λ (ls : List Callback). AreFramed c.destroy.new.self.surfaces.frames (by_number without then.owned.surfaces) (r.peer.requests + 1) ls)
             (ap (λ ns. filter (λ x. not (is_in ns x)) r.callbacks) asked ∙ sym (left-by (frames_asked (history_in id r.owned.surfaces)) r.callbacks)) (called.framed is.frames));
-        subsurfaces = λ alive. rw (c.tell_releases.ensures.subsurfaces, c.let_go_if_over.ensures.subsurfaces, c.let_go_of_freed.ensures.subsurfaces, ap (λ (n : Names). n.surfaces) (table alive))
+        subsurfaces = λ alive. rw (c.tell_releases.ensures.subsurfaces, c.let_go_if_over.ensures.subsurfaces, c.let_go_of_told.ensures.subsurfaces, ap (λ (n : Names). n.surfaces) (table alive))
             (gone-subsurfaces v.subsurfaces c.clear.new.self names.surfaces r.subsurfaces id number named is.owns.surfaces.once c.clear.ensures is.subsurfaces);
         numbers = λ alive. keeps-gone v.client.objects c.tell_releases.new.self.client.objects id (table alive);
       },
@@ -156,6 +150,6 @@ returns-clause-does g c = λ named bare client r on is only.
 pub returns-clause-touched : goal.returns-clause-touched
 returns-clause-touched g c = (
   subst (λ (o : Lent _). IsMade (Destroys c.args.surface) c.args.self.now.owned.linked o.linked)
-      (sym (c.tell_releases.ensures.owned ∙ c.let_go_if_over.ensures.owned ∙ c.let_go_of_freed.ensures.owned)) c.in-Ok.ensures.ok,
+      (sym (c.tell_releases.ensures.owned ∙ c.let_go_if_over.ensures.owned ∙ c.let_go_of_told.ensures.owned)) c.in-Ok.ensures.ok,
   c.in-Ok.ensures.changes,
 )

@@ -49,33 +49,16 @@ returns-in_err-child-clause-decides g c = λ child of here client r d is orderly
     let none = subst (λ (o : Option ℕ). IsChildOf c.args.self.now c.args.object o) c.in_err-child.was c.child_of.ensures in
     absurd (gone _ of.0.1 (none _ _ is.subsurfaces child of.0.0))
 
-pub returns-then-not-self-clause-decides : goal.returns-then-not-self-clause-decides
-returns-then-not-self-clause-decides g c = λ child of here client r d is orderly.
-    let object = c.args.object in
-    let its = link-of-child c.args.self.now r is orderly object child of.0 in
-    let then = with_peer (counted r.peer) r in
-    subst (λ (j : Result Demand Refusal). AnswersAs false j client r d c.args.self.now (record c.args.self.now { client = c.lack_memory.new.self }))
-    (sym (ap (λ o. demand_by_link r object o SetDesync) its.of_object))
-    (meets-as c.args.self.now _ client d (SetMode its.link.number false) then (counted-orderly r orderly).no_popups tt false (
-    let lacks = lacked c.args.self.now _ _ then (c.lack_memory.ensures.lacks (counted r.peer) (c.count.ensures.counts r.peer is.peer)) c.lack_memory.ensures.ended in
-    (refl, lacks.0, lacks.1, lacks.2)))
-
-pub returns-then-not-self-clause-answers : goal.returns-then-not-self-clause-answers
-returns-then-not-self-clause-answers g c = λ here client r d is orderly.
-    let of = subst (λ (o : Option ℕ). IsChildOf c.args.self.now c.args.object o) c.in_ok-child.was c.child_of.ensures in
-    let only = λ (other : ℕ) (there : _). only-number _ _ _ c.args.object other c.in_ok-child.child is.subsurfaces there of.0 in
-    answered-so false _ client r d _ _ (returns-then-not-self-clause-decides g c c.in_ok-child.child (of, only) here client r d is orderly)
-
 pub returns-in_default-clause-decides : goal.returns-in_default-clause-decides
 returns-in_default-clause-decides g c = λ child of here client r d is orderly.
     let object = c.args.object in
     let its = link-of-child c.args.self.now r is orderly object child of.0 in
     let then = with_peer (counted r.peer) r in
     subst (λ (j : Result Demand Refusal). AnswersAs false j client r d c.args.self.now
-    (record c.args.self.now { client = c.lack_memory-in_default.new.self; owned = record c.args.self.now.owned { linked = c.set_desync.new.self } })) (sym (ap
+    (record c.args.self.now { client = c.lack_memory.new.self; owned = record c.args.self.now.owned { linked = c.set_desync.new.self } })) (sym (ap
     (λ o. demand_by_link r object o SetDesync) its.of_object))
     (meets-as c.args.self.now _ client d (SetMode its.link.number false) then (counted-orderly r orderly).no_popups tt false (
-    let lacks = lacked c.args.self.now _ _ then (c.lack_memory-in_default.ensures.lacks (counted r.peer) (c.count.ensures.counts r.peer is.peer)) c.lack_memory-in_default.ensures.ended in
+    let lacks = lacked c.args.self.now _ _ then (c.lack_memory.ensures.lacks (counted r.peer) (c.count.ensures.counts r.peer is.peer)) c.lack_memory.ensures.ended in
     (refl, lacks.0, lacks.1, lacks.2)))
 
 pub returns-in_default-clause-answers : goal.returns-in_default-clause-answers
@@ -84,24 +67,24 @@ returns-in_default-clause-answers g c = λ here client r d is orderly.
     let only = λ (other : ℕ) (there : _). only-number _ _ _ c.args.object other c.in_ok-child.child is.subsurfaces there of.0 in
     answered-so false _ client r d _ _ (returns-in_default-clause-decides g c c.in_ok-child.child (of, only) here client r d is orderly)
 
-pub returns-in_default-released-clause-decides : goal.returns-in_default-released-clause-decides
-returns-in_default-released-clause-decides g c = λ child of here client r d is orderly.
+pub returns-in_default-let_go_of_told-clause-decides : goal.returns-in_default-let_go_of_told-clause-decides
+returns-in_default-let_go_of_told-clause-decides g c = λ child of here client r d is orderly.
     let object = c.args.object in
     let its = link-of-child c.args.self.now r is orderly object child of.0 in
     let then = with_peer (counted r.peer) r in
     subst (λ (j : Result Demand Refusal). AnswersAs false j client r d c.args.self.now
-    (record c.args.self.now { client = c.lack_memory-in_default-released.new.self; owned = record c.args.self.now.owned { linked = c.set_desync.new.self } })) (sym (ap
+    c.let_go_of_told.new.self) (sym (ap
     (λ o. demand_by_link r object o SetDesync) its.of_object))
     (meets-as c.args.self.now _ client d (SetMode its.link.number false) then (counted-orderly r orderly).no_popups tt false (
-    let lacks = lacked c.args.self.now _ _ then (c.lack_memory-in_default-released.ensures.lacks (counted r.peer) (c.count.ensures.counts r.peer is.peer))
-    c.lack_memory-in_default-released.ensures.ended in
+    let lacks = lacked c.args.self.now _ _ then (c.in_default-let_go_of_told.ensures.lacks (counted r.peer) (c.count.ensures.counts r.peer is.peer))
+    c.in_default-let_go_of_told.ensures.ended in
     (refl, lacks.0, lacks.1, lacks.2)))
 
-pub returns-in_default-released-clause-answers : goal.returns-in_default-released-clause-answers
-returns-in_default-released-clause-answers g c = λ here client r d is orderly.
+pub returns-in_default-let_go_of_told-clause-answers : goal.returns-in_default-let_go_of_told-clause-answers
+returns-in_default-let_go_of_told-clause-answers g c = λ here client r d is orderly.
     let of = subst (λ (o : Option ℕ). IsChildOf c.args.self.now c.args.object o) c.in_ok-child.was c.child_of.ensures in
     let only = λ (other : ℕ) (there : _). only-number _ _ _ c.args.object other c.in_ok-child.child is.subsurfaces there of.0 in
-    answered-so false _ client r d _ _ (returns-in_default-released-clause-decides g c c.in_ok-child.child (of, only) here client r d is orderly)
+    answered-so false _ client r d _ _ (returns-in_default-let_go_of_told-clause-decides g c c.in_ok-child.child (of, only) here client r d is orderly)
 
 pub returns-clause-decides : goal.returns-clause-decides
 returns-clause-decides g c = λ child of here client r d is orderly.
@@ -118,24 +101,24 @@ returns-clause-decides g c = λ child of here client r d is orderly.
     let order = counted-orderly r orderly in
     let then = with_surfaces (desynchronised_in number r.owned.surfaces) one_more in
     let after = mode_set number false one_more in
-    let freed = c.in-Ok.field-0.applied.freed.items in
-    let shown = map buffer_of c.in-Ok.field-0.shown.items in
+    let freed = c.in-Ok.told.applied.freed.items in
+    let shown = map buffer_of c.in-Ok.told.shown.items in
     let called = desync-called names.surfaces slots c.set_desync.new.self.surfaces tied c.set_desync.new.self.family one_more is.owns.surfaces its.link below its.here its.lives its.named
     freed shown c.in-Ok.ensures.among c.in-Ok.ensures.ok c.in-Ok.ensures.waits c.in-Ok.ensures.freed c.in-Ok.ensures.shown in
-    let stores = rw (c.deref-2.ensures.value, c.deref-3.ensures.value) at c.let_go_of_freed.ensures.stores in
-    let peer_then = subst (λ (x : Resident). IsPeer c.let_go_of_freed.new.self.client x.peer)
+    let stores = c.in-Some.ensures.lets_go.stores in
+    let peer_then = subst (λ (x : Resident). IsPeer c.let_go_of_told.new.self.client x.peer)
     (tree-lets-go one_more then freed shown order.buffers called.frees (waits-desynchronised number r.owned.surfaces))
     (stores then names.surfaces peer_one called.are (once-freed freed shown r.owned.surfaces then.owned.surfaces called.frees)) in
-    let ids = c.in-Ok-released.released.items in
+    let ids = c.in-Some.released.items in
     let releasing = map (λ thing. said thing (says WlBuffer 0 [])) ids in
-    let those = rw c.deref.ensures.value at c.in-Ok-released.ensures.those in
-    let rel = releases-freed one_more after freed shown (are-one one_more order.buffers) called.frees ids c.in-Ok-released.ensures.rising (λ thing. those one_more peer_one thing) in
-    let queues = rw c.deref-4.ensures.value at c.tell_releases.ensures.queues in
-    let next = told-all c.let_go_of_freed.new.self.client c.tell_releases.new.self.client [] releasing after.peer after.peer (sym is.peer.status ∙ is.lives) refl peer_then
+    let those = c.in-Some.ensures.lets_go.those in
+    let rel = releases-freed one_more after freed shown (are-one one_more order.buffers) called.frees ids c.in-Some.ensures.lets_go.rising (λ thing. those one_more peer_one thing) in
+    let queues = rw c.deref.ensures.value at c.tell_releases.ensures.queues in
+    let next = told-all c.let_go_of_told.new.self.client c.tell_releases.new.self.client [] releasing after.peer after.peer (sym is.peer.status ∙ is.lives) refl peer_then
     queues c.tell_releases.ensures.ended in
-    let kept_owned = c.tell_releases.ensures.owned ∙ c.let_go_of_freed.ensures.owned in
+    let kept_owned = c.tell_releases.ensures.owned ∙ c.let_go_of_told.ensures.owned in
     let table = λ (alive : c.tell_releases.new.self.client.ended ≡ None).
-    c.tell_releases.ensures.table alive ∙ ap (λ (w : ClientView). w.objects) c.let_go_of_freed.ensures.only ∙ ap (λ (w : ClientView). w.objects) c.count.ensures.only in
+    c.tell_releases.ensures.table alive ∙ ap (λ (w : ClientView). w.objects) c.in-Some.ensures.lets_go.only ∙ ap (λ (w : ClientView). w.objects) c.count.ensures.only in
     subst (λ (j : Result Demand Refusal). AnswersAs true j client r d v c.tell_releases.new.self) (sym (ap (λ o. demand_by_link r object o SetDesync) its.of_object))
     (meets-as v c.tell_releases.new.self client d (SetMode number false) one_more order.no_popups tt true (
       next.0,
@@ -147,7 +130,7 @@ returns-clause-decides g c = λ child of here client r d is orderly.
             c.set_desync.new.self.family orderly.once orderly.numbered orderly.roots c.in-Ok.ensures.ok);
         frames = λ alive. rw (kept_owned, table alive)
             (called.framed (framed-names slots.frames v.client.objects v.client.objects r one_more refl (one-more r.peer.requests) is.frames refl refl));
-        subsurfaces = λ alive. rw (c.tell_releases.ensures.subsurfaces, c.let_go_of_freed.ensures.subsurfaces, table alive) is.subsurfaces;
+        subsurfaces = λ alive. rw (c.tell_releases.ensures.subsurfaces, c.let_go_of_told.ensures.subsurfaces, table alive) is.subsurfaces;
         numbers = λ alive. keeps-same v.client.objects c.tell_releases.new.self.client.objects (table alive);
       },
     ))
@@ -162,8 +145,8 @@ pub returns-clause-touched : goal.returns-clause-touched
 returns-clause-touched g c = λ child of.
     let here = subst (λ (o : Option ℕ). IsChildOf c.args.self.now c.args.object o) c.in_ok-child.was c.child_of.ensures in
     let same : c.in_ok-child.child ≡ child = of.1 c.in_ok-child.child here.0 in
-    subst (λ (n : ℕ). IsTouched (Releases n) c.args.self.now.owned.linked c.tell_releases.new.self.owned.linked (Some c.in-Ok.field-0.applied)) same (
-      subst (λ (o : Lent _). IsMade (Releases c.in_ok-child.child) c.args.self.now.owned.linked o.linked) (sym (c.tell_releases.ensures.owned ∙ c.let_go_of_freed.ensures.owned)) c.in-Ok.ensures.ok,
+    subst (λ (n : ℕ). IsTouched (Releases n) c.args.self.now.owned.linked c.tell_releases.new.self.owned.linked (Some c.in-Ok.told.applied)) same (
+      subst (λ (o : Lent _). IsMade (Releases c.in_ok-child.child) c.args.self.now.owned.linked o.linked) (sym (c.tell_releases.ensures.owned ∙ c.let_go_of_told.ensures.owned)) c.in-Ok.ensures.ok,
       λ all number link is stands. c.in-Ok.ensures.changes all number link is stands,
     )
 

@@ -14,4 +14,4 @@ pub returns-clause-was : goal.returns-clause-was
 returns-clause-was g c =
     let road = YieldsList-from_map _ (λ (s : Stacked). s.window) (YieldsList-from_slice c.tree-tree.result.now cc) (cc) (λ x r q k. search rules) in
     on-ok c.extend.result (items_from_extend c.extend.result c.extend.ensures.ran road)
-    (λ h. rw c.in-Some.is (h.0 ∙ ap (λ kept. kept ++ map (λ (s : Stacked). s.window) c.tree-tree.result.now) c.clear.ensures.items ∙ ap (map (λ (s : Stacked). s.window)) c.tree-tree.ensures))
+    (λ h. (h.0 ∙ ap (λ kept. kept ++ map (λ (s : Stacked). s.window) c.tree-tree.result.now) c.clear.ensures.items ∙ ap (map (λ (s : Stacked). s.window)) c.tree-tree.ensures))

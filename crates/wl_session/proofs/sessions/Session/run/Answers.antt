@@ -20,7 +20,7 @@ pub returns-then-not-take_step-clause-err : goal.returns-then-not-take_step-clau
 returns-then-not-take_step-clause-err g c =
     let refused = c.take_step.ensures.refused c.if-not-take_step.true in (
       map film_of c.loop-n.shots.items,
-      rw refused.0 c.loop-n.invariant,
+      ran-seen _ _ _ _ (rw refused.0 c.loop-n.invariant),
     )
 
 pub returns-then-not-take_step-clause-stopped : goal.returns-then-not-take_step-clause-stopped

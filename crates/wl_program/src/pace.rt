@@ -1,0 +1,98 @@
+//! When turns begin, and which time they have.
+
+ghost use Rattle.std.specs.Prelude.{◌≡◌, ◌%◌, ◌^◌};
+ghost use Rattle.wl_program.specs.Pace.{count_of, hertz_of, time_of};
+
+use std::thread;
+use std::time::{Clock, Duration, Instant};
+use wl_options::Rate;
+
+/// How many turns are taken, and how often they begin.
+#[derive(Clone, Copy)]
+pub struct Pace {
+    /// How many. Where it isn't said, as many as can be counted: 2^64 - 1.
+    pub turns: Option<u32>,
+    /// How often they begin at most. Where it isn't said, each begins as soon as the one before is over.
+    pub rate: Option<Rate>,
+}
+
+impl Pace {
+    /// How many turns are taken.
+    pub(crate) fn count(self) -> u64
+        ensures { result ≡ count_of self.turns }
+    {
+        match self.turns {
+            Some(turns) => u64::from(turns),
+            None => u64::MAX,
+        }
+    }
+
+    /// The time of the turn of this number, from 1: its number, or at a rate the milliseconds that so many turns take, rounded down. It is
+    /// modulo 2^32.
+    pub(crate) fn time_of(self, number: u64) -> u32
+        ensures { result ≡ time_of (hertz_of self.rate) number }
+    {
+        match self.rate {
+            Some(rate) => wrapped(u128::from(number) * 1000 / u128::from(rate.hertz)),
+            None => wrapped(u128::from(number)),
+        }
+    }
+}
+
+/// A number modulo 2^32.
+fn wrapped(number: u128) -> u32
+    ensures { result ≡ number % 2 ^ 32 }
+{
+    (number % (1 << 32)) as u32
+}
+
+/// Tells when the next turn is due.
+#[derive(Clone, Copy)]
+pub(crate) struct Timer {
+    period: Option<Duration>,
+    /// When the next turn is due. None where it is due at once.
+    due: Option<Instant>,
+}
+
+impl Timer {
+    /// The first turn is due at once.
+    pub(crate) fn new(rate: Option<Rate>) -> Timer {
+        Timer {
+            period: period_of(rate),
+            due: None,
+        }
+    }
+
+    /// Sleeps until the next turn is due, and begins it. The turn after it is due a period after this one was; or a period after this one
+    /// begins, where it is later than that, so that turns that were missed aren't made up for.
+    pub(crate) fn wait<C: Clock>(&mut self, clock: &C) {
+        if let Some(period) = self.period {
+            self.due = sleep_until(clock, self.due, period);
+        }
+    }
+}
+
+/// From one turn to the next, at a rate.
+fn period_of(rate: Option<Rate>) -> Option<Duration> {
+    let rate = rate?;
+    Some(Duration::from_nanos(1_000_000_000 / u64::from(rate.hertz)))
+}
+
+/// Sleeps until a turn is due, and answers when the next one is. Where the clock tells no time, it sleeps a period.
+fn sleep_until<C: Clock>(clock: &C, due: Option<Instant>, period: Duration) -> Option<Instant> {
+    let Ok(now) = Instant::now(clock) else {
+        thread::sleep(clock, period);
+        return None;
+    };
+    let Some(due) = due else {
+        return now.checked_add(period);
+    };
+    if now < due {
+        thread::sleep(clock, due.duration_since(now));
+        return due.checked_add(period);
+    }
+    match due.checked_add(period) {
+        Some(next) if next > now => Some(next),
+        _ => now.checked_add(period),
+    }
+}

@@ -1,0 +1,34 @@
+-- What a request that applied surfaces leaves of the buffers that were shown before.
+use Rattle.std.specs.Prelude.{ℕ, ◌≡◌, ◌==◌, ◌&&◌, List, map}
+use Rattle.std.specs.List.{list_any}
+use Rattle.std.specs.List.Sorted.{IsStrictlyIncreasing}
+use Rattle.wl_client.specs.Agreement.{IsPeer}
+use Rattle.wl_linked.specs.declared.commits.Told.{Told}
+use Rattle.wl_linked.specs.Tree.{AreOnce}
+use Rattle.wl_owning.specs.Freed.{freed_of}
+use Rattle.wl_owning.specs.Owning.{AreKept}
+use Rattle.wl_peer.specs.Objects.{ById}
+use Rattle.wl_plain.specs.Desktop.{Resident}
+use Rattle.wl_plain.specs.Replies.{has_object}
+use Rattle.wl_plain.specs.Step.{letting_go}
+use Rattle.wl_requests.specs.declared.residents.Resident.{Resident as Kept}
+use Rattle.wl_state.specs.Kept.{buffer_of}
+use Rattle.wl_state.specs.Request.{Buffer}
+use Rattle.wl_xdg_state.specs.Popups.{is_among}
+
+-- the buffers that are freed, as they were shown
+abbrev pub freed_in : {A : Type 0} → Told A → List Buffer
+freed_in told = freed_of told.applied.freed.items (map buffer_of told.shown.items)
+
+-- The stores of those go that are over, and nothing else of the client changes; and these are the wl_buffers of those whose wl_buffers are
+-- there, in rising id (wayland.xml, wl_buffer.release).
+pub record IsLetGo {A : Type 0} (told : Told A) (released : List ℕ) (old new : Kept A) : Type 0 where
+  pub stores :
+      (r : Resident) (numbers : ById ℕ) → IsPeer old.client r.peer
+      → AreKept numbers old.owned.linked.surfaces old.owned.linked.family r.owned.surfaces → AreOnce told.applied.freed.items
+      → IsPeer new.client (letting_go (freed_in told) r).peer
+  pub only : new.client ≡ record old.client { stores = new.client.stores }
+  pub rising : IsStrictlyIncreasing released
+  pub those :
+      (r : Resident) → IsPeer old.client r.peer → (object : ℕ)
+      → is_among object released ≡ list_any (λ b. (b.object == object) && has_object r b) (freed_in told)

@@ -1,5 +1,0 @@
-use Rattle.std.proofs.Common.{rules}
-use Rattle.wl_table.proofs.objects.Objects.is_empty.Goals as goal
-
-pub returns : goal.returns
-returns g c = search rules

@@ -1,0 +1,297 @@
+"""What the bridge rewrites between a client and the server, as one table (docs/BRIDGE.md has it for people).
+
+The server offers early versions of its globals, and many clients insist on later ones. Where it offers less than SHOWN, the bridge shows the later
+version and rewrites what differs; where a later server offers as much, nothing is rewritten, since each row looks at the version that the server has.
+"""
+import dataclasses
+import itertools
+import typing
+
+from bridge_memory import Surface
+from wayland_table import INTERFACES
+from wayland_wire import message, spell
+
+# The versions that clients are shown, where the server offers an earlier one.
+SHOWN = {"wl_compositor": 4, "wl_output": 3, "wl_seat": 7, "xdg_wm_base": 2}
+# What a seat can do by the server's word and not yet by its deeds: it has no events of a pointer and no popups. Once it has, this is 0, and a row is wanted
+# for wl_pointer.frame, which a seat of version 5 and later owes behind what belongs together.
+HIDDEN_CAPABILITIES = INTERFACES["wl_seat"].enums["capability"].values["pointer"]
+# A global of the bridge's own, with a name that no server gives.
+OWN_GLOBAL, OWN_NAME, OWN_VERSION = "wl_data_device_manager", 0xFFFF0000, 3
+SEAT_NAME = "seat0"
+LARGE = 1 << 26  # bytes of a pool above which the server isn't told of it
+EVERYTHING = (0, 0, 0x7FFFFFFF, 0x7FFFFFFF)
+STATES = INTERFACES["xdg_toplevel"].enums["state"].values
+# By the requests of a toplevel for a state: the state, and whether it is asked for or given up.
+ASKS = {
+    "set_fullscreen": ("fullscreen", True),
+    "unset_fullscreen": ("fullscreen", False),
+    "set_maximized": ("maximized", True),
+    "unset_maximized": ("maximized", False),
+}
+
+
+def event(target, name, *values):
+    """An event to an object."""
+    said = INTERFACES[target.interface].event_named(name)
+    return message(target.number, said.opcode, spell(said, values))
+
+
+def request(target, name, *values):
+    """A request to an object."""
+    said = INTERFACES[target.interface].named(name)
+    return message(target.number, said.opcode, spell(said, values))
+
+
+def show_global(client, said):
+    name, interface, version = said.values
+    own = [event(said.object, "global", OWN_NAME, OWN_GLOBAL, OWN_VERSION)] if said.object.state is None else []
+    said.object.state = "told"
+    client.offered[name] = interface, version
+    return [event(said.object, "global", name, interface, max(version, SHOWN.get(interface, 0))), *own]
+
+
+def bind_own_global(client, said):
+    name, (_, _, made) = said.values
+    if name != OWN_NAME:
+        return None
+    client.objects.by_id[made].served = 0
+    return []
+
+
+def lower_bind(client, said):
+    name, (interface, version, made) = said.values
+    offered = client.offered.get(name, (None, 0))
+    if offered[0] != interface or not offered[1] < version <= SHOWN.get(interface, 0):
+        return None
+    client.objects.by_id[made].served = offered[1]
+    return [request(said.object, "bind", name, (interface, offered[1], made))]
+
+
+def hide_capabilities(client, said):
+    return [event(said.object, "capabilities", said.values[0] & ~HIDDEN_CAPABILITIES)]
+
+
+def name_seat(client, said):
+    return [said.data, event(said.object, "name", SEAT_NAME)] if said.object.version >= 2 > said.object.served else None
+
+
+def finish_output(client, said):
+    if not said.object.version >= 2 > said.object.served:
+        return None
+    return [said.data, event(said.object, "scale", 1), event(said.object, "done")]
+
+
+def swallow(client, said):
+    return [] if said.message.since > said.object.served else None
+
+
+def keep_large_pool(client, said):
+    return [] if client.objects.by_id[said.values[0]].served == 0 else None
+
+
+def keep_own_id(client, said):
+    if said.values[0] not in client.own_pools:
+        return None
+    client.own_pools.remove(said.values[0])
+    return []
+
+
+def swallow_scale(client, said):
+    return [] if said.message.since > said.object.served and said.values == [1] else None
+
+
+def move_damage(client, said):
+    surface = said.object.state
+    if said.message.since <= said.object.served or not isinstance(surface, Surface):
+        return None
+    surface.is_damaged_in_buffer = True
+    return [request(said.object, "damage", *said.values)] if surface.transform == 0 else []
+
+
+def damage_turned(client, said):
+    surface = said.object.state
+    was_damaged = isinstance(surface, Surface) and surface.is_damaged_in_buffer
+    if was_damaged:
+        surface.is_damaged_in_buffer = False
+    if not was_damaged or surface.transform == 0:
+        return None
+    return [request(said.object, "damage", *EVERYTHING), said.data]
+
+
+def note_state(client, said):
+    state, is_asked = ASKS[said.message.name]
+    states = said.object.state or set()
+    said.object.state = states | {state} if is_asked else states - {state}
+
+
+def fill_output(client, said):
+    states = (said.object.state or set()) | ({"fullscreen"} if client.is_fullscreen else set())
+    if not states:
+        return None
+    told = said.values[2] + b"".join(STATES[it].to_bytes(4, "little") for it in sorted(states))
+    return [event(said.object, "configure", *client.output, told)]
+
+
+@dataclasses.dataclass(frozen=True)
+class Rewriting:
+    """What is done with a message, why, and whether a client could tell. `rewrite` takes the client and what was said, and answers the messages that go
+    on in its place, or None where it goes on as it is."""
+
+    of: str  # as 'wl_seat.release'
+    kind: str  # request or event
+    does: str
+    why: str
+    exact: str
+    rewrite: typing.Callable
+
+
+REWRITINGS = (
+    Rewriting(
+        "wl_registry.global",
+        "event",
+        f"shows {', '.join(f'{name} as version {version}' for name, version in SHOWN.items())}, and besides {OWN_GLOBAL}, version {OWN_VERSION}",
+        "clients leave where they find less, or bind a later version without looking (foot, wev)",
+        "as exact as the rows below; what versions 6 and 7 of wl_seat and 2 of xdg_wm_base brought is never sent",
+        show_global,
+    ),
+    Rewriting(
+        "wl_registry.bind",
+        "request",
+        f"a bind of {OWN_GLOBAL} stays here, and so does what is asked of it, of its devices and of its sources; only ids are given back",
+        "GTK, Qt, mpv and weston's toolkit want one, though they work without a clipboard",
+        "yes, as for a client that never has the keyboard's focus: nothing is offered to it, and no drag begins",
+        bind_own_global,
+    ),
+    Rewriting(
+        "wl_registry.bind",
+        "request",
+        "a bind of a version that is shown asks the server for the version that it has",
+        "the server refuses a bind of more than it offers",
+        "as exact as the rows below",
+        lower_bind,
+    ),
+    Rewriting(
+        "wl_seat.capabilities",
+        "event",
+        "takes the pointer off the capabilities",
+        "the server says that there is a pointer, and refuses get_pointer: it has no events of a pointer and no popups yet",
+        "yes: nobody points; a client that asks for a pointer all the same is refused",
+        hide_capabilities,
+    ),
+    Rewriting(
+        "wl_seat.capabilities",
+        "event",
+        f"sends the name {SEAT_NAME} behind, where version 2 or later was bound",
+        "it is there since version 2",
+        "yes",
+        name_seat,
+    ),
+    Rewriting(
+        "wl_seat.release",
+        "request",
+        "is swallowed",
+        "it is there since version 5",
+        "but for the id, which isn't given back: the client never uses it again",
+        swallow,
+    ),
+    Rewriting(
+        "wl_output.mode",
+        "event",
+        "sends scale 1 and done behind, where version 2 or later was bound",
+        "they are there since version 2, and clients wait for done before they open a window",
+        "yes: the server draws at scale 1, and mode is the last that it tells of an output",
+        finish_output,
+    ),
+    Rewriting(
+        "wl_output.release",
+        "request",
+        "is swallowed",
+        "it is there since version 3",
+        "but for the id, which isn't given back: the client never uses it again",
+        swallow,
+    ),
+    Rewriting(
+        "wl_surface.set_buffer_scale",
+        "request",
+        "is swallowed where the scale is 1; another is left to the server, which refuses it",
+        "it is there since version 3, and most clients say by it what holds anyway",
+        "yes",
+        swallow_scale,
+    ),
+    Rewriting(
+        "wl_surface.damage_buffer",
+        "request",
+        "becomes damage; where the buffer is turned, damage of everything before the commit",
+        "it is there since version 4, and most clients prefer it",
+        "yes: at scale 1 and unturned the buffer's points are the surface's; else more is painted again than has to be, and the picture is the same",
+        move_damage,
+    ),
+    Rewriting(
+        "wl_surface.commit",
+        "request",
+        "has damage of everything before it, where damage_buffer came and the buffer is turned",
+        "which transform holds is known at the commit alone",
+        "as damage_buffer",
+        damage_turned,
+    ),
+    Rewriting(
+        "wl_shm.create_pool",
+        "request",
+        f"a pool of more than {LARGE >> 20} MB stays here; each of its buffers gets a pool of its own at the server, of just its bytes",
+        "the server takes 256 MB of pools of a client, and reads them whole in each turn in which it hears of it; foot makes one of 512 MB",
+        "yes, as long as there are at most 64 such buffers and other pools: so many stores a client can have",
+        keep_large_pool,
+    ),
+    Rewriting(
+        "wl_display.delete_id",
+        "event",
+        "isn't passed on for these pools",
+        "the client doesn't know of them",
+        "yes",
+        keep_own_id,
+    ),
+    Rewriting(
+        "xdg_toplevel.configure",
+        "event",
+        "has the output's size and the state fullscreen or maximized, while the client asks for it; with `--fullscreen` always the first",
+        "the server answers whoever asks with no size and no state, and some then show nothing; kiosks fill the output",
+        "no: the server doesn't know of it. It shows the first toplevel at the output's corner, and the others where it would",
+        fill_output,
+    ),
+    *(
+        Rewriting(
+            f"xdg_toplevel.{name}",
+            "request",
+            "goes on as it is, and is kept in mind",
+            "for the row above",
+            "yes",
+            note_state,
+        )
+        for name in ASKS
+    ),
+)
+BY_MESSAGE = {}
+for _it in REWRITINGS:
+    BY_MESSAGE.setdefault((_it.kind, _it.of), []).append(_it.rewrite)
+
+
+def rewritten(client, kind, said):
+    """The messages that go on in place of one: what the first row that changes it makes of it, and what each later one makes of the first of these."""
+    passed = [said.data]
+    for rewrite in BY_MESSAGE.get((kind, said.name), ()):
+        made = rewrite(client, said)
+        if made is not None:
+            said = dataclasses.replace(said, data=made[0]) if made else said
+            passed = made + passed[1:]
+            if not made:
+                break
+    return passed
+
+
+def in_markdown():
+    """The table as docs/BRIDGE.md has it. Rows that differ in their message alone are one there."""
+    rows = ["| message | what is done | why | exact |", "|---|---|---|---|"]
+    for (kind, *said), alike in itertools.groupby(REWRITINGS, lambda it: (it.kind, it.does, it.why, it.exact)):
+        rows.append(f"| {', '.join(f'`{it.of}`' for it in alike)}, {kind} | {' | '.join(said)} |")
+    return "\n".join(rows) + "\n"
