@@ -12,7 +12,7 @@ use Rattle.wl_plain.specs.Desktop.{Desktop, empty, owned_in}
 use Rattle.wl_laws.specs.Laws.{AreApart}
 use Rattle.wl_plain.specs.LeftOut.{LeftOut}
 use Rattle.wl_plain.specs.Marks.{AreDistinct}
-use Rattle.wl_plain.specs.Popups.{stacked_popups}
+use Rattle.wl_stacking.specs.Popups.{stacked_popups}
 use Rattle.wl_plain.specs.Stacked.{all_windows}
 use Rattle.wl_plain.specs.Act.{Act}
 use Rattle.wl_laws.specs.RunLaws.{Lasts}

@@ -9,7 +9,7 @@ use Rattle.wl_stacking.specs.Stacking.{root_of}
 use Rattle.wl_stacking.specs.Windows.{Owner, Place, Root, StackedPopup, Window, child_windows, corner_at, member_windows, owner_of}
 use Rattle.wl_stacking.specs.Windows.{roots_of, shown_windows, surface_windows, tree, window_showing, window_with, windows_of}
 use Rattle.wl_plain.specs.Desktop.{Desktop, owned_in}
-use Rattle.wl_plain.specs.Popups.{stacked_popups}
+use Rattle.wl_stacking.specs.Popups.{stacked_popups}
 use Rattle.wl_plain.specs.Stacked.{all_windows}
 use Rattle.wl_lending.proofs.Truth.{each-flat}
 

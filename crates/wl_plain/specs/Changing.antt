@@ -28,7 +28,7 @@ use Rattle.wl_plain.specs.Demand.{GetPointer, MakeCursor, CreatePositioner, EndP
 use Rattle.wl_plain.specs.Demand.{EndToplevel, Move}
 use Rattle.wl_plain.specs.Demanding.{effect_of_commit}
 use Rattle.wl_plain.specs.Desktop.{Desktop, Resident, Subsurface}
-use Rattle.wl_plain.specs.Popups.{parent_corner}
+use Rattle.wl_stacking.specs.Popups.{parent_corner}
 use Rattle.wl_plain.specs.Step.{asked_of, asked_so_far, changed_by, letting_go, making, removing, with_peer, with_shell}
 use Rattle.wl_plain.specs.Step.{with_surfaces, xdg_changed}
 
@@ -97,6 +97,10 @@ mode_set link false r = after_all r (with_surfaces (desynchronised_in link r.own
 
 -- ---- a commit
 
+-- where popups are placed
+abbrev pub Placing : Type 0
+Placing = Popup → Option Placed
+
 -- where a popup is placed now: within the output
 abbrev pub output_rect : Output → Rect
 output_rect output = record { x = pos 0; y = pos 0; w = pos output.width; h = pos output.height }
@@ -104,7 +108,7 @@ output_rect output = record { x = pos 0; y = pos 0; w = pos output.width; h = po
 abbrev pub placed_at : Place → Output → Positioner → Option Placed
 placed_at corner output positioner = place positioner (output_rect output) (corner.x, corner.y)
 
-abbrev pub placement_now : ℕ → Resident → Desktop → Popup → Option Placed
+abbrev pub placement_now : ℕ → Resident → Desktop → Placing
 placement_now c r d popup = placed_at (parent_corner d.standing c r.owned popup.parent) d.output popup.positioner
 
 -- the next serial is drawn
@@ -117,21 +121,19 @@ is_configure Configures = true
 is_configure effect = false
 
 -- What a commit comes to is done to the xdg_surface of its surface, if there is one, and a configure draws the next serial.
-abbrev pub effect_placing : (Popup → Option Placed) → ℕ → Effect → Option XdgSurface → Resident → Resident
+abbrev pub effect_placing : Placing → ℕ → Effect → Option XdgSurface → Resident → Resident
 effect_placing where_to surface effect None r = r
 effect_placing where_to surface effect (Some x) r =
     drawing (is_configure effect) (xdg_changed x.id (with_effect r.peer.serial (asked_so_far surface r) where_to effect) r)
-
--- a popup is placed where it is placed now
-abbrev pub effect_done : ℕ → ℕ → Effect → Option XdgSurface → Desktop → Resident → Resident
-effect_done c surface effect x d r = effect_placing (placement_now c r d) surface effect x r
 
 -- wl_surface.commit: the surface is applied with all below it, unless it behaves synchronised
 abbrev pub tree_committed : ℕ → Resident → Resident
 tree_committed surface r = after_all r (with_surfaces (committed_in surface r.owned.surfaces) r)
 
+-- a popup is placed where it is placed by what stands before the commit
 abbrev pub commit_done : ℕ → ℕ → Resident → Desktop → Resident
-commit_done c surface r d = effect_done c surface (effect_of_commit r surface) (xdg_of surface r.owned.shell) d (tree_committed surface r)
+commit_done c surface r d =
+    effect_placing (placement_now c r d) surface (effect_of_commit r surface) (xdg_of surface r.owned.shell) (tree_committed surface r)
 
 -- ---- popups
 

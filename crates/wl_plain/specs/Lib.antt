@@ -7,7 +7,6 @@ pub mod LeftOut
 pub mod Marks
 pub mod Moments
 pub mod Pointing
-pub mod Popups
 pub mod Releases
 pub mod Replies
 pub mod Scratch

@@ -9,7 +9,7 @@ use Rattle.wl_stacking.specs.Pointer.{Target, fixed_from}
 use Rattle.wl_stacking.specs.Stacking.{Standing, moved_to}
 use Rattle.wl_stacking.specs.Windows.{Place, Window, moved}
 use Rattle.wl_plain.specs.Desktop.{Resident}
-use Rattle.wl_plain.specs.Popups.{standing_place}
+use Rattle.wl_stacking.specs.Popups.{standing_place}
 use Rattle.wl_plain.specs.Replies.{entered_at}
 
 -- An event of each wl_pointer of a client, in rising id.

@@ -15,7 +15,7 @@ use Rattle.wl_xdg_state.specs.Positioner.{Placed}
 use Rattle.wl_xdg_state.specs.Shell.{Effect, Configures, Kind, Toplevel, IsPopup, RoleObject, Shell, XdgSurface, xdg_of}
 use Rattle.wl_stacking.specs.Pointer.{Target, fixed_from}
 use Rattle.wl_stacking.specs.Windows.{Place, Window}
-use Rattle.wl_plain.specs.Changing.{callbacks_of, has_focus, placement_now, tree_committed}
+use Rattle.wl_plain.specs.Changing.{callbacks_of, has_focus, placement_now}
 use Rattle.wl_plain.specs.Demand.{Demand, Asks, EndSurface, CommitTree, EndSubsurface, GetPointer, EndPositioner, EndPopup}
 use Rattle.wl_plain.specs.Demand.{EndToplevel}
 use Rattle.wl_plain.specs.Demanding.{effect_of_commit}
@@ -72,8 +72,7 @@ new_pointer_told true pointer serial windows d = entered_at pointer serial d.poi
 abbrev pub own_answers : ℕ → Demand → Resident → List Window → Desktop → List Said
 own_answers c (Asks ask) r windows d = answers_to ask r
 own_answers c (EndSurface id) r windows d = id_deleted id ∷ map (λ callback. id_deleted callback.id) (callbacks_of id r)
-own_answers c (CommitTree surface) r windows d = commit_told c (effect_of_commit r surface) (xdg_of surface r.owned.shell)
-    (tree_committed surface r) d
+own_answers c (CommitTree surface) r windows d = commit_told c (effect_of_commit r surface) (xdg_of surface r.owned.shell) r d
 own_answers c (EndSubsurface id) r windows d = id_deleted id ∷ []
 own_answers c (GetPointer id version) r windows d = new_pointer_told (has_focus c d.pointer.focus) id r.peer.serial windows d
 own_answers c (EndPositioner id) r windows d = id_deleted id ∷ []

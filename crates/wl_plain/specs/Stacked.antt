@@ -3,7 +3,7 @@ use Rattle.std.specs.Prelude.{map}
 use Rattle.wl_stacking.specs.Stacking.{root_of}
 use Rattle.wl_stacking.specs.Windows.{windows}
 use Rattle.wl_plain.specs.Desktop.{Showing, owned_in}
-use Rattle.wl_plain.specs.Popups.{stacked_popups}
+use Rattle.wl_stacking.specs.Popups.{stacked_popups}
 
 -- from bottom to top (xdg-shell.xml, xdg_surface and xdg_popup)
 abbrev pub all_windows : Showing

@@ -10,7 +10,7 @@ use Rattle.wl_surface.specs.Surfaces.{Surfaces}
 use Rattle.wl_stacking.specs.Stacking.{Owned, Standing, root_of, without_client}
 use Rattle.wl_stacking.specs.Windows.{Root, StackedPopup, Window, has_parent, owner_of, root_on, roots_of, stacked, stacked_on, tree, windows, windows_of}
 use Rattle.wl_plain.specs.Desktop.{Desktop, Resident, become_by, owned_in, owned_of, resident_of}
-use Rattle.wl_plain.specs.Popups.{stacked_popups}
+use Rattle.wl_stacking.specs.Popups.{stacked_popups}
 use Rattle.wl_plain.specs.Stacked.{all_windows}
 use Rattle.wl_laws.proofs.Marks.Stacks.{Each, differ, each-map}
 use Rattle.wl_laws.proofs.Marks.Painted.{each-kept}

@@ -19,7 +19,7 @@ use Rattle.wl_scene.specs.declared.owned.Owned.{Owned as Keeps}
 use Rattle.wl_plain.specs.Desktop.{Desktop, Resident, become, become_by, client_at, owned_in, owned_of, resident_of, with_client, with_number}
 use Rattle.wl_plain.specs.Framing.{FramesToldAt, FramesToldBy, done_due}
 use Rattle.wl_plain.specs.Happens.{callbacks_due, frames_told}
-use Rattle.wl_plain.specs.Popups.{stacked_popups}
+use Rattle.wl_stacking.specs.Popups.{stacked_popups}
 use Rattle.wl_plain.specs.Stacked.{all_windows}
 use Rattle.wl_laws.specs.Laws.{OwnsNothing}
 use Rattle.wl_laws.proofs.Lists.Keys.{differ}

@@ -5,7 +5,7 @@ use Rattle.wl_wire.specs.Wire.{Word, Number}
 use Rattle.wl_surface.specs.Trees.{applied_tree, behaves_synchronised}
 use Rattle.wl_stacking.specs.Windows.{tree}
 use Rattle.wl_plain.specs.Desktop.{Desktop}
-use Rattle.wl_plain.specs.Popups.{geometry_corner_at}
+use Rattle.wl_stacking.specs.Popups.{geometry_corner_at}
 use Rattle.wl_rows.proofs.Steps.{acknowledge, asks, at, attach, buffer_release, button, commit, corners, create_buffer, create_surface, delete_id, enter, event, fixed, get_xdg_surface, leave, motion}
 use Rattle.wl_rows.proofs.Steps.{press, release, sent, toplevel_configure, u32, unsent, xdg_configure}
 use Rattle.wl_rows.proofs.Pointer.{beside, both, both_pressed, minus_24, on_popup, popped, popped_released, with_positioner}

@@ -6,7 +6,7 @@ use Rattle.wl_peer.specs.declared.cause.Cause.TheVariants.{Protocol}
 use Rattle.wl_surface.specs.Trees.{applied_tree, behaves_synchronised, depth, descends_from, height}
 use Rattle.wl_stacking.specs.Windows.{tree}
 use Rattle.wl_plain.specs.Desktop.{Desktop}
-use Rattle.wl_plain.specs.Popups.{geometry_corner_at}
+use Rattle.wl_stacking.specs.Popups.{geometry_corner_at}
 use Rattle.wl_rows.proofs.Steps.{acknowledge, asks, at, attach, bind, button, commit, corners, create_surface, delete_id, done, enter, event, leave, motion, moved, press, release, sent, shown, start}
 use Rattle.wl_rows.proofs.Steps.{status, tick, u32, unsent, with_pointer}
 use Rattle.wl_rows.proofs.Subsurfaces.{first}

@@ -6,7 +6,7 @@ use Rattle.wl_peer.specs.declared.cause.Cause.TheVariants.{Gone}
 use Rattle.wl_surface.specs.Trees.{applied_tree, behaves_synchronised}
 use Rattle.wl_stacking.specs.Windows.{tree}
 use Rattle.wl_plain.specs.Desktop.{Desktop}
-use Rattle.wl_plain.specs.Popups.{geometry_corner_at}
+use Rattle.wl_stacking.specs.Popups.{geometry_corner_at}
 use Rattle.wl_rows.proofs.Steps.{acknowledge, asks, at, attach, black, button, buffer_release, color, commit, corners, create_buffer, create_surface, damage, enter, event, get_xdg_surface, leave}
 use Rattle.wl_rows.proofs.Steps.{leaves, motion, moved, press, red, release, sent, showing, shown, start, status, stores, u32, unsent, with_pointer, xdg_configure}
 

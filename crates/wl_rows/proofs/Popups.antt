@@ -6,7 +6,7 @@ use Rattle.wl_peer.specs.declared.cause.Cause.TheVariants.{Protocol}
 use Rattle.wl_surface.specs.Trees.{applied_tree, behaves_synchronised}
 use Rattle.wl_stacking.specs.Windows.{tree}
 use Rattle.wl_plain.specs.Desktop.{Desktop}
-use Rattle.wl_plain.specs.Popups.{geometry_corner_at}
+use Rattle.wl_stacking.specs.Popups.{geometry_corner_at}
 use Rattle.wl_rows.proofs.Steps.{acknowledge, asks, at, attach, bind, commit, corners, create_buffer, create_surface, delete_id, event, get_xdg_surface, sent, shown, start, status, u32, unsent}
 use Rattle.wl_rows.proofs.Steps.{xdg_configure}
 

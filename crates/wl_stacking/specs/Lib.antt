@@ -1,5 +1,6 @@
 pub mod Laws
 pub mod Pointer
 pub mod PointerActions
+pub mod Popups
 pub mod Stacking
 pub mod Windows

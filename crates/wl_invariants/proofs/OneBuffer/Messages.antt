@@ -17,7 +17,7 @@ use Rattle.wl_surface.specs.Waiting.{Callback}
 use Rattle.wl_xdg_state.specs.Positioner.{Positioner}
 use Rattle.wl_xdg_state.specs.Shell.{Effect, Stays, Unconfigured, Configures, Maps, Unmaps, XdgSurface, xdg_at, xdg_of}
 use Rattle.wl_plain.specs.Ask.{Ask, Own, CreateSurface, AskSurface, EndObject, GetXdgSurface, DestroyXdgSurface, GetToplevel, Acknowledge, ConfigureAgain, Ignore}
-use Rattle.wl_plain.specs.Changing.{callbacks_of, changed_for, drawing, effect_done, grab_allowed, grabbed, has_focus, in_rising_order, link_with_id, mode_set, popup_given_to, tree_committed}
+use Rattle.wl_plain.specs.Changing.{Placing, callbacks_of, changed_for, drawing, effect_placing, placement_now, grab_allowed, grabbed, has_focus, in_rising_order, link_with_id, mode_set, popup_given_to, tree_committed}
 use Rattle.wl_plain.specs.Demand.{Demand, Asks, EndSurface, AskFrame, CommitTree, GetSubsurface, EndSubsurface, SetMode, GetPointer, MakeCursor, CreatePositioner, EndPositioner}
 use Rattle.wl_plain.specs.Demand.{SetPositioner, GetPopup, Grab, EndPopup, EndToplevel, Move}
 use Rattle.wl_plain.specs.Demanding.{effect_of_commit}
@@ -54,13 +54,13 @@ popup-spares : (id xdg parent : ℕ) (p : Positioner) (x : Option XdgSurface) (r
 popup-spares id xdg parent p None r = (refl, spares-all r)
 popup-spares id xdg parent p (Some x) r = (refl, role-fewer x.surface _ r.owned.surfaces)
 
-effect-spares : (c surface : ℕ) (effect : Effect) (x : Option XdgSurface) (d : Desktop) (r : Resident) → Spares r (effect_done c surface effect x d r)
-effect-spares c surface effect None d r = (refl, spares-all r)
-effect-spares c surface Stays (Some x) d r = (refl, spares-all r)
-effect-spares c surface Unconfigured (Some x) d r = (refl, spares-all r)
-effect-spares c surface Configures (Some x) d r = (refl, spares-all r)
-effect-spares c surface Maps (Some x) d r = (refl, spares-all r)
-effect-spares c surface Unmaps (Some x) d r = (refl, spares-all r)
+effect-spares : (where_to : Placing) (surface : ℕ) (effect : Effect) (x : Option XdgSurface) (r : Resident) → Spares r (effect_placing where_to surface effect x r)
+effect-spares where_to surface effect None r = (refl, spares-all r)
+effect-spares where_to surface Stays (Some x) r = (refl, spares-all r)
+effect-spares where_to surface Unconfigured (Some x) r = (refl, spares-all r)
+effect-spares where_to surface Configures (Some x) r = (refl, spares-all r)
+effect-spares where_to surface Maps (Some x) r = (refl, spares-all r)
+effect-spares where_to surface Unmaps (Some x) r = (refl, spares-all r)
 
 grab-spares : (b : Bool) (xdg : ℕ) (r : Resident) → Spares r (grabbed b xdg r)
 grab-spares true xdg r = (refl, spares-all r)
@@ -76,7 +76,7 @@ mode-spares link false r = (refl, fewer-desynchronised link r.owned.surfaces)
 
 commit-spares : (c surface : ℕ) (r : Resident) (d : Desktop) → Spares r (changed_for c (CommitTree surface) r d)
 commit-spares c surface r d =
-    let it = effect-spares c surface (effect_of_commit r surface) (xdg_of surface r.owned.shell) d (tree_committed surface r) in
+    let it = effect-spares (placement_now c r d) surface (effect_of_commit r surface) (xdg_of surface r.owned.shell) (tree_committed surface r) in
     (it.0, λ b h. fewer-committed surface r.owned.surfaces b (it.1 b h))
 
 -- ---- what is asked of wl_buffers

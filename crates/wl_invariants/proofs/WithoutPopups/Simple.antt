@@ -11,7 +11,7 @@ use Rattle.wl_xdg_state.specs.Shell.{with_change, without_role, xdg_of}
 use Rattle.wl_xdg_state.proofs.Standing.{popup-still as popup-still-there}
 use Rattle.wl_stacking.specs.Pointer.{first_pointer}
 use Rattle.wl_stacking.specs.Windows.{Window}
-use Rattle.wl_plain.specs.Changing.{changed_for, commit_done, drawing, effect_done, is_configure, placement_now, stacked_by, stacked_for, toplevel_ended, tree_committed, with_kept_move}
+use Rattle.wl_plain.specs.Changing.{Placing, changed_for, commit_done, drawing, effect_placing, is_configure, placement_now, stacked_by, stacked_for, toplevel_ended, tree_committed, with_kept_move}
 use Rattle.wl_plain.specs.Demand.{Demand, Asks, EndSurface, AskFrame, CommitTree, GetSubsurface, EndSubsurface, SetMode, GetPointer, MakeCursor, CreatePositioner, EndPositioner}
 use Rattle.wl_plain.specs.Demand.{SetPositioner, GetPopup, Grab, EndPopup, EndToplevel, Move}
 use Rattle.wl_plain.specs.Demanding.{effect_of_commit, effect_on_xdg, is_dismissed}
@@ -76,16 +76,16 @@ with-effect-same serial since where_to other Configures x top =
 with-effect-same serial since where_to other Maps x top = refl
 with-effect-same serial since where_to other Unmaps x top = refl
 
-effect-done : (c id : ℕ) (effect : Effect) (o : Option Xdg) (d : Desktop) (r : Resident) → AreToplevels r.owned.shell → effect_done c id effect o d r ≡ effect_on id effect o r
-effect-done c id effect None d r top = refl
-effect-done c id effect (Some x) d r top =
+effect-placing : (where_to : Placing) (id : ℕ) (effect : Effect) (o : Option Xdg) (r : Resident) → AreToplevels r.owned.shell → effect_placing where_to id effect o r ≡ effect_on id effect o r
+effect-placing where_to id effect None r top = refl
+effect-placing where_to id effect (Some x) r top =
     ap (λ shell. drawing (is_configure effect) (with_shell shell r))
-    (change-same x.id (with_effect r.peer.serial (asked_so_far id r) (placement_now c r d) effect) (with_effect r.peer.serial (asked_so_far id r) (λ popup. None) effect)
-    (λ y is. with-effect-same r.peer.serial (asked_so_far id r) (placement_now c r d) (λ popup. None) effect y is) r.owned.shell top)
+    (change-same x.id (with_effect r.peer.serial (asked_so_far id r) where_to effect) (with_effect r.peer.serial (asked_so_far id r) (λ popup. None) effect)
+    (λ y is. with-effect-same r.peer.serial (asked_so_far id r) where_to (λ popup. None) effect y is) r.owned.shell top)
 
 commit-same : (c id : ℕ) (r : Resident) (d : Desktop) → AreToplevels r.owned.shell → commit_done c id r d ≡ changed_simply (CommitTree id) r
 commit-same c id r d top =
-    effect-done c id (effect_of_commit r id) (xdg_of id r.owned.shell) d (tree_committed id r) top
+    effect-placing (placement_now c r d) id (effect_of_commit r id) (xdg_of id r.owned.shell) (tree_committed id r) top
 
 toplevel-same : (id xdg top : ℕ) (r : Resident) → AreToplevels r.owned.shell → toplevel_ended id xdg r ≡ changed_simply (EndToplevel id xdg top) r
 toplevel-same id xdg top r roles =
@@ -150,7 +150,7 @@ answers-same c (Asks ask) r windows d top served = refl
 answers-same c (EndSurface id) r windows d top served = refl
 answers-same c (AskFrame id version surface) r windows d top served = refl
 answers-same c (CommitTree id) r windows d top served =
-    commit-answers c id (effect_of_commit r id) (xdg_of id r.owned.shell) r (tree_committed id r) d refl refl (found-toplevel (λ x. x.surface == id) r.owned.shell top)
+    commit-answers c id (effect_of_commit r id) (xdg_of id r.owned.shell) r r d refl refl (found-toplevel (λ x. x.surface == id) r.owned.shell top)
 answers-same c (GetSubsurface id version child parent) r windows d top served = refl
 answers-same c (EndSubsurface id) r windows d top served = refl
 answers-same c (SetMode link synchronised) r windows d top served = refl

@@ -5,7 +5,7 @@ use Rattle.wl_peer.specs.declared.cause.Cause.{Cause}
 use Rattle.wl_stacking.specs.Stacking.{Owned, Standing, root_of, windows_on}
 use Rattle.wl_stacking.specs.Windows.{Root, StackedPopup, owner_of, roots_of, tree, windows}
 use Rattle.wl_plain.specs.Desktop.{Desktop, Resident, client_at, owned_in, owned_of, toplevels_of}
-use Rattle.wl_plain.specs.Popups.{stacked_popup, stacked_popups}
+use Rattle.wl_stacking.specs.Popups.{stacked_popup, stacked_popups}
 use Rattle.wl_invariants.specs.Toplevels.{AreToplevels}
 use Rattle.wl_invariants.proofs.KeptRecords.Toplevels.Changed.{no-popups}
 use Rattle.wl_invariants.specs.NoPopups.{NoPopups, OwnsNoPopupsAt, OwnsNoPopupsBy}

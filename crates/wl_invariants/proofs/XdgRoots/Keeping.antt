@@ -14,7 +14,7 @@ use Rattle.wl_xdg_state.specs.Positioner.{Positioner}
 use Rattle.wl_xdg_state.specs.Shell.{Effect, Stays, Unconfigured, Configures, Maps, Unmaps, XdgSurface, xdg_at, xdg_of}
 use Rattle.wl_stacking.specs.Stacking.{Standing}
 use Rattle.wl_plain.specs.Ask.{Ask, Own, CreateSurface, AskSurface, EndObject, GetXdgSurface, DestroyXdgSurface, GetToplevel, Acknowledge, ConfigureAgain, Ignore}
-use Rattle.wl_plain.specs.Changing.{changed_for, drawing, effect_done, grab_allowed, grabbed, has_focus, in_rising_order, popup_given_to, tree_committed, unlinked_at, without_child}
+use Rattle.wl_plain.specs.Changing.{Placing, changed_for, drawing, effect_placing, placement_now, grab_allowed, grabbed, has_focus, in_rising_order, popup_given_to, tree_committed, unlinked_at, without_child}
 use Rattle.wl_plain.specs.Demand.{Demand, Asks, EndSurface, AskFrame, CommitTree, GetSubsurface, EndSubsurface, SetMode, GetPointer, MakeCursor, CreatePositioner, EndPositioner}
 use Rattle.wl_plain.specs.Demand.{SetPositioner, GetPopup, Grab, EndPopup, EndToplevel, Move}
 use Rattle.wl_plain.specs.Demanding.{effect_of_commit}
@@ -63,13 +63,13 @@ module _ (Holds : ℕ → Surfaces → List Subsurface → Type 0) (keeps : Keep
   abbrev By : ℕ → Resident → Type 0
   By b r = Holds b r.owned.surfaces r.subsurfaces
 
-  effect-kept : (b c surface : ℕ) (effect : Effect) (x : Option XdgSurface) (d : Desktop) (r : Resident) → By b r → By b (effect_done c surface effect x d r)
-  effect-kept b c surface effect None d r known = known
-  effect-kept b c surface Stays (Some x) d r known = known
-  effect-kept b c surface Unconfigured (Some x) d r known = known
-  effect-kept b c surface Configures (Some x) d r known = known
-  effect-kept b c surface Maps (Some x) d r known = known
-  effect-kept b c surface Unmaps (Some x) d r known = known
+  effect-kept : (b : ℕ) (where_to : Placing) (surface : ℕ) (effect : Effect) (x : Option XdgSurface) (r : Resident) → By b r → By b (effect_placing where_to surface effect x r)
+  effect-kept b where_to surface effect None r known = known
+  effect-kept b where_to surface Stays (Some x) r known = known
+  effect-kept b where_to surface Unconfigured (Some x) r known = known
+  effect-kept b where_to surface Configures (Some x) r known = known
+  effect-kept b where_to surface Maps (Some x) r known = known
+  effect-kept b where_to surface Unmaps (Some x) r known = known
 
   grab-kept : (b : ℕ) (taken : Bool) (xdg : ℕ) (r : Resident) → By b r → By b (grabbed taken xdg r)
   grab-kept b true xdg r known = known
@@ -111,7 +111,7 @@ module _ (Holds : ℕ → Surfaces → List Subsurface → Type 0) (keeps : Keep
         keeps.later p.requests _ _ (keeps.asked p.requests surface (Frame p.requests) r.owned.surfaces r.subsurfaces tt tt known)
     demand-kept c (CommitTree surface) tops d ok names it known =
         keeps.later p.requests _ _
-        (effect-kept p.requests c surface (effect_of_commit Now surface) (xdg_of surface r.owned.shell) d (tree_committed surface Now)
+        (effect-kept p.requests (placement_now c Now d) surface (effect_of_commit Now surface) (xdg_of surface r.owned.shell) (tree_committed surface Now)
         (keeps.committed p.requests surface r.owned.surfaces r.subsurfaces known))
     demand-kept c (GetSubsurface id version child parent) tops d ok names it known =
         keeps.linked_more p.requests id child parent r.owned.surfaces r.subsurfaces it.forest (it.objects.surfaces child ok.1) (it.objects.surfaces parent names) ok.3

@@ -10,7 +10,7 @@ use Rattle.wl_stacking.proofs.Scales.{windows-unscaled}
 use Rattle.wl_stacking.specs.Windows.{AreUnscaled, Owner, Place, Root, StackedPopup, Window, child_windows, corner_at, member_windows, owner_of, roots_of, shown_windows, surface_windows, tree}
 use Rattle.wl_stacking.specs.Windows.{window_with, windows, windows_of}
 use Rattle.wl_plain.specs.Desktop.{Desktop, owned_in}
-use Rattle.wl_plain.specs.Popups.{stacked_popups}
+use Rattle.wl_stacking.specs.Popups.{stacked_popups}
 use Rattle.wl_plain.specs.Stacked.{all_windows}
 use Rattle.wl_laws.proofs.Marks.Stacks.{Each}
 

@@ -34,7 +34,7 @@ use Rattle.wl_xdg_state.specs.Popups.{is_toplevel, parent_allows, parent_of, pop
 use Rattle.wl_xdg_state.specs.Positioner.{Positioner}
 use Rattle.wl_xdg_state.specs.Shell.{Effect, Stays, Unconfigured, Configures, Maps, Unmaps, Kind, Toplevel, IsPopup, RoleObject, XdgSurface as Xdg, xdg_at, xdg_of, xdg_with}
 use Rattle.wl_stacking.specs.Windows.{Window}
-use Rattle.wl_plain.specs.Changing.{after_all, callbacks_of, changed_for, drawing, effect_done, grab_allowed, grabbed, has_focus, in_rising_order, is_held_elsewhere, is_latest, mode_set}
+use Rattle.wl_plain.specs.Changing.{Placing, after_all, callbacks_of, changed_for, drawing, effect_placing, placement_now, grab_allowed, grabbed, has_focus, in_rising_order, is_held_elsewhere, is_latest, mode_set}
 use Rattle.wl_plain.specs.Changing.{popup_given_to, stacked_by, stacked_for, tree_committed, with_kept_move, without_callbacks, without_child}
 use Rattle.wl_plain.specs.Demand.{Demand, Asks, EndSurface, AskFrame, CommitTree, GetSubsurface, EndSubsurface, SetMode, GetPointer, MakeCursor, CreatePositioner, EndPositioner}
 use Rattle.wl_plain.specs.Demand.{SetPositioner, GetPopup, Grab, EndPopup, EndToplevel, Move}
@@ -159,14 +159,14 @@ grab-behind true xdg r rest = refl
 grab-behind false xdg r rest = refl
 
 module _ (c : ℕ) (more : List ℕ) where
-  effect-behind : (surface : ℕ) (effect : Effect) (x : Option Xdg) (d : Desktop) (r : Resident) (rest : List ℕ)
-      → effect_done c surface effect x (longer_in c more d) (with_behind rest r) ≡ with_behind rest (effect_done c surface effect x d r)
-  effect-behind surface effect None d r rest = refl
-  effect-behind surface Stays (Some x) d r rest = refl
-  effect-behind surface Unconfigured (Some x) d r rest = refl
-  effect-behind surface Configures (Some x) d r rest = refl
-  effect-behind surface Maps (Some x) d r rest = refl
-  effect-behind surface Unmaps (Some x) d r rest = refl
+  effect-behind : (where_to : Placing) (surface : ℕ) (effect : Effect) (x : Option Xdg) (r : Resident) (rest : List ℕ)
+      → effect_placing where_to surface effect x (with_behind rest r) ≡ with_behind rest (effect_placing where_to surface effect x r)
+  effect-behind where_to surface effect None r rest = refl
+  effect-behind where_to surface Stays (Some x) r rest = refl
+  effect-behind where_to surface Unconfigured (Some x) r rest = refl
+  effect-behind where_to surface Configures (Some x) r rest = refl
+  effect-behind where_to surface Maps (Some x) r rest = refl
+  effect-behind where_to surface Unmaps (Some x) r rest = refl
 
   allowed-behind : (xdg serial : ℕ) (r : Resident) (d : Desktop) (rest : List ℕ) → grab_allowed c xdg serial (with_behind rest r) (longer_in c more d) ≡ grab_allowed c xdg serial r d
   allowed-behind xdg serial r d rest =
@@ -179,7 +179,7 @@ module _ (c : ℕ) (more : List ℕ) where
       let bare : Resident = after_all r (with_surfaces (destroyed_in id r.owned.surfaces) (record r { subsurfaces = map (without_child id) r.subsurfaces })) in
       ap (λ (p : Peer). removing id (with_peer p (without_callbacks (callbacks_of id r) bare))) (without-behind (callbacks_of id r) bare.peer rest)
   done-behind (AskFrame id version surface) r d rest = refl
-  done-behind (CommitTree surface) r d rest = effect-behind surface (effect_of_commit r surface) (xdg_of surface r.owned.shell) d (tree_committed surface r) rest
+  done-behind (CommitTree surface) r d rest = effect-behind (placement_now c r d) surface (effect_of_commit r surface) (xdg_of surface r.owned.shell) (tree_committed surface r) rest
   done-behind (GetSubsurface id version child parent) r d rest = refl
   done-behind (EndSubsurface id) r d rest = refl
   done-behind (SetMode link synchronised) r d rest = mode-behind link synchronised r rest
@@ -223,7 +223,7 @@ module _ (c : ℕ) (more : List ℕ) where
   own-behind (Asks ask) r windows d rest = answers-behind ask r rest
   own-behind (EndSurface id) r windows d rest = refl
   own-behind (AskFrame id version surface) r windows d rest = refl
-  own-behind (CommitTree surface) r windows d rest = commit-behind (effect_of_commit r surface) (xdg_of surface r.owned.shell) (tree_committed surface r) d rest
+  own-behind (CommitTree surface) r windows d rest = commit-behind (effect_of_commit r surface) (xdg_of surface r.owned.shell) r d rest
   own-behind (GetSubsurface id version child parent) r windows d rest = refl
   own-behind (EndSubsurface id) r windows d rest = refl
   own-behind (SetMode link synchronised) r windows d rest = refl

@@ -8,7 +8,7 @@ use Rattle.wl_stacking.specs.Stacking.{Owned, Standing, geometry_in, root_of}
 use Rattle.wl_stacking.specs.Windows.{Root, Window, owner_of, roots_of, tree, windows}
 use Rattle.wl_plain.specs.Changing.{grab_holder, holder_from, holds_grab}
 use Rattle.wl_plain.specs.Desktop.{Desktop, Resident, client_at, client_in, owned_in, owned_of, place, with_client, with_number, with_place}
-use Rattle.wl_plain.specs.Popups.{stacked_popups}
+use Rattle.wl_stacking.specs.Popups.{stacked_popups}
 use Rattle.wl_plain.specs.Settling.{Midstep}
 use Rattle.wl_plain.specs.Stacked.{all_windows}
 use Rattle.wl_plain.specs.Step.{with_peer}

@@ -20,7 +20,7 @@ use Rattle.wl_laws.specs.Ample.{taken, tells, tells_at, tells_unless}
 use Rattle.wl_xdg_state.specs.Popups.{is_toplevel}
 use Rattle.wl_xdg_state.specs.Positioner.{Positioner}
 use Rattle.wl_xdg_state.specs.Shell.{Effect, Stays, Unconfigured, Configures, Maps, Unmaps, XdgSurface, xdg_at, xdg_of}
-use Rattle.wl_plain.specs.Changing.{callbacks_of, changed_for, drawing, effect_done, grab_allowed, grabbed, has_focus, in_rising_order, mode_set, popup_given_to, stacked_by, stacked_for}
+use Rattle.wl_plain.specs.Changing.{Placing, placement_now, callbacks_of, changed_for, drawing, effect_placing, grab_allowed, grabbed, has_focus, in_rising_order, mode_set, popup_given_to, stacked_by, stacked_for}
 use Rattle.wl_plain.specs.Changing.{tree_committed}
 use Rattle.wl_plain.specs.Demand.{Demand, Asks, EndSurface, AskFrame, CommitTree, GetSubsurface, EndSubsurface, SetMode, GetPointer, MakeCursor, CreatePositioner, EndPositioner}
 use Rattle.wl_plain.specs.Demand.{SetPositioner, GetPopup, Grab, EndPopup, EndToplevel, Move}
@@ -160,14 +160,14 @@ without-quiet : (gone : List Callback) (p : Peer) → ((fold (λ p callback. rem
 without-quiet [] p = (refl, refl)
 without-quiet (callback ∷ gone) p = without-quiet gone (removed callback.id p)
 
-effect-quiet : (c surface : ℕ) (effect : Effect) (x : Option XdgSurface) (d : Desktop) (r : Resident) → ((effect_done c surface effect x d r).peer.status ≡ r.peer.status)
-    × ((effect_done c surface effect x d r).peer.rest ≡ r.peer.rest)
-effect-quiet c surface effect None d r = (refl, refl)
-effect-quiet c surface Stays (Some x) d r = (refl, refl)
-effect-quiet c surface Unconfigured (Some x) d r = (refl, refl)
-effect-quiet c surface Configures (Some x) d r = (refl, refl)
-effect-quiet c surface Maps (Some x) d r = (refl, refl)
-effect-quiet c surface Unmaps (Some x) d r = (refl, refl)
+effect-quiet : (where_to : Placing) (surface : ℕ) (effect : Effect) (x : Option XdgSurface) (r : Resident) → ((effect_placing where_to surface effect x r).peer.status ≡ r.peer.status)
+    × ((effect_placing where_to surface effect x r).peer.rest ≡ r.peer.rest)
+effect-quiet where_to surface effect None r = (refl, refl)
+effect-quiet where_to surface Stays (Some x) r = (refl, refl)
+effect-quiet where_to surface Unconfigured (Some x) r = (refl, refl)
+effect-quiet where_to surface Configures (Some x) r = (refl, refl)
+effect-quiet where_to surface Maps (Some x) r = (refl, refl)
+effect-quiet where_to surface Unmaps (Some x) r = (refl, refl)
 
 mode-quiet : (link : ℕ) (b : Bool) (r : Resident) → ((mode_set link b r).peer.status ≡ r.peer.status) × ((mode_set link b r).peer.rest ≡ r.peer.rest)
 mode-quiet link true r = (refl, refl)
@@ -186,7 +186,7 @@ pub change-quiet : (c : ℕ) (demand : Demand) (d : Desktop) (r : Resident) → 
 change-quiet c (Asks ask) d r = (ask-status ask r, ask-rest ask r)
 change-quiet c (EndSurface id) d r = without-quiet (callbacks_of id r) _
 change-quiet c (AskFrame id version surface) d r = (refl, refl)
-change-quiet c (CommitTree surface) d r = effect-quiet c surface (effect_of_commit r surface) (xdg_of surface r.owned.shell) d (tree_committed surface r)
+change-quiet c (CommitTree surface) d r = effect-quiet (placement_now c r d) surface (effect_of_commit r surface) (xdg_of surface r.owned.shell) (tree_committed surface r)
 change-quiet c (GetSubsurface id version child parent) d r = (refl, refl)
 change-quiet c (EndSubsurface id) d r = (refl, refl)
 change-quiet c (SetMode link synchronised) d r = mode-quiet link synchronised r

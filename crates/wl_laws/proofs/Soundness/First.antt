@@ -5,7 +5,7 @@ use Rattle.wl_peer.specs.Told.{Output}
 use Rattle.wl_state.specs.State.{History}
 use Rattle.wl_surface.specs.Surfaces.{Link, no_surfaces}
 use Rattle.wl_plain.specs.Desktop.{Resident, client_at, empty, owned_of, place}
-use Rattle.wl_plain.specs.Popups.{stacked_popups}
+use Rattle.wl_stacking.specs.Popups.{stacked_popups}
 use Rattle.wl_laws.specs.Soundness.{AreOnce, AreTrees, EmptyIsSound, IsLive, has_surface}
 use Rattle.wl_laws.proofs.Marks.Stacks.{differ}
 

@@ -10,7 +10,7 @@ use Rattle.wl_surface.specs.Surfaces.{Link, Surfaces}
 use Rattle.wl_xdg_state.specs.Positioner.{Positioner}
 use Rattle.wl_xdg_state.specs.Shell.{Effect, Stays, Unconfigured, Configures, Maps, Unmaps, XdgSurface as Xdg, xdg_at, xdg_of}
 use Rattle.wl_plain.specs.Ask.{Ask, Own, CreateSurface, AskSurface, EndObject, GetXdgSurface, DestroyXdgSurface, GetToplevel, Acknowledge, ConfigureAgain, Ignore}
-use Rattle.wl_plain.specs.Changing.{changed_for, drawing, effect_done, grab_allowed, grabbed, has_focus, in_rising_order, link_with_id, popup_given_to, tree_committed}
+use Rattle.wl_plain.specs.Changing.{Placing, placement_now, changed_for, drawing, effect_placing, grab_allowed, grabbed, has_focus, in_rising_order, link_with_id, popup_given_to, tree_committed}
 use Rattle.wl_plain.specs.Demand.{Demand, Asks, EndSurface, AskFrame, CommitTree, GetSubsurface, EndSubsurface, SetMode, GetPointer, MakeCursor, CreatePositioner, EndPositioner}
 use Rattle.wl_plain.specs.Demand.{SetPositioner, GetPopup, Grab, EndPopup, EndToplevel, Move}
 use Rattle.wl_plain.specs.Demanding.{effect_of_commit}
@@ -82,13 +82,13 @@ module _ (r : Resident) (rest : List ℕ) where
 -- ---- the links make trees
 
 -- what is done beside surfaces leaves them
-effect-surfaces : (c surface : ℕ) (effect : Effect) (x : Option Xdg) (d : Desktop) (r : Resident) → (effect_done c surface effect x d r).owned.surfaces ≡ r.owned.surfaces
-effect-surfaces c surface effect None d r = refl
-effect-surfaces c surface Stays (Some x) d r = refl
-effect-surfaces c surface Unconfigured (Some x) d r = refl
-effect-surfaces c surface Configures (Some x) d r = refl
-effect-surfaces c surface Maps (Some x) d r = refl
-effect-surfaces c surface Unmaps (Some x) d r = refl
+effect-surfaces : (where_to : Placing) (surface : ℕ) (effect : Effect) (x : Option Xdg) (r : Resident) → (effect_placing where_to surface effect x r).owned.surfaces ≡ r.owned.surfaces
+effect-surfaces where_to surface effect None r = refl
+effect-surfaces where_to surface Stays (Some x) r = refl
+effect-surfaces where_to surface Unconfigured (Some x) r = refl
+effect-surfaces where_to surface Configures (Some x) r = refl
+effect-surfaces where_to surface Maps (Some x) r = refl
+effect-surfaces where_to surface Unmaps (Some x) r = refl
 
 grab-surfaces : (b : Bool) (xdg : ℕ) (r : Resident) → (grabbed b xdg r).owned.surfaces ≡ r.owned.surfaces
 grab-surfaces true xdg r = refl
@@ -142,7 +142,7 @@ forest-kept c (AskFrame id version surface) r d ok roles forest =
     next r.peer.requests _ (forest-asked r.peer.requests surface (Frame r.peer.requests) r.owned.surfaces tt forest)
 forest-kept c (CommitTree surface) r d ok roles forest =
     by-same r.peer.requests (tree_committed surface r).owned.surfaces _
-    (effect-surfaces c surface (effect_of_commit r surface) (xdg_of surface r.owned.shell) d (tree_committed surface r))
+    (effect-surfaces (placement_now c r d) surface (effect_of_commit r surface) (xdg_of surface r.owned.shell) (tree_committed surface r))
     (forest-committed r.peer.requests surface r.owned.surfaces forest)
 forest-kept c (GetSubsurface id version child parent) r d ok roles forest =
     forest-linked r.peer.requests child parent r.owned.surfaces forest (no-child r child roles ok.3) ok.5 ok.6

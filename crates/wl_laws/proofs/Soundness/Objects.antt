@@ -23,8 +23,8 @@ use Rattle.wl_xdg_state.specs.Shell.{Effect, Stays, Unconfigured, Configures, Ma
 use Rattle.wl_xdg_state.specs.Shell.{without_role, xdg_at, xdg_of}
 use Rattle.wl_stacking.specs.Stacking.{Owned}
 use Rattle.wl_plain.specs.Ask.{Ask, Own, CreateSurface, AskSurface, EndObject, GetXdgSurface, DestroyXdgSurface, GetToplevel, Acknowledge, ConfigureAgain, Ignore}
-use Rattle.wl_plain.specs.Changing.{after_all, is_asked, link_with_id, unlinked_at, changed_for, drawing, effect_done, frame_asked, grab_allowed, grabbed, has_focus, in_rising_order, mode_set}
-use Rattle.wl_plain.specs.Changing.{placement_now, popup_given_to, subsurface_ended, subsurface_given, surface_ended, toplevel_ended, tree_committed, without_callbacks, without_child}
+use Rattle.wl_plain.specs.Changing.{after_all, is_asked, link_with_id, unlinked_at, changed_for, drawing, effect_placing, frame_asked, grab_allowed, grabbed, has_focus, in_rising_order, mode_set}
+use Rattle.wl_plain.specs.Changing.{Placing, placement_now, popup_given_to, subsurface_ended, subsurface_given, surface_ended, toplevel_ended, tree_committed, without_callbacks, without_child}
 use Rattle.wl_plain.specs.Demand.{Demand, Asks, EndSurface, AskFrame, CommitTree, GetSubsurface, EndSubsurface, SetMode, GetPointer, MakeCursor, CreatePositioner, EndPositioner}
 use Rattle.wl_plain.specs.Demand.{SetPositioner, GetPopup, Grab, EndPopup, EndToplevel, Move}
 use Rattle.wl_plain.specs.Demanding.{effect_of_commit}
@@ -77,17 +77,17 @@ xdg-has r id change brings h =
 configured-has : (r : Resident) (id : ℕ) → HasOf r → HasOf (configured id r)
 configured-has r id h = xdg-has r id (configuring r.peer.serial) (no-id-configured r.peer.serial) h
 
-effect-has : (c surface : ℕ) (effect : Effect) (x : Option Xdg) (d : Desktop) (q : Resident) → HasOf q → HasOf (effect_done c surface effect x d q)
-effect-has c surface effect None d q h = h
-effect-has c surface Stays (Some x) d q h = xdg-has q x.id (λ y. y) no-id-itself h
-effect-has c surface Unconfigured (Some x) d q h = xdg-has q x.id (λ y. y) no-id-itself h
-effect-has c surface Configures (Some x) d q h =
-    let placed : Xdg → Xdg = λ y. popup_changed (placing (placement_now c q d)) (in_stage Waiting y) in
+effect-has : (where_to : Placing) (surface : ℕ) (effect : Effect) (x : Option Xdg) (q : Resident) → HasOf q → HasOf (effect_placing where_to surface effect x q)
+effect-has where_to surface effect None q h = h
+effect-has where_to surface Stays (Some x) q h = xdg-has q x.id (λ y. y) no-id-itself h
+effect-has where_to surface Unconfigured (Some x) q h = xdg-has q x.id (λ y. y) no-id-itself h
+effect-has where_to surface Configures (Some x) q h =
+    let placed : Xdg → Xdg = λ y. popup_changed (placing where_to) (in_stage Waiting y) in
     xdg-has q x.id (λ y. configuring q.peer.serial (placed y))
-    (no-id-then placed (configuring q.peer.serial) (no-id-then (in_stage Waiting) (popup_changed (placing (placement_now c q d))) (no-id-stage Waiting) (no-id-popup (placing (placement_now c q d))))
+    (no-id-then placed (configuring q.peer.serial) (no-id-then (in_stage Waiting) (popup_changed (placing where_to)) (no-id-stage Waiting) (no-id-popup (placing where_to)))
     (no-id-configured q.peer.serial)) h
-effect-has c surface Maps (Some x) d q h = xdg-has q x.id (in_stage Mapped) (no-id-stage Mapped) h
-effect-has c surface Unmaps (Some x) d q h =
+effect-has where_to surface Maps (Some x) q h = xdg-has q x.id (in_stage Mapped) (no-id-stage Mapped) h
+effect-has where_to surface Unmaps (Some x) q h =
     xdg-has q x.id (λ x. popup_changed without_grab (unmapping (asked_so_far surface q) x))
     (no-id-then (unmapping (asked_so_far surface q)) (popup_changed without_grab) (no-id-unmapped (asked_so_far surface q)) (no-id-popup without_grab)) h
 
@@ -236,7 +236,7 @@ changed-has : (c : ℕ) (demand : Demand) (r : Resident) (d : Desktop) → IsAll
 changed-has c (Asks ask) r d ok h = asks-has ask r ok h
 changed-has c (EndSurface id) r d ok h = surface-gone id r ok.0 h
 changed-has c (AskFrame id version surface) r d ok h = frame-made id version surface r ok h
-changed-has c (CommitTree surface) r d ok h = effect-has c surface (effect_of_commit r surface) (xdg_of surface r.owned.shell) d (tree_committed surface r) (tree-has surface r h)
+changed-has c (CommitTree surface) r d ok h = effect-has (placement_now c r d) surface (effect_of_commit r surface) (xdg_of surface r.owned.shell) (tree_committed surface r) (tree-has surface r h)
 changed-has c (GetSubsurface id version child parent) r d ok h = subsurface-made id version child parent r ok.0 h
 changed-has c (EndSubsurface id) r d ok h = subsurface-gone id r ok h
 changed-has c (SetMode link synchronised) r d ok h = mode-has link synchronised r h

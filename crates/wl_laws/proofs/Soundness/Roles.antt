@@ -20,7 +20,7 @@ use Rattle.wl_plain.specs.WlSubsurface.{is_of_child}
 use Rattle.wl_plain.specs.XdgShell.{role_of, is_foreign}
 use Rattle.wl_laws.proofs.Soundness.Orderly.{HasRoles, KeepsLinks, KeepsTrees, role_in, IsForest, HasObjects, IsAllowed, IsAsked}
 use Rattle.wl_laws.proofs.Lists.Keys.{apart-left, apart-map, found-map, none-left, differ, found-fails, found-passes, new-apart, new-elsewhere, any-found, found-any}
-use Rattle.wl_plain.specs.Changing.{popup_given_to, link_with_id, subsurface_ended, subsurface_given, surface_ended, without_child, changed_for, commit_done, drawing, effect_done, frame_asked}
+use Rattle.wl_plain.specs.Changing.{Placing, placement_now, popup_given_to, link_with_id, subsurface_ended, subsurface_given, surface_ended, without_child, changed_for, commit_done, drawing, effect_placing, frame_asked}
 use Rattle.wl_plain.specs.Changing.{grab_allowed, grabbed, has_focus, in_rising_order, mode_set, pointer_given, popup_given, toplevel_ended, tree_committed}
 use Rattle.wl_xdg_state.specs.Positioner.{Positioner}
 use Rattle.wl_plain.specs.WlPointer.{is_no_cursor}
@@ -349,18 +349,18 @@ roles-destroyed surface r links has =
 
 -- ---- a commit
 
-roles-effect : (c surface : ℕ) (effect : Effect) (o : Option XdgSurface) (d : Desktop) (r : Resident) → HasRoles r → HasRoles (effect_done c surface effect o d r)
-roles-effect c surface effect None d r has = has
-roles-effect c surface Stays (Some x) d r has = roles-shell r (with_change x.id (λ y. y) r.owned.shell) (shell-changed x.id (λ y. y) r.owned.shell (λ y. refl)) has
-roles-effect c surface Unconfigured (Some x) d r has = roles-shell r (with_change x.id (λ y. y) r.owned.shell) (shell-changed x.id (λ y. y) r.owned.shell (λ y. refl)) has
-roles-effect c surface Configures (Some x) d r has =
-    roles-trees r (effect_done c surface Configures (Some x) d r) (trees-same r.owned.surfaces) (shell-changed x.id _ r.owned.shell (λ y. refl)) refl has
-roles-effect c surface Maps (Some x) d r has = roles-shell r (with_change x.id (in_stage Mapped) r.owned.shell) (shell-changed x.id (in_stage Mapped) r.owned.shell (λ y. refl)) has
-roles-effect c surface Unmaps (Some x) d r has = roles-shell r _ (shell-changed x.id _ r.owned.shell (λ y. refl)) has
+roles-effect : (where_to : Placing) (surface : ℕ) (effect : Effect) (o : Option XdgSurface) (r : Resident) → HasRoles r → HasRoles (effect_placing where_to surface effect o r)
+roles-effect where_to surface effect None r has = has
+roles-effect where_to surface Stays (Some x) r has = roles-shell r (with_change x.id (λ y. y) r.owned.shell) (shell-changed x.id (λ y. y) r.owned.shell (λ y. refl)) has
+roles-effect where_to surface Unconfigured (Some x) r has = roles-shell r (with_change x.id (λ y. y) r.owned.shell) (shell-changed x.id (λ y. y) r.owned.shell (λ y. refl)) has
+roles-effect where_to surface Configures (Some x) r has =
+    roles-trees r (effect_placing where_to surface Configures (Some x) r) (trees-same r.owned.surfaces) (shell-changed x.id _ r.owned.shell (λ y. refl)) refl has
+roles-effect where_to surface Maps (Some x) r has = roles-shell r (with_change x.id (in_stage Mapped) r.owned.shell) (shell-changed x.id (in_stage Mapped) r.owned.shell (λ y. refl)) has
+roles-effect where_to surface Unmaps (Some x) r has = roles-shell r _ (shell-changed x.id _ r.owned.shell (λ y. refl)) has
 
 pub roles-committed : (c surface : ℕ) (r : Resident) (d : Desktop) → HasRoles r → HasRoles (commit_done c surface r d)
 roles-committed c surface r d has =
-    roles-effect c surface (effect_of_commit r surface) (xdg_of surface r.owned.shell) d (tree_committed surface r)
+    roles-effect (placement_now c r d) surface (effect_of_commit r surface) (xdg_of surface r.owned.shell) (tree_committed surface r)
     (roles-trees r (tree_committed surface r) (trees-committed surface r.owned.surfaces) (shell-same r.owned.shell) refl has)
 
 -- ---- all messages

@@ -12,7 +12,7 @@ use Rattle.wl_xdg_state.specs.Shell.{Effect, Stays, Unconfigured, Configures, Ma
 use Rattle.wl_surface.specs.Surfaces.{is_used}
 use Rattle.wl_surface.specs.Waiting.{Callback}
 use Rattle.wl_plain.specs.Ask.{Ask, Own, CreateSurface, AskSurface, EndObject, GetXdgSurface, DestroyXdgSurface, GetToplevel, Acknowledge, ConfigureAgain, Ignore}
-use Rattle.wl_plain.specs.Changing.{callbacks_of, changed_for, drawing, effect_done, grab_allowed, grabbed, has_focus, in_rising_order, mode_set, popup_given_to, tree_committed}
+use Rattle.wl_plain.specs.Changing.{Placing, placement_now, callbacks_of, changed_for, drawing, effect_placing, grab_allowed, grabbed, has_focus, in_rising_order, mode_set, popup_given_to, tree_committed}
 use Rattle.wl_plain.specs.Demand.{Demand, Asks, EndSurface, AskFrame, CommitTree, GetSubsurface, EndSubsurface, SetMode, GetPointer, MakeCursor, CreatePositioner, EndPositioner}
 use Rattle.wl_plain.specs.Demand.{SetPositioner, GetPopup, Grab, EndPopup, EndToplevel, Move}
 use Rattle.wl_plain.specs.Demanding.{effect_of_commit}
@@ -60,13 +60,13 @@ pub callbacks-steady : (gone : List Callback) (p : Peer) → IsSteady p (fold (�
 callbacks-steady [] p = (refl, refl)
 callbacks-steady (callback ∷ gone) p = callbacks-steady gone (removed callback.id p)
 
-effect-steady : (c surface : ℕ) (effect : Effect) (x : Option XdgSurface) (d : Desktop) (r : Resident) → IsSteady r.peer (effect_done c surface effect x d r).peer
-effect-steady c surface effect None d r = (refl, refl)
-effect-steady c surface Stays (Some x) d r = (refl, refl)
-effect-steady c surface Unconfigured (Some x) d r = (refl, refl)
-effect-steady c surface Configures (Some x) d r = (refl, refl)
-effect-steady c surface Maps (Some x) d r = (refl, refl)
-effect-steady c surface Unmaps (Some x) d r = (refl, refl)
+effect-steady : (where_to : Placing) (surface : ℕ) (effect : Effect) (x : Option XdgSurface) (r : Resident) → IsSteady r.peer (effect_placing where_to surface effect x r).peer
+effect-steady where_to surface effect None r = (refl, refl)
+effect-steady where_to surface Stays (Some x) r = (refl, refl)
+effect-steady where_to surface Unconfigured (Some x) r = (refl, refl)
+effect-steady where_to surface Configures (Some x) r = (refl, refl)
+effect-steady where_to surface Maps (Some x) r = (refl, refl)
+effect-steady where_to surface Unmaps (Some x) r = (refl, refl)
 
 mode-steady : (link : ℕ) (b : Bool) (r : Resident) → IsSteady r.peer (mode_set link b r).peer
 mode-steady link true r = (refl, refl)
@@ -88,7 +88,7 @@ pub changed-steady : (c : ℕ) (demand : Demand) (d : Desktop) (r : Resident) �
 changed-steady c (Asks ask) d r = asked-steady ask r
 changed-steady c (EndSurface id) d r = callbacks-steady (callbacks_of id r) _
 changed-steady c (AskFrame id version surface) d r = (refl, refl)
-changed-steady c (CommitTree surface) d r = effect-steady c surface (effect_of_commit r surface) (xdg_of surface r.owned.shell) d (tree_committed surface r)
+changed-steady c (CommitTree surface) d r = effect-steady (placement_now c r d) surface (effect_of_commit r surface) (xdg_of surface r.owned.shell) (tree_committed surface r)
 changed-steady c (GetSubsurface id version child parent) d r = (refl, refl)
 changed-steady c (EndSubsurface id) d r = (refl, refl)
 changed-steady c (SetMode link synchronised) d r = mode-steady link synchronised r

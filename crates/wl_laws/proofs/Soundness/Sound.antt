@@ -11,7 +11,7 @@ use Rattle.wl_stacking.specs.Stacking.{Owned, Standing, is_of}
 use Rattle.wl_plain.specs.Desktop.{Desktop, Resident, client_at, owned_in, owned_of, toplevels_of}
 use Rattle.wl_laws.specs.Laws.{AreApart}
 use Rattle.wl_laws.specs.Apart.{AreApartBy}
-use Rattle.wl_plain.specs.Popups.{stacked_popup, stacked_popups}
+use Rattle.wl_stacking.specs.Popups.{stacked_popup, stacked_popups}
 use Rattle.wl_laws.specs.Soundness.{AreOnce, AreTrees, IsLive, IsNoChild, IsSound, has_surface}
 use Rattle.wl_laws.proofs.Soundness.Orderly.{AreOrderly, IsForest, IsMapped, IsMappedRole, IsOrderly, IsOrderlyAt, IsOrderlyBy}
 use Rattle.wl_laws.proofs.Soundness.First.{no-trees}

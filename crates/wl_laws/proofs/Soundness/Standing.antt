@@ -13,7 +13,7 @@ use Rattle.wl_xdg_state.specs.Shell.{with_change, with_new, without_xdg, xdg_at,
 use Rattle.wl_xdg_state.specs.Shell.{xdg_with}
 use Rattle.wl_stacking.specs.Stacking.{Standing, is_of, with_mapped, without_surface_of, Owned}
 use Rattle.wl_stacking.specs.Windows.{mapping_place, Window}
-use Rattle.wl_plain.specs.Changing.{commit_done, effect_done, stacked_by, tree_committed, grabbed, popup_given_to, changed_for, drawing, grab_allowed, has_focus, in_rising_order, stacked_for}
+use Rattle.wl_plain.specs.Changing.{Placing, commit_done, effect_placing, placement_now, stacked_by, tree_committed, grabbed, popup_given_to, changed_for, drawing, grab_allowed, has_focus, in_rising_order, stacked_for}
 use Rattle.wl_plain.specs.Changing.{toplevel_ended}
 use Rattle.wl_plain.specs.Demanding.{effect_for_xdg, is_dismissed, effect_of_commit, effect_on_xdg}
 use Rattle.wl_laws.specs.Laws.{AreApart}
@@ -322,20 +322,20 @@ standing-still id shell tops stands =
     standing-same shell (with_change id (λ y. y) shell) tops (λ other here. mapped-changed id (λ y. y) shell other (λ y. refl) (λ y there same role. role) here) stands
 
 commit-effect :
-    (c surface : ℕ) (r : Resident) (d : Desktop) (x : XdgSurface) (shows : Bool) → AreApartBy (λ id x. x.id == id) r.owned.shell → xdg_of surface r.owned.shell ≡ Some x
+    (c surface : ℕ) (where_to : Placing) (r : Resident) (d : Desktop) (x : XdgSurface) (shows : Bool) → AreApartBy (λ id x. x.id == id) r.owned.shell → xdg_of surface r.owned.shell ≡ Some x
     → StandsSo r.owned.shell (toplevels_of c d)
-    → (e : Effect) → effect_for_xdg shows x ≡ e → StandsSo (effect_done c surface e (Some x) d (tree_committed surface r)).owned.shell
+    → (e : Effect) → effect_for_xdg shows x ≡ e → StandsSo (effect_placing where_to surface e (Some x) (tree_committed surface r)).owned.shell
     (toplevels_of c (stacked_by e (is_toplevel (Some x)) c surface d))
-commit-effect c surface r d x shows apart found stands Stays is = standing-still x.id r.owned.shell (toplevels_of c d) stands
-commit-effect c surface r d x shows apart found stands Unconfigured is = standing-still x.id r.owned.shell (toplevels_of c d) stands
-commit-effect c surface r d x shows apart found stands Configures is =
+commit-effect c surface where_to r d x shows apart found stands Stays is = standing-still x.id r.owned.shell (toplevels_of c d) stands
+commit-effect c surface where_to r d x shows apart found stands Unconfigured is = standing-still x.id r.owned.shell (toplevels_of c d) stands
+commit-effect c surface where_to r d x shows apart found stands Configures is =
     standing-same r.owned.shell _ (toplevels_of c d) (λ other here. commit-waits c surface r.owned.shell x apart found shows _ other (λ y. refl) is here) stands
-commit-effect c surface r d x shows apart found stands Maps is = at (is_toplevel (Some x)) refl
+commit-effect c surface where_to r d x shows apart found stands Maps is = at (is_toplevel (Some x)) refl
   where
     at : (b : Bool) → is_toplevel (Some x) ≡ b → StandsSo (with_change x.id (in_stage Mapped) r.owned.shell) (toplevels_of c (stacked_by Maps b c surface d))
     at true e = commit-maps c surface r.owned.shell x apart found d.mappings shows d.standing is e stands
     at false e = standing-same r.owned.shell (with_change x.id (in_stage Mapped) r.owned.shell) (toplevels_of c d) (stays-mapped c surface r.owned.shell x apart found) stands
-commit-effect c surface r d x shows apart found stands Unmaps is = at (is_toplevel (Some x)) refl
+commit-effect c surface where_to r d x shows apart found stands Unmaps is = at (is_toplevel (Some x)) refl
   where
     change : XdgSurface → XdgSurface
     change y = popup_changed without_grab (unmapping (asked_so_far surface (tree_committed surface r)) y)
@@ -351,10 +351,10 @@ standing-committed :
 standing-committed c surface r d apart stands = at (xdg_of surface r.owned.shell) refl
   where
     at : (o : Option XdgSurface) → xdg_of surface r.owned.shell ≡ o
-        → StandsSo (effect_done c surface (effect_on_xdg (will_show r surface) o) o d (tree_committed surface r)).owned.shell
+        → StandsSo (effect_placing (placement_now c r d) surface (effect_on_xdg (will_show r surface) o) o (tree_committed surface r)).owned.shell
         (toplevels_of c (stacked_by (effect_on_xdg (will_show r surface) o) (is_toplevel o) c surface d))
     at None found = stands
-    at (Some x) found = commit-effect c surface r d x (will_show r surface) apart found stands (effect_for_xdg (will_show r surface) x) refl
+    at (Some x) found = commit-effect c surface (placement_now c r d) r d x (will_show r surface) apart found stands (effect_for_xdg (will_show r surface) x) refl
 
 -- ---- a role object comes, or goes
 

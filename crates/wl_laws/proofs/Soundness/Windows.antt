@@ -10,7 +10,7 @@ use Rattle.wl_stacking.specs.Windows.{Root, StackedPopup, Window, owner_of, root
 use Rattle.wl_plain.specs.Desktop.{Desktop, owned_in}
 use Rattle.wl_laws.specs.Laws.{AreApart}
 use Rattle.wl_plain.specs.Marks.{AreDistinct, is_same_surface}
-use Rattle.wl_plain.specs.Popups.{stacked_popups}
+use Rattle.wl_stacking.specs.Popups.{stacked_popups}
 use Rattle.wl_laws.specs.Soundness.{AreOnce, AreTrees, IsNoChild, IsSound, SoundIsDistinct, has_surface}
 use Rattle.wl_laws.proofs.Marks.Stacks.{Each, and-both, and-right, differ, each-both, each-map, equal-numbers, or-left, or-right, same-number, unless}
 use Rattle.wl_laws.proofs.Soundness.Trees.{IsUnder, Under, all-there, each-append, each-flat, flat-distinct, none-append, or-none, same-client, same-surface, tree-distinct, tree-each, under-one}
