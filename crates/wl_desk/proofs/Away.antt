@@ -65,17 +65,11 @@ gone-windowless c d e was orderly gone =
 pub away-windowless : (c : ℕ) (d : Desktop) → Orderly d → IsAway c d → list_any (λ (w : Window). w.owner.client == c) (all_windows d) ≡ false
 away-windowless c d orderly away = gone-windowless c d d orderly orderly (away-gone c d orderly away)
 
--- the windows that may contain the point are all
-pub has-window : (c : ℕ) (x y : ℤ) (d : Desktop) → Orderly d → has_window_at c x y d ≡ list_any (λ w. (w.owner.client == c) && contains w x y) (all_windows d)
-has-window c x y d orderly =
-    ap (λ (ws : List Window). list_any (λ w. (w.owner.client == c) && contains w x y) ws) (sym (windows_are_toplevels d (orderly_has_no_popups d orderly)))
-
 pub away-nowhere : (c : ℕ) (d : Desktop) → Orderly d → IsAway c d → (x y : ℤ) → has_window_at c x y d ≡ false
 away-nowhere c d orderly away x y =
     unless (has_window_at c x y d)
     (λ there. differ (sym (away-windowless c d orderly away)
-    ∙ any-more (λ (w : Window). (w.owner.client == c) && contains w x y) (λ w. w.owner.client == c) (λ w f. and-left (w.owner.client == c) (contains w x y) f) (all_windows d)
-    (sym (has-window c x y d orderly) ∙ there)))
+    ∙ any-more (λ (w : Window). (w.owner.client == c) && contains w x y) (λ w. w.owner.client == c) (λ w f. and-left (w.owner.client == c) (contains w x y) f) (all_windows d) there))
 
 -- ---- what is marked where it had some
 
@@ -101,7 +95,7 @@ lost-most c d e x y was orderly away inside there =
     or_left (marks_at_least d e x y) _
     (and-both (in_output d.output.width d.output.height x y) _ inside
     (or_left _ _ (or_left _ _
-    (lost-changed c x y (all_windows d) (all_windows e) (away-windowless c e orderly away) (sym (has-window c x y d was) ∙ there)))))
+    (lost-changed c x y (all_windows d) (all_windows e) (away-windowless c e orderly away) there))))
 
 -- each point of an output's sides is in it
 pub within-output : (width height x y : ℕ) → x < width → y < height → in_output width height (pos x) (pos y) ≡ true

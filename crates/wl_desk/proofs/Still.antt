@@ -50,9 +50,6 @@ windows_by owned standing = windows (λ c. (owned c).surfaces) (λ c. stacked_po
 pub still-windows : (d e : Desktop) → IsStill d e → all_windows e ≡ all_windows d
 still-windows d e still = ap₂ (λ (owned : ℕ → Owns) (standing : List Standing). windows_by owned standing) (fun_ext still.owned) still.standing
 
-pub still-shown : (d e : Desktop) → IsStill d e → windows_on (owned_in e) e.standing ≡ windows_on (owned_in d) d.standing
-still-shown d e still = ap₂ (λ (owned : ℕ → Owns) (standing : List Standing). windows_on owned standing) (fun_ext still.owned) still.standing
-
 -- ---- nothing is marked
 
 and-none : (b : Bool) → (b && false) ≡ false

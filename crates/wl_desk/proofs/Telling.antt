@@ -18,7 +18,7 @@ use Rattle.wl_invariants.proofs.OrderlyClients.Clients.{orderly_has_no_popups}
 use Rattle.wl_changes.specs.Ways.{IsGone}
 use Rattle.wl_changes.proofs.MessageWays.Ends.{untold_is_gone}
 use Rattle.wl_changes.proofs.MessageWays.Gone.{gone_windows}
-use Rattle.wl_desk.proofs.Still.{IsStill, put-still, same-still, still-shown}
+use Rattle.wl_desk.proofs.Still.{IsStill, put-still, same-still, still-windows}
 
 -- ---- the client that is told
 
@@ -100,14 +100,10 @@ fate-output c d e (inr gone) = gone.output
 
 -- each window of the one desktop is one of the other
 abbrev pub HasNoNew : Desktop → Desktop → Type 0
-HasNoNew d e = (p : Window → Bool) → list_any p (windows_on (owned_in e) e.standing) ≡ true → list_any p (windows_on (owned_in d) d.standing) ≡ true
+HasNoNew d e = (p : Window → Bool) → list_any p (all_windows e) ≡ true → list_any p (all_windows d) ≡ true
 
 pub fate-windows : (c : ℕ) (d e : Desktop) → Orderly d → Orderly e → IsStill d e ⊎ IsGone c d e → HasNoNew d e
-fate-windows c d e was is (inl still) p there = ap (λ (ws : List Window). list_any p ws) (sym (still-shown d e still)) ∙ there
+fate-windows c d e was is (inl still) p there = ap (λ (ws : List Window). list_any p ws) (sym (still-windows d e still)) ∙ there
 fate-windows c d e was is (inr gone) p there =
-    let before = windows_are_toplevels d (orderly_has_no_popups d was) in
-    let later = windows_are_toplevels e (orderly_has_no_popups e is) in
-    any-of-filter p (λ w. not (w.owner.client == c)) (windows_on (owned_in d) d.standing)
-    (ap (λ (ws : List Window). list_any p ws)
-    (ap (λ (ws : List Window). filter (λ w. not (w.owner.client == c)) ws) (sym before) ∙ sym (gone_windows c d e (orderly_has_no_popups d was) (orderly_has_no_popups e is) gone) ∙ later)
-    ∙ there)
+    any-of-filter p (λ w. not (w.owner.client == c)) (all_windows d)
+    (ap (λ (ws : List Window). list_any p ws) (sym (gone_windows c d e (orderly_has_no_popups d was) (orderly_has_no_popups e is) gone)) ∙ there)

@@ -1,9 +1,9 @@
--- Whether a toplevel of a client shows a point: popups are not looked for.
+-- Whether a client shows a point, by a toplevel, a popup or what is below them.
 use Rattle.std.specs.Prelude.{ℕ, ℤ, ◌==◌, ◌&&◌, Bool, List}
 use Rattle.std.specs.List.{list_any}
 use Rattle.wl_stacking.specs.Windows.{Window, contains}
-use Rattle.wl_stacking.specs.Stacking.{windows_on}
-use Rattle.wl_plain.specs.Desktop.{Desktop, owned_in}
+use Rattle.wl_plain.specs.Desktop.{Desktop}
+use Rattle.wl_plain.specs.Stacked.{all_windows}
 
 -- one of these windows is of a surface that passes, and contains the point
 abbrev pub any_window_at : (ℕ → ℕ → Bool) → ℤ → ℤ → List Window → Bool
@@ -11,4 +11,4 @@ any_window_at is x y windows = list_any (λ w. is w.owner.client w.surface && co
 
 -- the desktop has a window of client c that contains the point
 abbrev pub has_window_at : ℕ → ℤ → ℤ → Desktop → Bool
-has_window_at c x y d = any_window_at (λ client surface. client == c) x y (windows_on (owned_in d) d.standing)
+has_window_at c x y d = any_window_at (λ client surface. client == c) x y (all_windows d)

@@ -42,7 +42,6 @@ own-windows : {A : Type 0} (c : ℕ) (others : ℕ → ById ℕ) (base d : Deskt
     → has_own c x y pile.windows ≡ has_window_at c x y d
 own-windows c others base d r kept pile seated orderly x y =
     own-stacked (with_numbers c (targets_in WlSurface kept.client.objects) others) c x y pile.windows (all_windows d) seated.windows
-    ∙ ap (λ (ws : List Window). list_any (λ w. (w.owner.client == c) && contains w x y) ws) (windows_are_toplevels d (orderly_has_no_popups d orderly))
 
 -- they are marked
 pub own-marked : {A : Type 0} (c : ℕ) (kept : Kept A) (pile : Pile) (old new : Damaged)

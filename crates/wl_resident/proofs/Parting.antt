@@ -87,10 +87,10 @@ own-among numbers c [] (w ∷ ws) are x y = absurd are
 own-among numbers c (s ∷ ss) [] are x y = absurd are
 
 -- What is kept of a client's windows has the points that they have on the desktop.
-pub own-has : (numbers : ℕ → ById ℕ) (c : ℕ) (all : List Stacked) (d : Desktop) → AreStacked numbers all (all_windows d) → NoPopups d → (x y : ℤ)
+pub own-has : (numbers : ℕ → ById ℕ) (c : ℕ) (all : List Stacked) (d : Desktop) → AreStacked numbers all (all_windows d) → (x y : ℤ)
     → has_own c x y all ≡ has_window_at c x y d
-own-has numbers c all d are none x y =
-    own-among numbers c all (all_windows d) are x y ∙ ap (λ (ws : List Window). any_window_at (λ client surface. client == c) x y ws) (windows_are_toplevels d none)
+own-has numbers c all d are x y =
+    own-among numbers c all (all_windows d) are x y
 
 -- ---- what was asked
 
@@ -146,7 +146,7 @@ module _ {A : Type 0} (c : ℕ) (others : ℕ → ById ℕ) (base d : Desktop) (
   pointed x y wide high =
       points x y wide high
       ∙ (or_assoc (has d0 x y) (has_own c (pos x) (pos y) pile.windows) (list_any (window_has (pos x) (pos y)) is)
-      ∙ ap (λ b. has d0 x y || (b || list_any (window_has (pos x) (pos y)) is)) (own-has nums c pile.windows d before.windows trees.no_popups (pos x) (pos y)))
+      ∙ ap (λ b. has d0 x y || (b || list_any (window_has (pos x) (pos y)) is)) (own-has nums c pile.windows d before.windows (pos x) (pos y)))
 
   here-had : is ≡ [] → (x y : ℤ) → here x y ≡ true → has_window_at c x y d ≡ true
   here-had none x y there =
@@ -204,8 +204,7 @@ module _ {A : Type 0} (c : ℕ) (others : ℕ → ById ℕ) (base d : Desktop) (
     where
       same : (x y : ℤ) → has_window_at c x y s.own ≡ has_window_at c x y d
       same x y =
-          ap (is_own_in c x y)
-          (sym (windows_are_toplevels s.own s.trees.no_popups) ∙ (h.0.windows ∙ windows_are_toplevels d trees.no_popups))
+          ap (is_own_in c x y) h.0.windows
 
       had : (x y : ℤ) → (marks_at_least d s.own x y ≡ true) ⊎ (has_window_at c x y s.own ≡ true) → here x y ≡ true
       had x y (inl marked) = absurd (differ (sym (nothing-is-marked d s.own h.0 x y) ∙ marked))

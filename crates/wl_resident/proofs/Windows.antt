@@ -69,10 +69,10 @@ module _ (c root : ℕ) (d e : Desktop) (t : ChangesTree c root d e) (was_none :
 
   -- the windows of the client before and after
   had : has_window_at c x y d ≡ is_own_in c x y (among t.below t.above t.was)
-  had = ap (is_own_in c x y) (sym (windows_are_toplevels d was_none) ∙ t.before)
+  had = ap (is_own_in c x y) t.before
 
   has : has_window_at c x y e ≡ is_own_in c x y (among t.below t.above t.is)
-  has = ap (is_own_in c x y) (sym (windows_are_toplevels e is_none) ∙ t.after)
+  has = ap (is_own_in c x y) t.after
 
   -- those below the tree, those of it, and those above
   from-below : (ws : List Window) → is_own_in c x y t.below ≡ true → is_own_in c x y (among t.below t.above ws) ≡ true

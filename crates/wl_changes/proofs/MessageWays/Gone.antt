@@ -92,17 +92,15 @@ module _ (c : ℕ) (d e : Desktop) (was : NoPopups d) (is : NoPopups e) (gone : 
   -- a point in a window of the client
   from-gone : list_any (is_gone_at (is_of_other c) (all_windows d) x y) (all_windows d) ≡ true → has_window_at c x y d ≡ true
   from-gone any =
-      subst (λ (ws : List Window). list_any (λ w. (w.owner.client == c) && contains w x y) ws ≡ true) (windows_are_toplevels d was)
-      (any-more (is_gone_at (is_of_other c) (all_windows d) x y) (λ w. (w.owner.client == c) && contains w x y)
+      any-more (is_gone_at (is_of_other c) (all_windows d) x y) (λ w. (w.owner.client == c) && contains w x y)
       (λ w f. and-both (w.owner.client == c) (contains w x y) (its-own c w (and-right (contains w x y) (not (is_of_other c w)) f))
-      (and-left (contains w x y) (not (is_of_other c w)) f)) (all_windows d) any)
+      (and-left (contains w x y) (not (is_of_other c w)) f)) (all_windows d) any
 
   to-gone : has_window_at c x y d ≡ true → list_any (λ w. contains w x y && not (is_of_other c w)) (all_windows d) ≡ true
   to-gone there =
       any-more (λ (w : Window). (w.owner.client == c) && contains w x y) (λ w. contains w x y && not (is_of_other c w))
       (λ w f. and-both (contains w x y) (not (is_of_other c w)) (and-right (w.owner.client == c) (contains w x y) f)
-      (ap (λ b. not (not b)) (and-left (w.owner.client == c) (contains w x y) f))) (all_windows d)
-      (subst (λ (ws : List Window). list_any (λ w. (w.owner.client == c) && contains w x y) ws ≡ true) (sym (windows_are_toplevels d was)) there)
+      (ap (λ b. not (not b)) (and-left (w.owner.client == c) (contains w x y) f))) (all_windows d) there
 
 pub gone_marks_least : GoneMarksLeast
 gone_marks_least c d e had later gone x y marked =
