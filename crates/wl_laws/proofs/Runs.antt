@@ -13,5 +13,6 @@ pub mod OnlyRun
 pub mod Output
 pub mod Places
 pub mod Serves
+pub mod Settled
 pub mod Stays
 pub mod Through

@@ -1,6 +1,7 @@
 pub mod Ample
 pub mod AnyPieces
 pub mod Apart
+pub mod Focus
 pub mod Happenings
 pub mod Laws
 pub mod Others

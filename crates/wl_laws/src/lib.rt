@@ -3,6 +3,7 @@
 #![tactic(auto)]
 
 ghost use Rattle.wl_laws.specs.AnyPieces.{AnyPieces};
+ghost use Rattle.wl_laws.specs.Focus.{ActsAreFew, FocusIsSettled, SettlingShowsNothing};
 ghost use Rattle.wl_laws.specs.Happenings.{HappeningsAreSound, MarkedThrough, PieceIsMessages};
 ghost use Rattle.wl_laws.specs.Laws.{LeastIsMost, ScratchStays, WindowsAreDistinct};
 ghost use Rattle.wl_laws.specs.Soundness.{EmptyIsSound, RunIsSound, SoundIsDistinct};
@@ -107,4 +108,20 @@ pub fn happenings_are_sound()
 /// What is marked through the desktops of whatever happens holds what is marked from the first to the last of them.
 pub fn marked_through()
     ensures { MarkedThrough }
+{}
+
+/// Whatever happens leaves the pointer's focus settled: it is what the pointer hits, or while a button is down what had it before, as long as
+/// that is shown (wayland.xml, wl_pointer.enter and leave). There are 32 clients at most, so 33 settlings are enough.
+pub fn focus_is_settled()
+    ensures { FocusIsSettled }
+{}
+
+/// To settle the focus changes no window and no toplevel that stands.
+pub fn settling_shows_nothing()
+    ensures { SettlingShowsNothing }
+{}
+
+/// Whatever comes in to the pointer, it does three things at most.
+pub fn acts_are_few()
+    ensures { ActsAreFew }
 {}

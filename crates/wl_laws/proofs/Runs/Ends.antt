@@ -167,12 +167,12 @@ settles-leads old sound = acts-lead Settle old sound
 ended-clients : (s : Strike) (d : Desktop) (r : Resident) → client_at s.client d ≡ Some r → (ended_by s d).clients ≡ with_number s.client (Some (resident_of (ended s.cause r.peer))) d.clients
 ended-clients s d r is = ap (λ o. (ended_at s.client s.cause o d).clients) is
 
-ended-after : (s : Strike) (ss : List Strike) (d : Desktop) → AreStruck (s ∷ ss) d.clients → Follows (s ∷ ss) d.clients ss (ended_by s d).clients
+pub ended-after : (s : Strike) (ss : List Strike) (d : Desktop) → AreStruck (s ∷ ss) d.clients → Follows (s ∷ ss) d.clients ss (ended_by s d).clients
 ended-after s ss d sound =
     subst (λ rs. Follows (s ∷ ss) d.clients ss rs) (sym (ended-clients s d sound.0.there sound.0.is))
     (ended-follows s ss d.clients (Some (resident_of (ended s.cause sound.0.there.peer))) sound refl)
 
-ended-one : (s : Strike) (ss : List Strike) (d : Desktop) → AreStruck (s ∷ ss) d.clients → suc (lasting (ended_by s d).clients) ≡ lasting d.clients
+pub ended-one : (s : Strike) (ss : List Strike) (d : Desktop) → AreStruck (s ∷ ss) d.clients → suc (lasting (ended_by s d).clients) ≡ lasting d.clients
 ended-one s ss d sound =
     ap (λ rs. suc (lasting rs)) (ended-clients s d sound.0.there sound.0.is)
     ∙ number-ends d.clients s.client (Some (resident_of (ended s.cause sound.0.there.peer))) s.cause sound.0 refl

@@ -24,7 +24,7 @@ gone-status (callback ∷ gone) p = gone-status gone (removed callback.id p)
 pub callbacks-status : (gone : List Callback) (r : Resident) → (without_callbacks gone r).peer.status ≡ r.peer.status
 callbacks-status gone r = gone-status gone r.peer
 
-frames-leads : (time n c : ℕ) (old : Midstep) → Sound old → Leads Midstep moving old (TellsFrames time n c old)
+pub frames-leads : (time n c : ℕ) (old : Midstep) → Sound old → Leads Midstep moving old (TellsFrames time n c old)
 frames-leads time zero c old sound = only Midstep moving old old (still _ _ sound)
 frames-leads time (suc n) c old sound =
     let told = tells-leads (λ r. without_callbacks (callbacks_due r) r) (frames_told time) (λ r. callbacks-status (callbacks_due r) r) c old sound in
