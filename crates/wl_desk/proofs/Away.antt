@@ -14,7 +14,6 @@ use Rattle.wl_plain.specs.Stacked.{all_windows}
 use Rattle.wl_laws.proofs.Lists.Standings.{any-gone}
 use Rattle.wl_laws.proofs.Marks.Stacks.{and-both, and-left, and-right, any-more, differ, equal-numbers, fields, or-left, or-right, unless}
 use Rattle.wl_invariants.specs.Touching.{has_window_at}
-use Rattle.wl_invariants.proofs.WithoutPopups.Windows.{windows_are_toplevels}
 use Rattle.wl_invariants.specs.Orderly.{Orderly, OrderlyAt}
 use Rattle.wl_invariants.proofs.OrderlyClients.Clients.{ended_own_nothing, orderly_has_no_popups}
 use Rattle.wl_changes.specs.Ways.{IsGone}

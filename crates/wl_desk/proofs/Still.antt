@@ -4,7 +4,7 @@ use Rattle.std.proofs.Math.Path.{fun_ext}
 use Rattle.std.specs.Prelude.{ℤ, ◌&&◌, is_some}
 use Rattle.wl_peer.specs.declared.cause.Cause.{Cause}
 use Rattle.wl_peer.specs.Peer.{Peer, with_rest}
-use Rattle.wl_stacking.specs.Stacking.{Owned as Owns, Standing, nothing_owned, root_of, windows_on}
+use Rattle.wl_stacking.specs.Stacking.{Owned as Owns, Standing, nothing_owned, root_of}
 use Rattle.wl_stacking.specs.Windows.{Window, contains, windows}
 use Rattle.wl_plain.specs.declared.answers.Done.{Done}
 use Rattle.wl_plain.specs.Act.{Close, IsClosed, IsSent, IsStored, Send, Store, lowest}

@@ -1,18 +1,17 @@
 -- What telling one client of a frame leaves of the desktop: the others are as they were, and where it doesn't end so is all that is shown.
 use Rattle.std.proofs.Common.{◌≡◌, ◌≢◌, ℕ, Bool, true, List, Option, Some, None, refl, ap, subst, sym, ◌∙◌, inl, inr}
 use Rattle.std.specs.List.{list_any}
-use Rattle.std.specs.Prelude.{◌⊎◌, ◌==◌, filter, is_some, not}
+use Rattle.std.specs.Prelude.{◌⊎◌, ◌==◌, is_some, not}
 use Rattle.wl_peer.specs.declared.cause.Cause.{Cause}
-use Rattle.wl_stacking.specs.Stacking.{windows_on}
 use Rattle.wl_stacking.specs.Windows.{Window}
-use Rattle.wl_plain.specs.Desktop.{Desktop, Resident, become_by, client_at, owned_in, owned_of, status_in, status_of}
+use Rattle.wl_plain.specs.Desktop.{Desktop, Resident, become_by, client_at, owned_of, status_in, status_of}
 use Rattle.wl_plain.specs.Framing.{FramesToldAt, FramesToldBy, done_due}
+use Rattle.wl_plain.specs.Stacked.{all_windows}
 use Rattle.wl_laws.proofs.Marks.Stacks.{differ}
 use Rattle.wl_laws.proofs.Runs.Fates.{same-or}
 use Rattle.wl_laws.proofs.Runs.Following.{Owns}
 use Rattle.wl_laws.proofs.Runs.Places.{other-become, status-become}
 use Rattle.wl_laws.proofs.Soundness.ObjectsKeys.{any-of-filter}
-use Rattle.wl_invariants.proofs.WithoutPopups.Windows.{windows_are_toplevels}
 use Rattle.wl_invariants.specs.Orderly.{Orderly}
 use Rattle.wl_invariants.proofs.OrderlyClients.Clients.{orderly_has_no_popups}
 use Rattle.wl_changes.specs.Ways.{IsGone}

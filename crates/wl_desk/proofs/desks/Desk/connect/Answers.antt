@@ -1,4 +1,4 @@
-use Rattle.std.proofs.Common.{ap, false, refl, ◌∙◌}
+use Rattle.std.proofs.Common.{ap, refl, ◌∙◌}
 use Rattle.std.proofs.lemmas.List.{length-set}
 use Rattle.wl_plain.specs.Act.{Connect, lowest}
 use Rattle.wl_resident.specs.View.{MarkedDesk, pile_of}
