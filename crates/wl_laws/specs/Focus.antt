@@ -17,13 +17,13 @@ abbrev pub IsSettled : Desktop → Type 0
 IsSettled d = d.pointer.focus ≡ settled d.pointer (all_windows d)
 
 -- a client that ended owns nothing
-abbrev pub EndedOwnNothing : Desktop → Type 0
-EndedOwnNothing d = (c : ℕ) (r : Resident) → client_at c d ≡ Some r → is_some r.peer.status ≡ true → r.owned ≡ nothing_owned
+abbrev pub EndedAreBare : Desktop → Type 0
+EndedAreBare d = (c : ℕ) (r : Resident) → client_at c d ≡ Some r → is_some r.peer.status ≡ true → r.owned ≡ nothing_owned
 
 -- Whatever happens leaves the focus settled: no client that is to end is left, of 32, when it was settled for the last time.
 abbrev pub FocusIsSettled : Type 0
 FocusIsSettled =
-    (left : LeftOut) (act : Act) (done : Done) (old new : Desktop) → length old.clients ≤ 32 → EndedOwnNothing old → IsSettled old
+    (left : LeftOut) (act : Act) (done : Done) (old new : Desktop) → length old.clients ≤ 32 → EndedAreBare old → IsSettled old
     → Happens left act done old new → IsSettled new
 
 -- To settle the focus shows nothing new: the windows stay, and so do the toplevels that stand.

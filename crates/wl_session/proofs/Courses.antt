@@ -35,6 +35,7 @@ use Rattle.wl_session.specs.Events.{AreApart, AreEvents, Event, IsMarked, MarksF
 use Rattle.wl_session.specs.Liars.{AreLiars, IsRightBut}
 use Rattle.wl_session.specs.Run.{IsNextFrame}
 use Rattle.wl_session.specs.View.{SessionView}
+use Rattle.wl_session.proofs.EachEnd.{is_losing_act, orderly-bare, unmarked-each, unmarked-one, unmarked-starving}
 use Rattle.wl_session.proofs.Most.{most-through}
 use Rattle.wl_session.proofs.Stays.{stays_right}
 
@@ -90,18 +91,19 @@ few-through h old new d e path raised a b leads most = λ x y wide high again. a
         or_right (has old.damage x y) _ (most-through (pos x) (pos y) served_now h d path e raised (agrees-apart old.desk d a) leads either)
 
 -- what shows no frame
-pub marked-course : (act : Act) (done : Done) (old new : SessionView) → is_tick act ≡ false → IsSingle act → AreParts act done (Single act done ∷ []) → new.frame ≡ old.frame
+pub marked-course : (act : Act) (done : Done) (old new : SessionView) → is_tick act ≡ false → is_losing_act act ≡ true → IsSingle act → AreParts act done (Single act done ∷ []) → new.frame ≡ old.frame
     → HasItsSides old.damage new.damage
     → TakesStep act done old.desk new.desk → MarksStep act done (marked old) (marked new) → MarksNoMore act done (marked old) (marked new)
     → (is_quiet_act act ≡ true → MarksNothing (marked old) (marked new)) → TakesCourse act done old new
-marked-course act done old new tick single parts frame sides step marks most quiet = λ d a.
+marked-course act done old new tick losing single parts frame sides step marks most quiet = λ d a.
     let e = step d a in
     course-of act done old new d e.0 single parts a e.1 e.2
     (λ path leads. subst (λ b. PaintsIf b (Single act done) (moment d old) path (moment e.0 new)) (sym tick) (record {
       frame = frame;
       sides = sides;
       marks = marks d e.0 a e.1;
-      each = tt;
+      each = λ x y wide high clean.
+          unmarked-each served_now act done d path e.0 (pos x) (pos y) losing (orderly-bare d a.orderly) (agrees-apart old.desk d a) leads (marks d e.0 a e.1 x y wide high clean).1;
       most = few-through (Single act done) (marked old) (marked new) d e.0 path (raised_in act d) a e.2 leads (most d e.0 a e.1 e.2);
       quiet = λ is. quiet is d a;
     }))
@@ -122,6 +124,8 @@ tick-course time done old new sides shows next = λ d a.
       sides = sides;
       none = s.5;
       marks = s.3;
+      each = λ x y wide high clean.
+          unmarked-each served_now (Tick time) done d path s.0 (pos x) (pos y) refl (orderly-bare d a.orderly) (agrees-apart old.desk d a) leads (s.3 x y wide high clean);
       most = λ x y wide high again.
           most-through (pos x) (pos y) served_now (Single (Tick time) done) d path s.0 None (agrees-apart old.desk d a) leads (s.4 x y wide high again);
     })
@@ -254,7 +258,7 @@ fed-course client piece done old kept new d frame damage a s happens b = at (cli
           frame = frame;
           sides = record { width = ap (λ (m : Damaged). m.width) damage; height = ap (λ (m : Damaged). m.height) damage };
           marks = λ x y w h clean. (ap (λ (m : Damaged). has m x y) (sym damage) ∙ clean, kept-unmarked old.desk client piece d a x y);
-          each = tt;
+          each = λ x y w h clean. unmarked-one d (kept_at client piece d) (kept_at client piece d ∷ []) (pos x) (pos y) refl (kept-unmarked old.desk client piece d a x y);
           most = λ x y w h again. or_left (has old.damage x y) _ (ap (λ (m : Damaged). has m x y) (sym damage) ∙ again);
           quiet = λ _ x y w h. ap (λ (m : Damaged). has m x y) damage;
         } in
@@ -297,7 +301,7 @@ lacking-course client piece done old new d e frame sides a alive ends marks most
           frame = frame;
           sides = sides;
           marks = marks;
-          each = tt;
+          each = λ x y wide high clean. unmarked-starving client (client_at client d) d through.0 e (pos x) (pos y) (agrees-apart old.desk d a) starves (marks x y wide high clean).1;
           most = few-through (Starve client) (marked old) (marked new) d e through.0 None a b starves most;
           quiet = λ no. absurd (differ (sym no));
         } in

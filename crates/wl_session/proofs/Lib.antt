@@ -8,3 +8,4 @@ pub mod Promised
 pub mod Courses
 pub mod Most
 pub mod Stays
+pub mod EachEnd

@@ -64,11 +64,10 @@ MarksFew raised d path old new =
     (x y : ℕ) → x < old.width → y < old.height → has new x y ≡ true
     → (has old x y || marks_at_most_through all_windows raised d path (pos x) (pos y)) ≡ true
 
--- A message marks what it has to by its own change, and by each end and each settling in turn.
-abbrev pub MarksEach : Happening → Desktop → List Desktop → Damaged → Damaged → Type 0
-MarksEach (Message client) d path old new =
+-- What has to be marked by the step's own change, and by each end and each settling in turn, is.
+abbrev pub MarksEach : Desktop → List Desktop → Damaged → Damaged → Type 0
+MarksEach d path old new =
     (x y : ℕ) → x < old.width → y < old.height → has new x y ≡ false → marks_at_least_through all_windows d path (pos x) (pos y) ≡ false
-MarksEach happening d path old new = Unit {0}
 
 -- Whatever happens but a frame leaves the last frame. What was to be painted again still is, and so is what has to be marked; nothing else
 -- is where nothing new is shown, and no more than may be along the desktops that it leads through.
@@ -76,7 +75,7 @@ pub record IsMarked (happening : Happening) (before : Moment) (path : List Deskt
   pub frame : after.frame ≡ before.frame
   pub sides : HasItsSides before.damage after.damage
   pub marks : MarksAtLeast before.desktop after.desktop before.damage after.damage
-  pub each : MarksEach happening before.desktop path before.damage after.damage
+  pub each : MarksEach before.desktop path before.damage after.damage
   pub most : MarksFew (raised_by happening before.desktop) before.desktop path before.damage after.damage
   pub quiet : is_quiet happening ≡ true → IsAsDamaged before.damage after.damage
 
@@ -91,6 +90,7 @@ pub record IsShown (before : Moment) (path : List Desktop) (after : Moment) : Ty
   pub marks :
       (x y : ℕ) → x < before.damage.width → y < before.damage.height → has after.damage x y ≡ false
       → marks_at_least before.desktop after.desktop (pos x) (pos y) ≡ false
+  pub each : MarksEach before.desktop path before.damage after.damage
   pub most :
       (x y : ℕ) → x < before.damage.width → y < before.damage.height → has after.damage x y ≡ true
       → marks_at_most_through all_windows None before.desktop path (pos x) (pos y) ≡ true

@@ -56,7 +56,7 @@ filter-every [] = refl
 filter-every (x ∷ xs) = ap (λ ys. x ∷ ys) (filter-every xs)
 
 -- what is left has no more than there was
-any-left : {X : Type 0} (keep p : X → Bool) (xs : List X) → list_any p (filter keep xs) ≡ true → list_any p xs ≡ true
+pub any-left : {X : Type 0} (keep p : X → Bool) (xs : List X) → list_any p (filter keep xs) ≡ true → list_any p xs ≡ true
 any-left keep p [] e = e
 any-left keep p (x ∷ xs) e = at (keep x) (any-left keep p xs) e
   where

@@ -64,7 +64,7 @@ before-whole c w v (x ∷ xs) e = go (c x) e (before-whole c w v xs) where
   go true g next = same (is_same_surface w x) g next
   go false g next = before-cons w v x xs (next g)
 
-distinct-kept : (c : Window → Bool) (xs : List Window) → AreDistinct xs → AreDistinct (filter c xs)
+pub distinct-kept : (c : Window → Bool) (xs : List Window) → AreDistinct xs → AreDistinct (filter c xs)
 distinct-kept c [] e = tt
 distinct-kept c (x ∷ xs) e = go (c x) (distinct-kept c xs e.1) where
   go : (b : Bool) → AreDistinct (filter c xs) → AreDistinct (cond b (x ∷ filter c xs) (filter c xs))

@@ -65,7 +65,7 @@ all-same (s ∷ ss) d = all-same ss (ended_by s d) ∙ ended-same s.client s.cau
 
 -- ---- events and the focus
 
-tells-still : (change : Resident → Resident) (events : Resident → List Said) (c : ℕ) (old new : Midstep) → Tells change events c old new → Still old new
+pub tells-still : (change : Resident → Resident) (events : Resident → List Said) (c : ℕ) (old new : Midstep) → Tells change events c old new → Still old new
 tells-still change events c old new h = at (client_at c old.desktop) h
   where
     unless : (b : Bool) (r : Resident) → TellsUnless b change events c r old new → Still old new

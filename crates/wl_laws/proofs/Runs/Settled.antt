@@ -42,24 +42,24 @@ use Rattle.wl_laws.proofs.Runs.Serves.{done-clients_stay, serves-leads}
 -- ---- what is shown stays
 
 -- the same toplevels stand, and each client owns what it did
-record ShowsSame (d e : Desktop) : Type 0 where
-  standing : e.standing ≡ d.standing
-  owned : (c : ℕ) → owned_in e c ≡ owned_in d c
+pub record ShowsSame (d e : Desktop) : Type 0 where
+  pub standing : e.standing ≡ d.standing
+  pub owned : (c : ℕ) → owned_in e c ≡ owned_in d c
 
-abbrev windows_by : (ℕ → Owned) → List Standing → List Window
+abbrev pub windows_by : (ℕ → Owned) → List Standing → List Window
 windows_by owned standing = windows (λ c. (owned c).surfaces) (λ c. stacked_popups (owned c)) (map (root_of owned) standing)
 
-same-windows : (d e : Desktop) → ShowsSame d e → all_windows e ≡ all_windows d
+pub same-windows : (d e : Desktop) → ShowsSame d e → all_windows e ≡ all_windows d
 same-windows d e same = ap₂ (λ (owned : ℕ → Owned) (standing : List Standing). windows_by owned standing) (fun_ext same.owned) same.standing
 
-shows-itself : (d e : Desktop) → e ≡ d → ShowsSame d e
+pub shows-itself : (d e : Desktop) → e ≡ d → ShowsSame d e
 shows-itself d e same = record { standing = ap (λ (x : Desktop). x.standing) same; owned = λ c. ap (λ (x : Desktop). owned_in x c) same }
 
-shows-on : (d e f : Desktop) → ShowsSame d e → ShowsSame e f → ShowsSame d f
+pub shows-on : (d e f : Desktop) → ShowsSame d e → ShowsSame e f → ShowsSame d f
 shows-on d e f first second = record { standing = second.standing ∙ first.standing; owned = λ c. second.owned c ∙ first.owned c }
 
 -- a client that is there becomes what owns the same
-put-shows : (c : ℕ) (r : Resident) (x : Option Resident) (d : Desktop) → client_at c d ≡ Some r → owned_of x ≡ r.owned → ShowsSame d (with_client c x d)
+pub put-shows : (c : ℕ) (r : Resident) (x : Option Resident) (d : Desktop) → client_at c d ≡ Some r → owned_of x ≡ r.owned → ShowsSame d (with_client c x d)
 put-shows c r x d there same = record { standing = refl; owned = λ k. at k (same-or c k) }
   where
     own : owned_in (with_client c x d) c ≡ owned_in d c
@@ -72,9 +72,9 @@ put-shows c r x d there same = record { standing = refl; owned = λ k. at k (sam
 -- ---- the pointer after what it does
 
 -- The pointer has this focus, and is otherwise what it was; what is shown stays.
-record HasFocus (focus : Option Target) (old new : Midstep) : Type 0 where
-  pointer : new.desktop.pointer ≡ record old.desktop.pointer { focus = focus }
-  shows : ShowsSame old.desktop new.desktop
+pub record HasFocus (focus : Option Target) (old new : Midstep) : Type 0 where
+  pub pointer : new.desktop.pointer ≡ record old.desktop.pointer { focus = focus }
+  pub shows : ShowsSame old.desktop new.desktop
 
 stays-so : (focus : Option Target) (old new : Midstep) → new ≡ old → old.desktop.pointer.focus ≡ focus → HasFocus focus old new
 stays-so focus old new same is =
@@ -84,7 +84,7 @@ stays-so focus old new same is =
     }
 
 -- a client is told something that leaves it what it owns
-tells-so : (change : Resident → Resident) (events : Resident → List Said) → ((r : Resident) → (change r).owned ≡ r.owned) → (c : ℕ) (old new : Midstep) → Tells change events c old new
+pub tells-so : (change : Resident → Resident) (events : Resident → List Said) → ((r : Resident) → (change r).owned ≡ r.owned) → (c : ℕ) (old new : Midstep) → Tells change events c old new
     → HasFocus old.desktop.pointer.focus old new
 tells-so change events same c old new h = at (client_at c old.desktop) refl h
   where
@@ -197,7 +197,7 @@ focus-settled old new has =
 nothing-done : (old new : Midstep) → AppliesAll (all_windows old.desktop) [] old new → HasFocus old.desktop.pointer.focus old new
 nothing-done old new h = stays-so old.desktop.pointer.focus old new h refl
 
-has-settled : (old new : Midstep) → Settles old new → HasFocus (settled old.desktop.pointer (all_windows old.desktop)) old new
+pub has-settled : (old new : Midstep) → Settles old new → HasFocus (settled old.desktop.pointer (all_windows old.desktop)) old new
 has-settled old new h = settles-so [] old new (nothing-done old) h
 
 settles-settled : (old new : Midstep) → Settles old new → IsSettled new.desktop
@@ -362,7 +362,7 @@ empty-place (r ∷ rs) zero x none free = none
 empty-place (r ∷ rs) (suc k) x none free = empty-place rs k x none free
 
 -- where there is none, one comes that owns nothing
-come-shows : (k : ℕ) (x : Option Resident) (d : Desktop) → lowest d.clients ≡ Some k → owned_of x ≡ nothing_owned → ShowsSame d (with_client (k + 1) x d)
+pub come-shows : (k : ℕ) (x : Option Resident) (d : Desktop) → lowest d.clients ≡ Some k → owned_of x ≡ nothing_owned → ShowsSame d (with_client (k + 1) x d)
 come-shows k x d first none = subst (λ (n : ℕ). ShowsSame d (with_client n x d)) (sym (one-more k)) (record { standing = refl; owned = λ j. at j (same-or (suc k) j) })
   where
     free : place d.clients k ≡ None
@@ -407,10 +407,10 @@ changes-settled R absent done c (Some r) d new there none is h =
     let it = changed-held R absent done c r d new h in
     settled-same (held it.0 c r d) new it.2 (held-settled it.0 c r d there (λ gone. none r it.0 there it.1 gone) is)
 
-never-none : {A : Type 0} (q : Option Peer) (p : Peer) → q ≡ Some p → q ≡ None → A
+pub never-none : {A : Type 0} (q : Option Peer) (p : Peer) → q ≡ Some p → q ≡ None → A
 never-none q p is none = absurd (none-some p (sym none ∙ is))
 
-closed-none : (s : Option Cause) (p : Peer) → closed_by s p ≡ None → is_some s ≡ true
+pub closed-none : (s : Option Cause) (p : Peer) → closed_by s p ≡ None → is_some s ≡ true
 closed-none None p e = absurd (none-some p (sym e))
 closed-none (Some cause) p e = refl
 

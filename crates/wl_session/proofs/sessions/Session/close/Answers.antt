@@ -9,5 +9,5 @@ returns-clause-step g c = search rules
 
 pub returns-clause-course : goal.returns-clause-course
 returns-clause-course g c =
-    rw (← c.self.view_is) (marked-course (Close c.args.client) (gave.Close c.close.result) _ _ refl (λ client piece e. absurd (cc)) refl refl c.close.ensures.sides c.close.ensures.step
+    rw (← c.self.view_is) (marked-course (Close c.args.client) (gave.Close c.close.result) _ _ refl refl (λ client piece e. absurd (cc)) refl refl c.close.ensures.sides c.close.ensures.step
     c.close.ensures.marks (nothing-more (Close c.args.client) (gave.Close c.close.result) _ c.close.new.self c.close.ensures.nothing) (λ _. c.close.ensures.nothing))

@@ -9,5 +9,5 @@ returns-clause-step g c = search rules
 
 pub returns-clause-course : goal.returns-clause-course
 returns-clause-course g c =
-    rw (← c.self.view_is) (marked-course (Leave c.args.client) (gave.Gone c.gone.result) _ _ refl (λ client piece e. absurd (cc)) refl refl c.gone.ensures.sides c.gone.ensures.step
+    rw (← c.self.view_is) (marked-course (Leave c.args.client) (gave.Gone c.gone.result) _ _ refl refl (λ client piece e. absurd (cc)) refl refl c.gone.ensures.sides c.gone.ensures.step
     c.gone.ensures.marks c.gone.ensures.most (λ e. absurd (cc)))

@@ -9,5 +9,5 @@ returns-clause-step g c = search rules
 
 pub returns-clause-course : goal.returns-clause-course
 returns-clause-course g c =
-    rw (← c.self.view_is) (marked-course (Send c.args.client c.args.count) (gave.Sent c.sent.result) _ _ refl (λ client piece e. absurd (cc)) refl refl c.sent.ensures.sides c.sent.ensures.step
+    rw (← c.self.view_is) (marked-course (Send c.args.client c.args.count) (gave.Sent c.sent.result) _ _ refl refl (λ client piece e. absurd (cc)) refl refl c.sent.ensures.sides c.sent.ensures.step
     c.sent.ensures.marks (nothing-more (Send c.args.client c.args.count) (gave.Sent c.sent.result) _ c.sent.new.self c.sent.ensures.nothing) (λ _. c.sent.ensures.nothing))

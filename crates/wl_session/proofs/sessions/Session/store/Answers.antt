@@ -9,6 +9,6 @@ returns-clause-step g c = search rules
 
 pub returns-clause-course : goal.returns-clause-course
 returns-clause-course g c =
-    rw (← c.self.view_is) (marked-course (Store c.args.client c.args.store c.args.at c.args.bytes.now) (gave.Store c.store.result) _ _ refl (λ client piece e. absurd (cc)) refl refl
+    rw (← c.self.view_is) (marked-course (Store c.args.client c.args.store c.args.at c.args.bytes.now) (gave.Store c.store.result) _ _ refl refl (λ client piece e. absurd (cc)) refl refl
     c.store.ensures.sides c.store.ensures.step c.store.ensures.marks (nothing-more (Store c.args.client c.args.store c.args.at c.args.bytes.now) (gave.Store c.store.result) _ c.store.new.self
     c.store.ensures.nothing) (λ _. c.store.ensures.nothing))
