@@ -155,7 +155,6 @@ const KEYBOARD: &[Row] = &[
 ];
 
 const NOT_SERVED: &[Row] = &[
-    Row::Errs(Message(7, 0, &[Arg::NewId(9)]), 1, 3),
     Row::Errs(Message(8, 1, &[Arg::NewId(9)]), 1, 3),
 ];
 

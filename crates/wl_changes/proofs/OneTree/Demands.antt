@@ -4,7 +4,7 @@ use Rattle.std.specs.List.{list_any}
 use Rattle.std.specs.Option.{option_and_then, option_map}
 use Rattle.wl_peer.specs.Peer.{Peer}
 use Rattle.wl_state.specs.Request.{Frame}
-use Rattle.wl_state.specs.Surface.{asking}
+use Rattle.wl_state.specs.Surface.{asking, with_role}
 use Rattle.wl_state.specs.declared.role.Role.TheVariants.{Cursor as AsCursor, Toplevel as AsToplevel}
 use Rattle.wl_surface.specs.Surfaces.{Link, Surfaces, link_at, with_change, with_new}
 use Rattle.wl_surface.specs.Trees.{committed_in, desynchronised_in, destroyed_in, in_mode, link_of, linked, released_in, unlinked, with_link}

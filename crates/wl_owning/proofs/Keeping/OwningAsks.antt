@@ -9,7 +9,7 @@ use Rattle.wl_state.specs.Request.{Request, Commit, SetWindowGeometry}
 use Rattle.wl_state.specs.State.{History, apply, geometry_asked, is_commit}
 use Rattle.wl_state.specs.Surface.{Surface, asking, new_surface, with_role}
 use Rattle.wl_surface.specs.Surfaces.{Surfaces, history_in, surface_at, with_change as with_surface_change}
-use Rattle.wl_state.specs.declared.role.Role.TheVariants.{Toplevel as AsToplevel}
+use Rattle.wl_state.specs.declared.role.Role.TheVariants.{Cursor as AsCursor, Toplevel as AsToplevel}
 use Rattle.wl_shell.specs.Agreement.{with_history}
 use Rattle.wl_xdg_state.specs.Kept.{Kept, Stands, changing, commit_answer, effect_answer, first_kept, kept_acknowledging, kept_after, kept_asking, kept_configuring, kept_toplevel, kept_without_role}
 use Rattle.wl_xdg_state.specs.Kept.{stage_in, with_kept}
