@@ -1,12 +1,11 @@
 -- What is judged of wl_pointer.set_cursor, by what is kept, and what a surface that becomes a cursor leaves as it was.
-use Rattle.std.proofs.Common.{◌≡◌, ◌≢◌, ℕ, Bool, true, false, Option, Some, None, Result, refl, ap, ap₂, sym, subst, ◌∙◌}
-use Rattle.std.specs.Prelude.{◌||◌, Err, IsErr, Ok, if◌then◌else◌, is_some}
+use Rattle.std.proofs.Common.{◌≡◌, ◌≢◌, ℕ, Bool, true, false, Option, Some, None, refl, ap, ap₂, sym, ◌∙◌}
+use Rattle.std.specs.Prelude.{◌||◌, Err, Ok, if◌then◌else◌, is_some}
 use Rattle.wl_owning.specs.Owning.{by_number, names_in}
 use Rattle.wl_owning.proofs.Keeping.OwningSurfaces.{surface-read}
 use Rattle.wl_owning.proofs.Keeping.OwningXdg.{xdg-there}
 use Rattle.wl_peer.specs.declared.refusals.ErrorCode.TheVariants.{Role as HasAnotherRole}
-use Rattle.wl_peer.specs.declared.refusals.Refusal.{Refusal}
-use Rattle.wl_plain.specs.Demand.{Demand, MakeCursor}
+use Rattle.wl_plain.specs.Demand.{MakeCursor}
 use Rattle.wl_plain.specs.Desktop.{Resident}
 use Rattle.wl_plain.specs.WlPointer.{cursor_set, is_no_cursor}
 use Rattle.wl_plain.specs.WlSubsurface.{refuses}
@@ -14,6 +13,7 @@ use Rattle.wl_plain.specs.XdgShell.{role_of}
 use Rattle.wl_state.specs.declared.role.Role.{Role}
 use Rattle.wl_state.specs.declared.role.Role.TheVariants as roles
 use Rattle.wl_surface.specs.Slots.{role_at}
+use Rattle.wl_surface.specs.Surfaces.{surface_at}
 use Rattle.wl_xdg_state.specs.Kept.{kept_of}
 use Rattle.wl_xdg_state.specs.Shell.{xdg_of}
 use Rattle.wl_requests.specs.declared.residents.Resident.{Resident as Kept}
@@ -49,7 +49,7 @@ module _ {A : Type 0} (v : Kept A) (r : Resident) (is : IsResident v r) (object 
   role-is : role_at (by_number (names_in v.client.objects).surfaces r.owned.surfaces number) ≡ role_of r id
   role-is =
       ap role_at (surface-read (names_in v.client.objects).surfaces v.owned.linked.surfaces v.owned.linked.family r.owned.surfaces is.owns.surfaces id number named)
-      ∙ role-same _
+      ∙ role-same (surface_at id r.owned.surfaces)
 
   by-parts : (a b : Bool) → is_no_cursor (role_of r id) ≡ a → is_some (xdg_of id r.owned.shell) ≡ b
       → cursor_set r object id ≡ (if a || b then refuses object HasAnotherRole else Ok (MakeCursor id))

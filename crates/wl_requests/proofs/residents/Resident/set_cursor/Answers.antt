@@ -12,6 +12,7 @@ use Rattle.wl_plain.specs.WlPointer.{cursor_set}
 use Rattle.wl_state.specs.declared.role.Role.TheVariants.{Cursor as AsCursor}
 use Rattle.wl_surface.specs.declared.frames.Waiting.{Waiting}
 use Rattle.wl_xdg_state.specs.Kept.{kept_of}
+use Rattle.wl_requests.specs.declared.residents.Resident.{Resident as Kept}
 use Rattle.wl_requests.specs.Residents.{AnswersSo}
 use Rattle.wl_requests.proofs.Framing.{IsFramed, framed-role, one-more}
 use Rattle.wl_requests.proofs.Judging.{copied-there}
@@ -33,7 +34,7 @@ pub returns-in-Err-clause-answers : goal.returns-in-Err-clause-answers
 returns-in-Err-clause-answers g c = λ id named client r d is orderly.
     let v = c.args.self.now in
     let all = by_number (names_in v.client.objects).surfaces r.owned.surfaces in
-    let other = (c.give_role.ensures.refused all is.owns.surfaces.stand).0 (rw c.in-Err.is tt) in
+    let other = (c.give_role.ensures.refused all is.owns.surfaces.stand).0 (rw c.in-Err.is refl) in
     refused-whole v _ client r d (cursor_set r c.args.object id) c.of-in-Err.result
     (has-other v r is c.args.object id c.args.surface named other ∙ ap (λ (f : Refusal). Err f) (sym c.of-in-Err.ensures))
     c.refuse-in-Err.ensures.ended (c.refuse-in-Err.ensures.errs r.peer is.peer)
@@ -46,17 +47,18 @@ returns-in-Ok-clause-answers g c = λ id named client r d is orderly.
     let family = v.owned.linked.family in
     let new = c.give_role.new.self in
     let now = c.count.new.self.objects in
+    let kept : Kept _ = record v { client = c.count.new.self; owned = record v.owned { linked = record v.owned.linked { surfaces = new } } } in
     let then = with_peer (counted r.peer) r in
     let demand = MakeCursor id in
     let after = changed_simply demand then in
     let names = names_in v.client.objects in
     let all = by_number names.surfaces r.owned.surfaces in
     let bare : is_some (kept_of v.owned.shell number) ≡ false = sym (ap is_some c.get.ensures) ∙ copied-there c.get.result ∙ sym c.is_some.ensures ∙ c.if-is_some.false in
-    let judged = is-made v r is c.args.object id number named bare (λ other. absurd (let errs = (c.give_role.ensures.refused all is.owns.surfaces.stand).1 other in rw c.in-Ok.is at errs)) in
+    let judged = is-made v r is c.args.object id number named bare (λ other. absurd (let errs = (c.give_role.ensures.refused all is.owns.surfaces.stand).1 other in cc (rw c.in-Ok.is at errs))) in
     let table = names-counted v.client c.count.new.self c.count.ensures.only in
     let owns = (counted-orderly r orderly).no_popups in
-    subst (λ (j : Result Demand Refusal). AnswersSo j client r d v _) (sym judged)
-    (meets-simply v _ client d demand then owns tt (
+    subst (λ (j : Result Demand Refusal). AnswersSo j client r d v kept) (sym judged)
+    (meets-simply v kept client d demand then owns tt (
       counted r.peer,
       wants-told true _ _ (counted r.peer) after.peer (counted r.peer) (role-released id AsCursor then owns.apart) (inr refl),
       record {
