@@ -92,10 +92,21 @@ class Shown(WithRig):
         client.last = compositor
         client.round_trip()
 
-    def test_seat_of_a_pointer_is_refused(self):
+    def test_pointer_is_silent(self):
         client = self.client()
-        client.send(client.bind(client.begin(), "wl_seat", 5), "get_pointer")
-        self.assertIn("3 implementation", client.error())
+        registry = client.begin()
+        pointer = client.send(client.bind(registry, "wl_seat", 5), "get_pointer")
+        cursor = client.send(client.bind(registry, "wl_compositor", 4), "create_surface")
+        client.send(pointer, "set_cursor", 0, cursor, 0, 0)
+        client.send(pointer, "set_cursor", 0, 0, 0, 0)
+        client.send(pointer, "release")
+        client.round_trip()
+        self.assertFalse([it for it in client.take() if "error" in it or "wl_pointer" in it])
+
+    def test_keyboard_is_refused(self):
+        client = self.client()
+        client.send(client.bind(client.begin(), "wl_seat", 5), "get_keyboard")
+        self.assertIn("0 missing_capability", client.error())
 
 
 class Windows(WithRig):
@@ -503,14 +514,14 @@ class Told(WithRig):
             client.bind(client.begin(), "wl_seat", 5)
             client.round_trip()
         with Client(self.rig.wayland) as client:
-            client.send(client.bind(client.begin(), "wl_seat", 5), "get_pointer")
+            client.send(client.bind(client.begin(), "wl_seat", 5), "get_keyboard")
             client.error()
         self.assertEqual(self.rig.end(), 0)
         log = (self.rig.room / "log").read_text(encoding="utf-8").splitlines()
         self.assertEqual([it for it in log if it.startswith("2 ")], ["2 binds wl_seat 5", "2 ended gone"])
         binds, refused, ended = [it for it in log if it.startswith("3 ")]
         self.assertEqual((binds, ended), ("3 binds wl_seat 5", "3 ended refused"))
-        self.assertRegex(refused, r"^3 refused: was refused wl_seat#4\.get_pointer\(id new wl_pointer#5\), at version 5 \(1 for the server\)")
+        self.assertRegex(refused, r"^3 refused: was refused wl_seat#4\.get_keyboard\(id new wl_keyboard#5\), at version 5 \(1 for the server\)")
         trace = (self.rig.room / "trace").read_text(encoding="utf-8").splitlines()
         at = trace.index("client 2 -> wl_registry#2.bind(5, new wl_seat#4 of version 5)")
         self.assertEqual(trace[at + 1], "client 2    passed on as: wl_registry#2.bind(5, new wl_seat#4 of version 1)")

@@ -2,6 +2,7 @@ pub mod Held
 pub mod Ids
 pub mod Left
 pub mod Messages
+pub mod Others
 pub mod Owns
 pub mod Pointer
 pub mod Served

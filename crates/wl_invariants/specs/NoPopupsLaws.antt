@@ -1,5 +1,5 @@
--- Where popups and the pointer aren't served, they leave no trace.
-use Rattle.std.specs.Prelude.{ℕ, ◌≡◌, ◌≢◌, false, Some}
+-- Where popups aren't served they leave no trace, and where no act moves the pointer nobody points.
+use Rattle.std.specs.Prelude.{ℕ, ◌≡◌, ◌≢◌, ◌⊎◌, false, Some}
 use Rattle.wl_peer.specs.Told.{Output}
 use Rattle.wl_stacking.specs.Stacking.{windows_on}
 use Rattle.wl_plain.specs.declared.answers.Done.{Done}
@@ -9,7 +9,7 @@ use Rattle.wl_plain.specs.Happens.{Happens}
 use Rattle.wl_plain.specs.Stacked.{all_windows}
 use Rattle.wl_laws.specs.Others.{client_of}
 use Rattle.wl_invariants.specs.Acts.{LeavesPointer}
-use Rattle.wl_invariants.specs.NoPopups.{NoPopups}
+use Rattle.wl_invariants.specs.NoPopups.{HasNoPointers, NoPopups}
 use Rattle.wl_plain.specs.LeftOut.{served_now}
 
 -- A desktop without clients has no popups.
@@ -24,9 +24,10 @@ NoPopupsStay = (act : Act) (done : Done) (d e : Desktop) → LeavesPointer act �
 abbrev pub WindowsAreToplevels : Type 0
 WindowsAreToplevels = (d : Desktop) → NoPopups d → all_windows d ≡ windows_on (owned_in d) d.standing
 
--- What happens that is no frame and no step of a client's leaves it as it was, with its toplevels: it is told nothing of the pointer.
+-- What happens that is no frame and no step of a client's leaves it as it was, with its toplevels: it is told nothing of the pointer, where that
+-- is left alone, or the client has no wl_pointers.
 abbrev pub OthersStay : Type 0
 OthersStay =
-    (act : Act) (done : Done) (old new : Desktop) (other : ℕ) → is_tick act ≡ false → NoPopups old → Happens served_now act done old new
-    → client_of act done ≢ Some other
+    (act : Act) (done : Done) (old new : Desktop) (other : ℕ) → is_tick act ≡ false → NoPopups old
+    → LeavesPointer act ⊎ HasNoPointers (client_at other old) → Happens served_now act done old new → client_of act done ≢ Some other
     → (client_at other new ≡ client_at other old) × (toplevels_of other new ≡ toplevels_of other old)

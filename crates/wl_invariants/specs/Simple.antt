@@ -4,27 +4,29 @@ use Rattle.std.specs.Prelude.{map, take, drop}
 use Rattle.wl_wire.specs.Wire.{split_of}
 use Rattle.wl_wire.specs.declared.header.Split.{Split}
 use Rattle.wl_wire.specs.declared.header.Split.TheVariants.{Message as Whole, More, Bad}
+use Rattle.wl_interface.specs.declared.interface.Interface.TheVariants.{WlPointer}
 use Rattle.wl_peer.specs.declared.refusals.ErrorCode.TheVariants.{InvalidMethod}
 use Rattle.wl_peer.specs.declared.refusals.Refusal.{Refusal}
 use Rattle.wl_peer.specs.Peer.{Errs, LacksMemory, Peer, Queues, counted, with_rest}
 use Rattle.wl_peer.specs.Told.{Said, display_error, id_deleted}
+use Rattle.wl_state.specs.Surface.{with_role}
+use Rattle.wl_state.specs.declared.role.Role.TheVariants.{Cursor as AsCursor}
+use Rattle.wl_surface.specs.Surfaces.{with_change as with_surface_change}
 use Rattle.wl_xdg_state.specs.Shell.{Effect, Configures, Maps, Unmaps, XdgSurface as Xdg, without_role, xdg_of}
 use Rattle.wl_stacking.specs.Stacking.{with_mapped, without_surface_of}
-use Rattle.wl_plain.specs.Changing.{callbacks_of, effect_placing, frame_asked, mode_set, subsurface_ended, subsurface_given, surface_ended}
-use Rattle.wl_plain.specs.Changing.{tree_committed}
+use Rattle.wl_plain.specs.Changing.{callbacks_of, effect_placing, frame_asked, in_rising_order, mode_set, subsurface_ended, subsurface_given}
+use Rattle.wl_plain.specs.Changing.{surface_ended, tree_committed}
 use Rattle.wl_plain.specs.Demand.{Demand, Asks, EndSurface, AskFrame, CommitTree, GetSubsurface, EndSubsurface, SetMode, GetPointer}
 use Rattle.wl_plain.specs.Demand.{MakeCursor, CreatePositioner, EndPositioner, SetPositioner, GetPopup, Grab, EndPopup, EndToplevel}
 use Rattle.wl_plain.specs.Demanding.{effect_of_commit, judge_all}
 use Rattle.wl_plain.specs.Desktop.{Desktop, Resident, become}
 use Rattle.wl_plain.specs.Happens.{wants_memory}
 use Rattle.wl_plain.specs.Replies.{releases}
-use Rattle.wl_plain.specs.Step.{answers_to, changed_by, configures_told, removing, with_peer, xdg_changed}
+use Rattle.wl_plain.specs.Step.{answers_to, changed_by, configures_told, making, removing, with_peer, with_surfaces, xdg_changed}
 use Rattle.wl_plain.specs.LeftOut.{served_now}
 
--- what a request that is served may demand: nothing of popups, positioners and pointers
+-- what a request that is served may demand: nothing of popups and positioners
 abbrev pub IsServed : Demand → Type 0
-IsServed (GetPointer id version) = ⊥
-IsServed (MakeCursor surface) = ⊥
 IsServed (CreatePositioner id version) = ⊥
 IsServed (EndPositioner id) = ⊥
 IsServed (SetPositioner id p) = ⊥
@@ -61,6 +63,8 @@ changed_simply (GetSubsurface id version child parent) r = subsurface_given id v
 changed_simply (EndSubsurface id) r = subsurface_ended id r
 changed_simply (SetMode link synchronised) r = mode_set link synchronised r
 changed_simply (EndToplevel id xdg surface) r = removing id (xdg_changed xdg without_role r)
+changed_simply (GetPointer id version) r = making WlPointer id version (record r { pointers = in_rising_order id r.pointers })
+changed_simply (MakeCursor surface) r = with_surfaces (with_surface_change surface (with_role AsCursor) r.owned.surfaces) r
 changed_simply demand r = r
 
 -- what it does to the stack of toplevels

@@ -12,22 +12,23 @@ use Rattle.wl_invariants.specs.NoPopups.{NoPopups, OwnsNoPopups}
 use Rattle.wl_plain.specs.LeftOut.{served_now}
 use Rattle.wl_invariants.specs.Simple.{IsServed, ServesSimply, answers_simply, changed_simply, stacked_simply}
 
--- A message that is accepted demands nothing of popups, positioners and pointers.
+-- A message that is accepted demands nothing of popups and positioners.
 abbrev pub DemandsAreServed : Type 0
 DemandsAreServed =
     (r : Resident) (object opcode : ℕ) (body : List ℕ) (demand : Demand) → judge_all served_now r object opcode body ≡ Ok demand
     → IsServed demand
 
--- What is demanded changes a client so.
+-- What is demanded changes a client so: a wl_pointer that it makes is told nothing.
 abbrev pub ChangesSimply : Type 0
 ChangesSimply =
-    (c : ℕ) (demand : Demand) (r : Resident) (d : Desktop) → OwnsNoPopups r → IsServed demand
+    (c : ℕ) (demand : Demand) (r : Resident) (d : Desktop) → d.pointer ≡ first_pointer → OwnsNoPopups r → IsServed demand
     → changed_for c demand r d ≡ changed_simply demand r
 
 -- The client is told the answer and then the releases of buffers, and of no popup that is done.
 abbrev pub RepliesSimply : Type 0
 RepliesSimply =
-    (c : ℕ) (demand : Demand) (r : Resident) (windows : List Window) (d : Desktop) → OwnsNoPopups r → IsServed demand
+    (c : ℕ) (demand : Demand) (r : Resident) (windows : List Window) (d : Desktop) → d.pointer ≡ first_pointer → OwnsNoPopups r
+    → IsServed demand
     → replies served_now c demand r (changed_for c demand r d) windows d
     ≡ answers_simply demand r ++ releases r (changed_for c demand r d)
 

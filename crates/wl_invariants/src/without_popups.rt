@@ -1,16 +1,17 @@
-//! Desktops where subsurfaces are served, and popups, positioners and the pointer are not: what is known of them, each a function that does
-//! nothing and promises it.
+//! Desktops where subsurfaces and wl_pointers are served, popups and positioners are not, and nobody points: what is known of them, each a
+//! function that does nothing and promises it.
 
 ghost use Rattle.wl_invariants.specs.NoPopupsLaws.{EmptyHasNoPopups, NoPopupsStay, OthersStay, WindowsAreToplevels};
 ghost use Rattle.wl_invariants.specs.SimpleLaws.{ChangesSimply, DemandsAreServed, DoesNoMore, MessagesAreSimple, RepliesSimply};
 ghost use Rattle.wl_invariants.specs.SimpleLaws.{StacksSimply};
 
-/// A message that is accepted demands nothing of popups, positioners and pointers.
+/// A message that is accepted demands nothing of popups and positioners.
 pub fn demands_are_served()
     ensures { DemandsAreServed }
 {}
 
-/// What is demanded changes a client that has no popups so that none is placed, dismissed or left without its parent.
+/// What is demanded changes a client that has no popups so that none is placed, dismissed or left without its parent, and a wl_pointer that it
+/// makes is told nothing.
 pub fn changes_simply()
     ensures { ChangesSimply }
 {}
@@ -50,7 +51,8 @@ pub fn no_popups_stay()
     ensures { NoPopupsStay }
 {}
 
-/// What happens that is no frame and no step of a client's leaves it as it was, with its toplevels: it is told nothing of the pointer.
+/// What happens that is no frame and no step of a client's leaves it as it was, with its toplevels: it is told nothing of the pointer, where that
+/// is left alone, or the client has no wl_pointers.
 pub fn others_stay()
     ensures { OthersStay }
 {}

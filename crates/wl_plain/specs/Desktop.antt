@@ -53,6 +53,10 @@ arrival output = resident_of (newcomer output)
 abbrev pub empty : Output → Desktop
 empty output = record { output = output; clients = replicate 32 None; standing = []; mappings = 0; pointer = first_pointer }
 
+-- the desktop where nobody has pointed yet
+abbrev pub unpointed : Desktop → Desktop
+unpointed d = record d { pointer = first_pointer }
+
 abbrev pub place : List (Option Resident) → ℕ → Option Resident
 place [] k = None
 place (r ∷ rs) zero = r

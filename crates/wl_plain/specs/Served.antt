@@ -11,10 +11,8 @@ use Rattle.wl_peer.specs.Requests.{ToSeat, ToPointer, ToBase, ToPositioner, ToXd
 abbrev pub Unserved : Type 0
 Unserved = Request → Bool
 
--- which aren't served now: those of popups, positioners and pointers
+-- which aren't served now: those of popups and positioners
 abbrev pub unserved_now : Unserved
-unserved_now (ToSeat (seat.GetPointer id)) = true
-unserved_now (ToPointer request) = true
 unserved_now (ToBase (base.CreatePositioner id)) = true
 unserved_now (ToPositioner request) = true
 unserved_now (ToXdgSurface (xdg.GetPopup id parent positioner)) = true

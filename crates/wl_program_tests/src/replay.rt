@@ -1,5 +1,6 @@
 //! Recordings, their reports and their images.
 
+mod cursors;
 mod faults;
 mod files;
 mod limits;

@@ -34,7 +34,7 @@ use Rattle.wl_requests.specs.declared.residents.Stacking.TheVariants as on
 use Rattle.wl_plain.specs.Changing.{changed_for}
 use Rattle.wl_plain.specs.Demand.{Demand, CommitTree, EndToplevel}
 use Rattle.wl_plain.specs.Demanding.{demand_of, effect_of_commit, judge_all}
-use Rattle.wl_plain.specs.Desktop.{Desktop, Resident}
+use Rattle.wl_plain.specs.Desktop.{Desktop, Resident, unpointed}
 use Rattle.wl_plain.specs.LeftOut.{served_now}
 use Rattle.wl_invariants.specs.Orderly.{OwnsOrderly}
 use Rattle.wl_requests.specs.Residents.{AnswersAs, AnswersDemand, AnswersDemandAs, AnswersSo, IsResident, NewIsFree, ObjectsFit, Stacks, StacksBy, StacksFor, StacksSo, StacksTo, TakesAs, TakesSo}
@@ -122,7 +122,7 @@ dropped old mid r size e is = rw e (record {
 -- what is answered to a client with the same objects before
 answers-from : {A : Type 0} (old mid new : Kept A) (c : ℕ) (r : Resident) (d : Desktop) (judged : Result Demand Refusal) → mid.client.objects ≡ old.client.objects → AnswersSo judged c r d mid new
     → AnswersSo judged c r d old new
-answers-from old mid new c r d (Ok demand) same h = (h.0, h.1, left-from old mid new (changed_for c demand (with_peer (counted r.peer) r) d) h.0 same h.2)
+answers-from old mid new c r d (Ok demand) same h = (h.0, h.1, left-from old mid new (changed_for c demand (with_peer (counted r.peer) r) (unpointed d)) h.0 same h.2)
 answers-from old mid new c r d (Err refusal) same h = (h.0, h.1, left-from old mid new r h.0 same h.2)
 
 decided-from : {A : Type 0} (done : Bool) (old mid new : Kept A) (c : ℕ) (r : Resident) (d : Desktop) (judged : Result Demand Refusal) → mid.client.objects ≡ old.client.objects

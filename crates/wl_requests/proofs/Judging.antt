@@ -77,15 +77,15 @@ same-role (Some roles.Popup) = refl
 same-role (Some roles.Subsurface) = refl
 same-role (Some roles.Cursor) = refl
 
-role-same : (o : Option Surface) → role_at o ≡ option_and_then (λ (s : Surface). s.role) o
+pub role-same : (o : Option Surface) → role_at o ≡ option_and_then (λ (s : Surface). s.role) o
 role-same None = refl
 role-same (Some s) = refl
 
-or-first : (a b : Bool) → a ≡ true → (a || b) ≡ true
+pub or-first : (a b : Bool) → a ≡ true → (a || b) ≡ true
 or-first true b e = refl
 or-first false b e = absurd (cc)
 
-or-second : (a b : Bool) → b ≡ true → (a || b) ≡ true
+pub or-second : (a b : Bool) → b ≡ true → (a || b) ≡ true
 or-second true b e = refl
 or-second false b e = e
 

@@ -17,6 +17,7 @@ pub mod Subsurfaces
 pub mod Linking
 pub mod Beside
 pub mod Placing
+pub mod Pointing
 pub mod Asking
 pub mod OwnAsking
 pub mod Counting

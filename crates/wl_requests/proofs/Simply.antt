@@ -10,7 +10,7 @@ use Rattle.wl_plain.specs.Ask.{Ask}
 use Rattle.wl_plain.specs.Demand.{Demand, Asks}
 use Rattle.wl_plain.specs.Demanding.{demands}
 use Rattle.wl_plain.specs.Changing.{changed_for}
-use Rattle.wl_plain.specs.Desktop.{Desktop, Resident}
+use Rattle.wl_plain.specs.Desktop.{Desktop, Resident, unpointed}
 use Rattle.wl_plain.specs.Happens.{wants_memory}
 use Rattle.wl_plain.specs.Replies.{releases, replies}
 use Rattle.wl_plain.specs.Stacked.{all_windows}
@@ -62,25 +62,25 @@ counted-orderly r orderly = only_peer_changes r (counted r.peer) refl refl (one-
 module _ {A : Type 0} (old new : Kept A) (c : ℕ) (d : Desktop) where
   module _ (demand : Demand) (r : Resident) (owns : OwnsNoPopups r) (served : IsServed demand) where
     -- what is told, and what becomes of it
-    events-same : replies served_now c demand r (changed_for c demand r d) (all_windows d) d ≡ told_simply demand r
+    events-same : replies served_now c demand r (changed_for c demand r (unpointed d)) (all_windows d) (unpointed d) ≡ told_simply demand r
     events-same =
-        replies_simply c demand r (all_windows d) d owns served
-        ∙ ap (λ (made : Resident). answers_simply demand r ++ releases r made) (changes_simply c demand r d owns served)
+        replies_simply c demand r (all_windows d) (unpointed d) refl owns served
+        ∙ ap (λ (made : Resident). answers_simply demand r ++ releases r made) (changes_simply c demand r (unpointed d) refl owns served)
 
     queues-same : (q : Peer) → Queues (told_simply demand r) (changed_simply demand r).peer q
-        → Queues (replies served_now c demand r (changed_for c demand r d) (all_windows d) d) (changed_for c demand r d).peer q
+        → Queues (replies served_now c demand r (changed_for c demand r (unpointed d)) (all_windows d) (unpointed d)) (changed_for c demand r (unpointed d)).peer q
     queues-same q h =
-        subst (λ (m : Resident). Queues (replies served_now c demand r (changed_for c demand r d) (all_windows d) d) m.peer q) (sym (changes_simply c demand r d owns served))
+        subst (λ (m : Resident). Queues (replies served_now c demand r (changed_for c demand r (unpointed d)) (all_windows d) (unpointed d)) m.peer q) (sym (changes_simply c demand r (unpointed d) refl owns served))
         (subst (λ (events : List Said). Queues events (changed_simply demand r).peer q) (sym events-same) h)
 
-    left-same : (q : Peer) → IsLeft old new (changed_simply demand r) q → IsLeft old new (changed_for c demand r d) q
-    left-same q left = subst (λ (m : Resident). IsLeft old new m q) (sym (changes_simply c demand r d owns served)) left
+    left-same : (q : Peer) → IsLeft old new (changed_simply demand r) q → IsLeft old new (changed_for c demand r (unpointed d)) q
+    left-same q left = subst (λ (m : Resident). IsLeft old new m q) (sym (changes_simply c demand r (unpointed d) refl owns served)) left
 
     pub meets-simply : ActsSo demand r old new → MeetsSo c demand r d old new
     meets-simply h = (h.0, at (wants_memory demand) h.1, left-same h.0 h.2)
       where
         at : (b : Bool) → WantsOr b (Queues (told_simply demand r) (changed_simply demand r).peer h.0) r.peer h.0
-            → WantsOr b (Queues (replies served_now c demand r (changed_for c demand r d) (all_windows d) d) (changed_for c demand r d).peer h.0) r.peer h.0
+            → WantsOr b (Queues (replies served_now c demand r (changed_for c demand r (unpointed d)) (all_windows d) (unpointed d)) (changed_for c demand r (unpointed d)).peer h.0) r.peer h.0
         at true (inl lacks) = inl lacks
         at true (inr told) = inr (queues-same h.0 told)
         at false told = queues-same h.0 told

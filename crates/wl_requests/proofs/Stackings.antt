@@ -1,7 +1,9 @@
 -- What requests do to the stack of toplevels.
 use Rattle.std.proofs.Common.{◌≡◌, ℕ, Bool, true, false, Option, Some, None, Result, refl, sym, subst}
-use Rattle.std.specs.Prelude.{◌||◌, if◌then◌else◌, is_some, Ok}
-use Rattle.wl_proto.specs.Messages.{Message, wl_subcompositor_request, wl_subsurface_request, xdg_surface_request, xdg_wm_base_request}
+use Rattle.std.specs.Prelude.{◌==◌, ◌||◌, if◌then◌else◌, is_some, Ok}
+use Rattle.wl_proto.specs.Messages.{Message, wl_pointer_request, wl_subcompositor_request, wl_subsurface_request, xdg_surface_request, xdg_wm_base_request}
+use Rattle.wl_proto.specs.declared.wl_pointer.WlPointerRequest.{WlPointerRequest}
+use Rattle.wl_proto.specs.declared.wl_pointer.WlPointerRequest.TheVariants as pointer
 use Rattle.wl_proto.specs.declared.wl_subcompositor.WlSubcompositorRequest.{WlSubcompositorRequest}
 use Rattle.wl_proto.specs.declared.wl_subcompositor.WlSubcompositorRequest.TheVariants as subcompositor
 use Rattle.wl_proto.specs.declared.wl_subsurface.WlSubsurfaceRequest.{WlSubsurfaceRequest}
@@ -11,12 +13,14 @@ use Rattle.wl_proto.specs.declared.xdg_wm_base.XdgWmBaseRequest.TheVariants as b
 use Rattle.wl_proto.specs.declared.xdg_surface.XdgSurfaceRequest.{XdgSurfaceRequest}
 use Rattle.wl_proto.specs.declared.xdg_surface.XdgSurfaceRequest.TheVariants as requests
 use Rattle.wl_interface.specs.declared.interface.Interface.TheVariants.{XdgToplevel}
+use Rattle.wl_peer.specs.declared.refusals.ErrorCode.TheVariants.{Role as HasAnotherRole}
 use Rattle.wl_peer.specs.declared.refusals.Refusal.{Refusal}
 use Rattle.wl_xdg_state.specs.Kept.{kept_of}
 use Rattle.wl_xdg_state.specs.Shell.{Effect, XdgSurface as Xdg, xdg_at, xdg_of, xdg_with}
 use Rattle.wl_xdg_state.specs.declared.acts.ShellAct.{ShellAct}
 use Rattle.wl_xdg_state.specs.declared.acts.ShellAct.TheVariants.{Configure, Map, Unmap, Nothing}
-use Rattle.wl_plain.specs.Demand.{Demand, CommitTree}
+use Rattle.wl_plain.specs.Ask.{Ignore}
+use Rattle.wl_plain.specs.Demand.{Asks, Demand, CommitTree}
 use Rattle.wl_plain.specs.Demanding.{demand_of, demands, effect_of_commit, moved_by_pointer, toplevel_asked, toplevel_demand, toplevel_destroyed, xdg_asked}
 use Rattle.wl_plain.specs.Desktop.{Resident}
 use Rattle.wl_plain.specs.LeftOut.{served_now}
@@ -28,7 +32,8 @@ use Rattle.wl_peer.specs.ToplevelRequest as toplevel
 use Rattle.wl_state.specs.Request.{Request as Asked, Member, PlaceAbove, PlaceBelow}
 use Rattle.wl_surface.specs.Surfaces.{Link}
 use Rattle.wl_surface.specs.Trees.{is_bad_parent, is_too_deep}
-use Rattle.wl_plain.specs.WlSubsurface.{beside, demand_by_link, has_subsurface, is_no_subsurface, link_of_subsurface, past_limit, placed_beside}
+use Rattle.wl_plain.specs.WlPointer.{is_no_cursor}
+use Rattle.wl_plain.specs.WlSubsurface.{beside, demand_by_link, has_subsurface, is_no_subsurface, link_of_subsurface, past_limit, placed_beside, refuses}
 use Rattle.wl_plain.specs.XdgShell.{acknowledged_by, geometry_set, role_of, state_asked, toplevel_made, xdg_surface_destroyed}
 use Rattle.wl_owning.proofs.Keeping.OwningXdg.{toplevel-named}
 use Rattle.wl_requests.specs.declared.residents.Resident.{Resident as Kept}
@@ -151,6 +156,13 @@ subcompositor-stays old r object version (subcompositor.GetSubsurface id child p
     if-stays old r (is_too_deep r.owned.surfaces child parent) past_limit _ tt
     (if-stays old r (is_no_subsurface (role_of r child) || (has_subsurface child r || is_some (xdg_of child r.owned.shell))) _ _ tt
     (if-stays old r (is_bad_parent r.owned.surfaces child parent) _ _ tt refl))
+
+-- a request of a wl_pointer
+pub pointer-stays : {A : Type 0} (old : Kept A) (r : Resident) (object version : ℕ) (request : WlPointerRequest)
+    → StacksSo old r (demand_of served_now r object version (wl_pointer_request request)) Stays
+pointer-stays old r object version (pointer.SetCursor serial surface x y) =
+    if-stays old r (surface == 0) (Ok (Asks Ignore)) _ refl
+    (if-stays old r (is_no_cursor (role_of r surface) || is_some (xdg_of surface r.owned.shell)) (refuses object HasAnotherRole) _ tt refl)
 
 -- a request of an xdg_wm_base
 pub base-stays : {A : Type 0} (old : Kept A) (r : Resident) (object version : ℕ) (request : XdgWmBaseRequest)

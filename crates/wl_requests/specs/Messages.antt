@@ -3,8 +3,8 @@ use Rattle.std.specs.Prelude.{ℕ, ◌≡◌, true}
 use Rattle.wl_wire.specs.Wire.{split_of}
 use Rattle.wl_wire.specs.declared.header.Split.TheVariants.{More}
 use Rattle.wl_interface.specs.declared.interface.Interface.TheVariants.{XdgToplevel}
-use Rattle.wl_proto.specs.Messages.{Message, wl_compositor_request, wl_seat_request, wl_subcompositor_request, wl_subsurface_request}
-use Rattle.wl_proto.specs.Messages.{wl_surface_request}
+use Rattle.wl_proto.specs.Messages.{Message, wl_compositor_request, wl_pointer_request, wl_seat_request, wl_subcompositor_request}
+use Rattle.wl_proto.specs.Messages.{wl_subsurface_request, wl_surface_request}
 use Rattle.wl_proto.specs.Messages.{xdg_surface_request, xdg_wm_base_request}
 use Rattle.wl_client.specs.First.{IsRefused, Passes}
 use Rattle.wl_client.specs.Serving.{IsOwnMessage}
@@ -28,6 +28,7 @@ IsKind (kind.Compositor request) m = m ≡ wl_compositor_request request
 IsKind (kind.Surface request) m = m ≡ wl_surface_request request
 IsKind (kind.Subcompositor request) m = m ≡ wl_subcompositor_request request
 IsKind (kind.Seat request) m = m ≡ wl_seat_request request
+IsKind (kind.Pointer request) m = m ≡ wl_pointer_request request
 IsKind (kind.Base request) m = m ≡ xdg_wm_base_request request
 IsKind (kind.XdgSurface request) m = m ≡ xdg_surface_request request
 IsKind (kind.Toplevel toplevel) m = (m.interface ≡ XdgToplevel) × (toplevel ≡ asked_by (toplevel_request m.opcode m.fields))

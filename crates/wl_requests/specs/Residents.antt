@@ -32,7 +32,7 @@ use Rattle.wl_plain.specs.Demand.{Demand, CommitTree, EndToplevel}
 use Rattle.wl_plain.specs.Demanding.{effect_of_commit, judge_all}
 use Rattle.wl_peer.specs.ToplevelRequest.{ToplevelRequest}
 use Rattle.wl_peer.specs.ToplevelRequest as toplevel
-use Rattle.wl_plain.specs.Desktop.{Desktop, Resident}
+use Rattle.wl_plain.specs.Desktop.{Desktop, Resident, unpointed}
 use Rattle.wl_plain.specs.LeftOut.{served_now}
 use Rattle.wl_invariants.specs.Orderly.{OwnsOrderly}
 use Rattle.wl_owning.specs.Owning.{IsOwned, by_number, names_in, targets_in}
@@ -85,16 +85,17 @@ ActsFor ask r q = WantsOr (takes_memory ask) (Queues (answers_to ask r) (changed
 abbrev pub Does : {A : Type 0} → (Resident → Ask) → Kept A → Kept A → Type 0
 Does ask old new = (r : Resident) → IsResident old r → (q : Peer) × ActsFor (ask r) r q × IsLeft old new (changed_by (ask r) r) q
 
--- What client c demands of a desktop is done, and it is told of it; there may be no memory for it.
+-- What client c demands of a desktop is done, and it is told of it, as where nobody points; there may be no memory for it.
 abbrev pub MeetsFor : ℕ → Demand → Resident → Desktop → Peer → Type 0
 MeetsFor c demand r d q =
     WantsOr (wants_memory demand)
-    (Queues (replies served_now c demand r (changed_for c demand r d) (all_windows d) d) (changed_for c demand r d).peer q)
+    (Queues (replies served_now c demand r (changed_for c demand r (unpointed d)) (all_windows d) (unpointed d))
+    (changed_for c demand r (unpointed d)).peer q)
     r.peer q
 
 -- The same, and what is kept of the client agrees with what became of it.
 abbrev pub MeetsSo : {A : Type 0} → ℕ → Demand → Resident → Desktop → Kept A → Kept A → Type 0
-MeetsSo c demand r d old new = (q : Peer) × MeetsFor c demand r d q × IsLeft old new (changed_for c demand r d) q
+MeetsSo c demand r d old new = (q : Peer) × MeetsFor c demand r d q × IsLeft old new (changed_for c demand r (unpointed d)) q
 
 -- What is judged so is answered: what is demanded is done, with its request counted; a refusal ends the client.
 abbrev pub AnswersSo : {A : Type 0} → Result Demand Refusal → ℕ → Resident → Desktop → Kept A → Kept A → Type 0
@@ -109,10 +110,12 @@ AnswersDemand judged old new = (c : ℕ) (r : Resident) (d : Desktop) → IsResi
 -- memory.
 abbrev pub MeetsAs : {A : Type 0} → Bool → ℕ → Demand → Resident → Desktop → Kept A → Kept A → Type 0
 MeetsAs true c demand r d old new =
-    (q : Peer) × Queues (replies served_now c demand r (changed_for c demand r d) (all_windows d) d) (changed_for c demand r d).peer q
-    × IsLeft old new (changed_for c demand r d) q
+    (q : Peer)
+    × Queues (replies served_now c demand r (changed_for c demand r (unpointed d)) (all_windows d) (unpointed d))
+    (changed_for c demand r (unpointed d)).peer q
+    × IsLeft old new (changed_for c demand r (unpointed d)) q
 MeetsAs false c demand r d old new = (wants_memory demand ≡ true) × (q : Peer) × LacksMemory r.peer q
-    × IsLeft old new (changed_for c demand r d) q
+    × IsLeft old new (changed_for c demand r (unpointed d)) q
 
 -- so it is of whatever client is stood for, where something is answered if it was done
 abbrev pub MeetsTold : {A X : Type 0} → (Resident → Demand) → Option X → Kept A → Kept A → Type 0

@@ -1,5 +1,5 @@
-//! The requests of one client, which are not its own alone: those of its surfaces, its subsurfaces, its xdg_surfaces and toplevels, and its seats,
-//! and the answers to its frame callbacks.
+//! The requests of one client, which are not its own alone: those of its surfaces, its subsurfaces, its xdg_surfaces and toplevels, its seats and
+//! wl_pointers, and the answers to its frame callbacks.
 #![tactic(auto)]
 
 mod frames;
@@ -8,6 +8,7 @@ mod releases;
 mod residents;
 mod surface_requests;
 mod wl_compositor;
+mod wl_pointer;
 mod wl_seat;
 mod wl_subcompositor;
 mod wl_subsurface;

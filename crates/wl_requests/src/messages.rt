@@ -19,8 +19,8 @@ use crate::xdg_toplevel::{ToplevelAsked, asked_of};
 use std::alloc::Allocator;
 use wl_client::{Action, First, Refusal};
 use wl_proto::{
-    Request, WlCompositorRequest, WlSeatRequest, WlSubcompositorRequest, WlSubsurfaceRequest,
-    WlSurfaceRequest, XdgSurfaceRequest, XdgWmBaseRequest,
+    Request, WlCompositorRequest, WlPointerRequest, WlSeatRequest, WlSubcompositorRequest,
+    WlSubsurfaceRequest, WlSurfaceRequest, XdgSurfaceRequest, XdgWmBaseRequest,
 };
 
 /// A request that a client alone can't answer, by its interface.
@@ -31,6 +31,7 @@ pub enum Kind {
     Subsurface(WlSubsurfaceRequest),
     Surface(WlSurfaceRequest),
     Seat(WlSeatRequest),
+    Pointer(WlPointerRequest),
     Base(XdgWmBaseRequest),
     XdgSurface(XdgSurfaceRequest),
     Toplevel(ToplevelAsked),
@@ -70,6 +71,7 @@ fn kind_of(request: &Request) -> Kind
         Request::WlSubsurface(request) => Kind::Subsurface(*request),
         Request::WlSurface(request) => Kind::Surface(*request),
         Request::WlSeat(request) => Kind::Seat(*request),
+        Request::WlPointer(request) => Kind::Pointer(*request),
         Request::XdgWmBase(request) => Kind::Base(*request),
         Request::XdgSurface(request) => Kind::XdgSurface(*request),
         Request::XdgToplevel(request) => Kind::Toplevel(asked_of(request)),
@@ -79,7 +81,6 @@ fn kind_of(request: &Request) -> Kind
         | Request::WlShm(_)
         | Request::WlShmPool(_)
         | Request::WlBuffer(_)
-        | Request::WlPointer(_)
         | Request::XdgPositioner(_)
         | Request::XdgPopup(_) => Kind::Unserved,
     }
@@ -148,6 +149,10 @@ impl<A: Allocator + Copy> Resident<A> {
             Kind::Subsurface(request) => self.wl_subsurface(object, version, &request, has_room),
             Kind::Seat(request) => {
                 self.wl_seat(object, version, &request);
+                Outcome::of(Stacking::Stays)
+            }
+            Kind::Pointer(request) => {
+                self.wl_pointer(object, version, &request);
                 Outcome::of(Stacking::Stays)
             }
             Kind::Base(request) => {

@@ -1,25 +1,43 @@
 //! The requests of wl_seat.
 
-ghost use Rattle.std.specs.Prelude.{◌≡◌};
+ghost use Rattle.std.specs.Prelude.{◌≡◌, Ok};
 ghost use Rattle.wl_proto.specs.Messages.{wl_seat_request};
-ghost use Rattle.wl_requests.specs.Residents.{AnswersDemand, Leaves};
+ghost use Rattle.wl_requests.specs.Residents.{AnswersDemand, IsFree, Leaves, NewIsFree};
+ghost use Rattle.wl_plain.specs.Demand.{GetPointer};
 ghost use Rattle.wl_plain.specs.LeftOut.{served_now};
 ghost use Rattle.wl_plain.specs.Demanding.{demand_of};
 
 use crate::residents::Resident;
 use std::alloc::Allocator;
 use wl_client::{ErrorCode, Refusal};
-use wl_proto::WlSeatRequest;
+use wl_proto::{Interface, WlSeatRequest};
+use wl_table::Entry;
 
 impl<A: Allocator + Copy> Resident<A> {
-    /// A request of a wl_seat. Its pointer isn't served yet, and it has no keyboard and no touch.
+    /// wl_seat.get_pointer: a new wl_pointer under a free id. It is told nothing, since nobody points.
+    fn get_pointer(&mut self, version: u32, id: u32)
+        ensures answers { IsFree self.old id → AnswersDemand (λ r. Ok (GetPointer id version)) self.old self.new }
+        ensures rest { Leaves self.old self.new }
+        ensures surfaces { self.new.owned.linked ≡ self.old.owned.linked }
+    {
+        let entry = Entry {
+            interface: Interface::WlPointer,
+            version,
+            target: 0,
+        };
+        self.client.count();
+        self.client.add(id, entry, &[]);
+    }
+
+    /// A request of a wl_seat whose new id is free. It has a pointer, and no keyboard and no touch.
     pub(crate) fn wl_seat(&mut self, object: u32, version: u32, request: &WlSeatRequest)
-        ensures answers { AnswersDemand (λ r. demand_of served_now r object version (wl_seat_request request.now)) self.old self.new }
+        ensures answers { NewIsFree self.old (wl_seat_request request.now)
+            → AnswersDemand (λ r. demand_of served_now r object version (wl_seat_request request.now)) self.old self.new }
         ensures rest { Leaves self.old self.new }
         ensures surfaces { self.new.owned.linked ≡ self.old.owned.linked }
     {
         match *request {
-            WlSeatRequest::GetPointer { .. } => self.refuse_unserved(),
+            WlSeatRequest::GetPointer { id } => self.get_pointer(version, id),
             WlSeatRequest::GetKeyboard { .. } | WlSeatRequest::GetTouch { .. } => self
                 .client
                 .refuse(Refusal::of(object, ErrorCode::MissingCapability)),

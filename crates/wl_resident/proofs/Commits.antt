@@ -35,7 +35,7 @@ use Rattle.wl_proto.specs.declared.wl_surface.WlSurfaceRequest.TheVariants as su
 use Rattle.wl_proto.specs.Messages.{Message, request_message, wl_compositor_request, wl_seat_request, wl_surface_request}
 use Rattle.wl_requests.proofs.Asking.{demanded-first, passing-peer, whole-first}
 use Rattle.wl_requests.proofs.Simply.{asks-stay}
-use Rattle.wl_requests.proofs.Stackings.{base-stays, subcompositor-stays, subsurface-stays, toplevel-of, toplevel-stays, xdg-stays}
+use Rattle.wl_requests.proofs.Stackings.{base-stays, pointer-stays, subcompositor-stays, subsurface-stays, toplevel-of, toplevel-stays, xdg-stays}
 use Rattle.wl_requests.proofs.Subsurfaces.{only-number}
 use Rattle.wl_requests.specs.declared.messages.Asked.{Asked}
 use Rattle.wl_requests.specs.declared.messages.Asked.TheVariants as asked
@@ -118,7 +118,7 @@ module _ {A : Type 0} (old : Kept A) (r : Resident) where
   compositor-stays object version (compositor.CreateRegion id) = refl
 
   seat-stays : (object version : ℕ) (request : WlSeatRequest) → StacksSo old r (demand_of served_now r object version (wl_seat_request request)) Stays
-  seat-stays object version (seat.GetPointer id) = tt
+  seat-stays object version (seat.GetPointer id) = refl
   seat-stays object version (seat.GetKeyboard id) = tt
   seat-stays object version (seat.GetTouch id) = tt
 
@@ -172,6 +172,7 @@ module _ {A : Type 0} (old : Kept A) (r : Resident) where
   kind-never (kind.Subcompositor request) object version target m is none = told-never object version m _ is (subcompositor-stays old r object version request)
   kind-never (kind.Subsurface request) object version target m is none = told-never object version m _ is (subsurface-stays old r object version request)
   kind-never (kind.Seat request) object version target m is none = told-never object version m _ is (seat-stays object version request)
+  kind-never (kind.Pointer request) object version target m is none = told-never object version m _ is (pointer-stays old r object version request)
   kind-never (kind.Base request) object version target m is none = told-never object version m _ is (base-stays old r object version request)
   kind-never (kind.XdgSurface request) object version target m is none = told-never object version m _ is (xdg-stays old r object version request)
   kind-never (kind.Toplevel asked) object version target m is none =

@@ -19,7 +19,7 @@ use Rattle.wl_peer.specs.Told.{Said, display_error}
 use Rattle.wl_plain.specs.Changing.{changed_for}
 use Rattle.wl_plain.specs.Demand.{Demand, CommitTree, EndToplevel}
 use Rattle.wl_plain.specs.Demanding.{effect_of_commit, judge_all}
-use Rattle.wl_plain.specs.Desktop.{Desktop, Resident, become, become_by, client_at, client_in, owned_of}
+use Rattle.wl_plain.specs.Desktop.{Desktop, Resident, become, become_by, client_at, client_in, owned_of, unpointed}
 use Rattle.wl_plain.specs.Happens.{wants_memory}
 use Rattle.wl_plain.specs.LeftOut.{served_now}
 use Rattle.wl_plain.specs.Replies.{releases, replies}
@@ -350,20 +350,20 @@ module _ {A : Type 0} (c : ℕ) (others : ℕ → ById ℕ) (base d : Desktop) (
 
 module _ (c : ℕ) (demand : Demand) (r : Resident) (d : Desktop) (owns : OwnsNoPopups r) (served : IsServed demand) where
   -- what is told where no client has popups
-  told-simply : (q : Peer) → Queues (replies served_now c demand r (changed_for c demand r d) (all_windows d) d) (changed_for c demand r d).peer q
+  told-simply : (q : Peer) → Queues (replies served_now c demand r (changed_for c demand r (unpointed d)) (all_windows d) (unpointed d)) (changed_for c demand r (unpointed d)).peer q
       → Queues (told_simply demand r) (changed_simply demand r).peer q
   told-simply q h =
-      let changes = changes_simply c demand r d owns served in
-      let events = replies_simply c demand r (all_windows d) d owns served ∙ ap (λ (made : Resident). answers_simply demand r ++ releases r made) changes in
-      subst (λ (m : Resident). Queues (told_simply demand r) m.peer q) changes (subst (λ (es : List Said). Queues es (changed_for c demand r d).peer q) events h)
+      let changes = changes_simply c demand r (unpointed d) refl owns served in
+      let events = replies_simply c demand r (all_windows d) (unpointed d) refl owns served ∙ ap (λ (made : Resident). answers_simply demand r ++ releases r made) changes in
+      subst (λ (m : Resident). Queues (told_simply demand r) m.peer q) changes (subst (λ (es : List Said). Queues es (changed_for c demand r (unpointed d)).peer q) events h)
 
   -- it ends no client by itself
   changed-lives : r.peer.status ≡ None → (changed_simply demand r).peer.status ≡ None
-  changed-lives lives = ap (λ (x : Resident). x.peer.status) (sym (changes_simply c demand r d owns served)) ∙ ((changed-steady c demand d r).0 ∙ lives)
+  changed-lives lives = ap (λ (x : Resident). x.peer.status) (sym (changes_simply c demand r (unpointed d) refl owns served)) ∙ ((changed-steady c demand (unpointed d) r).0 ∙ lives)
 
   meets-simply : {A : Type 0} (done : Bool) (old mid : Kept A) → MeetsAs done c demand r d old mid → (q : Peer) × Told done demand r q × IsLeft old mid (changed_simply demand r) q
-  meets-simply true old mid h = (h.0, told-simply h.0 h.1, subst (λ (m : Resident). IsLeft old mid m h.0) (changes_simply c demand r d owns served) h.2)
-  meets-simply false old mid h = (h.1, (h.0, h.2), subst (λ (m : Resident). IsLeft old mid m h.1) (changes_simply c demand r d owns served) h.3)
+  meets-simply true old mid h = (h.0, told-simply h.0 h.1, subst (λ (m : Resident). IsLeft old mid m h.0) (changes_simply c demand r (unpointed d) refl owns served) h.2)
+  meets-simply false old mid h = (h.1, (h.0, h.2), subst (λ (m : Resident). IsLeft old mid m h.1) (changes_simply c demand r (unpointed d) refl owns served) h.3)
 
 -- the same for what the message at the front of what came does to the stack
 abbrev StacksIn : {A : Type 0} → Split → Kept A → Resident → Stacking → Type 0
@@ -439,7 +439,8 @@ module _ {A : Type 0} (c : ℕ) (others : ℕ → ById ℕ) (base d : Desktop) (
 
 -- what is answered is done, or it isn't
 meets-so : {A : Type 0} (b : Bool) (c : ℕ) (demand : Demand) (r : Resident) (d : Desktop) (old mid : Kept A) → wants_memory demand ≡ b → (q : Peer)
-    → WantsOr b (Queues (replies served_now c demand r (changed_for c demand r d) (all_windows d) d) (changed_for c demand r d).peer q) r.peer q → IsLeft old mid (changed_for c demand r d) q
+    → WantsOr b (Queues (replies served_now c demand r (changed_for c demand r (unpointed d)) (all_windows d) (unpointed d)) (changed_for c demand r (unpointed d)).peer q) r.peer q
+    → IsLeft old mid (changed_for c demand r (unpointed d)) q
     → (done : Bool) × MeetsAs done c demand r d old mid
 meets-so false c demand r d old mid e q h left = (true, (q, h, left))
 meets-so true c demand r d old mid e q (inl h) left = (false, (e, q, h, left))

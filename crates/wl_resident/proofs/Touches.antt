@@ -1,16 +1,19 @@
 -- Which surface a message touches, by what is kept of its client.
 use Rattle.std.proofs.Common.{◌≡◌, ℕ, ◌-◌, ◌⊎◌, inl, inr, List, Bool, true, false, Option, Some, None, Result, Ok, Err, take, drop, refl, ap, sym, subst, ◌∙◌}
-use Rattle.std.specs.Prelude.{ℤ, ◌||◌, if◌then◌else◌, is_some}
+use Rattle.std.specs.Prelude.{ℤ, ◌==◌, ◌||◌, if◌then◌else◌, is_some}
 use Rattle.std.specs.Option.{option_and_then, option_map}
 use Rattle.wl_wire.specs.Wire.{split_of}
 use Rattle.wl_wire.specs.declared.header.Split.{Split}
 use Rattle.wl_wire.specs.declared.header.Split.TheVariants.{Message as Whole, More, Bad}
 use Rattle.wl_interface.specs.declared.interface.Interface.{Interface}
 use Rattle.wl_interface.specs.declared.interface.Interface.TheVariants.{WlDisplay, WlRegistry, WlRegion, WlSurface, WlShm, WlShmPool, WlBuffer, XdgToplevel}
-use Rattle.wl_proto.specs.Messages.{Message, request_message, wl_compositor_request, wl_seat_request, wl_subcompositor_request, wl_subsurface_request, wl_surface_request}
+use Rattle.wl_proto.specs.Messages.{Message, request_message, wl_compositor_request, wl_pointer_request, wl_seat_request, wl_subcompositor_request, wl_subsurface_request, wl_surface_request}
 use Rattle.wl_proto.specs.Messages.{xdg_surface_request, xdg_wm_base_request}
 use Rattle.wl_proto.specs.declared.wl_compositor.WlCompositorRequest.{WlCompositorRequest}
 use Rattle.wl_proto.specs.declared.wl_compositor.WlCompositorRequest.TheVariants as compositor
+use Rattle.wl_peer.specs.declared.refusals.ErrorCode.TheVariants.{Role as HasAnotherRole}
+use Rattle.wl_proto.specs.declared.wl_pointer.WlPointerRequest.{WlPointerRequest}
+use Rattle.wl_proto.specs.declared.wl_pointer.WlPointerRequest.TheVariants as pointer
 use Rattle.wl_proto.specs.declared.wl_seat.WlSeatRequest.{WlSeatRequest}
 use Rattle.wl_proto.specs.declared.wl_seat.WlSeatRequest.TheVariants as seat
 use Rattle.wl_proto.specs.declared.wl_subcompositor.WlSubcompositorRequest.{WlSubcompositorRequest}
@@ -47,7 +50,8 @@ use Rattle.wl_plain.specs.Desktop.{Resident}
 use Rattle.wl_plain.specs.LeftOut.{served_now}
 use Rattle.wl_plain.specs.Served.{unserved_now}
 use Rattle.wl_plain.specs.Step.{with_peer}
-use Rattle.wl_plain.specs.WlSubsurface.{beside, demand_by_link, has_subsurface, is_no_subsurface, link_of_subsurface, past_limit, placed_beside}
+use Rattle.wl_plain.specs.WlPointer.{is_no_cursor}
+use Rattle.wl_plain.specs.WlSubsurface.{beside, demand_by_link, has_subsurface, is_no_subsurface, link_of_subsurface, past_limit, placed_beside, refuses}
 use Rattle.wl_plain.specs.WlSurface.{surface_created, transform_set}
 use Rattle.wl_plain.specs.XdgShell.{acknowledged_by, base_destroyed, geometry_set, role_of, state_asked, toplevel_made, xdg_surface_destroyed, xdg_surface_made}
 use Rattle.wl_laws.proofs.Lists.Keys.{none-some}
@@ -129,9 +133,14 @@ compositor-untouched r object version (compositor.CreateRegion id) =
     asks-untouched (owns (action_of (known_of r.peer) object version (ToCompositor (compositor.CreateRegion id))))
 
 seat-untouched : (r : Resident) (object version : ℕ) (request : WlSeatRequest) → Untouched (demand_of served_now r object version (wl_seat_request request))
-seat-untouched r object version (seat.GetPointer id) = tt
+seat-untouched r object version (seat.GetPointer id) = λ q. refl
 seat-untouched r object version (seat.GetKeyboard id) = tt
 seat-untouched r object version (seat.GetTouch id) = tt
+
+pointer-untouched : (r : Resident) (object version : ℕ) (request : WlPointerRequest) → Untouched (demand_of served_now r object version (wl_pointer_request request))
+pointer-untouched r object version (pointer.SetCursor serial surface x y) =
+    if-untouched (surface == 0) _ _ (λ q. refl)
+    (if-untouched (is_no_cursor (role_of r surface) || is_some (xdg_of surface r.owned.shell)) (refuses object HasAnotherRole) _ tt (λ q. refl))
 
 subcompositor-untouched : (r : Resident) (object version : ℕ) (request : WlSubcompositorRequest) → Untouched (demand_of served_now r object version (wl_subcompositor_request request))
 subcompositor-untouched r object version subcompositor.Destroy = λ q. refl
@@ -463,6 +472,8 @@ module _ {A : Type 0} (v : Kept A) (r : Resident) (is : IsResident v r) (orderly
         untouched (λ touch. ⊥) touched (judged-untouched left object version m _ (sym is_it) (subcompositor-untouched left object version request)) there (λ touch it. it)
     by-kind (kind.Seat request) is_it touched there =
         untouched (λ touch. ⊥) touched (judged-untouched left object version m _ (sym is_it) (seat-untouched left object version request)) there (λ touch it. it)
+    by-kind (kind.Pointer request) is_it touched there =
+        untouched (λ touch. ⊥) touched (judged-untouched left object version m _ (sym is_it) (pointer-untouched left object version request)) there (λ touch it. it)
     by-kind (kind.Base request) is_it touched there =
         untouched (λ touch. ⊥) touched (judged-untouched left object version m _ (sym is_it) (base-untouched left object version request)) there (λ touch it. it)
     by-kind (kind.XdgSurface request) is_it touched there =

@@ -154,10 +154,7 @@ const KEYBOARD: &[Row] = &[
     Row::ErrorTold(7, 0, b"missing_capability"),
 ];
 
-const NOT_SERVED: &[Row] = &[
-    Row::Errs(Message(7, 0, &[Arg::NewId(9)]), 1, 3),
-    Row::Errs(Message(8, 1, &[Arg::NewId(9)]), 1, 3),
-];
+const NOT_SERVED: &[Row] = &[Row::Errs(Message(8, 1, &[Arg::NewId(9)]), 1, 3)];
 
 /// The wl_surface 9 becomes a subsurface of 10.
 const SUBSURFACE: &[Row] = &[

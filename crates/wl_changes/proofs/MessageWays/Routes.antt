@@ -199,7 +199,7 @@ module _ (c : ℕ) (r : Resident) (d e : Desktop) (is : client_at c d ≡ Some r
     served = demand-served served_now now-now c r rest object opcode body demand d judged orderly.pointer (lives-there c r d orderly is alive)
 
     changes : changed_for c demand Now d ≡ Made
-    changes = changes_simply c demand Now d owns served
+    changes = changes_simply c demand Now d orderly.pointer owns served
 
     stacks : done_for c demand Now d ≡ On
     stacks = does_no_more c demand Now d orderly.pointer owns served
@@ -207,7 +207,7 @@ module _ (c : ℕ) (r : Resident) (d e : Desktop) (is : client_at c d ≡ Some r
     replies-same : replies served_now c demand Now Made (all_windows d) d ≡ Events
     replies-same =
         subst (λ (m : Resident). replies served_now c demand Now m (all_windows d) d ≡ answers_simply demand Now ++ releases Now m) changes
-        (replies_simply c demand Now (all_windows d) d owns served)
+        (replies_simply c demand Now (all_windows d) d orderly.pointer owns served)
 
     leaves : LeavesOthers c d On
     leaves = stacked-leaves c demand Now d

@@ -4,8 +4,8 @@ use Rattle.std.specs.List.{list_any}
 use Rattle.std.specs.Option.{option_and_then, option_map}
 use Rattle.wl_peer.specs.Peer.{Peer}
 use Rattle.wl_state.specs.Request.{Frame}
-use Rattle.wl_state.specs.Surface.{asking}
-use Rattle.wl_state.specs.declared.role.Role.TheVariants.{Toplevel as AsToplevel}
+use Rattle.wl_state.specs.Surface.{asking, with_role}
+use Rattle.wl_state.specs.declared.role.Role.TheVariants.{Cursor as AsCursor, Toplevel as AsToplevel}
 use Rattle.wl_surface.specs.Surfaces.{Link, Surfaces, link_at, with_change, with_new}
 use Rattle.wl_surface.specs.Trees.{committed_in, desynchronised_in, destroyed_in, in_mode, link_of, linked, released_in, unlinked, with_link}
 use Rattle.wl_xdg_state.specs.Shell.{Effect, Stays, Unconfigured, Configures, Maps, Unmaps, XdgSurface as Xdg, xdg_at, xdg_of}
@@ -14,7 +14,7 @@ use Rattle.wl_tree_laws.specs.Hanging.{AreNumbered, AreTied}
 use Rattle.wl_tree_laws.specs.Laws.{AreOnceLinked}
 use Rattle.wl_plain.specs.Ask.{Ask, AskSurface, CreateSurface, GetToplevel}
 use Rattle.wl_plain.specs.Changing.{tree_committed, unlinked_at}
-use Rattle.wl_plain.specs.Demand.{Demand, AskFrame, Asks, CommitTree, EndSubsurface, EndSurface, EndToplevel, GetSubsurface, SetMode}
+use Rattle.wl_plain.specs.Demand.{Demand, AskFrame, Asks, CommitTree, EndSubsurface, EndSurface, EndToplevel, GetSubsurface, MakeCursor, SetMode}
 use Rattle.wl_plain.specs.Demanding.{effect_of_commit}
 use Rattle.wl_plain.specs.Desktop.{Desktop, Resident, Subsurface, client_at, owned_in, owned_of}
 use Rattle.wl_plain.specs.Step.{toplevel_given, with_peer}
@@ -199,6 +199,8 @@ module _ (laws : Laws) (c : ℕ) (r : Resident) (p : Peer) (d e : Desktop) (had 
   changes-by (SetMode link false) done =
       desynchronised (SetMode link false) done link (link_at link all) refl (ap (λ (o : Owned). o.surfaces) done.own) done.stack
   changes-by (EndToplevel id xdg surface) done = gone (EndToplevel id xdg surface) done surface (ap (λ (o : Owned). o.surfaces) done.own) done.stack
+  changes-by (MakeCursor surface) done =
+      kept (MakeCursor surface) done (with_change surface (with_role AsCursor) all) (ap (λ (o : Owned). o.surfaces) done.own) (laws.role_keeps all surface AsCursor).1 done.stack
   changes-by demand done = kept demand done all (ap (λ (o : Owned). o.surfaces) done.own) (same-keeps all) done.stack
 
 pub one-tree-changes : Laws → OneTreeChanges

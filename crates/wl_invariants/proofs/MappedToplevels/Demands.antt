@@ -6,7 +6,7 @@ use Rattle.std.specs.Option.{option_map}
 use Rattle.std.proofs.lemmas.Bool.{eqb-true}
 use Rattle.wl_peer.specs.declared.actions.Action.{Action}
 use Rattle.wl_peer.specs.declared.actions.Action.TheVariants.{DestroyBuffer}
-use Rattle.wl_state.specs.declared.role.Role.TheVariants.{Toplevel as AsToplevel}
+use Rattle.wl_state.specs.declared.role.Role.TheVariants.{Cursor as AsCursor, Toplevel as AsToplevel}
 use Rattle.wl_state.specs.Request.{Frame, Request}
 use Rattle.wl_state.specs.Surface.{asking, with_role}
 use Rattle.wl_surface.specs.Surfaces.{Surfaces, history_in, link_at, with_change, with_new}
@@ -27,7 +27,7 @@ use Rattle.wl_stacking.specs.Stacking.{shows_buffer}
 use Rattle.wl_stacking.specs.Stacking.{Owned, Standing, is_of, with_mapped, without_surface_of}
 use Rattle.wl_plain.specs.Ask.{Acknowledge, Ask, AskSurface, ConfigureAgain, CreateSurface, DestroyXdgSurface, EndObject, GetToplevel, GetXdgSurface, Ignore, Own}
 use Rattle.wl_plain.specs.Changing.{link_with_id, tree_committed, unlinked_at}
-use Rattle.wl_plain.specs.Demand.{AskFrame, Asks, CommitTree, Demand, EndSubsurface, EndSurface, EndToplevel, GetSubsurface, SetMode}
+use Rattle.wl_plain.specs.Demand.{AskFrame, Asks, CommitTree, Demand, EndSubsurface, EndSurface, EndToplevel, GetSubsurface, MakeCursor, SetMode}
 use Rattle.wl_plain.specs.Demanding.{effect_of_commit, effect_on_xdg}
 use Rattle.wl_plain.specs.Desktop.{Desktop, Resident}
 use Rattle.wl_plain.specs.Step.{asked_so_far, own_changed, toplevel_given}
@@ -328,6 +328,8 @@ module _ (c : ℕ) (r : Resident) (d : Desktop) (is : IsRooted r) (fit : AllFit 
       with-surfaces (unlinked_at (link_with_id id r) r.owned.surfaces) (unlinked-shows r.owned.surfaces r.owned.shell is.once is.numbered is.roots (link_with_id id r))
   demand-fits (SetMode link synchronised) allowed well = mode-stands link synchronised
   demand-fits (EndToplevel id xdg top) allowed well = toplevel-destroyed xdg top (top-with r.owned.shell is.apart id xdg top allowed.1 allowed.2)
+  demand-fits (MakeCursor surface) allowed well =
+      with-surfaces (with_change surface (with_role AsCursor) r.owned.surfaces) (role-shows r.owned.shell surface AsCursor r.owned.surfaces)
   demand-fits demand allowed well = (fit, apart)
 
 -- What is demanded leaves the mapped toplevels of the client standing, those that wait bare, and each transform one of the eight.

@@ -5,7 +5,7 @@ use Rattle.std.specs.List.{list_all}
 use Rattle.std.specs.Option.{option_map}
 use Rattle.std.proofs.lemmas.Bool.{and_from}
 use Rattle.std.proofs.lemmas.List.Folds.{list_all-append}
-use Rattle.wl_state.specs.declared.role.Role.TheVariants.{Subsurface as AsSubsurface, Toplevel as AsToplevel}
+use Rattle.wl_state.specs.declared.role.Role.TheVariants.{Cursor as AsCursor, Subsurface as AsSubsurface, Toplevel as AsToplevel}
 use Rattle.wl_state.specs.Request.{AddChild, Commit, Frame, Request}
 use Rattle.wl_state.specs.State.{History}
 use Rattle.wl_state.specs.Surface.{Surface, asking, new_surface, with_role}
@@ -16,7 +16,7 @@ use Rattle.wl_invariants.proofs.TreeSteps.Commits.{asked_more, history-asked, ro
 use Rattle.wl_xdg_state.specs.Shell.{Configures, Effect, Maps, Stays, Unconfigured, Unmaps, XdgSurface, xdg_at, xdg_of}
 use Rattle.wl_plain.specs.Ask.{Ask, AskSurface, CreateSurface, GetToplevel}
 use Rattle.wl_plain.specs.Changing.{link_with_id, mode_set, tree_committed, unlinked_at}
-use Rattle.wl_plain.specs.Demand.{AskFrame, Asks, CommitTree, Demand, EndSubsurface, EndSurface, GetSubsurface, SetMode}
+use Rattle.wl_plain.specs.Demand.{AskFrame, Asks, CommitTree, Demand, EndSubsurface, EndSurface, GetSubsurface, MakeCursor, SetMode}
 use Rattle.wl_plain.specs.Demanding.{effect_of_commit}
 use Rattle.wl_plain.specs.Desktop.{Resident}
 use Rattle.wl_plain.specs.Step.{toplevel_given}
@@ -143,4 +143,5 @@ demand-turned (GetSubsurface id version child parent) r is well = linked-all r.p
 demand-turned (EndSubsurface id) r is well =
     moved-all r.owned.surfaces (unlinked_at (link_with_id id r) r.owned.surfaces) (moves-unlinked (link_with_id id r) r.owned.surfaces) is
 demand-turned (SetMode link b) r is well = mode-turned link b r is
+demand-turned (MakeCursor surface) r is well = λ other. subst IsTurned (sym ((role-keeps-all r.owned.surfaces surface AsCursor).0 other)) (is other)
 demand-turned demand r is well = is

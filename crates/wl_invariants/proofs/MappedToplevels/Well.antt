@@ -8,6 +8,7 @@ use Rattle.std.proofs.lemmas.Bool.{and_parts}
 use Rattle.wl_proto.specs.declared.argument.NewId.{NewId}
 use Rattle.wl_proto.specs.declared.error.ProtoError.{ProtoError}
 use Rattle.wl_proto.specs.declared.wl_compositor.WlCompositorRequest.TheVariants as compositor
+use Rattle.wl_proto.specs.declared.wl_pointer.WlPointerRequest.TheVariants as pointer
 use Rattle.wl_proto.specs.declared.wl_seat.WlSeatRequest.TheVariants as seat
 use Rattle.wl_proto.specs.declared.wl_subcompositor.WlSubcompositorRequest.TheVariants as subcompositor
 use Rattle.wl_proto.specs.declared.wl_subsurface.WlSubsurfaceRequest.{WlSubsurfaceRequest}
@@ -33,11 +34,12 @@ use Rattle.wl_state.specs.Request.{Request as Asked, Member, PlaceAbove, PlaceBe
 use Rattle.wl_surface.specs.Surfaces.{Link}
 use Rattle.wl_surface.specs.Trees.{is_bad_parent, is_too_deep}
 use Rattle.wl_xdg_state.specs.Shell.{Effect, Stays, Unconfigured, Configures, Maps, Unmaps, XdgSurface as Xdg, answers_states, is_full, is_waiting, stage_of, xdg_at, xdg_of, xdg_with}
-use Rattle.wl_plain.specs.Ask.{Ask, AskSurface, owns}
+use Rattle.wl_plain.specs.Ask.{Ask, AskSurface, Ignore, owns}
 use Rattle.wl_plain.specs.Demand.{Asks, CommitTree, Demand}
 use Rattle.wl_plain.specs.Demanding.{base_demand, committed_by, demand_by, demand_of, demands, effect_of_commit, effect_on_xdg, judge_all, moved_by_pointer, own_demand, surface_demand}
 use Rattle.wl_plain.specs.Demanding.{toplevel_asked, toplevel_destroyed, xdg_asked}
 use Rattle.wl_plain.specs.Desktop.{Resident}
+use Rattle.wl_plain.specs.WlPointer.{cursor_set, is_no_cursor}
 use Rattle.wl_plain.specs.WlSubsurface.{beside, demand_by_link, has_subsurface, is_no_subsurface, link_of_subsurface, placed_beside, subsurface_made}
 use Rattle.wl_plain.specs.WlSurface.{transform_set, will_show}
 use Rattle.wl_plain.specs.Step.{with_peer}
@@ -120,6 +122,13 @@ module _ (r : Resident) where
   link-well object (Some l) subsurface.SetSync = tt
   link-well object (Some l) subsurface.SetDesync = tt
 
+  -- ---- the pointer
+
+  cursor-well : (object surface : ℕ) → IsWellSo r (if surface == 0 then Ok (Asks Ignore) else cursor_set r object surface)
+  cursor-well object surface =
+      if-well (surface == 0) _ _ (λ null. tt)
+      (λ one. if-well (is_no_cursor (role_of r surface) || is_some (xdg_of surface r.owned.shell)) _ _ (λ other. tt) (λ free. tt))
+
   -- ---- the shell
 
   base-well : (object version : ℕ) (request : XdgWmBaseRequest) → unserved_now (ToBase request) ≡ false → IsWellSo r (base_demand r object version request)
@@ -176,7 +185,7 @@ module _ (r : Resident) where
   interface-well (ToCompositor (compositor.CreateSurface id)) object version served = ask-well (nat_le 256 (length r.owned.surfaces.surfaces)) _ _ (λ full. tt) (λ room. tt)
   interface-well (ToCompositor (compositor.CreateRegion id)) object version served = own-well object version (ToCompositor (compositor.CreateRegion id))
   interface-well (ToSurface request) object version served = surface-well object version request
-  interface-well (ToSeat (seat.GetPointer id)) object version served = absurd (cc)
+  interface-well (ToSeat (seat.GetPointer id)) object version served = tt
   interface-well (ToSeat (seat.GetKeyboard id)) object version served = tt
   interface-well (ToSeat (seat.GetTouch id)) object version served = tt
   interface-well (ToBase request) object version served = base-well object version request served
@@ -185,7 +194,7 @@ module _ (r : Resident) where
   interface-well (ToSubcompositor subcompositor.Destroy) object version served = tt
   interface-well (ToSubcompositor (subcompositor.GetSubsurface id child parent)) object version served = made-well object version id child parent
   interface-well (ToSubsurface request) object version served = link-well object (link_of_subsurface object r) request
-  interface-well (ToPointer request) object version served = absurd (cc)
+  interface-well (ToPointer (pointer.SetCursor serial surface x y)) object version served = cursor-well object surface
   interface-well (ToPositioner request) object version served = absurd (cc)
   interface-well (ToPopup request) object version served = absurd (cc)
   interface-well request object version served = own-well object version request

@@ -70,7 +70,6 @@ arrival-owns output =
       subsurfaces = (tt, λ id there. absurd (none-there there));
       children = tt;
       callbacks = (tt, λ id there. absurd (none-there there));
-      pointers = refl;
     }
 
 pub arrival-lives : (output : Output) → Lives (arrival output) []
@@ -177,7 +176,7 @@ module _ (left : LeftOut) (leaves : LeavesOut served_now left) (c : ℕ) (r : Re
   counted-owns = only-peer r (counted (with_rest rest r.peer)) refl whole.simple
 
   pub changes : changed_for c demand Counted d ≡ Changed
-  changes = changes_simply c demand Counted d counted-owns demand-served
+  changes = changes_simply c demand Counted d still counted-owns demand-served
 
   stacks : stacked_for c demand Counted (all_windows d) d ≡ stacked_simply c demand Counted d
   stacks = stacks_simply c demand Counted (all_windows d) d still counted-owns demand-served

@@ -7,7 +7,7 @@ use Rattle.std.proofs.lemmas.Bool.{eqb-true, ne_eqb, or_cases}
 use Rattle.wl_interface.specs.declared.interface.Interface.TheVariants.{WlSurface}
 use Rattle.wl_peer.specs.Objects.{is_of}
 use Rattle.wl_state.specs.declared.role.Role.{Role}
-use Rattle.wl_state.specs.declared.role.Role.TheVariants.{Subsurface as AsSubsurface, Toplevel as AsToplevel}
+use Rattle.wl_state.specs.declared.role.Role.TheVariants.{Cursor as AsCursor, Subsurface as AsSubsurface, Toplevel as AsToplevel}
 use Rattle.wl_state.specs.Request.{AddChild, Frame}
 use Rattle.wl_state.specs.Surface.{Surface, new_surface, with_role}
 use Rattle.wl_surface.specs.Surfaces.{Surfaces, surface_at, with_change, with_new}
@@ -21,6 +21,7 @@ use Rattle.wl_plain.specs.Demand.{SetPositioner, GetPopup, Grab, EndPopup, EndTo
 use Rattle.wl_plain.specs.Demanding.{effect_of_commit}
 use Rattle.wl_plain.specs.Desktop.{Resident, Subsurface}
 use Rattle.wl_plain.specs.Step.{asked_so_far, changed_by, toplevel_given}
+use Rattle.wl_plain.specs.WlPointer.{is_no_cursor}
 use Rattle.wl_plain.specs.WlSubsurface.{has_subsurface, is_of_child}
 use Rattle.wl_plain.specs.XdgShell.{is_foreign, role_of}
 use Rattle.wl_laws.proofs.Lists.Keys.{differ, new-elsewhere, none-some}
@@ -60,6 +61,9 @@ created id surface all e =
 
 foreign : (o : Option Role) → is_foreign o ≡ false → o ≡ Some AsSubsurface → ⊥
 foreign o none is = differ (sym (ap is_foreign is) ∙ none)
+
+no-cursor : (o : Option Role) → is_no_cursor o ≡ false → o ≡ Some AsSubsurface → ⊥
+no-cursor o none is = differ (sym (ap is_no_cursor is) ∙ none)
 
 given : (id xdg : ℕ) (o : Option Xdg) (r : Resident) → xdg_at xdg r.owned.shell ≡ o → AreSubsurfaces r → AreSubsurfaces (toplevel_given id xdg o r)
 given id xdg None r found are = are
@@ -101,6 +105,15 @@ asked (Acknowledge xdg serial) r ok are =
 asked (ConfigureAgain xdg) r ok are =
     kept r (changed_by (ConfigureAgain xdg) r) (λ id. refl) (shell-changed xdg (configuring r.peer.serial) r.owned.shell (λ x. refl)) refl are
 asked Ignore r ok are = are
+
+-- one that becomes a cursor has no wl_subsurface
+cursor : (surface : ℕ) (r : Resident) → is_no_cursor (role_of r surface) ≡ false → AreSubsurfaces r → AreSubsurfaces (changed_simply (MakeCursor surface) r)
+cursor surface r none are =
+    step r (changed_simply (MakeCursor surface) r)
+    (λ other has. (
+      has,
+      λ role bare. (role-else surface AsCursor r.owned.surfaces other AsSubsurface (λ same. no-cursor (role_of r surface) none (ap (role_of r) same ∙ role)) role, bare),
+    )) are
 
 -- ---- a surface goes
 
@@ -218,8 +231,9 @@ demanded-subsurfaces (SetMode link synchronised) r there served ok are = mode-ke
 demanded-subsurfaces (EndToplevel id xdg top) r there served ok are =
     kept r (changed_simply (EndToplevel id xdg top) r) (λ id. refl) (shell-changed xdg without_role r.owned.shell (λ x. refl)) refl are
 demanded-subsurfaces (Move surface serial) r there served ok are = are
-demanded-subsurfaces (GetPointer id version) r there served ok are = absurd served
-demanded-subsurfaces (MakeCursor surface) r there served ok are = absurd served
+demanded-subsurfaces (GetPointer id version) r there served ok are =
+    kept r (changed_simply (GetPointer id version) r) (λ id. refl) (shell-same r.owned.shell) refl are
+demanded-subsurfaces (MakeCursor surface) r there served ok are = cursor surface r ok.0 are
 demanded-subsurfaces (CreatePositioner id version) r there served ok are = absurd served
 demanded-subsurfaces (EndPositioner id) r there served ok are = absurd served
 demanded-subsurfaces (SetPositioner id p) r there served ok are = absurd served

@@ -45,7 +45,6 @@ only-peer r p same owns =
       subsurfaces = (owns.subsurfaces.0, λ id there. ap (λ (objects : Objects). is_of WlSubsurface (objects id)) same ∙ owns.subsurfaces.1 id there);
       children = owns.children;
       callbacks = (owns.callbacks.0, λ id there. ap (λ (objects : Objects). is_of WlCallback (objects id)) same ∙ owns.callbacks.1 id there);
-      pointers = owns.pointers;
     }
 
 pub living : (s : Option Cause) (r : Resident) (standing : List Standing) → s ≡ None → OwnsNoPopupsBy s r standing → OwnsNoPopups r
@@ -85,7 +84,7 @@ module _ (c : ℕ) (demand : Demand) (r there : Resident) (d new : Desktop) (is 
   on = stacked_simply c demand r d
 
   changes : changed_for c demand r d ≡ made
-  changes = changes_simply c demand r d owns served
+  changes = changes_simply c demand r d still owns served
 
   stacks : done_for c demand r d ≡ on
   stacks = does_no_more c demand r d still owns served
@@ -93,7 +92,7 @@ module _ (c : ℕ) (demand : Demand) (r there : Resident) (d new : Desktop) (is 
   replies-same : replies served_now c demand r made (all_windows d) d ≡ told_simply demand r
   replies-same =
       subst (λ (m : Resident). replies served_now c demand r m (all_windows d) d ≡ answers_simply demand r ++ releases r m) changes
-      (replies_simply c demand r (all_windows d) d owns served)
+      (replies_simply c demand r (all_windows d) d still owns served)
 
   found : client_at c on ≡ Some there
   found = ap (λ (e : Desktop). client_at c e) (sym stacks) ∙ ap (λ (clients : List (Option Resident)). client_in clients c) (done-clients_stay c demand r d) ∙ is

@@ -1,4 +1,4 @@
--- Where no client has wl_pointers and popups, none is told of the pointer, and each stays as it is.
+-- Where no client has popups, one that has no wl_pointers is told nothing of the pointer, and stays as it is.
 use Rattle.std.proofs.Common.{◌≡◌, ℕ, List, [], Bool, true, false, Option, Some, None, refl, ap, subst, sym, ◌∙◌}
 use Rattle.std.specs.Prelude.{ℤ, ◌&&◌, if◌then◌else◌, is_some}
 use Rattle.wl_peer.specs.declared.cause.Cause.{Cause}
@@ -13,7 +13,7 @@ use Rattle.wl_stacking.specs.Windows.{Place}
 use Rattle.wl_plain.specs.Changing.{drawing}
 use Rattle.wl_plain.specs.Desktop.{Desktop, Resident, client_at, toplevels_of}
 use Rattle.wl_invariants.specs.Toplevels.{AreToplevels}
-use Rattle.wl_invariants.specs.NoPopups.{NoPopups, OwnsNoPopups, OwnsNoPopupsAt}
+use Rattle.wl_invariants.specs.NoPopups.{HasNoPointers, NoPopups, OwnsNoPopups, OwnsNoPopupsAt}
 use Rattle.wl_plain.specs.Pointing.{button_told, entered_surface, has_pointers, left_surface, motion_told}
 use Rattle.wl_plain.specs.Replies.{popups_done}
 use Rattle.wl_plain.specs.Settling.{QueuesTo, leave_drawn, noted_if, number_of, told_drawn, without_grabs}
@@ -33,24 +33,24 @@ use Rattle.wl_laws.proofs.Isolation.Told.{TellsBy}
 
 -- ---- what a client is told
 
--- one with no popups is as it was, and all that it is told is queued
+-- one with no popups and no wl_pointers is as it was, and all that it is told is queued
 abbrev StaysQuiet : Resident → Resident → Option Cause → Type 0
-StaysQuiet r q why = OwnsNoPopups r → (q ≡ r) × (why ≡ None)
+StaysQuiet r q why = OwnsNoPopups r → r.pointers ≡ [] → (q ≡ r) × (why ≡ None)
 
 -- a client without wl_pointers
 abbrev bare : Resident → Resident
 bare r = record r { pointers = [] }
 
-is-bare : (r : Resident) → OwnsNoPopups r → bare r ≡ r
-is-bare r owns = ap (λ ps. record r { pointers = ps }) (sym owns.pointers)
+is-bare : (r : Resident) → r.pointers ≡ [] → bare r ≡ r
+is-bare r none = ap (λ ps. record r { pointers = ps }) (sym none)
 
 -- nothing of it changes, and it is told nothing
 abbrev IsQuiet : (Resident → Resident) → (Resident → List Said) → Resident → Type 0
 IsQuiet change events r = (change r ≡ r) × (events r ≡ [])
 
 quiet : (change : Resident → Resident) (events : Resident → List Said) → ((r : Resident) → AreToplevels r.owned.shell → IsQuiet change events (bare r)) → TellsBy StaysQuiet change events
-quiet change events none r q why h = λ owns.
-    let k : IsQuiet change events r = subst (IsQuiet change events) (is-bare r owns) (none r owns.roles) in
+quiet change events none r q why h = λ owns no_pointers.
+    let k : IsQuiet change events r = subst (IsQuiet change events) (is-bare r no_pointers) (none r owns.roles) in
     let told : QueuesTo [] r.peer q why = subst (λ (es : List Said). QueuesTo es r.peer q why) k.1 (subst (λ (x : Resident). QueuesTo (events r) x.peer q why) k.0 h) in
     (ap (λ (x : Resident). record x { peer = q }) k.0 ∙ ap (λ (p : Peer). record r { peer = p }) told.0, told.1)
 
@@ -83,15 +83,15 @@ quiet-all = record {
 
 -- ---- the pointer moves, a button is pressed or released
 
-module _ (other : ℕ) (old : Desktop) (has : NoPopups old) where
+module _ (other : ℕ) (old : Desktop) (has : NoPopups old) (none-has : HasNoPointers (client_at other old)) where
   -- the client with the number is as it was, with its toplevels
   abbrev As : Option Resident → List Standing → Type 0
   As = Is (client_at other old) (toplevels_of other old)
 
   as-stays : Stays StaysQuiet As Never
   as-stays = record {
-    told = λ r q tops why alive known so. (ap Some (so (owns r alive known.0)).0 ∙ known.0, known.1);
-    untold = λ r q tops cause alive known so. none-some cause (sym (so (owns r alive known.0)).1);
+    told = λ r q tops why alive known so. (ap Some (so (owns r alive known.0) (subst HasNoPointers (sym known.0) none-has)).0 ∙ known.0, known.1);
+    untold = λ r q tops cause alive known so. none-some cause (sym (so (owns r alive known.0) (subst HasNoPointers (sym known.0) none-has)).1);
     ends = λ r tops cause known gone. absurd gone;
     again = λ r cause other gone gone_too. gone;
   }

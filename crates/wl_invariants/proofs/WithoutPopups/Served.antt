@@ -1,10 +1,11 @@
--- What a request demands that is served where popups, positioners and pointers are not.
+-- What a request demands that is served where popups and positioners are not.
 use Rattle.std.proofs.Common.{◌≡◌, ℕ, List, Bool, true, false, Option, Some, None, Result, refl, subst}
-use Rattle.std.specs.Prelude.{Ok, Err, ◌||◌, if◌then◌else◌, is_some, nat_le}
+use Rattle.std.specs.Prelude.{Ok, Err, ◌==◌, ◌||◌, if◌then◌else◌, is_some, nat_le}
 use Rattle.std.specs.List.{list_all}
 use Rattle.wl_proto.specs.declared.argument.NewId.{NewId}
 use Rattle.wl_proto.specs.declared.error.ProtoError.{ProtoError}
 use Rattle.wl_proto.specs.declared.wl_compositor.WlCompositorRequest.TheVariants as compositor
+use Rattle.wl_proto.specs.declared.wl_pointer.WlPointerRequest.TheVariants as pointer
 use Rattle.wl_proto.specs.declared.wl_seat.WlSeatRequest.TheVariants as seat
 use Rattle.wl_proto.specs.declared.wl_subcompositor.WlSubcompositorRequest.TheVariants as subcompositor
 use Rattle.wl_proto.specs.declared.wl_subsurface.WlSubsurfaceRequest.{WlSubsurfaceRequest}
@@ -29,11 +30,12 @@ use Rattle.wl_state.specs.Request.{Request as Asked, Member, PlaceAbove, PlaceBe
 use Rattle.wl_surface.specs.Surfaces.{Link}
 use Rattle.wl_surface.specs.Trees.{is_bad_parent, is_too_deep}
 use Rattle.wl_xdg_state.specs.Shell.{Effect, Stays, Unconfigured, Configures, Maps, Unmaps, XdgSurface as Xdg, is_full, xdg_at, xdg_of, xdg_with}
-use Rattle.wl_plain.specs.Ask.{Ask, owns}
-use Rattle.wl_plain.specs.Demand.{Demand}
+use Rattle.wl_plain.specs.Ask.{Ask, Ignore, owns}
+use Rattle.wl_plain.specs.Demand.{Asks, Demand}
 use Rattle.wl_plain.specs.Demanding.{base_demand, committed_by, demand_by, demand_of, demands, effect_of_commit, judge_all, moved_by_pointer, own_demand, surface_demand, toplevel_asked}
 use Rattle.wl_plain.specs.Demanding.{toplevel_destroyed, xdg_asked}
 use Rattle.wl_plain.specs.Desktop.{Resident}
+use Rattle.wl_plain.specs.WlPointer.{cursor_set, is_no_cursor}
 use Rattle.wl_plain.specs.WlSubsurface.{beside, demand_by_link, has_subsurface, is_no_subsurface, link_of_subsurface, placed_beside, subsurface_made}
 use Rattle.wl_plain.specs.WlSurface.{surface_created, transform_set}
 use Rattle.wl_plain.specs.XdgShell.{acknowledged_by, base_destroyed, geometry_set, role_of, state_asked, toplevel_made, xdg_surface_destroyed, xdg_surface_made}
@@ -94,6 +96,13 @@ link-served r object (Some l) (subsurface.PlaceBelow sibling) = placed-served ob
 link-served r object (Some l) subsurface.SetSync = tt
 link-served r object (Some l) subsurface.SetDesync = tt
 
+-- ---- the pointer
+
+cursor-served : (r : Resident) (object surface : ℕ) → IsServedSo (if surface == 0 then Ok (Asks Ignore) else cursor_set r object surface)
+cursor-served r object surface =
+    if-served (surface == 0) _ _ (λ null. tt)
+    (λ one. if-served (is_no_cursor (role_of r surface) || is_some (xdg_of surface r.owned.shell)) _ _ (λ other. tt) (λ free. tt))
+
 -- ---- the shell
 
 base-served : (r : Resident) (object version : ℕ) (request : XdgWmBaseRequest) → unserved_now (ToBase request) ≡ false → IsServedSo (base_demand r object version request)
@@ -137,7 +146,7 @@ interface-served : (request : Request) (r : Resident) (object version : ℕ) →
 interface-served (ToCompositor (compositor.CreateSurface id)) r object version served = demands-served (surface_created r id version)
 interface-served (ToCompositor (compositor.CreateRegion id)) r object version served = own-served r object version (ToCompositor (compositor.CreateRegion id))
 interface-served (ToSurface request) r object version served = surface-served r object version request
-interface-served (ToSeat (seat.GetPointer id)) r object version served = absurd (cc)
+interface-served (ToSeat (seat.GetPointer id)) r object version served = tt
 interface-served (ToSeat (seat.GetKeyboard id)) r object version served = tt
 interface-served (ToSeat (seat.GetTouch id)) r object version served = tt
 interface-served (ToBase request) r object version served = base-served r object version request served
@@ -146,7 +155,7 @@ interface-served (ToToplevel request) r object version served = toplevel-served 
 interface-served (ToSubcompositor subcompositor.Destroy) r object version served = tt
 interface-served (ToSubcompositor (subcompositor.GetSubsurface id child parent)) r object version served = made-served r object version id child parent
 interface-served (ToSubsurface request) r object version served = link-served r object (link_of_subsurface object r) request
-interface-served (ToPointer request) r object version served = absurd (cc)
+interface-served (ToPointer (pointer.SetCursor serial surface x y)) r object version served = cursor-served r object surface
 interface-served (ToPositioner request) r object version served = absurd (cc)
 interface-served (ToPopup request) r object version served = absurd (cc)
 interface-served request r object version served = own-served r object version request

@@ -2,6 +2,7 @@
 use Rattle.std.proofs.Common.{◌≡◌, ℕ, List, [], ◌∷◌, ◌++◌, Bool, true, false, Option, Some, None, cond, refl, ap, subst, sym, ◌∙◌, map, inl, inr}
 use Rattle.std.specs.Prelude.{◌==◌, ◌⊎◌, is_some}
 use Rattle.std.specs.Option.{option_map, option_map_or}
+use Rattle.wl_interface.specs.declared.interface.Interface.TheVariants.{WlPointer}
 use Rattle.wl_peer.specs.Told.{Said}
 use Rattle.wl_xdg_state.specs.Popups.{is_parent_of, is_toplevel, is_toplevel_kind, orphan, orphaning, placing, popup_changed, with_effect}
 use Rattle.wl_xdg_state.specs.Positioner.{Placed}
@@ -9,16 +10,17 @@ use Rattle.wl_xdg_state.specs.Shell.{Effect, Stays, Unconfigured, Configures, Ma
 use Rattle.wl_xdg_state.specs.Shell.{on_commit, stage_of}
 use Rattle.wl_xdg_state.specs.Shell.{with_change, without_role, xdg_of}
 use Rattle.wl_xdg_state.proofs.Standing.{popup-still as popup-still-there}
-use Rattle.wl_stacking.specs.Pointer.{first_pointer}
+use Rattle.wl_stacking.specs.Pointer.{Pointer, first_pointer}
 use Rattle.wl_stacking.specs.Windows.{Window}
-use Rattle.wl_plain.specs.Changing.{Placing, changed_for, commit_done, drawing, effect_placing, is_configure, placement_now, stacked_by, stacked_for, toplevel_ended, tree_committed, with_kept_move}
+use Rattle.wl_plain.specs.Changing.{Placing, changed_for, commit_done, drawing, effect_placing, has_focus, in_rising_order, is_configure, placement_now, pointer_given, stacked_by, stacked_for}
+use Rattle.wl_plain.specs.Changing.{toplevel_ended, tree_committed, with_kept_move}
 use Rattle.wl_plain.specs.Demand.{Demand, Asks, EndSurface, AskFrame, CommitTree, GetSubsurface, EndSubsurface, SetMode, GetPointer, MakeCursor, CreatePositioner, EndPositioner}
 use Rattle.wl_plain.specs.Demand.{SetPositioner, GetPopup, Grab, EndPopup, EndToplevel, Move}
 use Rattle.wl_plain.specs.Demanding.{effect_of_commit, effect_on_xdg, is_dismissed}
 use Rattle.wl_plain.specs.Desktop.{Desktop, Resident}
-use Rattle.wl_plain.specs.Replies.{commit_told, configure_told, own_answers, releases}
+use Rattle.wl_plain.specs.Replies.{commit_told, configure_told, new_pointer_told, own_answers, releases}
 use Rattle.wl_plain.specs.Stacked.{all_windows}
-use Rattle.wl_plain.specs.Step.{asked_so_far, configures_told, removing, role_configured, with_shell}
+use Rattle.wl_plain.specs.Step.{asked_so_far, configures_told, making, removing, role_configured, with_shell}
 use Rattle.wl_plain.specs.WlSurface.{will_show}
 use Rattle.wl_invariants.specs.Toplevels.{AreToplevels, IsToplevel}
 use Rattle.wl_invariants.proofs.KeptRecords.Toplevels.Buffers.{nothing-after}
@@ -92,24 +94,32 @@ toplevel-same id xdg top r roles =
     ap (λ shell. removing id (with_shell (with_change xdg without_role (orphaning xdg shell)) r)) (none-dismissed (λ p. is_parent_of xdg p.popup) r.owned.shell roles)
     ∙ ap (λ shell. removing id (with_shell (with_change xdg without_role shell) r)) (all-still (orphan xdg) r.owned.shell roles)
 
+-- where nobody points no client has the focus
+no-focus : (c : ℕ) (d : Desktop) → d.pointer ≡ first_pointer → has_focus c d.pointer.focus ≡ false
+no-focus c d still = ap (λ (p : Pointer). has_focus c p.focus) still
+
+pointer-same : (c id version : ℕ) (r : Resident) (d : Desktop) → d.pointer ≡ first_pointer → pointer_given c id version r d ≡ changed_simply (GetPointer id version) r
+pointer-same c id version r d still =
+    ap (λ (b : Bool). making WlPointer id version (drawing b (record r { pointers = in_rising_order id r.pointers }))) (no-focus c d still)
+
 pub changes_simply : ChangesSimply
-changes_simply c (Asks ask) r d owns served = refl
-changes_simply c (EndSurface id) r d owns served = refl
-changes_simply c (AskFrame id version surface) r d owns served = refl
-changes_simply c (CommitTree id) r d owns served = commit-same c id r d owns.roles
-changes_simply c (GetSubsurface id version child parent) r d owns served = refl
-changes_simply c (EndSubsurface id) r d owns served = refl
-changes_simply c (SetMode link synchronised) r d owns served = refl
-changes_simply c (EndToplevel id xdg top) r d owns served = toplevel-same id xdg top r owns.roles
-changes_simply c (Move id serial) r d owns served = refl
-changes_simply c (GetPointer id version) r d owns served = absurd served
-changes_simply c (MakeCursor surface) r d owns served = absurd served
-changes_simply c (CreatePositioner id version) r d owns served = absurd served
-changes_simply c (EndPositioner id) r d owns served = absurd served
-changes_simply c (SetPositioner id p) r d owns served = absurd served
-changes_simply c (GetPopup id version xdg parent p) r d owns served = absurd served
-changes_simply c (Grab xdg serial) r d owns served = absurd served
-changes_simply c (EndPopup id xdg) r d owns served = absurd served
+changes_simply c (Asks ask) r d still owns served = refl
+changes_simply c (EndSurface id) r d still owns served = refl
+changes_simply c (AskFrame id version surface) r d still owns served = refl
+changes_simply c (CommitTree id) r d still owns served = commit-same c id r d owns.roles
+changes_simply c (GetSubsurface id version child parent) r d still owns served = refl
+changes_simply c (EndSubsurface id) r d still owns served = refl
+changes_simply c (SetMode link synchronised) r d still owns served = refl
+changes_simply c (EndToplevel id xdg top) r d still owns served = toplevel-same id xdg top r owns.roles
+changes_simply c (Move id serial) r d still owns served = refl
+changes_simply c (GetPointer id version) r d still owns served = pointer-same c id version r d still
+changes_simply c (MakeCursor surface) r d still owns served = refl
+changes_simply c (CreatePositioner id version) r d still owns served = absurd served
+changes_simply c (EndPositioner id) r d still owns served = absurd served
+changes_simply c (SetPositioner id p) r d still owns served = absurd served
+changes_simply c (GetPopup id version xdg parent p) r d still owns served = absurd served
+changes_simply c (Grab xdg serial) r d still owns served = absurd served
+changes_simply c (EndPopup id xdg) r d still owns served = absurd served
 
 -- ---- the role objects stay toplevels
 
@@ -144,35 +154,36 @@ commit-answers c id Unmaps o r now d e is top = refl
 commit-answers c id Configures None r now d e is top = sym (ap (configures_told r.peer.serial) is)
 commit-answers c id Configures (Some x) r now d e is top = configures-same c r.peer.serial x.id now d x.role e top ∙ sym (ap (configures_told r.peer.serial) is)
 
-answers-same : (c : ℕ) (demand : Demand) (r : Resident) (windows : List Window) (d : Desktop) → AreToplevels r.owned.shell → IsServed demand → own_answers c demand r windows d
-    ≡ answers_simply demand r
-answers-same c (Asks ask) r windows d top served = refl
-answers-same c (EndSurface id) r windows d top served = refl
-answers-same c (AskFrame id version surface) r windows d top served = refl
-answers-same c (CommitTree id) r windows d top served =
+answers-same : (c : ℕ) (demand : Demand) (r : Resident) (windows : List Window) (d : Desktop) → d.pointer ≡ first_pointer → AreToplevels r.owned.shell → IsServed demand
+    → own_answers c demand r windows d ≡ answers_simply demand r
+answers-same c (Asks ask) r windows d still top served = refl
+answers-same c (EndSurface id) r windows d still top served = refl
+answers-same c (AskFrame id version surface) r windows d still top served = refl
+answers-same c (CommitTree id) r windows d still top served =
     commit-answers c id (effect_of_commit r id) (xdg_of id r.owned.shell) r r d refl refl (found-toplevel (λ x. x.surface == id) r.owned.shell top)
-answers-same c (GetSubsurface id version child parent) r windows d top served = refl
-answers-same c (EndSubsurface id) r windows d top served = refl
-answers-same c (SetMode link synchronised) r windows d top served = refl
-answers-same c (EndToplevel id xdg surface) r windows d top served = refl
-answers-same c (Move id serial) r windows d top served = refl
-answers-same c (GetPointer id version) r windows d top served = absurd served
-answers-same c (MakeCursor surface) r windows d top served = absurd served
-answers-same c (CreatePositioner id version) r windows d top served = absurd served
-answers-same c (EndPositioner id) r windows d top served = absurd served
-answers-same c (SetPositioner id p) r windows d top served = absurd served
-answers-same c (GetPopup id version xdg parent p) r windows d top served = absurd served
-answers-same c (Grab xdg serial) r windows d top served = absurd served
-answers-same c (EndPopup id xdg) r windows d top served = absurd served
+answers-same c (GetSubsurface id version child parent) r windows d still top served = refl
+answers-same c (EndSubsurface id) r windows d still top served = refl
+answers-same c (SetMode link synchronised) r windows d still top served = refl
+answers-same c (EndToplevel id xdg surface) r windows d still top served = refl
+answers-same c (Move id serial) r windows d still top served = refl
+answers-same c (GetPointer id version) r windows d still top served =
+    ap (λ (b : Bool). new_pointer_told b id r.peer.serial windows d) (no-focus c d still)
+answers-same c (MakeCursor surface) r windows d still top served = refl
+answers-same c (CreatePositioner id version) r windows d still top served = absurd served
+answers-same c (EndPositioner id) r windows d still top served = absurd served
+answers-same c (SetPositioner id p) r windows d still top served = absurd served
+answers-same c (GetPopup id version xdg parent p) r windows d still top served = absurd served
+answers-same c (Grab xdg serial) r windows d still top served = absurd served
+answers-same c (EndPopup id xdg) r windows d still top served = absurd served
 
 pub replies_simply : RepliesSimply
-replies_simply c demand r windows d owns served =
+replies_simply c demand r windows d still owns served =
     let made : Resident = changed_for c demand r d in
     let told : List Said = own_answers c demand r windows d ++ releases r made in
     let roles : AreToplevels made.owned.shell =
-    subst (λ (q : Resident). AreToplevels q.owned.shell) (sym (changes_simply c demand r d owns served)) (tops-kept demand r owns.roles) in
+    subst (λ (q : Resident). AreToplevels q.owned.shell) (sym (changes_simply c demand r d still owns served)) (tops-kept demand r owns.roles) in
     ap (λ more. own_answers c demand r windows d ++ releases r made ++ more) (none-done r made roles) ∙ nothing-after told
-    ∙ ap (λ (answers : List Said). answers ++ releases r made) (answers-same c demand r windows d owns.roles served)
+    ∙ ap (λ (answers : List Said). answers ++ releases r made) (answers-same c demand r windows d still owns.roles served)
 
 -- ---- the stack
 
@@ -222,8 +233,8 @@ stacks_simply c (SetMode link synchronised) r windows d still owns served = refl
 stacks_simply c (EndToplevel id xdg top) r windows d still owns served = refl
 stacks_simply c (Move id serial) r windows d still owns served =
     subst (λ p. stacked_for c (Move id serial) r windows (record d { pointer = p }) ≡ record d { pointer = p }) (sym still) (moved-plain c id serial r windows d)
-stacks_simply c (GetPointer id version) r windows d still owns served = absurd served
-stacks_simply c (MakeCursor surface) r windows d still owns served = absurd served
+stacks_simply c (GetPointer id version) r windows d still owns served = refl
+stacks_simply c (MakeCursor surface) r windows d still owns served = refl
 stacks_simply c (CreatePositioner id version) r windows d still owns served = absurd served
 stacks_simply c (EndPositioner id) r windows d still owns served = absurd served
 stacks_simply c (SetPositioner id p) r windows d still owns served = absurd served

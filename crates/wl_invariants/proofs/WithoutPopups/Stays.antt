@@ -83,7 +83,7 @@ put-has c x standing d still others owns stay = record { pointer = still; each =
         (subst (λ o. OwnsNoPopupsAt o (toplevels_of other d)) (sym (number-other d.clients c other x (eqb-false c other e))) (others other (eqb-false c other e)))
 
 -- with the same toplevels
-with-has : (c : ℕ) (x : Option Resident) (d : Desktop) → NoPopups d → OwnsNoPopupsAt x (toplevels_of c d) → NoPopups (with_client c x d)
+pub with-has : (c : ℕ) (x : Option Resident) (d : Desktop) → NoPopups d → OwnsNoPopupsAt x (toplevels_of c d) → NoPopups (with_client c x d)
 with-has c x d has owns = put-has c x d.standing d has.pointer (others-own c d has) owns (λ other differ. refl)
 
 become-has : (c : ℕ) (r : Resident) (q : Peer) (d : Desktop) → d.pointer ≡ first_pointer → OthersOwn c d → (q.status ≡ None → OwnsNoPopups (with_peer q r)) → NoPopups (become c r q d)
@@ -127,7 +127,6 @@ arrival-owns output =
       subsurfaces = (tt, λ id there. absurd (none-there there));
       children = tt;
       callbacks = (tt, λ id there. absurd (none-there there));
-      pointers = refl;
     }
   where
     none-there : false ≡ true → ⊥
@@ -144,7 +143,7 @@ connects-has (Some k) d done e has (inr h) = subst NoPopups (sym h.1) (with-has 
 KeepsPeer : (Peer → Done → Option Peer → Type 0) → Type 0
 KeepsPeer R = (p : Peer) (done : Done) (q : Option Peer) → R p done q → (x : Peer) → q ≡ Some x → (x.status ≡ p.status) × (x.objects ≡ p.objects)
 
-owns-by-peer : (s : Option Cause) (r : Resident) (x : Peer) (standing : List Standing) → x.objects ≡ r.peer.objects → OwnsNoPopupsBy s r standing → OwnsNoPopupsBy s (with_peer x r) standing
+pub owns-by-peer : (s : Option Cause) (r : Resident) (x : Peer) (standing : List Standing) → x.objects ≡ r.peer.objects → OwnsNoPopupsBy s r standing → OwnsNoPopupsBy s (with_peer x r) standing
 owns-by-peer None r x standing same owns = only-peer r x same owns
 owns-by-peer (Some cause) r x standing same owns = (ap (λ (q : Resident). with_peer x q) owns.0, owns.1)
 
@@ -226,7 +225,7 @@ on-clients Configures c id d = refl
 on-clients Maps c id d = refl
 on-clients Unmaps c id d = refl
 
-stacked-clients : (c : ℕ) (demand : Demand) (r : Resident) (d : Desktop) → (stacked_simply c demand r d).clients ≡ d.clients
+pub stacked-clients : (c : ℕ) (demand : Demand) (r : Resident) (d : Desktop) → (stacked_simply c demand r d).clients ≡ d.clients
 stacked-clients c (CommitTree id) r d = on-clients _ c id d
 stacked-clients c (EndToplevel id xdg top) r d = refl
 stacked-clients c demand r d = refl
@@ -238,7 +237,7 @@ on-others Configures c other id d differ = refl
 on-others Maps c other id d differ = on_top d.mappings c id other differ d.standing
 on-others Unmaps c other id d differ = left_out (λ s. not (is_of c id s)) other (one_surface c other id differ) d.standing
 
-stacked-others : (c other : ℕ) (demand : Demand) (r : Resident) (d : Desktop) → c ≢ other → toplevels_of other (stacked_simply c demand r d) ≡ toplevels_of other d
+pub stacked-others : (c other : ℕ) (demand : Demand) (r : Resident) (d : Desktop) → c ≢ other → toplevels_of other (stacked_simply c demand r d) ≡ toplevels_of other d
 stacked-others c other (CommitTree id) r d differ = on-others _ c other id d differ
 stacked-others c other (EndToplevel id xdg top) r d differ = left_out (λ s. not (is_of c top s)) other (one_surface c other top differ) d.standing
 stacked-others c other demand r d differ = refl
@@ -296,7 +295,7 @@ serves-has c d e has h = at (client_at c d) refl h
 
 -- ---- a piece
 
-reaches-has : (n c : ℕ) (d e : Desktop) → NoPopups d → Reaches served_now c n d e → NoPopups e
+pub reaches-has : (n c : ℕ) (d e : Desktop) → NoPopups d → Reaches served_now c n d e → NoPopups e
 reaches-has zero c d e has h = subst NoPopups (sym h) has
 reaches-has (suc n) c d e has h = serves-has c h.0 e (reaches-has n c d h.0 has h.1) h.2
 

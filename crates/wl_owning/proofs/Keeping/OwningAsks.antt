@@ -9,7 +9,7 @@ use Rattle.wl_state.specs.Request.{Request, Commit, SetWindowGeometry}
 use Rattle.wl_state.specs.State.{History, apply, geometry_asked, is_commit}
 use Rattle.wl_state.specs.Surface.{Surface, asking, new_surface, with_role}
 use Rattle.wl_surface.specs.Surfaces.{Surfaces, history_in, surface_at, with_change as with_surface_change}
-use Rattle.wl_state.specs.declared.role.Role.TheVariants.{Toplevel as AsToplevel}
+use Rattle.wl_state.specs.declared.role.Role.TheVariants.{Cursor as AsCursor, Toplevel as AsToplevel}
 use Rattle.wl_shell.specs.Agreement.{with_history}
 use Rattle.wl_xdg_state.specs.Kept.{Kept, Stands, changing, commit_answer, effect_answer, first_kept, kept_acknowledging, kept_after, kept_asking, kept_configuring, kept_toplevel, kept_without_role}
 use Rattle.wl_xdg_state.specs.Kept.{stage_in, with_kept}
@@ -47,7 +47,7 @@ use Rattle.wl_owning.proofs.Keeping.OwningTies.{asked-by, committed-by, left-by,
 use Rattle.wl_owning.proofs.Keeping.Roots.{agree-child, agree-committed}
 use Rattle.wl_owning.proofs.Keeping.OwningXdg.{histories-changed, histories-same, xdg-of, xdg-of-none}
 use Rattle.wl_plain.specs.Changing.{drawing, is_configure, tree_committed}
-use Rattle.wl_plain.specs.Demand.{Asks, EndSurface, EndToplevel}
+use Rattle.wl_plain.specs.Demand.{Asks, EndSurface, EndToplevel, MakeCursor}
 use Rattle.wl_plain.specs.Demanding.{effect_on_xdg}
 use Rattle.wl_invariants.specs.Simple.{changed_simply, effect_on}
 use Rattle.wl_invariants.proofs.WithoutPopups.Simple.{effect-toplevel, if-top}
@@ -154,6 +154,21 @@ module _ (names : Names) (slots : Slots) (tied : Tied) (kept : ℕ → Option Ke
       (λ other. history_in other (with_surface_change id (asking request) r.owned.surfaces))
       (histories-to id (asking request) (one_more request) r.owned.surfaces one.0 (λ s. refl) (λ s. refl) one.1))
       (λ k x stands. changes_stand.other request k x one.0 other stands)
+
+  -- of a surface its role, which no xdg_surface looks at
+  pub owned-cursor : (id number : ℕ) (new : Slots) → names.surfaces id ≡ Some number → Changes slots new number (with_role AsCursor)
+      → IsOwned names new tied kept (changed_simply (MakeCursor id) r).owned
+  owned-cursor id number new named changes =
+      let one = there id number named in
+      IsOwned-history names slots tied kept r.owned is id one.0 one.0 new tied (with_surface_change id (with_role AsCursor) r.owned.surfaces)
+      (AreKept-then names.surfaces slots tied r.owned.surfaces is.surfaces new tied (with_surface_change id (with_role AsCursor) r.owned.surfaces)
+      (ids-changed id (with_role AsCursor) (λ s. refl) r.owned.surfaces)
+      (role-by names.surfaces slots tied r.owned.surfaces is.surfaces id number named AsCursor new changes))
+      one.1
+      (agree-same r.owned.shell (with_history id (Some one.0) (λ other. history_in other r.owned.surfaces))
+      (λ other. history_in other (with_surface_change id (with_role AsCursor) r.owned.surfaces))
+      (histories-to id (with_role AsCursor) (λ g. g) r.owned.surfaces one.0 (λ s. refl) (λ s. refl) one.1))
+      (λ k x stands. stands)
 
   pub owned-xdg-made : (id version base surface number : ℕ) (after : ℕ → Option Kept) (now : Names) → names.surfaces surface ≡ Some number → kept number ≡ None → names.shell id ≡ None
       → after ≡ with_kept number (Some (first_kept id base)) kept → now ≡ with_xdg id (Some number) names

@@ -12,6 +12,7 @@ use Rattle.wl_state.specs.Request.{Buffer, Request}
 use Rattle.wl_state.specs.State.{History, applied, committed, held, is_commit, values}
 use Rattle.wl_state.specs.Surface.{Surface, asking, listed, names, new_surface, shows, with_role}
 use Rattle.wl_surface.specs.Surfaces.{Surfaces, is_busy, surface_at, with_change}
+use Rattle.wl_state.specs.declared.role.Role.{Role}
 use Rattle.wl_state.specs.declared.role.Role.TheVariants.{Toplevel as AsToplevel}
 use Rattle.wl_state.proofs.Records.{applied-kept, held-kept}
 use Rattle.wl_xdg_state.specs.Shell.{XdgSurface as Xdg, without_role, xdg_at}
@@ -20,7 +21,7 @@ use Rattle.wl_plain.specs.Desktop.{Resident}
 use Rattle.wl_laws.specs.Apart.{AreApartBy}
 use Rattle.wl_plain.specs.Releases.{is_released}
 use Rattle.wl_plain.specs.Replies.{buffers_busy, buffers_shown, by_object, is_same_buffer, releases}
-use Rattle.wl_plain.specs.Step.{answers_to, changed_by, removing, toplevel_given, xdg_changed}
+use Rattle.wl_plain.specs.Step.{answers_to, changed_by, removing, toplevel_given, with_surfaces, xdg_changed}
 use Rattle.wl_invariants.proofs.KeptRecords.Toplevels.Buffers.{nothing-after}
 use Rattle.wl_invariants.proofs.KeptRecords.Keeping.Letting.{each-more, each-once, listed-each, named-so, none-left, or-any}
 use Rattle.wl_laws.proofs.Lists.Keys.{any-found, found-any, found-map}
@@ -106,6 +107,13 @@ given-busy : (id xdg : ℕ) (o : Option Xdg) (r : Resident) → AreApartBy (λ k
     → is_busy n (toplevel_given id xdg o r).owned.surfaces ≡ true
 given-busy id xdg None r apart n busy = busy
 given-busy id xdg (Some x) r apart n busy = changed-busy x.surface (with_role AsToplevel) n r.owned.surfaces apart (λ y. refl) (λ y e is. is) busy
+
+-- a surface that gets a role shows what it showed
+pub role-released : (id : ℕ) (role : Role) (r : Resident) → AreApartBy (λ key s. s.id == key) r.owned.surfaces.surfaces
+    → releases r (with_surfaces (with_change id (with_role role) r.owned.surfaces) r) ≡ []
+role-released id role r apart =
+    none-released r (with_surfaces (with_change id (with_role role) r.owned.surfaces) r)
+    (λ n busy. changed-busy id (with_role role) n r.owned.surfaces apart (λ y. refl) (λ y e is. is) busy)
 
 only : (told more : List Said) → more ≡ [] → told ++ more ≡ told
 only told more none = ap (λ (es : List Said). told ++ es) none ∙ nothing-after told

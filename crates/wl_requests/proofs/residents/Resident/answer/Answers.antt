@@ -2,7 +2,8 @@ use Rattle.std.proofs.Common.{◌≡◌, ℕ, Bool, ap, refl, subst, sym, ◌∙
 use Rattle.std.specs.Prelude.{if◌then◌else◌, is_some}
 use Rattle.wl_interface.specs.declared.interface.Interface.TheVariants.{WlSubcompositor, WlSubsurface, XdgSurface as AnXdgSurface, XdgToplevel, XdgWmBase}
 use Rattle.wl_peer.specs.Requests.{request_of}
-use Rattle.wl_proto.specs.Messages.{Message, wl_compositor_request, wl_seat_request, wl_subcompositor_request, wl_subsurface_request, wl_surface_request, xdg_surface_request, xdg_wm_base_request}
+use Rattle.wl_proto.specs.Messages.{Message, wl_compositor_request, wl_pointer_request, wl_seat_request, wl_subcompositor_request, wl_subsurface_request, wl_surface_request, xdg_surface_request}
+use Rattle.wl_proto.specs.Messages.{xdg_wm_base_request}
 use Rattle.wl_proto.specs.declared.wl_compositor.WlCompositorRequest.{WlCompositorRequest}
 use Rattle.wl_proto.specs.declared.wl_compositor.WlCompositorRequest.TheVariants as compositor
 use Rattle.wl_proto.specs.declared.wl_seat.WlSeatRequest.{WlSeatRequest}
@@ -22,7 +23,7 @@ use Rattle.wl_requests.specs.Residents.{AnswersDemand, AnswersDemandAs, NewIsFre
 use Rattle.wl_requests.proofs.Doing.{named-by}
 use Rattle.wl_requests.proofs.Interfaces.{object-is, of-base, of-subcompositor, of-subsurface, of-surface, of-xdg-surface}
 use Rattle.wl_requests.proofs.Simply.{asks-stay}
-use Rattle.wl_requests.proofs.Stackings.{base-stays, subcompositor-stays, subsurface-stays, xdg-stays}
+use Rattle.wl_requests.proofs.Stackings.{base-stays, pointer-stays, subcompositor-stays, subsurface-stays, xdg-stays}
 use Rattle.wl_requests.proofs.residents.Resident.answer.Goals as goal
 
 -- ---- the message is that of the request
@@ -58,7 +59,7 @@ compositor-stays old r object version (compositor.CreateRegion id) = refl
 
 seat-stays : {A : Type 0} (old : Kept A) (r : Resident) (object version : ℕ) (request : WlSeatRequest)
     → StacksSo old r (demand_of served_now r object version (wl_seat_request request)) Stays
-seat-stays old r object version (seat.GetPointer id) = tt
+seat-stays old r object version (seat.GetPointer id) = refl
 seat-stays old r object version (seat.GetKeyboard id) = tt
 seat-stays old r object version (seat.GetTouch id) = tt
 
@@ -106,7 +107,14 @@ returns-in-Seat-clause-answers g c = λ m kind entry free fit.
     let v = c.args.self.now in
     let told : m ≡ wl_seat_request c.in-Seat.request = rw c.in-Seat.is at kind in
     answered v c.wl_seat.new.self c.args.object c.args.version m _ told
-    c.wl_seat.ensures.answers
+    (c.wl_seat.ensures.answers (subst (λ (n : Message). NewIsFree v n) told free))
+
+pub returns-in-Pointer-clause-answers : goal.returns-in-Pointer-clause-answers
+returns-in-Pointer-clause-answers g c = λ m kind entry free fit.
+    let v = c.args.self.now in
+    let told : m ≡ wl_pointer_request c.in-Pointer.request = rw c.in-Pointer.is at kind in
+    answered v c.wl_pointer.new.self c.args.object c.args.version m _ told
+    (c.wl_pointer.ensures.answers (subst (λ (n : Message). ObjectsFit v n) told fit))
 
 pub returns-in-Base-clause-answers : goal.returns-in-Base-clause-answers
 returns-in-Base-clause-answers g c = λ m kind entry free fit.
@@ -165,6 +173,12 @@ returns-in-Seat-clause-stacks g c = rw c.of-in-Seat.ensures (λ m kind entry.
     let v = c.args.self.now in
     let told : m ≡ wl_seat_request c.in-Seat.request = rw c.in-Seat.is at kind in
     stacked v Stays c.args.object c.args.version m _ told (λ r is only. seat-stays v r c.args.object c.args.version c.in-Seat.request))
+
+pub returns-in-Pointer-clause-stacks : goal.returns-in-Pointer-clause-stacks
+returns-in-Pointer-clause-stacks g c = rw c.of-in-Pointer.ensures (λ m kind entry.
+    let v = c.args.self.now in
+    let told : m ≡ wl_pointer_request c.in-Pointer.request = rw c.in-Pointer.is at kind in
+    stacked v Stays c.args.object c.args.version m _ told (λ r is only. pointer-stays v r c.args.object c.args.version c.in-Pointer.request))
 
 pub returns-in-Base-clause-stacks : goal.returns-in-Base-clause-stacks
 returns-in-Base-clause-stacks g c = rw c.of-in-Base.ensures (λ m kind entry.
@@ -248,6 +262,15 @@ returns-in-Seat-clause-touched g c = λ touch touches. absurd (rw c.in-Seat.is a
 pub returns-in-Seat-clause-nothing : goal.returns-in-Seat-clause-nothing
 returns-in-Seat-clause-nothing g c = λ none numbers ss are. rw c.of-in-Seat.ensures
 
+pub returns-in-Pointer-clause-decides : goal.returns-in-Pointer-clause-decides
+returns-in-Pointer-clause-decides g c = λ touch touches. absurd (rw c.in-Pointer.is at touches)
+
+pub returns-in-Pointer-clause-touched : goal.returns-in-Pointer-clause-touched
+returns-in-Pointer-clause-touched g c = λ touch touches. absurd (rw c.in-Pointer.is at touches)
+
+pub returns-in-Pointer-clause-nothing : goal.returns-in-Pointer-clause-nothing
+returns-in-Pointer-clause-nothing g c = λ none numbers ss are. rw c.of-in-Pointer.ensures
+
 pub returns-in-Base-clause-decides : goal.returns-in-Base-clause-decides
 returns-in-Base-clause-decides g c = λ touch touches. absurd (rw c.in-Base.is at touches)
 
@@ -294,6 +317,9 @@ returns-in-Subsurface-clause-rest g c = c.wl_subsurface.ensures.rest
 
 pub returns-in-Seat-clause-rest : goal.returns-in-Seat-clause-rest
 returns-in-Seat-clause-rest g c = c.wl_seat.ensures.rest
+
+pub returns-in-Pointer-clause-rest : goal.returns-in-Pointer-clause-rest
+returns-in-Pointer-clause-rest g c = c.wl_pointer.ensures.rest
 
 pub returns-in-Base-clause-rest : goal.returns-in-Base-clause-rest
 returns-in-Base-clause-rest g c = c.xdg_wm_base.ensures.rest

@@ -10,7 +10,7 @@ use Rattle.wl_requests.proofs.residents.Resident.wl_seat.Goals as goal
 
 pub returns-in-GetKeyboard : goal.returns-in-GetKeyboard
 returns-in-GetKeyboard g c = record {
-  answers = λ client r on is only. refused-whole _ _ client r on (demand_of served_now r c.args.object c.args.version (wl_seat_request c.args.request.now)) c.of.result
+  answers = λ free client r on is only. refused-whole _ _ client r on (demand_of served_now r c.args.object c.args.version (wl_seat_request c.args.request.now)) c.of.result
       (seat-refused r c.args.object c.args.version c.args.request.now c.in-GetKeyboard.is ∙ ap (λ (f : Refusal). Err f) (sym c.of.ensures)) c.refuse.ensures.ended
       (c.refuse.ensures.errs r.peer is.peer);
   rest = let none = c.refuse.ensures.rest in omega arith;

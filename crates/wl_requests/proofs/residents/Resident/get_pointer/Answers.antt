@@ -1,0 +1,45 @@
+use Rattle.std.proofs.Common.{None, Some, refl, subst, sym, true, ◌≡◌}
+use Rattle.wl_interface.specs.declared.interface.Interface.TheVariants.{WlPointer}
+use Rattle.wl_invariants.proofs.KeptRecords.Toplevels.Releases.{still-released}
+use Rattle.wl_invariants.specs.Simple.{changed_simply}
+use Rattle.wl_owning.proofs.Keeping.OwningNames.{names-other-made}
+use Rattle.wl_owning.specs.Owning.{IsOwned, Names}
+use Rattle.wl_peer.specs.Peer.{counted}
+use Rattle.wl_plain.specs.Demand.{GetPointer}
+use Rattle.wl_plain.specs.Step.{with_peer}
+use Rattle.wl_table.specs.declared.entry.Entry.{Entry}
+use Rattle.wl_xdg_state.specs.Kept.{kept_of}
+use Rattle.wl_requests.proofs.Framing.{framed-names, one-more}
+use Rattle.wl_requests.proofs.Naming.{subsurfaces-names}
+use Rattle.wl_requests.proofs.Numbers.{keeps-names}
+use Rattle.wl_requests.proofs.Shelling.{holds-counted, wants-told}
+use Rattle.wl_requests.proofs.Simply.{counted-orderly, meets-simply}
+use Rattle.wl_requests.proofs.residents.Resident.get_pointer.Goals as goal
+
+pub returns-clause-answers : goal.returns-clause-answers
+returns-clause-answers g c = λ free client r on is only.
+    let v = c.args.self.now in
+    let id = c.args.id in
+    let version = c.args.version in
+    let then = with_peer (counted r.peer) r in
+    let demand = GetPointer id version in
+    let after = changed_simply demand then in
+    let now = c.add.new.self.objects in
+    let entry : Entry = record { interface = WlPointer; version = version; target = 0 } in
+    let made = c.add.ensures.makes (counted r.peer) (c.count.ensures.counts r.peer is.peer) in
+    let table = λ (alive : c.add.new.self.ended ≡ None). names-other-made v.client.objects now id entry free refl
+    (holds-counted v.client c.count.new.self now id (Some entry) c.count.ensures.only (c.add.ensures.table alive)) in
+    meets-simply _ _ client on demand then (counted-orderly r only).no_popups tt (
+      made.0,
+      wants-told true _ _ (counted r.peer) after.peer made.0 (still-released then after refl) made.1,
+      record {
+        peer = made.2;
+        numbers = λ alive. keeps-names v.client.objects now (table alive);
+        frames = λ alive. framed-names v.owned.linked.surfaces.frames v.client.objects now r after refl (one-more r.peer.requests) is.frames (table alive) refl;
+        subsurfaces = λ alive. subsurfaces-names v.subsurfaces r.subsurfaces v.client.objects now is.subsurfaces (table alive);
+        owns = λ alive. subst (λ (n : Names). IsOwned n v.owned.linked.surfaces v.owned.linked.family (kept_of v.owned.shell) r.owned) (sym (table alive)) is.owns;
+      },
+    )
+
+pub returns-clause-surfaces : goal.returns-clause-surfaces
+returns-clause-surfaces g c = refl
