@@ -1,18 +1,16 @@
 -- Where windows only go, what is marked by each end in turn is marked from the first desktop to the last.
-use Rattle.std.proofs.Common.{◌≡◌, ◌≢◌, ℕ, zero, suc, ◌+◌, List, [], ◌∷◌, ◌++◌, map, Bool, true, false, cond, Option, Some, None, refl, ap, ap₂, subst, sym, ◌∙◌, inl, inr}
-use Rattle.std.proofs.Math.Path.{fun_ext}
-use Rattle.std.proofs.lemmas.Bool.{eqb-false, or_left, or_right}
+use Rattle.std.proofs.Common.{◌≡◌, ◌≢◌, ℕ, zero, suc, ◌+◌, List, [], ◌∷◌, ◌++◌, Bool, true, false, cond, Option, Some, None, refl, ap, ap₂, subst, sym, ◌∙◌, inl, inr}
+use Rattle.std.proofs.lemmas.Bool.{eqb-false}
 use Rattle.std.proofs.lemmas.List.Elements.{filter-append}
 use Rattle.std.specs.List.{list_any}
-use Rattle.std.specs.Prelude.{ℤ, ◌==◌, ◌&&◌, ◌||◌, ◌⊎◌, filter, flat_map, fold, is_some, not}
+use Rattle.std.specs.Prelude.{ℤ, ◌==◌, ◌&&◌, ◌||◌, filter, flat_map, fold, if◌then◌else◌, is_some, not}
 use Rattle.wl_peer.specs.declared.cause.Cause.{Cause}
 use Rattle.wl_peer.specs.declared.cause.Cause.TheVariants.{Gone, Memory}
 use Rattle.wl_peer.specs.Peer.{Peer, ended}
-use Rattle.wl_peer.specs.Told.{Said}
 use Rattle.wl_surface.specs.Surfaces.{Surfaces}
 use Rattle.wl_stacking.specs.Popups.{stacked_popups}
-use Rattle.wl_stacking.specs.Stacking.{Owned, Standing, geometry_in, nothing_owned, root_of, without_client}
-use Rattle.wl_stacking.specs.Windows.{Root, StackedPopup, Window, contains, owner_of, root_on, roots_of, stacked, stacked_on, tree, windows_of}
+use Rattle.wl_stacking.specs.Stacking.{Owned, Standing, geometry_in, nothing_owned, without_client}
+use Rattle.wl_stacking.specs.Windows.{Root, StackedPopup, Window, contains, owner_of, root_on, roots_of, stacked, stacked_on, tree}
 use Rattle.wl_plain.specs.declared.answers.Done.{Done}
 use Rattle.wl_plain.specs.Act.{Act, Connect, Feed, Store, Leave, Tick, Send, Close, Motion, Button, IsClosed, IsSent, IsStored, lowest}
 use Rattle.wl_plain.specs.Changing.{without_callbacks}
@@ -22,9 +20,9 @@ use Rattle.wl_plain.specs.Happens.{ChangesThen, ConnectsThen, LeavesThen, TellsF
 use Rattle.wl_plain.specs.LeftOut.{LeftOut}
 use Rattle.wl_plain.specs.Step.{with_peer}
 use Rattle.wl_laws.specs.Focus.{EndedAreBare}
-use Rattle.wl_plain.specs.Marks.{AreDistinct, at_least, has_same_record, in_output}
+use Rattle.wl_plain.specs.Marks.{AreDistinct, at_least, in_output}
 use Rattle.wl_plain.specs.Moments.{applied_between, marks_at_least, marks_at_least_through}
-use Rattle.wl_plain.specs.Settling.{Midstep, Settles, Strike, Tells, becomes, ended_all, ended_at, ended_by, unstruck}
+use Rattle.wl_plain.specs.Settling.{Midstep, Settles, Strike, becomes, ended_all, ended_at, ended_by, unstruck}
 use Rattle.wl_plain.specs.Stacked.{all_windows}
 use Rattle.wl_plain.specs.Through.{EndsFirstThrough, SettlesAllThrough, ending_through, ends_through, settling_through}
 use Rattle.wl_laws.proofs.Marks.Painted.{distinct-kept}
@@ -37,7 +35,7 @@ use Rattle.wl_invariants.specs.Orderly.{Orderly}
 use Rattle.wl_invariants.proofs.OrderlyClients.Clients.{ended_own_nothing}
 use Rattle.wl_invariants.proofs.TreeSteps.Owners.{tree-owned}
 use Rattle.wl_changes.proofs.MessageWays.Gone.{same-applied}
-use Rattle.wl_changes.proofs.MessageWays.Lists.{any-left, filter-all, filter-every, filter-none, gone-least, is_gone_at, least-gone}
+use Rattle.wl_changes.proofs.MessageWays.Lists.{any-left, filter-all, filter-every, filter-none, gone-least, least-gone}
 
 -- ---- the windows of the others stay as a client ends
 
@@ -124,11 +122,11 @@ module _ (c : ℕ) (owned new : ℕ → Owned) (others : (other : ℕ) → other
 -- ---- windows only go
 
 -- Some clients keep their windows and what they own, and the others have no windows any more.
-record Loses (d e : Desktop) : Type 0 where
-  keeps : ℕ → Bool
-  windows : all_windows e ≡ filter (λ w. keeps w.owner.client) (all_windows d)
-  owned : (c : ℕ) → keeps c ≡ true → owned_in e c ≡ owned_in d c
-  output : e.output ≡ d.output
+pub record Loses (d e : Desktop) : Type 0 where
+  pub keeps : ℕ → Bool
+  pub windows : all_windows e ≡ filter (λ w. keeps w.owner.client) (all_windows d)
+  pub owned : (c : ℕ) → keeps c ≡ true → owned_in e c ≡ owned_in d c
+  pub output : e.output ≡ d.output
 
 -- nothing goes
 pub loses-none : (d e : Desktop) → ShowsSame d e → e.output ≡ d.output → Loses d e
@@ -260,6 +258,7 @@ module _ (d : Desktop) (x y : ℤ) (apart : AreDistinct (all_windows d)) where
     lost : marks_at_least_through all_windows m path x y ≡ true → Inside × (list_any (lost_at whole.keeps) (all_windows d) ≡ true)
 
   on-way : (m new : Desktop) (path : List Desktop) (first : Loses d m) → LosesAlong m path new → Way m new path first
+  unfolding loses-on
   on-way m new [] first h =
       record {
         whole = record {
@@ -306,7 +305,7 @@ orderly-bare d orderly c r there over = at r.peer.status refl over
     at (Some cause) is e = ap (λ (q : Resident). q.owned) (ended_own_nothing d c r cause orderly there is).0
 
 -- its own change shows no window that wasn't there
-pub is_losing_act : Act → Bool
+abbrev pub is_losing_act : Act → Bool
 is_losing_act Connect = true
 is_losing_act (Feed client piece) = true
 is_losing_act (Store client store at bytes) = true
@@ -321,7 +320,7 @@ connects-along : (k : Option ℕ) (d : Desktop) (done : Done) (path : List Deskt
 connects-along None d done path new first h = ending-along d (unstruck d) path new (loses-none d d (shows-itself d d refl) refl) h.1
 connects-along (Some k) d done path new first (inl h) = ending-along d (unstruck d) path new (loses-none d d (shows-itself d d refl) refl) h.1
 connects-along (Some k) d done path new first (inr h) =
-    ending-along d _ path new (loses-none d (with_client (k + 1) (Some (arrival d.output)) d) (come-shows k (Some (arrival d.output)) d first refl) refl) h.1
+    ending-along d (unstruck (with_client (k + 1) (Some (arrival d.output)) d)) path new (loses-none d (with_client (k + 1) (Some (arrival d.output)) d) (come-shows k (Some (arrival d.output)) d first refl) refl) h.1
 
 leaves-along : (c : ℕ) (o : Option Resident) (d : Desktop) (done : Done) (path : List Desktop) (new : Desktop) → LeavesThen c o d done (settling_through path new) (ending_through path new)
     → LosesAlong d path new
@@ -342,9 +341,9 @@ changes-along : (R : Peer → Done → Option Peer → Type 0) (absent : Done) (
     → LosesAlong d path new
 changes-along R absent c None d done path new there none h = ending-along d (unstruck d) path new (loses-none d d (shows-itself d d refl) refl) h.1
 changes-along R absent c (Some r) d done path new there none (None, h, e) =
-    ending-along d _ path new (loses-none d (with_client c None d) (put-shows c r None d there (sym (none r None there h refl))) refl) e
+    ending-along d (unstruck (with_client c None d)) path new (loses-none d (with_client c None d) (put-shows c r None d there (sym (none r None there h refl))) refl) e
 changes-along R absent c (Some r) d done path new there none (Some q, h, e) =
-    ending-along d _ path new (loses-none d (with_client c (Some (with_peer q r)) d) (put-shows c r (Some (with_peer q r)) d there refl) refl) e
+    ending-along d (unstruck (with_client c (Some (with_peer q r)) d)) path new (loses-none d (with_client c (Some (with_peer q r)) d) (put-shows c r (Some (with_peer q r)) d there refl) refl) e
 
 -- clients are told of a frame, which leaves them what they own
 frames-lose : (time n c : ℕ) (old new : Midstep) → TellsFrames time n c old new → Loses old.desktop new.desktop

@@ -9,5 +9,5 @@ returns-clause-step g c = search rules
 
 pub returns-clause-course : goal.returns-clause-course
 returns-clause-course g c =
-    rw (← c.self.view_is) (marked-course Connect (gave.Connect c.connect.result) _ _ refl (λ client piece e. absurd (cc)) refl refl c.connect.ensures.sides c.connect.ensures.step
+    rw (← c.self.view_is) (marked-course Connect (gave.Connect c.connect.result) _ _ refl refl (λ client piece e. absurd (cc)) refl refl c.connect.ensures.sides c.connect.ensures.step
     c.connect.ensures.marks (nothing-more Connect (gave.Connect c.connect.result) _ c.connect.new.self c.connect.ensures.nothing) (λ _. c.connect.ensures.nothing))
