@@ -1,11 +1,11 @@
-//! Desktops where subsurfaces and wl_pointers are served, popups and positioners are not, and nobody points: what is known of them, each a
+//! Desktops where subsurfaces and wl_pointers are served, popups are not, and nobody points: what is known of them, each a
 //! function that does nothing and promises it.
 
 ghost use Rattle.wl_invariants.specs.NoPopupsLaws.{EmptyHasNoPopups, NoPopupsStay, OthersStay, WindowsAreToplevels};
 ghost use Rattle.wl_invariants.specs.SimpleLaws.{ChangesSimply, DemandsAreServed, DoesNoMore, MessagesAreSimple, RepliesSimply};
 ghost use Rattle.wl_invariants.specs.SimpleLaws.{StacksSimply};
 
-/// A message that is accepted demands nothing of popups and positioners.
+/// A message that is accepted demands nothing of popups.
 pub fn demands_are_served()
     ensures { DemandsAreServed }
 {}

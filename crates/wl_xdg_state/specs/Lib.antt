@@ -4,4 +4,5 @@ pub mod Moves
 pub mod Placing
 pub mod Popups
 pub mod Positioner
+pub mod Settings
 pub mod Shell

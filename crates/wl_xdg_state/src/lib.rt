@@ -8,12 +8,14 @@ mod acts;
 mod error;
 mod placing;
 mod positioner;
+mod settings;
 mod stage;
 mod xdg_surface;
 
 pub use acts::{Placed, ShellAct};
 pub use error::ShellError;
 pub use positioner::Positioner;
+pub use settings::Setting;
 pub use stage::Stage;
 pub use xdg_surface::{Toplevel, XdgSurface};
 

@@ -3,9 +3,10 @@
 ghost use Rattle.std.specs.Prelude.{◌≡◌, ◌<◌, ℤ, IsTrue, OnErr, OnOk, Some, nat_le};
 ghost use Rattle.wl_xdg_state.specs.Placing.{axis_of, placed_of, set_answer};
 ghost use Rattle.wl_xdg_state.specs.Positioner.{axis_x, axis_y, first_positioner, has_bit, is_anchor_rect, is_complete, is_size, place, placed_with, rect_set};
+ghost use Rattle.wl_xdg_state.specs.Settings.{is_allowed, with_setting};
 
 use crate::placing::{Allowed, Axis, Bounds, Edge};
-use crate::{Placed, ShellError};
+use crate::{Placed, Setting, ShellError};
 use std::marker::Model;
 use wl_geom::Rect;
 use wl_state::held;
@@ -22,9 +23,6 @@ const FLIP_Y: u32 = 8;
 const RESIZE_X: u32 = 16;
 
 const RESIZE_Y: u32 = 32;
-
-/// The greatest number of an anchor and of gravity: bottom_right.
-const LAST_EDGE: u32 = 8;
 
 /// Where a popup is to be placed beside its parent (xdg-shell.xml, xdg_positioner): how large it is, at which rectangle it is anchored, and how
 /// it lies there. All is in pixels; places are relative to the corner of the parent's window geometry.
@@ -56,6 +54,17 @@ fn allows(number: u32, adjustment: u32) -> bool
     (number / adjustment) % 2 == 1
 }
 
+/// An anchor rectangle as it is set: one of 0 by 0 counts as none.
+fn rect_set(rect: Rect) -> Option<Rect>
+    ensures { result ≡ rect_set rect }
+{
+    if rect.w <= 0 && rect.h <= 0 {
+        None
+    } else {
+        Some(rect)
+    }
+}
+
 impl Positioner {
     /// One for which nothing was set: no size, no anchor rectangle, anchor and gravity none, no adjustment and no offset.
     pub fn new() -> Positioner
@@ -71,6 +80,37 @@ impl Positioner {
         }
     }
 
+    /// Sets this.
+    ///
+    /// # Errors
+    ///
+    /// `InvalidInput` exactly where it isn't allowed; then nothing changes.
+    pub fn set(&mut self, setting: &Setting) -> Result<(), ShellError>
+        ensures answer { result ≡ set_answer (is_allowed setting.now) }
+        ensures ok { OnOk result (self.new ≡ with_setting setting.now self.old) }
+        ensures err { OnErr result (self.new ≡ self.old) }
+    {
+        if !setting.is_allowed() {
+            return Err(ShellError::InvalidInput);
+        }
+        self.apply(setting);
+        Ok(())
+    }
+
+    /// Puts this in place of what was set before, whether or not it is allowed.
+    pub fn apply(&mut self, setting: &Setting)
+        ensures { self.new ≡ with_setting setting.now self.old }
+    {
+        match *setting {
+            Setting::Size(w, h) => self.size = Some((w, h)),
+            Setting::AnchorRect(rect) => self.anchor_rect = rect_set(rect),
+            Setting::Anchor(anchor) => self.anchor = anchor,
+            Setting::Gravity(gravity) => self.gravity = gravity,
+            Setting::Adjustment(adjustment) => self.adjustment = adjustment,
+            Setting::Offset(x, y) => self.offset = (x, y),
+        }
+    }
+
     /// xdg_positioner.set_size: how wide and how high the popup's window geometry is to be.
     ///
     /// # Errors
@@ -81,11 +121,7 @@ impl Positioner {
         ensures ok { OnOk result (self.new ≡ record self.old { size = Some (w, h) }) }
         ensures err { OnErr result (self.new ≡ self.old) }
     {
-        if w <= 0 || h <= 0 {
-            return Err(ShellError::InvalidInput);
-        }
-        self.size = Some((w, h));
-        Ok(())
+        self.set(&Setting::Size(w, h))
     }
 
     /// xdg_positioner.set_anchor_rect: at which rectangle of its parent the popup is anchored. One of 0 by 0 counts as none.
@@ -98,15 +134,7 @@ impl Positioner {
         ensures ok { OnOk result (self.new ≡ record self.old { anchor_rect = rect_set rect }) }
         ensures err { OnErr result (self.new ≡ self.old) }
     {
-        if rect.w < 0 || rect.h < 0 {
-            return Err(ShellError::InvalidInput);
-        }
-        self.anchor_rect = if rect.w <= 0 && rect.h <= 0 {
-            None
-        } else {
-            Some(rect)
-        };
-        Ok(())
+        self.set(&Setting::AnchorRect(rect))
     }
 
     /// xdg_positioner.set_anchor: at which edges or corner of the rectangle the popup is anchored.
@@ -119,11 +147,7 @@ impl Positioner {
         ensures ok { OnOk result (self.new ≡ record self.old { anchor = anchor }) }
         ensures err { OnErr result (self.new ≡ self.old) }
     {
-        if anchor > LAST_EDGE {
-            return Err(ShellError::InvalidInput);
-        }
-        self.anchor = anchor;
-        Ok(())
+        self.set(&Setting::Anchor(anchor))
     }
 
     /// xdg_positioner.set_gravity: to which side of that the popup lies.
@@ -136,25 +160,21 @@ impl Positioner {
         ensures ok { OnOk result (self.new ≡ record self.old { gravity = gravity }) }
         ensures err { OnErr result (self.new ≡ self.old) }
     {
-        if gravity > LAST_EDGE {
-            return Err(ShellError::InvalidInput);
-        }
-        self.gravity = gravity;
-        Ok(())
+        self.set(&Setting::Gravity(gravity))
     }
 
     /// xdg_positioner.set_constraint_adjustment: how the popup may be adjusted where it passes the bounds. Bits without a meaning do nothing.
     pub fn set_adjustment(&mut self, adjustment: u32)
         ensures { self.new ≡ record self.old { adjustment = adjustment } }
     {
-        self.adjustment = adjustment;
+        self.apply(&Setting::Adjustment(adjustment));
     }
 
     /// xdg_positioner.set_offset: how far to the right and down the popup is moved.
     pub fn set_offset(&mut self, x: i32, y: i32)
         ensures { self.new ≡ record self.old { offset = (x, y) } }
     {
-        self.offset = (x, y);
+        self.apply(&Setting::Offset(x, y));
     }
 
     /// Whether a size and an anchor rectangle were set.
