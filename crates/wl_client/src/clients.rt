@@ -1,7 +1,7 @@
 //! One client: what came from it, what is to be sent to it, and what its messages ask.
 
 ghost use Rattle.std.specs.Option.{option_copied, option_map};
-ghost use Rattle.std.specs.Prelude.{◌≡◌, ◌++◌, [], length, ◌≤◌, ◌∷◌, ◌==◌, ◌+◌, if◌then◌else◌, OnOk, OnErr, IfOk, IfErr, IsTrue, MatchBool, Some, None, true, false, is_some, is_none, map, min, nat_le, List};
+ghost use Rattle.std.specs.Prelude.{◌≡◌, ◌++◌, [], length, ◌≤◌, ◌<◌, ◌∷◌, ◌==◌, ◌+◌, if◌then◌else◌, OnOk, OnErr, IfOk, IfErr, IfSome, IsTrue, MatchBool, Some, None, true, false, is_some, is_none, map, min, nat_le, List};
 ghost use Rattle.wl_client.specs.Agreement.{most_counted, output_of};
 ghost use Rattle.wl_peer.specs.Told.{Said, id_deleted, released_told, said, said_bytes};
 ghost use Rattle.wl_proto.specs.Messages.{says};
@@ -62,7 +62,7 @@ impl<A: Allocator + Copy> Client<A> {
     ghost use Rattle.wl_client.specs.View.{cleared};
     ghost use Rattle.wl_peer.specs.Stored.{stored};
     ghost use Rattle.wl_table.specs.Objects.{HoldsAt, entry_of};
-    ghost use Rattle.wl_store.specs.Stores.{picture_turned, store_at, write_refusal};
+    ghost use Rattle.wl_store.specs.Stores.{next_after, picture_turned, store_at, write_refusal};
     ghost use Rattle.wl_client.specs.Agreement.{IsPeer};
 
     /// A client that has just connected and is shown on this output. Its one object is wl_display.
@@ -431,6 +431,14 @@ impl<A: Allocator + Copy> Client<A> {
         ensures { result ≡ option_map (λ s. length s.bytes) (store_at store self.now.stores) }
     {
         self.stores.size(store)
+    }
+
+    /// The least number of a live store that is above this one; None where there is none.
+    pub fn next_store(&self, number: StoreNo) -> Option<StoreNo>
+        ensures next { result ≡ next_after number self.now.stores }
+        ensures rises { IfSome result (λ next. number < next) }
+    {
+        self.stores.next_after(number)
     }
 
     /// Lends the bytes of a store as the content of a surface that is turned so; None where the store isn't live or the layout passes its

@@ -2,6 +2,7 @@ pub mod Agreeing
 pub mod Feeding
 pub mod Framing
 pub mod Lent
+pub mod NextStore
 pub mod Residents
 pub use Rattle.wl_resident.specs.Agreement
 pub use Rattle.wl_resident.specs.Marking

@@ -7,6 +7,7 @@ ghost use Rattle.wl_paint.specs.Damage.{has};
 ghost use Rattle.wl_paint.specs.Frame.{color_at, is_side};
 ghost use Rattle.wl_plain.specs.Desktop.{Desktop, empty};
 ghost use Rattle.wl_plain.specs.Act.{Connect, Feed, Store, Leave, Tick, Send, Close, lowest, peer_at, unsent_of, status_of, store_size_of};
+ghost use Rattle.wl_desk.specs.NextStore.{next_store_of};
 ghost use Rattle.wl_desk.specs.Agreeing.{Agrees, MarksNothing, MarksStep, TakesStep};
 ghost use Rattle.wl_resident.specs.Marking.{MarksAtLeast, MarksAtMost, MarksMost, MarksThrough};
 ghost use Rattle.wl_desk.specs.Feeding.{Ends, IsIdleIn, kept_at, kept_while, rest_in, served_as, served_of};
@@ -245,6 +246,17 @@ impl<A: Allocator + Copy> Desk<A> {
             return None;
         };
         resident.client.store_size(store)
+    }
+
+    /// The least number of a client's live store that is above this one.
+    pub fn next_store(&self, client: ClientNo, number: StoreNo) -> Option<StoreNo>
+        ensures next { (d : Desktop) → Agrees self.now.desk d → result ≡ next_store_of number (peer_at client d) }
+        ensures rises { IfSome result (λ next. number < next) }
+    {
+        let Some(resident) = resident_of(&self.residents, client) else {
+            return None;
+        };
+        resident.client.next_store(number)
     }
 
     /// A client goes. True where it was alive. No more than its own windows is marked.

@@ -6,7 +6,9 @@ ghost use Rattle.wl_replay.specs.Told.{IsFirst};
 ghost use Rattle.wl_server.specs.Agreeing.{Agrees};
 ghost use Rattle.wl_server.specs.Liars.{IsRightBut, nobody};
 ghost use Rattle.wl_server.specs.Phases.{IsTurn};
+ghost use Rattle.wl_recording.specs.Side.{files_of};
 ghost use Rattle.wl_server.specs.Telling.{Reports, Tells, images_in};
+ghost use Rattle.wl_server.specs.Ways.{serving, ways};
 ghost use Rattle.wl_program.specs.Run.{FailsServing};
 ghost use Rattle.wl_program.specs.Serving.{AreTurns, TakesTurns, moment_of, output_of, stage_of};
 
@@ -58,7 +60,8 @@ pub(crate) fn serve<'a, F: Files + Net + Clock + AllocGlobal, A: Allocator + Cop
 
 /// Makes the socket at a path. An empty path names no file, so nothing is made there.
 fn bind<F: Files + Net>(files: &F, path: &str) -> Result<SocketHub, Fault>
-    ensures { IfErr result (λ fault. (fault ≡ Fault.Bind) ⊎ (fault ≡ Fault.Memory)) }
+    ensures bound { IfOk result (λ hub. hub ≡ 0) }
+    ensures failed { IfErr result (λ fault. (fault ≡ Fault.Bind) ⊎ (fault ≡ Fault.Memory)) }
 {
     if path.is_empty() {
         return Err(Fault::Bind);
@@ -104,7 +107,9 @@ fn take_turn<A: Allocator + Copy, H: Hub, W: Write + Drop, P: Write + Drop, S: S
     side: &mut S,
     time: u32,
 ) -> Result<(), Fault>
-    ensures taken { OnOk result (Tells (IsTurn time) service.old.session service.new.session (W.contents service.old.report) (W.contents service.new.report)
+    ensures taken { OnOk result (Tells (IsTurn (ways H.accepts H.reads H.writes H.closes H.fault_count) (files_of S.opens S.gives S.fault_count) time
+        (serving hub.old connections.old side.old) (serving hub.new connections.new side.new))
+        service.old.session service.new.session (W.contents service.old.report) (W.contents service.new.report)
         (images_in P.contents service.old.ppm) (images_in P.contents service.new.ppm)) }
     ensures failed { IfErr result (λ fault. fault ≡ Fault.Write) }
 {
@@ -135,8 +140,12 @@ pub fn serve_on<
     service: &mut Service<A, W, P>,
     pace: Pace,
 ) -> Result<(), Fault>
-    ensures reported { OnOk result (Reports (AreTurns pace.rate pace.turns) service.old.session service.new.session (W.contents service.old.report) (W.contents service.new.report)) }
-    ensures taken { OnOk result (Tells (AreTurns pace.rate pace.turns) service.old.session service.new.session (W.contents service.old.report) (W.contents service.new.report)
+    ensures reported { OnOk result (Reports (AreTurns (ways H.accepts H.reads H.writes H.closes H.fault_count) (files_of S.opens S.gives S.fault_count) pace.rate pace.turns
+        (serving hub.old connections.old side.old) (serving hub.new connections.new side.new))
+        service.old.session service.new.session (W.contents service.old.report) (W.contents service.new.report)) }
+    ensures taken { OnOk result (Tells (AreTurns (ways H.accepts H.reads H.writes H.closes H.fault_count) (files_of S.opens S.gives S.fault_count) pace.rate pace.turns
+        (serving hub.old connections.old side.old) (serving hub.new connections.new side.new))
+        service.old.session service.new.session (W.contents service.old.report) (W.contents service.new.report)
         (images_in P.contents service.old.ppm) (images_in P.contents service.new.ppm)) }
     ensures failed { IfErr result (λ fault. fault ≡ Fault.Write) }
 {

@@ -1,5 +1,9 @@
 pub mod Frames
+pub mod Joining
 pub mod Pieces
+pub mod Places
+pub mod FedPieces
+pub mod SentBytes
 pub mod Taking
 pub mod Telling
 pub mod Turning

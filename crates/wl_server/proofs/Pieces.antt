@@ -1,63 +1,23 @@
--- Connects, pieces that are fed, and pieces that are put into a store.
-use Rattle.std.proofs.Common.{◌≡◌, ◌<◌, ◌≤◌, ◌+◌, ℕ, true, false, List, [], ◌∷◌, ◌++◌, map, length, refl, ap, sym, inl, inr, ◌∙◌, arith, append-nil, length-append, add-zero}
-use Rattle.std.specs.List.{All}
-use Rattle.std.proofs.lemmas.List.{map-append}
-use Rattle.std.proofs.lemmas.List.Elements.{All-append, All-nil, All-push}
-use Rattle.wl_plain.specs.Act.{Act, Connect, Feed, Store}
-use Rattle.wl_server.specs.Phases.{AcceptsOne, AcceptsSome, IsPiece, Puts, PutsOnce, Reads, ReadsOnce, puts_from}
+-- Pieces that are put into a store, and stores one after another.
+use Rattle.std.proofs.Common.{◌≡◌, ◌<◌, ◌+◌, ◌⊎◌, ℕ, Bool, true, false, List, [], ◌∷◌, ◌++◌, length, Option, Some, None, refl, ap, sym, subst, inl, inr, ◌∙◌, arith, append-nil, add-zero, get_or}
+use Rattle.wl_hub.specs.Faults.{Rose}
+use Rattle.wl_plain.specs.Act.{Act, Store, peer_at, store_size_of}
+use Rattle.wl_session.specs.NextStore.{next_store_of}
+use Rattle.wl_plain.specs.Desktop.{Desktop}
+use Rattle.wl_plain.specs.declared.answers.Done.{Done}
+use Rattle.wl_recording.specs.Side.{Files}
+use Rattle.wl_session.specs.Agreeing.{Agrees}
+use Rattle.wl_session.specs.Course.{TakesCourse, moment}
+use Rattle.wl_session.specs.Events.{Event, Moment}
+use Rattle.wl_session.specs.View.{SessionView}
+use Rattle.wl_server.specs.Acting.{InTurn, Stretch, Takes}
+use Rattle.wl_server.specs.Seats.{seat_of}
+use Rattle.wl_server.specs.declared.seat.Seat.{Seat}
+use Rattle.wl_server.specs.Phases.{Fills, FillsClient, FillsIf, FillsSeat, FillsUpTo, Gave, IsPiece, Opens, Puts, PutsFile, PutsOnce, PutsSized, puts_from, side_name, total}
+use Rattle.wl_server.proofs.Taking.{Takes-none, Takes-one, Takes-then, Takes-turn, Takes-weaker, idle}
+use Rattle.wl_server.proofs.Places.{same-place}
 
--- ---- connects
-
-pub accepts-none : (most : ℕ) → AcceptsSome most []
-accepts-none most = (All-nil (λ act. act ≡ Connect), omega arith)
-
-pub accepts-connect : AcceptsOne (Connect ∷ [])
-accepts-connect = (All-push (λ act. act ≡ Connect) [] Connect (All-nil (λ act. act ≡ Connect)) refl, omega arith)
-
-pub accepts-more : (n : ℕ) (a b : List Act) → AcceptsSome n a → AcceptsOne b → AcceptsSome (n + 1) (a ++ b)
-accepts-more n a b some one =
-    (All-append (λ act. act ≡ Connect) a b some.0 one.0, omega (arith, length-append a b, some.1, one.1))
-
-pub accepts-within : (n m : ℕ) (a : List Act) → n ≤ m → AcceptsSome n a → AcceptsSome m a
-accepts-within n m a within some = (some.0, omega (arith, within, some.1))
-
--- ---- reads
-
--- so many pieces were fed
-abbrev pub Fed : ℕ → ℕ → List Act → Type 0
-Fed c n acts = (pieces : List (List ℕ)) × All IsPiece pieces × (acts ≡ map (Feed c) pieces) × (length pieces ≡ n)
-
-pub fed-none : (c : ℕ) → Fed c 0 []
-fed-none c = ([], All-nil IsPiece, refl, refl)
-
-pub fed-more : (c n : ℕ) (a b : List Act) → Fed c n a → ReadsOnce c true b → Fed c (n + 1) (a ++ b)
-fed-more c n a b fed once =
-    let pieces = fed.0 ++ once.0 ∷ [] in
-    let acts : a ++ b ≡ map (Feed c) pieces = rw (fed.2, once.2) (sym (map-append (Feed c) fed.0 (once.0 ∷ []))) in
-    let count : length pieces ≡ n + 1 = length-append fed.0 (once.0 ∷ []) ∙ ap (λ (k : ℕ). k + 1) fed.3 in
-    (pieces, All-push IsPiece fed.0 once.0 fed.1 once.1, acts, count)
-
-last-few : (c : ℕ) (b : List Act) → ReadsOnce c false b → length b ≤ 1
-last-few c b (inl none) = rw none (omega arith)
-last-few c b (inr one) = rw one (omega arith)
-
-pub fed-last : (c n : ℕ) (a b : List Act) → n < 16 → Fed c n a → ReadsOnce c false b → Reads c (a ++ b)
-fed-last c n a b within fed once =
-    let acts : a ++ b ≡ map (Feed c) fed.0 ++ b = ap (λ (front : List Act). front ++ b) fed.2 in
-    let few : length fed.0 + length b ≤ 16 = omega (arith, within, fed.3, last-few c b once) in
-    (fed.0, b, fed.1, once, acts, few)
-
-pub fed-all : (c n : ℕ) (a : List Act) → n ≤ 16 → Fed c n a → Reads c a
-fed-all c n a within fed =
-    let acts : a ≡ map (Feed c) fed.0 ++ [] = fed.2 ∙ sym (append-nil (map (Feed c) fed.0)) in
-    let few : length fed.0 + 0 ≤ 16 = omega (arith, within, fed.3) in
-    (fed.0, [], fed.1, inl refl, acts, few)
-
--- ---- store writes
-
-abbrev pub total : List (List ℕ) → ℕ
-total [] = 0
-total (piece ∷ pieces) = length piece + total pieces
+-- ---- pieces of a file
 
 total-more : (pieces : List (List ℕ)) (piece : List ℕ) → total (pieces ++ piece ∷ []) ≡ total pieces + length piece
 total-more [] piece = omega arith
@@ -71,24 +31,152 @@ puts-append c store at (p ∷ pieces) piece =
     ap (λ (acts : List Act). Store c store at p ∷ acts)
     (puts-append c store (at + length p) pieces piece ∙ ap (λ (n : ℕ). puts_from c store (at + length p) pieces ++ Store c store n piece ∷ []) place)
 
--- a store was filled up to this byte
-abbrev pub PutTo : ℕ → ℕ → ℕ → List Act → Type 0
-PutTo c store at acts = (pieces : List (List ℕ)) × All IsPiece pieces × (acts ≡ puts_from c store 0 pieces) × (total pieces ≡ at)
+-- the open file was put into the store up to this byte
+abbrev pub PutTo : {S : Type 0} → Files S → ℕ → ℕ → ℕ → S → S → Stretch
+PutTo files c store at from to start acts events end =
+    (pieces : List (List ℕ)) × Gave files from pieces to × (acts ≡ puts_from c store 0 pieces) × (total pieces ≡ at)
 
-pub put-none : (c store : ℕ) → PutTo c store 0 []
-put-none c store = ([], All-nil IsPiece, refl, refl)
+pub put-none : {S : Type 0} (files : Files S) (c store : ℕ) (from : S) (v : SessionView) → Takes (PutTo files c store 0 from from) v v
+put-none files c store from v = Takes-none (PutTo files c store 0 from from) v v refl (λ d agrees. ([], Gave.none, refl, refl))
 
-pub put-more : (c store at count : ℕ) (a b : List Act) → PutTo c store at a → PutsOnce c store at count b → PutTo c store (at + count) (a ++ b)
-put-more c store at count a b put (piece, long, inl none) =
-    let acts : a ++ b ≡ puts_from c store 0 put.0 = ap (λ (back : List Act). a ++ back) none.1 ∙ append-nil a ∙ put.2 in
-    (put.0, put.1, acts, omega (arith, put.3, none.0))
-put-more c store at count a b put (piece, long, inr some) =
-    let pieces = put.0 ++ piece ∷ [] in
+pub put-one : {S : Type 0} (files : Files S) (c store at count : ℕ) (piece : List ℕ) (done : Done) (from to : S) (old new : SessionView) → length piece ≡ count → IsPiece piece
+    → files.gives from piece to → TakesCourse (Store c store at piece) done old new → Takes (PutsOnce files c store at count from to) old new
+put-one files c store at count piece done from to old new long is gives course =
+    Takes-one (PutsOnce files c store at count from to) (Store c store at piece) done old new course (λ d e es agrees parts. inr (piece, long, is, gives, refl))
+
+pub put-end : {S : Type 0} (files : Files S) (c store at : ℕ) (from to : S) (v : SessionView) → (files.gives from [] to ⊎ Rose (files.faults from) (files.faults to))
+    → Takes (PutsOnce files c store at 0 from to) v v
+put-end files c store at from to v ends = Takes-none (PutsOnce files c store at 0 from to) v v refl (λ d agrees. inl (refl, refl, ends))
+
+put-piece : {S : Type 0} (files : Files S) (c store at count : ℕ) (from mid to : S) (start moment end : Moment) (a b : List Act) (es fs gs : List Event) → 0 < count
+    → PutTo files c store at from mid start a es moment → PutsOnce files c store at count mid to moment b fs end → PutTo files c store (at + count) from to start (a ++ b) gs end
+put-piece files c store at count from mid to start moment end a b es fs gs some put (inl none) = absurd (omega (arith, some, none.0))
+put-piece files c store at count from mid to start moment end a b es fs gs some put (inr one) =
+    let pieces = put.0 ++ one.0 ∷ [] in
     let place : 0 + total put.0 ≡ at = omega (arith, put.3) in
-    let here : Store c store (0 + total put.0) piece ∷ [] ≡ b = ap (λ (n : ℕ). Store c store n piece ∷ []) place ∙ sym some.1 in
+    let here : Store c store (0 + total put.0) one.0 ∷ [] ≡ b = ap (λ (n : ℕ). Store c store n one.0 ∷ []) place ∙ sym one.4 in
     let acts : a ++ b ≡ puts_from c store 0 pieces =
-    ap (λ (front : List Act). front ++ b) put.2 ∙ ap (λ (back : List Act). puts_from c store 0 put.0 ++ back) (sym here) ∙ sym (puts-append c store 0 put.0 piece) in
-    (pieces, All-push IsPiece put.0 piece put.1 some.0, acts, total-more put.0 piece ∙ omega (arith, put.3, long))
+    ap (λ (front : List Act). front ++ b) put.2 ∙ ap (λ (back : List Act). puts_from c store 0 put.0 ++ back) (sym here) ∙ sym (puts-append c store 0 put.0 one.0) in
+    (pieces, Gave.more one.0 put.1 one.2 one.3, acts, total-more put.0 one.0 ∙ omega (arith, put.3, one.1))
 
-pub put-all : (c store at : ℕ) (a : List Act) → PutTo c store at a → Puts c store a
-put-all c store at a put = (put.0, put.1, put.2)
+pub put-more : {S : Type 0} (files : Files S) (c store at count : ℕ) (from mid to : S) (old between new : SessionView) → 0 < count → Takes (PutTo files c store at from mid) old between
+    → Takes (PutsOnce files c store at count mid to) between new → Takes (PutTo files c store (at + count) from to) old new
+put-more files c store at count from mid to old between new some put once =
+    Takes-then (PutTo files c store at from mid) (PutsOnce files c store at count mid to) (PutTo files c store (at + count) from to) old between new put once
+    (λ start d e a b es fs ad ae leads goes p q. put-piece files c store at count from mid to start (moment d between) (moment e new) a b es fs (es ++ fs) some p q)
+
+put-stopped : {S : Type 0} (files : Files S) (c store size at : ℕ) (from mid to : S) (start moment end : Moment) (a b : List Act) (es fs gs : List Event) → at < size
+    → PutTo files c store at from mid start a es moment → PutsOnce files c store at 0 mid to moment b fs end → PutsFile files c store size from to start (a ++ b) gs end
+put-stopped files c store size at from mid to start moment end a b es fs gs few put (inr one) = absurd (omega (arith, one.1, one.2.0))
+put-stopped files c store size at from mid to start moment end a b es fs gs few put (inl none) = record {
+  pieces = put.0;
+  mid = mid;
+  gave = put.1;
+  within = omega (arith, few, put.3);
+  ends = inr (omega (arith, few, put.3), none.2);
+  acts_are = ap (λ (back : List Act). a ++ back) none.1 ∙ append-nil a ∙ put.2;
+}
+
+pub put-last : {S : Type 0} (files : Files S) (c store size at : ℕ) (from mid to : S) (old between new : SessionView) → at < size → Takes (PutTo files c store at from mid) old between
+    → Takes (PutsOnce files c store at 0 mid to) between new → Takes (PutsFile files c store size from to) old new
+put-last files c store size at from mid to old between new few put once =
+    Takes-then (PutTo files c store at from mid) (PutsOnce files c store at 0 mid to) (PutsFile files c store size from to) old between new put once
+    (λ start d e a b es fs ad ae leads goes p q. put-stopped files c store size at from mid to start (moment d between) (moment e new) a b es fs (es ++ fs) few p q)
+
+pub put-all : {S : Type 0} (files : Files S) (c store size at : ℕ) (from to : S) (old new : SessionView) → at ≡ size → Takes (PutTo files c store at from to) old new
+    → Takes (PutsFile files c store size from to) old new
+put-all files c store size at from to old new full put =
+    Takes-weaker (PutTo files c store at from to) (PutsFile files c store size from to) old new put
+    (λ d e a es ad ae runs p. record {
+      pieces = p.0;
+      mid = to;
+      gave = p.1;
+      within = omega (arith, full, p.3);
+      ends = inl (p.3 ∙ full, refl);
+      acts_are = p.2;
+    })
+
+-- ---- a store
+
+abbrev pub HasSize : ℕ → ℕ → Option ℕ → SessionView → Type 0
+HasSize c store size v = (d : Desktop) → Agrees v.desk d → size ≡ store_size_of store (peer_at c d)
+
+pub put-sized : {S : Type 0} (files : Files S) (c number store : ℕ) (size : Option ℕ) (from to : S) (old new : SessionView) → HasSize c store size old
+    → Takes (PutsSized files c number store size from to) old new → Takes (Puts files c number store from to) old new
+put-sized files c number store size from to old new sized takes =
+    Takes-weaker (PutsSized files c number store size from to) (Puts files c number store from to) old new takes
+    (λ d e a es ad ae runs p. subst (λ (s : Option ℕ). PutsSized files c number store s from to (moment d old) a es (moment e new)) (sized d ad) p)
+
+pub put-nowhere : {S : Type 0} (files : Files S) (c number store : ℕ) (from : S) (v : SessionView) → HasSize c store None v → Takes (Puts files c number store from from) v v
+put-nowhere files c number store from v sized =
+    put-sized files c number store None from from v v sized
+    (Takes-none (PutsSized files c number store None from from) v v refl (λ d agrees. idle from (moment d v)))
+
+pub put-unopened : {S : Type 0} (files : Files S) (c number store size : ℕ) (from to : S) (v : SessionView) → HasSize c store (Some size) v → Opens files (side_name number store) false from to
+    → Takes (Puts files c number store from to) v v
+put-unopened files c number store size from to v sized opens =
+    put-sized files c number store (Some size) from to v v sized
+    (Takes-none (PutsSized files c number store (Some size) from to) v v refl (λ d agrees. (false, to, opens, idle to (moment d v))))
+
+pub put-opened : {S : Type 0} (files : Files S) (c number store size : ℕ) (from opened to : S) (old new : SessionView) → HasSize c store (Some size) old
+    → Opens files (side_name number store) true from opened → Takes (PutsFile files c store size opened to) old new → Takes (Puts files c number store from to) old new
+put-opened files c number store size from opened to old new sized opens takes =
+    put-sized files c number store (Some size) from to old new sized
+    (Takes-weaker (PutsFile files c store size opened to) (PutsSized files c number store (Some size) from to) old new takes
+    (λ d e a es ad ae runs p. (true, opened, opens, p)))
+
+-- ---- store after store
+
+abbrev pub IsNext : ℕ → ℕ → Option ℕ → SessionView → Type 0
+IsNext c before next v = (d : Desktop) → Agrees v.desk d → next ≡ next_store_of before (peer_at c d)
+
+abbrev pub FilledTo : {S : Type 0} → Files S → ℕ → ℕ → ℕ → S → S → Stretch
+FilledTo files c number last from to start acts events end = FillsUpTo files c number from start last to acts events end
+
+pub filled-none : {S : Type 0} (files : Files S) (c number : ℕ) (from : S) (v : SessionView) → Takes (FilledTo files c number 0 from from) v v
+filled-none files c number from v = Takes-none (FilledTo files c number 0 from from) v v refl (λ d agrees. FillsUpTo.none)
+
+pub filled-more : {S : Type 0} (files : Files S) (c number before store : ℕ) (from mid to : S) (old between new : SessionView) → IsNext c before (Some store) between
+    → Takes (FilledTo files c number before from mid) old between → Takes (Puts files c number store mid to) between new → Takes (FilledTo files c number store from to) old new
+filled-more files c number before store from mid to old between new next filled puts =
+    Takes-then (FilledTo files c number before from mid) (Puts files c number store mid to) (FilledTo files c number store from to) old between new filled puts
+    (λ start d e a b es fs ad ae leads goes p q.
+    FillsUpTo.more before mid to (moment d between) (moment e new) a b es fs store p (sym (next d ad)) leads goes q)
+
+pub filled-all : {S : Type 0} (files : Files S) (c number last : ℕ) (from to : S) (old new : SessionView) → IsNext c last None new → Takes (FilledTo files c number last from to) old new
+    → Takes (FillsClient files c number from to) old new
+filled-all files c number last from to old new next filled =
+    Takes-weaker (FilledTo files c number last from to) (FillsClient files c number from to) old new filled
+    (λ d e a es ad ae runs p. (last, p, sym (next e ae)))
+
+-- ---- those of a client that sent bytes
+
+pub fill-none : {C S : Type 0} (files : Files S) (c : ℕ) (slot : Option (Seat C)) (from : S) (v : SessionView) → slot ≡ None → Takes (FillsSeat files c slot from from) v v
+fill-none {C} files c slot from v is =
+    subst (λ (s : Option (Seat C)). Takes (FillsSeat files c s from from) v v) (sym is)
+    (Takes-none (FillsSeat {C = C} files c None from from) v v refl (λ d agrees. idle from (moment d v)))
+
+pub fill-idle : {C S : Type 0} (files : Files S) (c : ℕ) (slot : Option (Seat C)) (seat : Seat C) (from : S) (v : SessionView) → slot ≡ Some seat → seat.has_sent ≡ false
+    → Takes (FillsSeat files c slot from from) v v
+fill-idle {C} files c slot seat from v is quiet =
+    subst (λ (s : Option (Seat C)). Takes (FillsSeat files c s from from) v v) (sym is)
+    (Takes-none (FillsSeat files c (Some seat) from from) v v refl
+    (λ d agrees. subst (λ (b : Bool). FillsIf b files c seat.number from from (moment d v) [] [] (moment d v)) (sym quiet) (idle from (moment d v))))
+
+pub fill-sent : {C S : Type 0} (files : Files S) (c : ℕ) (slot : Option (Seat C)) (seat : Seat C) (from to : S) (old new : SessionView) → slot ≡ Some seat → seat.has_sent ≡ true
+    → Takes (FillsClient files c seat.number from to) old new → Takes (FillsSeat files c slot from to) old new
+fill-sent {C} files c slot seat from to old new is sent takes =
+    subst (λ (s : Option (Seat C)). Takes (FillsSeat files c s from to) old new) (sym is)
+    (Takes-weaker (FillsClient files c seat.number from to) (FillsSeat files c (Some seat) from to) old new takes
+    (λ d e a es ad ae runs p. subst (λ (b : Bool). FillsIf b files c seat.number from to (moment d old) a es (moment e new)) (sym sent) p))
+
+pub fill-next : {C S : Type 0} (files : Files S) (seats : List (Option (Seat C))) (k : ℕ) (first from to : S) (seat : Option (Seat C)) (old mid new : SessionView) → seat ≡ get_or seats k None
+    → Takes (InTurn (Fills files seats) k first from) old mid → Takes (FillsSeat files (k + 1) seat from to) mid new → Takes (InTurn (Fills files seats) (k + 1) first to) old new
+fill-next {C} files seats k first from to seat old mid new is before own =
+    let here : seat ≡ seat_of (k + 1) seats = is ∙ ap (λ (j : ℕ). get_or seats j None) (same-place k) in
+    Takes-turn (Fills files seats) k first from to old mid new before
+    (subst (λ (s : Option (Seat C)). Takes (FillsSeat files (k + 1) s from to) mid new) here own)
+
+-- what is said of an opening is said of a value that is known
+pub opens-as : {S : Type 0} (files : Files S) (name : List ℕ) (there is : Bool) (from to : S) → there ≡ is → Opens files name there from to → Opens files name is from to
+opens-as files name there is from to same opens = subst (λ (b : Bool). Opens files name b from to) same opens

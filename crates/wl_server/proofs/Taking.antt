@@ -1,16 +1,15 @@
 -- What a session does, joined of what it does one after another.
-use Rattle.std.proofs.Common.{◌≡◌, ◌≤◌, ◌+◌, ℕ, zero, suc, List, [], ◌∷◌, ◌++◌, refl, ap, sym, subst, ◌∙◌, inl, inr, arith, add-one, append-nil, append_assoc}
-use Rattle.std.proofs.lemmas.Bool.{cases_lt}
+use Rattle.std.proofs.Common.{◌≡◌, ◌+◌, ℕ, suc, List, [], ◌∷◌, ◌++◌, refl, ap, sym, subst, ◌∙◌, add-one, append-nil, append_assoc}
 use Rattle.wl_plain.specs.declared.answers.Done.{Done}
 use Rattle.wl_plain.specs.Act.{Act}
 use Rattle.wl_plain.specs.Desktop.{Desktop}
 use Rattle.wl_plain.specs.LeftOut.{LeftOut, served_now}
 use Rattle.wl_session.specs.Agreeing.{Agrees}
-use Rattle.wl_session.specs.Course.{Course, Runs, TakesCourse, moment}
+use Rattle.wl_session.specs.Course.{AreParts, Course, Runs, TakesCourse, happenings, moment}
 use Rattle.wl_session.specs.Events.{Event, Moment}
 use Rattle.wl_session.specs.View.{SessionView}
 use Rattle.wl_session.proofs.Courses.{apart-then}
-use Rattle.wl_server.specs.Acting.{InTurn, Takes, Went}
+use Rattle.wl_server.specs.Acting.{Idle, InTurn, Stretch, Takes, Then, Went}
 
 pub runs-append : (left : LeftOut) (acts more : List Act) (from mid to : Moment) (events others : List Event) → Runs left from acts events mid → Runs left mid more others to
     → Runs left from (acts ++ more) (events ++ others) to
@@ -59,59 +58,102 @@ went-then a b old mid new d first next = record {
 
 -- ---- the same of acts of which something holds
 
-pub Takes-none : (P : List Act → Type 0) (old new : SessionView) → new ≡ old → P [] → Takes P old new
-Takes-none P old new same p = λ d agrees. ([], p, went-none old new d same agrees)
+-- one stretch, and then another, by way of a desktop that agrees with the session there
+abbrev pub Joins : Stretch → Stretch → Stretch → SessionView → SessionView → Type 0
+Joins P Q R mid new =
+    (start : Moment) (d e : Desktop) (a b : List Act) (es fs : List Event) → Agrees mid.desk d → Agrees new.desk e
+    → Runs served_now start a es (moment d mid) → Runs served_now (moment d mid) b fs (moment e new)
+    → P start a es (moment d mid) → Q (moment d mid) b fs (moment e new) → R start (a ++ b) (es ++ fs) (moment e new)
 
-pub Takes-one : (P : List Act → Type 0) (act : Act) (done : Done) (old new : SessionView) → TakesCourse act done old new → P (act ∷ []) → Takes P old new
-Takes-one P act done old new takes p = λ d agrees. (act ∷ [], p, went-one act done old new d (takes d agrees))
+pub Takes-none : (P : Stretch) (old new : SessionView) → new ≡ old → ((d : Desktop) → Agrees old.desk d → P (moment d old) [] [] (moment d new)) → Takes P old new
+Takes-none P old new same p = λ d agrees. ([], went-none old new d same agrees, p d agrees)
 
-pub Takes-then : (P Q R : List Act → Type 0) (old mid new : SessionView) → Takes P old mid → Takes Q mid new
-    → ((a b : List Act) → P a → Q b → R (a ++ b)) → Takes R old new
+pub Takes-one : (P : Stretch) (act : Act) (done : Done) (old new : SessionView) → TakesCourse act done old new
+    → ((d e : Desktop) (events : List Event) → Agrees old.desk d → AreParts act done (happenings events) → P (moment d old) (act ∷ []) events (moment e new)) → Takes P old new
+Takes-one P act done old new takes p = λ d agrees.
+    let course = takes d agrees in
+    (act ∷ [], went-one act done old new d course, p d course.desktop course.events agrees course.parts)
+
+pub Takes-then : (P Q R : Stretch) (old mid new : SessionView) → Takes P old mid → Takes Q mid new → Joins P Q R mid new → Takes R old new
 Takes-then P Q R old mid new first next join = λ d agrees.
     let a = first d agrees in
-    let b = next a.2.desktop a.2.agrees in
-    (a.0 ++ b.0, join a.0 b.0 a.1 b.1, went-then a.0 b.0 old mid new d a.2 b.2)
+    let b = next a.1.desktop a.1.agrees in
+    (a.0 ++ b.0, went-then a.0 b.0 old mid new d a.1 b.1, join (moment d old) a.1.desktop b.1.desktop a.0 b.0 a.1.events b.1.events a.1.agrees b.1.agrees a.1.runs b.1.runs a.2 b.2)
 
-pub Takes-weaker : (P Q : List Act → Type 0) (old new : SessionView) → Takes P old new → ((a : List Act) → P a → Q a) → Takes Q old new
-Takes-weaker P Q old new takes weaker = λ d agrees. let a = takes d agrees in (a.0, weaker a.0 a.1, a.2)
+-- what is said of a stretch is more than this, where it ends at a desktop that agrees
+abbrev pub Weakens : Stretch → Stretch → SessionView → SessionView → Type 0
+Weakens P Q old new =
+    (d e : Desktop) (a : List Act) (es : List Event) → Agrees old.desk d → Agrees new.desk e
+    → Runs served_now (moment d old) a es (moment e new) → P (moment d old) a es (moment e new) → Q (moment d old) a es (moment e new)
 
-pub Takes-two : (P : List Act → Type 0) (act next : Act) (done after : Done) (old mid new : SessionView) → TakesCourse act done old mid → TakesCourse next after mid new
-    → P (act ∷ next ∷ []) → Takes P old new
+pub Takes-weaker : (P Q : Stretch) (old new : SessionView) → Takes P old new → Weakens P Q old new → Takes Q old new
+Takes-weaker P Q old new takes weaker = λ d agrees.
+    let a = takes d agrees in (a.0, a.1, weaker d a.1.desktop a.0 a.1.events agrees a.1.agrees a.1.runs a.2)
+
+pub Takes-two : (P : Stretch) (act next : Act) (done after : Done) (old mid new : SessionView) → TakesCourse act done old mid → TakesCourse next after mid new
+    → ((d e : Desktop) (events : List Event) → Agrees old.desk d → P (moment d old) (act ∷ next ∷ []) events (moment e new)) → Takes P old new
 Takes-two P act next done after old mid new first last p = λ d agrees.
     let a = went-one act done old mid d (first d agrees) in
-    (act ∷ next ∷ [], p, went-then (act ∷ []) (next ∷ []) old mid new d a (went-one next after mid new a.desktop (last a.desktop a.agrees)))
+    let b = went-one next after mid new a.desktop (last a.desktop a.agrees) in
+    (act ∷ next ∷ [], went-then (act ∷ []) (next ∷ []) old mid new d a b, p d b.desktop (a.events ++ b.events) agrees)
 
 -- what is said of the acts is said of a value that is known
-pub Takes-is : {X : Type 0} (P : X → List Act → Type 0) (x y : X) (old new : SessionView) → x ≡ y → Takes (P x) old new → Takes (P y) old new
+pub Takes-is : {X : Type 0} (P : X → Stretch) (x y : X) (old new : SessionView) → x ≡ y → Takes (P x) old new → Takes (P y) old new
 Takes-is P x y old new same takes = subst (λ (v : _). Takes (P v) old new) same takes
 
 -- ---- one after another
 
-pub InTurn-none : (Own : ℕ → List Act → Type 0) (n : ℕ) → ((k : ℕ) → Own k []) → InTurn Own n []
+pub idle : {W : Type 0} (w : W) (m : Moment) → Idle w w m [] [] m
+idle w m = record { kept = refl; acts_are = refl; events_are = refl; stays = refl }
+
+pub idle-is : {W : Type 0} (from to : W) (start end : Moment) → to ≡ from → end ≡ start → Idle from to start [] [] end
+idle-is from to start end same ends = record { kept = same; acts_are = refl; events_are = refl; stays = ends }
+
+pub both : {W : Type 0} (P Q : W → W → Stretch) (from mid to : W) (start moment end : Moment) (a b : List Act) (es fs : List Event)
+    → Runs served_now start a es moment → Runs served_now moment b fs end → P from mid start a es moment → Q mid to moment b fs end
+    → Then P Q from to start (a ++ b) (es ++ fs) end
+both P Q from mid to start moment end a b es fs leads goes p q = record {
+  mid = mid;
+  moment = moment;
+  first = a;
+  next = b;
+  early = es;
+  late = fs;
+  leads = leads;
+  goes_on = goes;
+  does = p;
+  follows = q;
+  acts_are = refl;
+  events_are = refl;
+}
+
+pub Takes-both : {W : Type 0} (P Q : W → W → Stretch) (from between to : W) (old mid new : SessionView) → Takes (P from between) old mid → Takes (Q between to) mid new
+    → Takes (Then P Q from to) old new
+Takes-both P Q from between to old mid new first next =
+    Takes-then (P from between) (Q between to) (Then P Q from to) old mid new first next
+    (λ start d e a b es fs ad ae leads goes p q. both P Q from between to start (moment d mid) (moment e new) a b es fs leads goes p q)
+
+pub InTurn-zero : {W : Type 0} (Own : ℕ → W → W → Stretch) (w : W) (m : Moment) → InTurn Own 0 w w m [] [] m
 unfolding InTurn
-InTurn-none Own zero all = refl
-InTurn-none Own (suc n) all = ([], [], InTurn-none Own n all, all (suc n), refl)
+InTurn-zero Own w m = idle w m
 
-pub InTurn-zero : (Own : ℕ → List Act → Type 0) → InTurn Own 0 []
+InTurn-suc : {W : Type 0} (Own : ℕ → W → W → Stretch) (n : ℕ) (from to : W) (start : Moment) (acts : List Act) (events : List Event) (end : Moment)
+    → Then (InTurn Own n) (Own (suc n)) from to start acts events end → InTurn Own (suc n) from to start acts events end
 unfolding InTurn
-InTurn-zero Own = refl
+InTurn-suc Own n from to start acts events end then = then
 
-InTurn-suc : (Own : ℕ → List Act → Type 0) (n : ℕ) (a b : List Act) → InTurn Own n a → Own (suc n) b → InTurn Own (suc n) (a ++ b)
-unfolding InTurn
-InTurn-suc Own n a b first next = (a, b, first, next, refl)
+pub InTurn-more : {W : Type 0} (Own : ℕ → W → W → Stretch) (n : ℕ) (from to : W) (start : Moment) (acts : List Act) (events : List Event) (end : Moment)
+    → Then (InTurn Own n) (Own (n + 1)) from to start acts events end → InTurn Own (n + 1) from to start acts events end
+InTurn-more Own n from to start acts events end then =
+    subst (λ (k : ℕ). InTurn Own k from to start acts events end) (sym (add-one n))
+    (InTurn-suc Own n from to start acts events end (subst (λ (k : ℕ). Then (InTurn Own n) (Own k) from to start acts events end) (add-one n) then))
 
-pub InTurn-more : (Own : ℕ → List Act → Type 0) (n : ℕ) (a b : List Act) → InTurn Own n a → Own (n + 1) b → InTurn Own (n + 1) (a ++ b)
-InTurn-more Own n a b first next =
-    subst (λ (k : ℕ). InTurn Own k (a ++ b)) (sym (add-one n)) (InTurn-suc Own n a b first (subst (λ (k : ℕ). Own k b) (add-one n) next))
+pub Takes-zero : {W : Type 0} (Own : ℕ → W → W → Stretch) (w : W) (v : SessionView) → Takes (InTurn Own 0 w w) v v
+Takes-zero Own w v = Takes-none (InTurn Own 0 w w) v v refl (λ d agrees. InTurn-zero Own w (moment d v))
 
--- those that come after may do nothing
-pub InTurn-all : (Own : ℕ → List Act → Type 0) (n m : ℕ) (a : List Act) → n ≤ m → ((k : ℕ) → Own k []) → InTurn Own n a → InTurn Own m a
-InTurn-all Own n zero a within all some =
-    let same : n ≡ 0 = omega (arith, within) in subst (λ (k : ℕ). InTurn Own k a) same some
-InTurn-all Own n (suc m) a within all some =
-    elim (cases_lt n (suc m)) [
-      | inl less ↦
-          (let few : n ≤ m = omega (arith, less) in
-          subst (λ (b : List Act). InTurn Own (suc m) b) (append-nil a) (InTurn-suc Own m a [] (InTurn-all Own n m a few all some) (all (suc m))))
-      | inr more ↦ (let same : n ≡ suc m = omega (arith, within, more) in subst (λ (k : ℕ). InTurn Own k a) same some)
-    ]
+pub Takes-turn : {W : Type 0} (Own : ℕ → W → W → Stretch) (n : ℕ) (from between to : W) (old mid new : SessionView) → Takes (InTurn Own n from between) old mid
+    → Takes (Own (n + 1) between to) mid new → Takes (InTurn Own (n + 1) from to) old new
+Takes-turn Own n from between to old mid new first next =
+    Takes-weaker (Then (InTurn Own n) (Own (n + 1)) from to) (InTurn Own (n + 1) from to) old new
+    (Takes-both (InTurn Own n) (Own (n + 1)) from between to old mid new first next)
+    (λ d e a es ad ae runs then. InTurn-more Own n from to (moment d old) a es (moment e new) then)

@@ -1,5 +1,5 @@
 -- What is told of what a session does, joined of what is told one after another.
-use Rattle.std.proofs.Common.{◌≡◌, ◌<◌, ℕ, zero, suc, Bool, true, false, Option, Result, Ok, Err, List, length, ◌⊎◌, ◌+◌, [], ◌∷◌, ◌++◌, refl, ap, sym, subst, ◌∙◌, inl, inr, arith, append-nil}
+use Rattle.std.proofs.Common.{◌≡◌, ◌<◌, ℕ, zero, suc, Bool, true, false, Option, Result, Ok, Err, List, length, ◌+◌, [], ◌∷◌, ◌++◌, refl, ap, sym, subst, ◌∙◌, inl, inr, arith, append-nil}
 use Rattle.std.proofs.Common.{append_assoc}
 use Rattle.std.specs.Prelude.{OnOk, is_ok, replicate, map}
 use Rattle.std.proofs.lemmas.Bool.{true≢false}
@@ -16,10 +16,14 @@ use Rattle.wl_session.specs.Agreeing.{Agrees}
 use Rattle.wl_plain.specs.Desktop.{Desktop}
 use Rattle.wl_session.specs.Events.{AreEvents, Event, Moment}
 use Rattle.wl_session.specs.View.{SessionView}
-use Rattle.wl_server.specs.Acting.{InTurn, Takes}
-use Rattle.wl_server.specs.Phases.{AcceptsSome, Closes, Fills, Puts, Reads, Writes, puts_from}
+use Rattle.std.proofs.Common.{None, Some}
+use Rattle.wl_server.specs.declared.seat.Seat.{Seat}
+use Rattle.wl_recording.specs.Side.{Files}
+use Rattle.wl_server.specs.Acting.{InTurn, Stretch, Takes}
+use Rattle.wl_server.specs.Phases.{Accepts, AcceptsAll, AtSeat, Closes, ClosesIf, EndsReading, Fills, FillsIf, FillsSeat, FillsUpTo, IfSeated, Link, Place, PutsIf, PutsSized, Reads, ReadsClient, StopsReading, Writes, WritesClient, WritesSome, leaves_if, puts_from}
+use Rattle.wl_server.specs.Ways.{Ways}
 use Rattle.wl_server.specs.Telling.{Reports, Telling, Tells, gathered, if_painted, pictured, reported}
-use Rattle.wl_server.proofs.Taking.{went-none, went-one, went-then}
+use Rattle.wl_server.proofs.Taking.{Joins, Weakens, went-none, went-one, went-then}
 
 -- ---- events one after another
 
@@ -164,25 +168,59 @@ no-line-no-picture (Button time button pressed) is = refl
 
 -- ---- phases of which nothing is told
 
-in-turn-pass : (quiet : Act → Bool) (Own : ℕ → List Act → Type 0) → ((k : ℕ) (a : List Act) → Own k a → AllPass quiet a) → (n : ℕ) (acts : List Act) → InTurn Own n acts → AllPass quiet acts
+-- the acts of each such stretch are quiet
+abbrev pub PassesAll : (Act → Bool) → Stretch → Type 0
+PassesAll quiet P = (start end : Moment) (acts : List Act) (events : List Event) → P start acts events end → AllPass quiet acts
+
+none-pass : (quiet : Act → Bool) (acts : List Act) → acts ≡ [] → AllPass quiet acts
+none-pass quiet acts none = subst (AllPass quiet) (sym none) (All-nil (λ a. quiet a ≡ true))
+
+both-pass : (quiet : Act → Bool) (acts a b : List Act) → acts ≡ a ++ b → AllPass quiet a → AllPass quiet b → AllPass quiet acts
+both-pass quiet acts a b are first next = subst (AllPass quiet) (sym are) (All-append (λ act. quiet act ≡ true) a b first next)
+
+in-turn-pass : {W : Type 0} (quiet : Act → Bool) (Own : ℕ → W → W → Stretch) → ((k : ℕ) (from to : W) → PassesAll quiet (Own k from to))
+    → (n : ℕ) (from to : W) → PassesAll quiet (InTurn Own n from to)
 unfolding InTurn
-in-turn-pass quiet Own each zero acts none = subst (AllPass quiet) (sym none) (All-nil (λ a. quiet a ≡ true))
-in-turn-pass quiet Own each (suc n) acts some =
-    subst (AllPass quiet) (sym some.4)
-    (All-append (λ a. quiet a ≡ true) some.0 some.1 (in-turn-pass quiet Own each n some.0 some.2) (each (suc n) some.1 some.3))
+in-turn-pass quiet Own each zero from to start end acts events none = none-pass quiet acts none.acts_are
+in-turn-pass quiet Own each (suc n) from to start end acts events some =
+    both-pass quiet acts some.first some.next some.acts_are
+    (in-turn-pass quiet Own each n from some.mid start some.moment some.first some.early some.does)
+    (each (suc n) some.mid to some.moment end some.next some.late some.follows)
 
 one-pass : (quiet : Act → Bool) (act : Act) → quiet act ≡ true → AllPass quiet (act ∷ [])
 one-pass quiet act is = All-cons (λ a. quiet a ≡ true) act [] is (All-nil (λ a. quiet a ≡ true))
 
-reads-pass : (c : ℕ) (acts : List Act) → Reads c acts → AllPass has_no_line acts
+if-seated-pass : {H C : Type 0} (quiet : Act → Bool) (P : Link H C → Link H C → Stretch) → ((from to : Link H C) → PassesAll quiet (P from to))
+    → (from to : Place H C) → PassesAll quiet (IfSeated P from to)
+if-seated-pass quiet P each (hub, None) to start end acts events none = none-pass quiet acts none.acts_are
+if-seated-pass quiet P each (hub, Some seat) to start end acts events some = each (hub, seat) (to.0, some.0) start end acts events some.1
+
+at-seat-pass : {H C : Type 0} (quiet : Act → Bool) (Own : ℕ → Place H C → Place H C → Stretch) → ((k : ℕ) (from to : Place H C) → PassesAll quiet (Own k from to))
+    → (k : ℕ) (from to : H × List (Option (Seat C))) → PassesAll quiet (AtSeat Own k from to)
+at-seat-pass quiet Own each k from to start end acts events some = each k _ _ start end acts events some.1
+
+-- reading
+
+ends-pass : {H C : Type 0} (w : Ways H C) (client : ℕ) (acts : List Act) (hub to : H) (conn next : C) → EndsReading w client acts hub conn to next → AllPass has_no_line acts
 unfolding has_no_line
-reads-pass c acts (pieces, last, all, once, is, few) =
-    subst (AllPass has_no_line) (sym is)
-    (All-append (λ a. has_no_line a ≡ true) (map (Feed c) pieces) last (All-map (λ a. has_no_line a ≡ true) (Feed c) pieces (λ k d h. refl)) (at once))
-  where
-    at : (last ≡ []) ⊎ (last ≡ Leave c ∷ []) → AllPass has_no_line last
-    at (inl none) = subst (AllPass has_no_line) (sym none) (All-nil (λ a. has_no_line a ≡ true))
-    at (inr one) = subst (AllPass has_no_line) (sym one) (one-pass has_no_line (Leave c) refl)
+ends-pass w client acts hub to conn next (inl none) = none-pass has_no_line acts none.0
+ends-pass w client acts hub to conn next (inr one) = subst (AllPass has_no_line) (sym one.0) (one-pass has_no_line (Leave client) refl)
+
+stops-pass : {H C : Type 0} (w : Ways H C) (client reads : ℕ) (acts : List Act) (from to : Link H C) → StopsReading w client reads acts from to → AllPass has_no_line acts
+stops-pass w client reads acts from to (inl all) = none-pass has_no_line acts all.1
+stops-pass w client reads acts from to (inr one) = ends-pass w client acts _ _ _ _ one.1.ends
+
+reads-pass : {H C : Type 0} (w : Ways H C) (client : ℕ) (from to : Link H C) → PassesAll has_no_line (ReadsClient w client from to)
+unfolding has_no_line
+reads-pass w client from to start end acts events read =
+    both-pass has_no_line acts (map (Feed client) read.pieces) read.last read.acts_are
+    (All-map (λ a. has_no_line a ≡ true) (Feed client) read.pieces (λ k d h. refl)) (stops-pass w client _ read.last _ _ read.stops)
+
+pub all-reads-pass : {H C : Type 0} (w : Ways H C) (n : ℕ) (from to : H × List (Option (Seat C))) → PassesAll has_no_line (InTurn (AtSeat (Reads w)) n from to)
+all-reads-pass w n from to =
+    in-turn-pass has_no_line (AtSeat (Reads w)) (at-seat-pass has_no_line (Reads w) (λ k. if-seated-pass has_no_line (ReadsClient w k) (reads-pass w k))) n from to
+
+-- filling
 
 puts-from-pass : (c store at : ℕ) (pieces : List (List ℕ)) → AllPass has_no_line (puts_from c store at pieces)
 unfolding has_no_line
@@ -190,115 +228,159 @@ puts-from-pass c store at [] = All-nil (λ a. has_no_line a ≡ true)
 puts-from-pass c store at (piece ∷ pieces) =
     All-cons (λ a. has_no_line a ≡ true) (Store c store at piece) (puts_from c store (at + length piece) pieces) refl (puts-from-pass c store (at + length piece) pieces)
 
-puts-pass : (c store : ℕ) (acts : List Act) → Puts c store acts → AllPass has_no_line acts
-puts-pass c store acts (pieces, all, is) = subst (AllPass has_no_line) (sym is) (puts-from-pass c store 0 pieces)
+puts-if-pass : {S : Type 0} (there : Bool) (files : Files S) (c store size : ℕ) (from to : S) → PassesAll has_no_line (PutsIf there files c store size from to)
+puts-if-pass true files c store size from to start end acts events put = subst (AllPass has_no_line) (sym put.acts_are) (puts-from-pass c store 0 put.pieces)
+puts-if-pass false files c store size from to start end acts events none = none-pass has_no_line acts none.acts_are
 
-fills-pass : (c : ℕ) (acts : List Act) → Fills c acts → AllPass has_no_line acts
-fills-pass c acts (stores, puts) = in-turn-pass has_no_line (Puts c) (puts-pass c) stores acts puts
+puts-sized-pass : {S : Type 0} (files : Files S) (c number store : ℕ) (size : Option ℕ) (from to : S) → PassesAll has_no_line (PutsSized files c number store size from to)
+puts-sized-pass files c number store None from to start end acts events none = none-pass has_no_line acts none.acts_are
+puts-sized-pass files c number store (Some size) from to start end acts events put = puts-if-pass put.0 files c store size put.1 to start end acts events put.3
 
-writes-pass : (c : ℕ) (acts : List Act) → Writes c acts → AllPass has_no_line acts
+fills-up-pass : {S : Type 0} (files : Files S) (c number : ℕ) (from : S) (start : Moment) (last : ℕ) (to : S) (acts : List Act) (events : List Event) (end : Moment)
+    → FillsUpTo files c number from start last to acts events end → AllPass has_no_line acts
+fills-up-pass files c number from start last to acts events end FillsUpTo.none = All-nil (λ a. has_no_line a ≡ true)
+fills-up-pass files c number from start last to acts events end (FillsUpTo.more before mid _ moment _ first next early late store filled is leads goes puts) =
+    All-append (λ act. has_no_line act ≡ true) first next (fills-up-pass files c number from start before mid first early moment filled)
+    (puts-sized-pass files c number store _ mid to moment end next late puts)
+
+fills-if-pass : {S : Type 0} (sent : Bool) (files : Files S) (c number : ℕ) (from to : S) → PassesAll has_no_line (FillsIf sent files c number from to)
+fills-if-pass true files c number from to start end acts events fills = fills-up-pass files c number from start fills.0 to acts events end fills.1
+fills-if-pass false files c number from to start end acts events none = none-pass has_no_line acts none.acts_are
+
+fills-seat-pass : {C S : Type 0} (files : Files S) (c : ℕ) (seat : Option (Seat C)) (from to : S) → PassesAll has_no_line (FillsSeat files c seat from to)
+fills-seat-pass files c None from to start end acts events none = none-pass has_no_line acts none.acts_are
+fills-seat-pass files c (Some seat) from to start end acts events fills = fills-if-pass seat.has_sent files c seat.number from to start end acts events fills
+
+pub all-fills-pass : {C S : Type 0} (files : Files S) (seats : List (Option (Seat C))) (n : ℕ) (from to : S) → PassesAll has_no_line (InTurn (Fills files seats) n from to)
+all-fills-pass files seats n from to = in-turn-pass has_no_line (Fills files seats) (λ k a b. fills-seat-pass files k _ a b) n from to
+
+-- writing
+
+leaves-pass : (gone : Bool) (client : ℕ) → AllPass has_no_line (leaves_if gone client)
 unfolding has_no_line
-writes-pass c acts (inl none) = subst (AllPass has_no_line) (sym none) (All-nil (λ a. has_no_line a ≡ true))
-writes-pass c acts (inr (n, inl one)) = subst (AllPass has_no_line) (sym one) (one-pass has_no_line (Send c n) refl)
-writes-pass c acts (inr (n, inr two)) =
-    subst (AllPass has_no_line) (sym two) (All-cons (λ a. has_no_line a ≡ true) (Send c n) (Leave c ∷ []) refl (one-pass has_no_line (Leave c) refl))
+leaves-pass true client = one-pass has_no_line (Leave client) refl
+leaves-pass false client = All-nil (λ a. has_no_line a ≡ true)
 
-pub all-reads-pass : (n : ℕ) (acts : List Act) → InTurn Reads n acts → AllPass has_no_line acts
-all-reads-pass n acts reads = in-turn-pass has_no_line Reads reads-pass n acts reads
+writes-some-pass : {H C : Type 0} (w : Ways H C) (client : ℕ) (bytes : Option (List ℕ)) (from to : Link H C) → PassesAll has_no_line (WritesSome w client bytes from to)
+unfolding has_no_line
+writes-some-pass w client None from to start end acts events none = none-pass has_no_line acts none.acts_are
+writes-some-pass w client (Some bytes) from to start end acts events gives =
+    subst (AllPass has_no_line) (sym gives.acts_are) (All-cons (λ a. has_no_line a ≡ true) (Send client gives.sent) (leaves_if gives.is_gone client) refl (leaves-pass gives.is_gone client))
 
-pub all-fills-pass : (n : ℕ) (acts : List Act) → InTurn Fills n acts → AllPass has_no_line acts
-all-fills-pass n acts fills = in-turn-pass has_no_line Fills fills-pass n acts fills
+pub all-writes-pass : {H C : Type 0} (w : Ways H C) (n : ℕ) (from to : H × List (Option (Seat C))) → PassesAll has_no_line (InTurn (AtSeat (Writes w)) n from to)
+all-writes-pass w n from to =
+    in-turn-pass has_no_line (AtSeat (Writes w))
+    (at-seat-pass has_no_line (Writes w) (λ k. if-seated-pass has_no_line (WritesClient w k) (λ a b start end acts events p. writes-some-pass w k _ a b start end acts events p))) n from to
 
-pub all-writes-pass : (n : ℕ) (acts : List Act) → InTurn Writes n acts → AllPass has_no_line acts
-all-writes-pass n acts writes = in-turn-pass has_no_line Writes writes-pass n acts writes
+-- accepting
 
-pub accepts-pass : (n : ℕ) (acts : List Act) → AcceptsSome n acts → AllPass has_no_picture acts
+accept-pass : {H C : Type 0} (w : Ways H C) (from to : H × _) → PassesAll has_no_picture (Accepts {H = H} {C = C} w from to)
 unfolding has_no_picture
-accepts-pass n acts accepts =
-    All-weaker (λ a. a ≡ Connect) (λ a. has_no_picture a ≡ true) (λ a is. rw is refl) acts accepts.0
+accept-pass w from to start end acts events one = subst (AllPass has_no_picture) (sym one.acts_are) (one-pass has_no_picture Connect refl)
 
-closes-pass : (c : ℕ) (acts : List Act) → Closes c acts → AllPass has_no_picture acts
+pub accepts-pass : {H C : Type 0} (w : Ways H C) (from to : H × _) → PassesAll has_no_picture (AcceptsAll {H = H} {C = C} w from to)
+accepts-pass w from to start end acts events (inl all) = in-turn-pass has_no_picture (λ k. Accepts w) (λ k. accept-pass w) 32 from to start end acts events all
+accepts-pass w from to start end acts events (inr (n, few, then)) =
+    both-pass has_no_picture acts then.first then.next then.acts_are
+    (in-turn-pass has_no_picture (λ k. Accepts w) (λ k. accept-pass w) n from then.mid start then.moment then.first then.early then.does)
+    (none-pass has_no_picture then.next then.follows.idle.acts_are)
+
+-- closing
+
+closes-if-pass : {H C : Type 0} (over : Bool) (w : Ways H C) (client : ℕ) (from to : Place H C) → PassesAll has_no_picture (ClosesIf over w client from to)
 unfolding has_no_picture
-closes-pass c acts (inl none) = subst (AllPass has_no_picture) (sym none) (All-nil (λ a. has_no_picture a ≡ true))
-closes-pass c acts (inr one) = subst (AllPass has_no_picture) (sym one) (one-pass has_no_picture (Close c) refl)
+closes-if-pass true w client from to start end acts events one = subst (AllPass has_no_picture) (sym one.0) (one-pass has_no_picture (Close client) refl)
+closes-if-pass false w client from to start end acts events none = none-pass has_no_picture acts none.acts_are
 
-pub all-closes-pass : (n : ℕ) (acts : List Act) → InTurn Closes n acts → AllPass has_no_picture acts
-all-closes-pass n acts closes = in-turn-pass has_no_picture Closes closes-pass n acts closes
+pub all-closes-pass : {H C : Type 0} (w : Ways H C) (n : ℕ) (from to : H × List (Option (Seat C))) → PassesAll has_no_picture (InTurn (AtSeat (Closes w)) n from to)
+all-closes-pass w n from to =
+    in-turn-pass has_no_picture (AtSeat (Closes w)) (at-seat-pass has_no_picture (Closes w) (λ k a b start end acts events p. closes-if-pass _ w k a b start end acts events p)) n from to
 
 -- ---- the report
 
-pub Reports-none : (P : List Act → Type 0) (old new : SessionView) (report : Option (List ℕ)) → new ≡ old → P [] → Reports P old new report report
-Reports-none P old new report same p = λ d agrees. ([], p, went-none old new d same agrees, Appends-nil report)
+pub Reports-none : (P : Stretch) (old new : SessionView) (report : Option (List ℕ)) → new ≡ old → ((d : Desktop) → Agrees old.desk d → P (moment d old) [] [] (moment d new))
+    → Reports P old new report report
+Reports-none P old new report same p = λ d agrees. ([], went-none old new d same agrees, p d agrees, Appends-nil report)
 
 -- a step that is one event, and its line
-pub Reports-one : (P : List Act → Type 0) (act : Act) (done : Done) (old new : SessionView) (report told : Option (List ℕ)) (parts : (hs : List Happening) → AreParts act done hs
+pub Reports-one : (P : Stretch) (act : Act) (done : Done) (old new : SessionView) (report told : Option (List ℕ)) (parts : (hs : List Happening) → AreParts act done hs
     → hs ≡ Single act done ∷ [])
-    → TakesCourse act done old new → P (act ∷ []) → ((d e : Desktop) → Agrees old.desk d → Appends report told (reported (Single act done) (moment d old) (moment e new)))
+    → TakesCourse act done old new → ((d e : Desktop) (events : List Event) → Agrees old.desk d → happenings events ≡ Single act done ∷ [] → P (moment d old) (act ∷ []) events (moment e new))
+    → ((d e : Desktop) → Agrees old.desk d → Appends report told (reported (Single act done) (moment d old) (moment e new)))
     → Reports P old new report told
 Reports-one P act done old new report told parts takes p line = λ d agrees.
     let course = takes d agrees in
-    let is = told-single reported (Single act done) (moment d old) (moment course.desktop new) course.events (parts (happenings course.events) course.parts) course.leads in
-    (act ∷ [], p, went-one act done old new d course, subst (Appends report told) (sym is) (line d course.desktop agrees))
+    let one = parts (happenings course.events) course.parts in
+    let is = told-single reported (Single act done) (moment d old) (moment course.desktop new) course.events one course.leads in
+    (act ∷ [], went-one act done old new d course, p d course.desktop course.events agrees one, subst (Appends report told) (sym is) (line d course.desktop agrees))
 
-pub Reports-then : (P Q R : List Act → Type 0) (old mid new : SessionView) (x y z : Option (List ℕ)) → Reports P old mid x y → Reports Q mid new y z
-    → ((a b : List Act) → P a → Q b → R (a ++ b)) → Reports R old new x z
+pub Reports-then : (P Q R : Stretch) (old mid new : SessionView) (x y z : Option (List ℕ)) → Reports P old mid x y → Reports Q mid new y z
+    → Joins P Q R mid new → Reports R old new x z
 Reports-then P Q R old mid new x y z first next join = λ d agrees.
     let a = first d agrees in
-    let b = next a.2.desktop a.2.agrees in (
+    let b = next a.1.desktop a.1.agrees in (
       a.0 ++ b.0,
-      join a.0 b.0 a.1 b.1,
-      went-then a.0 b.0 old mid new d a.2 b.2,
-      appends-then reported a.2.events b.2.events x y z a.3 b.3,
+      went-then a.0 b.0 old mid new d a.1 b.1,
+      join (moment d old) a.1.desktop b.1.desktop a.0 b.0 a.1.events b.1.events a.1.agrees b.1.agrees a.1.runs b.1.runs a.2 b.2,
+      appends-then reported a.1.events b.1.events x y z a.3 b.3,
     )
 
-pub Reports-weaker : (P Q : List Act → Type 0) (old new : SessionView) (x y : Option (List ℕ)) → Reports P old new x y → ((a : List Act) → P a → Q a) → Reports Q old new x y
-Reports-weaker P Q old new x y reports weaker = λ d agrees. let a = reports d agrees in (a.0, weaker a.0 a.1, a.2, a.3)
+pub Reports-weaker : (P Q : Stretch) (old new : SessionView) (x y : Option (List ℕ)) → Reports P old new x y → Weakens P Q old new → Reports Q old new x y
+Reports-weaker P Q old new x y reports weaker = λ d agrees.
+    let a = reports d agrees in (a.0, a.1, weaker d a.1.desktop a.0 a.1.events agrees a.1.agrees a.1.runs a.2, a.3)
 
 -- what is said of the acts is said of a value that is known
-pub Reports-is : {X : Type 0} (P : X → List Act → Type 0) (a b : X) (old new : SessionView) (x y : Option (List ℕ)) → a ≡ b → Reports (P a) old new x y → Reports (P b) old new x y
+pub Reports-is : {X : Type 0} (P : X → Stretch) (a b : X) (old new : SessionView) (x y : Option (List ℕ)) → a ≡ b → Reports (P a) old new x y → Reports (P b) old new x y
 Reports-is P a b old new x y same reports = subst (λ (v : _). Reports (P v) old new x y) same reports
+
+pub Tells-is : {X : Type 0} (P : X → Stretch) (a b : X) (old new : SessionView) (x y i j : Option (List ℕ)) → a ≡ b → Tells (P a) old new x y i j → Tells (P b) old new x y i j
+Tells-is P a b old new x y i j same tells = subst (λ (v : _). Tells (P v) old new x y i j) same tells
+
+pub Takes-told : (P : Stretch) (old new : SessionView) (x y : Option (List ℕ)) → Reports P old new x y → Takes P old new
+Takes-told P old new x y reports = λ d agrees. let a = reports d agrees in (a.0, a.1, a.2)
 
 -- ---- the report and the images
 
 -- nothing is told
-pub Tells-quiet : (P : List Act → Type 0) (old new : SessionView) (report images : Option (List ℕ)) → ((a : List Act) → P a → AllPass has_no_line a) → Takes P old new
+pub Tells-quiet : (P : Stretch) (old new : SessionView) (report images : Option (List ℕ)) → PassesAll has_no_line P → Takes P old new
     → Tells P old new report report images images
 Tells-quiet P old new report images pass takes = λ d agrees.
     let a = takes d agrees in
-    let went = a.2 in
-    let lines = pass a.0 a.1 in
+    let went = a.1 in
+    let lines = pass (moment d old) (moment went.desktop new) a.0 went.events a.2 in
     let pictures = All-weaker (λ act. has_no_line act ≡ true) (λ act. has_no_picture act ≡ true) no-line-no-picture a.0 lines in
     let unsaid = runs-quiet reported has_no_line a.0 (moment d old) (moment went.desktop new) went.events report-silent lines went.runs in
     let unseen = runs-quiet pictured has_no_picture a.0 (moment d old) (moment went.desktop new) went.events picture-silent pictures went.runs in
-    (a.0, a.1, went, (subst (Appends report report) (sym unsaid) (Appends-nil report), subst (Appends images images) (sym unseen) (Appends-nil images)))
+    (a.0, went, a.2, (subst (Appends report report) (sym unsaid) (Appends-nil report), subst (Appends images images) (sym unseen) (Appends-nil images)))
 
 -- nothing is shown
-pub Tells-unseen : (P : List Act → Type 0) (old new : SessionView) (report told images : Option (List ℕ)) → ((a : List Act) → P a → AllPass has_no_picture a) → Reports P old new report told
+pub Tells-unseen : (P : Stretch) (old new : SessionView) (report told images : Option (List ℕ)) → PassesAll has_no_picture P → Reports P old new report told
     → Tells P old new report told images images
 Tells-unseen P old new report told images pass reports = λ d agrees.
     let a = reports d agrees in
-    let went = a.2 in
-    let unseen = runs-quiet pictured has_no_picture a.0 (moment d old) (moment went.desktop new) went.events picture-silent (pass a.0 a.1) went.runs in
-    (a.0, a.1, went, (a.3, subst (Appends images images) (sym unseen) (Appends-nil images)))
+    let went = a.1 in
+    let unseen = runs-quiet pictured has_no_picture a.0 (moment d old) (moment went.desktop new) went.events picture-silent (pass (moment d old) (moment went.desktop new) a.0 went.events a.2) went.runs in
+    (a.0, went, a.2, (a.3, subst (Appends images images) (sym unseen) (Appends-nil images)))
 
-pub Tells-then : (P Q R : List Act → Type 0) (old mid new : SessionView) (x y z i j k : Option (List ℕ)) → Tells P old mid x y i j → Tells Q mid new y z j k
-    → ((a b : List Act) → P a → Q b → R (a ++ b)) → Tells R old new x z i k
+pub Tells-then : (P Q R : Stretch) (old mid new : SessionView) (x y z i j k : Option (List ℕ)) → Tells P old mid x y i j → Tells Q mid new y z j k
+    → Joins P Q R mid new → Tells R old new x z i k
 Tells-then P Q R old mid new x y z i j k first next join = λ d agrees.
     let a = first d agrees in
-    let b = next a.2.desktop a.2.agrees in (
+    let b = next a.1.desktop a.1.agrees in (
       a.0 ++ b.0,
-      join a.0 b.0 a.1 b.1,
-      went-then a.0 b.0 old mid new d a.2 b.2,
-      (appends-then reported a.2.events b.2.events x y z a.3.0 b.3.0, appends-then pictured a.2.events b.2.events i j k a.3.1 b.3.1),
+      went-then a.0 b.0 old mid new d a.1 b.1,
+      join (moment d old) a.1.desktop b.1.desktop a.0 b.0 a.1.events b.1.events a.1.agrees b.1.agrees a.1.runs b.1.runs a.2 b.2,
+      (appends-then reported a.1.events b.1.events x y z a.3.0 b.3.0, appends-then pictured a.1.events b.1.events i j k a.3.1 b.3.1),
     )
 
-pub Tells-weaker : (P Q : List Act → Type 0) (old new : SessionView) (x y i j : Option (List ℕ)) → Tells P old new x y i j → ((a : List Act) → P a → Q a) → Tells Q old new x y i j
-Tells-weaker P Q old new x y i j tells weaker = λ d agrees. let a = tells d agrees in (a.0, weaker a.0 a.1, a.2, a.3)
+pub Tells-weaker : (P Q : Stretch) (old new : SessionView) (x y i j : Option (List ℕ)) → Tells P old new x y i j → Weakens P Q old new → Tells Q old new x y i j
+Tells-weaker P Q old new x y i j tells weaker = λ d agrees.
+    let a = tells d agrees in (a.0, a.1, weaker d a.1.desktop a.0 a.1.events agrees a.1.agrees a.1.runs a.2, a.3)
 
 -- a step that is one event, with its line and its picture
-pub Tells-one : (P : List Act → Type 0) (act : Act) (done : Done) (old new : SessionView) (report told images imaged : Option (List ℕ)) (parts : (hs : List Happening) → AreParts act done hs
+pub Tells-one : (P : Stretch) (act : Act) (done : Done) (old new : SessionView) (report told images imaged : Option (List ℕ)) (parts : (hs : List Happening) → AreParts act done hs
     → hs ≡ Single act done ∷ [])
-    → TakesCourse act done old new → P (act ∷ [])
+    → TakesCourse act done old new → ((d e : Desktop) (events : List Event) → P (moment d old) (act ∷ []) events (moment e new))
     → ((d e : Desktop) → Agrees old.desk d → Appends report told (reported (Single act done) (moment d old) (moment e new))
     × Appends images imaged (pictured (Single act done) (moment d old) (moment e new)))
     → Tells P old new report told images imaged
@@ -308,7 +390,7 @@ Tells-one P act done old new report told images imaged parts takes p shown = λ 
     let one = parts (happenings course.events) course.parts in
     let line = told-single reported (Single act done) (moment d old) (moment course.desktop new) course.events one course.leads in
     let picture = told-single pictured (Single act done) (moment d old) (moment course.desktop new) course.events one course.leads in
-    (act ∷ [], p, went-one act done old new d course, (subst (Appends report told) (sym line) both.0, subst (Appends images imaged) (sym picture) both.1))
+    (act ∷ [], went-one act done old new d course, p d course.desktop course.events, (subst (Appends report told) (sym line) both.0, subst (Appends images imaged) (sym picture) both.1))
 
 -- ---- a frame for which something is painted, and one for which nothing is
 

@@ -1,180 +1,117 @@
 -- A turn, joined of its phases.
-use Rattle.std.proofs.Common.{◌≡◌, ℕ, Option, List, [], ◌∷◌, ◌++◌, refl, ap, sym, ◌∙◌, inl, arith, append-nil}
-use Rattle.std.proofs.lemmas.List.Elements.{All-nil}
-use Rattle.wl_plain.specs.Act.{Act, Tick}
+use Rattle.std.proofs.Common.{◌≤◌, ℕ, Option, List, refl, inl, inr}
+use Rattle.wl_recording.specs.Side.{Files}
+use Rattle.wl_session.specs.Course.{moment}
 use Rattle.wl_session.specs.View.{SessionView}
-use Rattle.wl_server.specs.Acting.{InTurn, Takes}
-use Rattle.wl_server.specs.Phases.{AcceptsSome, Closes, Fills, IsPiece, IsTurn, Puts, Reads, Shows, StartsTurn, Writes}
+use Rattle.wl_server.specs.declared.seat.Seat.{Seat}
+use Rattle.wl_server.specs.Acting.{InTurn, Stretch, Takes, Then}
+use Rattle.wl_server.specs.Phases.{Accepting, AcceptsAll, AtSeat, BeginsAccepting, Closes, Fills, Filling, ForEach, FromFrame, IsTurn, Reads, Showing, Shows, StartsTurn, UpToFrame, Writes}
 use Rattle.wl_server.specs.Telling.{Reports, Tells}
-use Rattle.wl_server.proofs.Taking.{InTurn-none, Takes-then, Takes-weaker, went-then}
+use Rattle.wl_server.specs.Ways.{Serving, Ways, serving}
+use Rattle.wl_server.proofs.Taking.{Takes-both, Takes-weaker, both}
 use Rattle.wl_server.proofs.Telling.{Tells-quiet, Tells-then, Tells-unseen, Tells-weaker, accepts-pass, all-closes-pass, all-fills-pass, all-reads-pass, all-writes-pass}
 
--- ---- a client of which nothing is told
+-- ---- phases of all that the server works on
 
-pub reads-none : (c : ℕ) → Reads c []
-reads-none c = ([], [], All-nil IsPiece, inl refl, refl, omega arith)
+at : {H C S : Type 0} → H → ℕ → List (Option (Seat C)) → S → Serving H C S
+at hub accepted seats side = serving hub (record { accepted = accepted; seats = seats }) side
 
-pub puts-none : (c store : ℕ) → Puts c store []
-puts-none c store = ([], All-nil IsPiece, refl)
+pub Tells-both : {W : Type 0} (P Q : W → W → Stretch) (from between to : W) (old mid new : SessionView) (x y z i j k : Option (List ℕ)) → Tells (P from between) old mid x y i j
+    → Tells (Q between to) mid new y z j k → Tells (Then P Q from to) old new x z i k
+Tells-both P Q from between to old mid new x y z i j k first next =
+    Tells-then (P from between) (Q between to) (Then P Q from to) old mid new x y z i j k first next
+    (λ start d e a b es fs ad ae leads goes p q. both P Q from between to start (moment d mid) (moment e new) a b es fs leads goes p q)
 
-pub fills-none : (c : ℕ) → Fills c []
-fills-none c = (0, InTurn-none (Puts c) 0 (puts-none c))
+-- ---- up to the frame
 
-pub writes-none : (c : ℕ) → Writes c []
-writes-none c = inl refl
+pub up-to-frame : {H C S : Type 0} (w : Ways H C) (files : Files S) (time : ℕ) (h0 h1 h2 : H) (a0 a1 : ℕ) (s0 s1 s2 : List (Option (Seat C))) (f0 f1 : S) (v0 v1 v2 v3 v4 : SessionView)
+    → Takes (AcceptsAll w (h0, record { accepted = a0; seats = s0 }) (h1, record { accepted = a1; seats = s1 })) v0 v1
+    → Takes (InTurn (AtSeat (Reads w)) 32 (h1, s1) (h2, s2)) v1 v2 → Takes (InTurn (Fills files s2) 32 f0 f1) v2 v3 → Takes (Shows time) v3 v4
+    → Takes (UpToFrame w files time (serving h0 (record { accepted = a0; seats = s0 }) f0) (serving h2 (record { accepted = a1; seats = s2 }) f1)) v0 v4
+unfolding at
+up-to-frame w files time h0 h1 h2 a0 a1 s0 s1 s2 f0 f1 v0 v1 v2 v3 v4 accepts reads fills shows =
+    let m0 = at h0 a0 s0 f0 in
+    let m1 = at h1 a1 s1 f0 in
+    let m2 = at h2 a1 s2 f0 in
+    let m3 = at h2 a1 s2 f1 in
+    let accepting = Takes-weaker (AcceptsAll w (h0, record { accepted = a0; seats = s0 }) (h1, record { accepted = a1; seats = s1 })) (Accepting w m0 m1) v0 v1 accepts (λ d e a es ad ae runs p. (p, refl)) in
+    let reading = Takes-weaker (InTurn (AtSeat (Reads w)) 32 (h1, s1) (h2, s2)) (ForEach (Reads w) 32 m1 m2) v1 v2 reads (λ d e a es ad ae runs p. (p, refl, refl)) in
+    let filling = Takes-weaker (InTurn (Fills files s2) 32 f0 f1) (Filling files m2 m3) v2 v3 fills (λ d e a es ad ae runs p. (p, refl)) in
+    let showing = Takes-weaker (Shows time) (Showing time m3 m3) v3 v4 shows (λ d e a es ad ae runs p. (p, refl)) in
+    let from_read = Takes-both (Filling files) (Showing time) m2 m3 m3 v2 v3 v4 filling showing in
+    let from_heard = Takes-both (ForEach (Reads w) 32) (Then (Filling files) (Showing time)) m1 m2 m3 v1 v2 v4 reading from_read in
+    Takes-both (Accepting w) (Then (ForEach (Reads w) 32) (Then (Filling files) (Showing time))) m0 m1 m3 v0 v1 v4 accepting from_heard
 
-pub closes-none : (c : ℕ) → Closes c []
-closes-none c = inl refl
+pub up-to-frame-told : {H C S : Type 0} (w : Ways H C) (files : Files S) (time : ℕ) (h0 h1 h2 : H) (a0 a1 : ℕ) (s0 s1 s2 : List (Option (Seat C))) (f0 f1 : S) (v0 v1 v2 v3 v4 : SessionView)
+    (x y z i j : Option (List ℕ))
+    → Reports (AcceptsAll w (h0, record { accepted = a0; seats = s0 }) (h1, record { accepted = a1; seats = s1 })) v0 v1 x y
+    → Takes (InTurn (AtSeat (Reads w)) 32 (h1, s1) (h2, s2)) v1 v2 → Takes (InTurn (Fills files s2) 32 f0 f1) v2 v3 → Tells (Shows time) v3 v4 y z i j
+    → Tells (UpToFrame w files time (serving h0 (record { accepted = a0; seats = s0 }) f0) (serving h2 (record { accepted = a1; seats = s2 }) f1)) v0 v4 x z i j
+unfolding at
+up-to-frame-told w files time h0 h1 h2 a0 a1 s0 s1 s2 f0 f1 v0 v1 v2 v3 v4 x y z i j accepts reads fills shows =
+    let m0 = at h0 a0 s0 f0 in
+    let m1 = at h1 a1 s1 f0 in
+    let m2 = at h2 a1 s2 f0 in
+    let m3 = at h2 a1 s2 f1 in
+    let told_heard = Tells-unseen (AcceptsAll w (h0, record { accepted = a0; seats = s0 }) (h1, record { accepted = a1; seats = s1 })) v0 v1 x y i (accepts-pass w _ _) accepts in
+    let told_read = Tells-quiet (InTurn (AtSeat (Reads w)) 32 (h1, s1) (h2, s2)) v1 v2 y i (all-reads-pass w 32 _ _) reads in
+    let told_filled = Tells-quiet (InTurn (Fills files s2) 32 f0 f1) v2 v3 y i (all-fills-pass files s2 32 _ _) fills in
+    let accepting = Tells-weaker (AcceptsAll w (h0, record { accepted = a0; seats = s0 }) (h1, record { accepted = a1; seats = s1 })) (Accepting w m0 m1) v0 v1 x y i i told_heard (λ d e a es ad ae runs p. (p, refl)) in
+    let reading = Tells-weaker (InTurn (AtSeat (Reads w)) 32 (h1, s1) (h2, s2)) (ForEach (Reads w) 32 m1 m2) v1 v2 y y i i told_read (λ d e a es ad ae runs p. (p, refl, refl)) in
+    let filling = Tells-weaker (InTurn (Fills files s2) 32 f0 f1) (Filling files m2 m3) v2 v3 y y i i told_filled (λ d e a es ad ae runs p. (p, refl)) in
+    let showing = Tells-weaker (Shows time) (Showing time m3 m3) v3 v4 y z i j shows (λ d e a es ad ae runs p. (p, refl)) in
+    let from_read = Tells-both (Filling files) (Showing time) m2 m3 m3 v2 v3 v4 y y z i i j filling showing in
+    let from_heard = Tells-both (ForEach (Reads w) 32) (Then (Filling files) (Showing time)) m1 m2 m3 v1 v2 v4 y y z i i j reading from_read in
+    Tells-both (Accepting w) (Then (ForEach (Reads w) 32) (Then (Filling files) (Showing time))) m0 m1 m3 v0 v1 v4 x y z i i j accepting from_heard
 
--- ---- a turn that stops, since what it is told to failed
+-- ---- from the frame on
 
-pub accepted-only : (time : ℕ) (old new : SessionView) → Takes (AcceptsSome 32) old new → Takes (StartsTurn time) old new
-accepted-only time old new takes =
-    Takes-weaker (AcceptsSome 32) (StartsTurn time) old new takes
-    (λ acts accepts. (
-      Tick time ∷ [],
-      record {
-        accepted = acts;
-        read = [];
-        filled = [];
-        shown = Tick time ∷ [];
-        written = [];
-        closed = [];
-        accepts = accepts;
-        reads = InTurn-none Reads 32 reads-none;
-        fills = InTurn-none Fills 32 fills-none;
-        shows = refl;
-        writes = InTurn-none Writes 32 writes-none;
-        closes = InTurn-none Closes 32 closes-none;
-        order = refl;
-      },
-    ))
+pub whole : {H C S : Type 0} (w : Ways H C) (files : Files S) (time n : ℕ) (from : Serving H C S) (h2 h3 h4 : H) (a1 : ℕ) (s2 s3 s4 : List (Option (Seat C))) (f1 : S) (v0 v4 v5 v6 : SessionView)
+    → Takes (UpToFrame w files time from (serving h2 (record { accepted = a1; seats = s2 }) f1)) v0 v4
+    → Takes (InTurn (AtSeat (Writes w)) 32 (h2, s2) (h3, s3)) v4 v5 → Takes (InTurn (AtSeat (Closes w)) n (h3, s3) (h4, s4)) v5 v6
+    → Takes (Then (UpToFrame w files time) (FromFrame w n) from (serving h4 (record { accepted = a1; seats = s4 }) f1)) v0 v6
+unfolding at
+whole w files time n from h2 h3 h4 a1 s2 s3 s4 f1 v0 v4 v5 v6 shown writes closes =
+    let m3 = at h2 a1 s2 f1 in
+    let m4 = at h3 a1 s3 f1 in
+    let m5 = at h4 a1 s4 f1 in
+    let writing = Takes-weaker (InTurn (AtSeat (Writes w)) 32 (h2, s2) (h3, s3)) (ForEach (Writes w) 32 m3 m4) v4 v5 writes (λ d e a es ad ae runs p. (p, refl, refl)) in
+    let closing = Takes-weaker (InTurn (AtSeat (Closes w)) n (h3, s3) (h4, s4)) (ForEach (Closes w) n m4 m5) v5 v6 closes (λ d e a es ad ae runs p. (p, refl, refl)) in
+    let from_shown = Takes-both (ForEach (Writes w) 32) (ForEach (Closes w) n) m3 m4 m5 v4 v5 v6 writing closing in
+    Takes-both (UpToFrame w files time) (FromFrame w n) from m3 m5 v0 v4 v6 shown from_shown
 
-pub up-to-frame : (time : ℕ) (start heard read filled shown : SessionView) → Takes (AcceptsSome 32) start heard → Takes (InTurn Reads 32) heard read
-    → Takes (InTurn Fills 32) read filled → Takes (Shows time) filled shown → Takes (StartsTurn time) start shown
-up-to-frame time start heard read filled shown accepts reads fills shows = λ d agrees.
-    let a = accepts d agrees in
-    let r = reads a.2.desktop a.2.agrees in
-    let f = fills r.2.desktop r.2.agrees in
-    let s = shows f.2.desktop f.2.agrees in
-    let acts = a.0 ++ (r.0 ++ (f.0 ++ s.0)) in
-    let order : acts ++ [] ≡ a.0 ++ (r.0 ++ (f.0 ++ (s.0 ++ []))) =
-    append-nil acts ∙ ap (λ (shown : List Act). a.0 ++ (r.0 ++ (f.0 ++ shown))) (sym (append-nil s.0)) in (
-      acts,
-      (
-        [],
-        record {
-          accepted = a.0;
-          read = r.0;
-          filled = f.0;
-          shown = s.0;
-          written = [];
-          closed = [];
-          accepts = a.1;
-          reads = r.1;
-          fills = f.1;
-          shows = s.1;
-          writes = InTurn-none Writes 32 writes-none;
-          closes = InTurn-none Closes 32 closes-none;
-          order = order;
-        },
-      ),
-      went-then a.0 (r.0 ++ (f.0 ++ s.0)) start heard shown d a.2
-          (went-then r.0 (f.0 ++ s.0) heard read shown a.2.desktop r.2 (went-then f.0 s.0 read filled shown r.2.desktop f.2 s.2)),
-    )
+pub whole-told : {H C S : Type 0} (w : Ways H C) (files : Files S) (time : ℕ) (from : Serving H C S) (h2 h3 h4 : H) (a1 : ℕ) (s2 s3 s4 : List (Option (Seat C))) (f1 : S) (v0 v4 v5 v6 : SessionView)
+    (x y z i j : Option (List ℕ))
+    → Tells (UpToFrame w files time from (serving h2 (record { accepted = a1; seats = s2 }) f1)) v0 v4 x y i j
+    → Takes (InTurn (AtSeat (Writes w)) 32 (h2, s2) (h3, s3)) v4 v5 → Reports (InTurn (AtSeat (Closes w)) 32 (h3, s3) (h4, s4)) v5 v6 y z
+    → Tells (IsTurn w files time from (serving h4 (record { accepted = a1; seats = s4 }) f1)) v0 v6 x z i j
+unfolding at
+whole-told w files time from h2 h3 h4 a1 s2 s3 s4 f1 v0 v4 v5 v6 x y z i j shown writes closes =
+    let m3 = at h2 a1 s2 f1 in
+    let m4 = at h3 a1 s3 f1 in
+    let m5 = at h4 a1 s4 f1 in
+    let told_written = Tells-quiet (InTurn (AtSeat (Writes w)) 32 (h2, s2) (h3, s3)) v4 v5 y j (all-writes-pass w 32 _ _) writes in
+    let told_closed = Tells-unseen (InTurn (AtSeat (Closes w)) 32 (h3, s3) (h4, s4)) v5 v6 y z j (all-closes-pass w 32 _ _) closes in
+    let writing = Tells-weaker (InTurn (AtSeat (Writes w)) 32 (h2, s2) (h3, s3)) (ForEach (Writes w) 32 m3 m4) v4 v5 y y j j told_written (λ d e a es ad ae runs p. (p, refl, refl)) in
+    let closing = Tells-weaker (InTurn (AtSeat (Closes w)) 32 (h3, s3) (h4, s4)) (ForEach (Closes w) 32 m4 m5) v5 v6 y z j j told_closed (λ d e a es ad ae runs p. (p, refl, refl)) in
+    let from_shown = Tells-both (ForEach (Writes w) 32) (ForEach (Closes w) 32) m3 m4 m5 v4 v5 v6 y y z j j j writing closing in
+    Tells-both (UpToFrame w files time) (FromFrame w 32) from m3 m5 v0 v4 v6 x y z i j j shown from_shown
 
--- ---- a whole turn
+-- ---- a turn begins so
 
--- acts of one kind, and then of another
-abbrev After : (List Act → Type 0) → (List Act → Type 0) → List Act → Type 0
-After P Q acts = (a : List Act) × (b : List Act) × P a × Q b × (acts ≡ a ++ b)
+pub begun-accepting : {H C S : Type 0} (w : Ways H C) (files : Files S) (time : ℕ) (h0 h1 : H) (a0 a1 : ℕ) (s0 s1 : List (Option (Seat C))) (f0 : S) (v0 v1 : SessionView)
+    → Takes (BeginsAccepting w (h0, record { accepted = a0; seats = s0 }) (h1, record { accepted = a1; seats = s1 })) v0 v1
+    → Takes (StartsTurn w files time (serving h0 (record { accepted = a0; seats = s0 }) f0) (serving h1 (record { accepted = a1; seats = s1 }) f0)) v0 v1
+unfolding at
+begun-accepting w files time h0 h1 a0 a1 s0 s1 f0 v0 v1 takes =
+    Takes-weaker (BeginsAccepting w (h0, record { accepted = a0; seats = s0 }) (h1, record { accepted = a1; seats = s1 })) (StartsTurn w files time (at h0 a0 s0 f0) (at h1 a1 s1 f0)) v0 v1 takes (λ d e a es ad ae runs p. inl (p, refl))
 
-after : (P Q : List Act → Type 0) (a b : List Act) → P a → Q b → After P Q (a ++ b)
-after P Q a b p q = (a, b, p, q, refl)
+pub begun-frame : {H C S : Type 0} (w : Ways H C) (files : Files S) (time : ℕ) (from to : Serving H C S) (v0 v1 : SessionView)
+    → Takes (UpToFrame w files time from to) v0 v1 → Takes (StartsTurn w files time from to) v0 v1
+begun-frame w files time from to v0 v1 takes =
+    Takes-weaker (UpToFrame w files time from to) (StartsTurn w files time from to) v0 v1 takes (λ d e a es ad ae runs p. inr (inl p))
 
--- what comes after the accepting, and so on
-abbrev Closing : List Act → Type 0
-Closing = InTurn Closes 32
-
-abbrev Writing : List Act → Type 0
-Writing = After (InTurn Writes 32) Closing
-
-abbrev Showing : ℕ → List Act → Type 0
-Showing time = After (Shows time) Writing
-
-abbrev Filling : ℕ → List Act → Type 0
-Filling time = After (InTurn Fills 32) (Showing time)
-
-abbrev Reading : ℕ → List Act → Type 0
-Reading time = After (InTurn Reads 32) (Filling time)
-
-turn-of : (time : ℕ) (acts : List Act) → After (AcceptsSome 32) (Reading time) acts → IsTurn time acts
-turn-of time acts (accepted, afterwards, accepts, (read, later, reads, (filled, onwards, fills, (shown, behind, shows, (written, closed, writes, closes, e), d), c), b), a) =
-    let last = ap (λ (l : List Act). shown ++ l) e in
-    let onward = ap (λ (l : List Act). filled ++ l) (d ∙ last) in
-    let all = ap (λ (l : List Act). read ++ l) (c ∙ onward) in
-    record {
-      accepted = accepted;
-      read = read;
-      filled = filled;
-      shown = shown;
-      written = written;
-      closed = closed;
-      accepts = accepts;
-      reads = reads;
-      fills = fills;
-      shows = shows;
-      writes = writes;
-      closes = closes;
-      order = a ∙ ap (λ (l : List Act). accepted ++ l) (b ∙ all);
-    }
-
-pub whole : (time : ℕ) (start heard read filled shown written closed : SessionView) → Takes (AcceptsSome 32) start heard → Takes (InTurn Reads 32) heard read
-    → Takes (InTurn Fills 32) read filled → Takes (Shows time) filled shown → Takes (InTurn Writes 32) shown written → Takes (InTurn Closes 32) written closed
-    → Takes (IsTurn time) start closed
-whole time start heard read filled shown written closed accepts reads fills shows writes closes =
-    let from_shown = Takes-then (InTurn Writes 32) Closing Writing shown written closed writes closes (after (InTurn Writes 32) Closing) in
-    let from_filled = Takes-then (Shows time) Writing (Showing time) filled shown closed shows from_shown (after (Shows time) Writing) in
-    let from_read = Takes-then (InTurn Fills 32) (Showing time) (Filling time) read filled closed fills from_filled (after (InTurn Fills 32) (Showing time)) in
-    let from_heard = Takes-then (InTurn Reads 32) (Filling time) (Reading time) heard read closed reads from_read (after (InTurn Reads 32) (Filling time)) in
-    let all = Takes-then (AcceptsSome 32) (Reading time) (After (AcceptsSome 32) (Reading time)) start heard closed accepts from_heard (after (AcceptsSome 32) (Reading time)) in
-    Takes-weaker (After (AcceptsSome 32) (Reading time)) (IsTurn time) start closed all (turn-of time)
-
--- the same with what is told: of what is read, filled and written nothing is
-pub whole-told : (time : ℕ) (start heard read filled shown written closed : SessionView) (w x y z i j : Option (List ℕ)) → Reports (AcceptsSome 32) start heard w x
-    → Takes (InTurn Reads 32) heard read → Takes (InTurn Fills 32) read filled → Tells (Shows time) filled shown x y i j → Takes (InTurn Writes 32) shown written
-    → Reports (InTurn Closes 32) written closed y z → Tells (IsTurn time) start closed w z i j
-whole-told time start heard read filled shown written closed w x y z i j accepts reads fills shows writes closes =
-    let told_closed = Tells-unseen (InTurn Closes 32) written closed y z j (all-closes-pass 32) closes in
-    let told_written = Tells-quiet (InTurn Writes 32) shown written y j (all-writes-pass 32) writes in
-    let told_filled = Tells-quiet (InTurn Fills 32) read filled x i (all-fills-pass 32) fills in
-    let told_read = Tells-quiet (InTurn Reads 32) heard read x i (all-reads-pass 32) reads in
-    let told_heard = Tells-unseen (AcceptsSome 32) start heard w x i (accepts-pass 32) accepts in
-    let from_shown = Tells-then (InTurn Writes 32) Closing Writing shown written closed y y z j j j told_written told_closed (after (InTurn Writes 32) Closing) in
-    let from_filled = Tells-then (Shows time) Writing (Showing time) filled shown closed x y z i j j shows from_shown (after (Shows time) Writing) in
-    let from_read = Tells-then (InTurn Fills 32) (Showing time) (Filling time) read filled closed x x z i i j told_filled from_filled (after (InTurn Fills 32) (Showing time)) in
-    let from_heard = Tells-then (InTurn Reads 32) (Filling time) (Reading time) heard read closed x x z i i j told_read from_read (after (InTurn Reads 32) (Filling time)) in
-    let all = Tells-then (AcceptsSome 32) (Reading time) (After (AcceptsSome 32) (Reading time)) start heard closed w x z i i j told_heard from_heard (after (AcceptsSome 32) (Reading time)) in
-    Tells-weaker (After (AcceptsSome 32) (Reading time)) (IsTurn time) start closed w z i j all (turn-of time)
-
-pub whole-begun : (time : ℕ) (old new : SessionView) → Takes (IsTurn time) old new → Takes (StartsTurn time) old new
-whole-begun time old new takes =
-    Takes-weaker (IsTurn time) (StartsTurn time) old new takes
-    (λ acts is. (
-      [],
-      record {
-        accepted = is.accepted;
-        read = is.read;
-        filled = is.filled;
-        shown = is.shown;
-        written = is.written;
-        closed = is.closed;
-        accepts = is.accepts;
-        reads = is.reads;
-        fills = is.fills;
-        shows = is.shows;
-        writes = is.writes;
-        closes = is.closes;
-        order = append-nil acts ∙ is.order;
-      },
-    ))
+pub begun-closing : {H C S : Type 0} (w : Ways H C) (files : Files S) (time n : ℕ) (from to : Serving H C S) (v0 v1 : SessionView) → n ≤ 32
+    → Takes (Then (UpToFrame w files time) (FromFrame w n) from to) v0 v1 → Takes (StartsTurn w files time from to) v0 v1
+begun-closing w files time n from to v0 v1 within takes =
+    Takes-weaker (Then (UpToFrame w files time) (FromFrame w n) from to) (StartsTurn w files time from to) v0 v1 takes (λ d e a es ad ae runs p. inr (inr (n, within, p)))

@@ -8,7 +8,7 @@ use Rattle.wl_plain.specs.Scratch.{scratch}
 use Rattle.wl_plain.specs.Stacked.{all_windows}
 use Rattle.wl_session.specs.Agreeing.{Agrees}
 use Rattle.wl_session.specs.Course.{Runs, moment}
-use Rattle.wl_session.specs.Events.{AreApart, Event, is_frame}
+use Rattle.wl_session.specs.Events.{AreApart, Event, Moment, is_frame}
 use Rattle.wl_session.specs.Liars.{AreLiars, IsRightBut}
 use Rattle.wl_session.specs.Unmarked.{is_covered}
 use Rattle.wl_session.specs.View.{SessionView}
@@ -22,9 +22,16 @@ pub record Went (acts : List Act) (old new : SessionView) (d : Desktop) : Type 0
   pub apart : AreApart events
   pub agrees : Agrees new.desk desktop
 
+-- What is said of a stretch of a session: of the moment that it begins at, its acts, the events that they are, and the moment that it
+-- ends at.
+abbrev pub Stretch : Type 1
+Stretch = Moment → List Act → List Event → Moment → Type 0
+
 -- A session went from old to new by acts of which P holds, whatever desktop agrees with it before.
-abbrev pub Takes : (List Act → Type 0) → SessionView → SessionView → Type 0
-Takes P old new = (d : Desktop) → Agrees old.desk d → (acts : List Act) × P acts × Went acts old new d
+abbrev pub Takes : Stretch → SessionView → SessionView → Type 0
+Takes P old new =
+    (d : Desktop) → Agrees old.desk d → (acts : List Act) × (went : Went acts old new d)
+    × P (moment d old) acts went.events (moment went.desktop new)
 
 -- Each frame among these events shows the desktop as the frame began, painted from nothing in stacking order, at each point that no window
 -- covers of a client that broke its promises since it connected.
@@ -38,15 +45,39 @@ ShowsScratch liars events =
 
 -- A session went from old to new by acts of which P holds, and of their events Q. Where it was right but for some clients, its frames are,
 -- and it stays so but for them and those that break a promise meanwhile.
-abbrev pub IsServed : (List Act → Type 0) → (List Event → Type 0) → SessionView → SessionView → Type 0
+abbrev pub IsServed : Stretch → (List Event → Type 0) → SessionView → SessionView → Type 0
 IsServed P Q old new =
     (d : Desktop) → Agrees old.desk d
-    → (acts : List Act) × P acts × (went : Went acts old new d) × Q went.events
+    → (acts : List Act) × (went : Went acts old new d) × P (moment d old) acts went.events (moment went.desktop new) × Q went.events
     × ((liars : ℕ → Bool) → IsRightBut liars (moment d old) → ShowsScratch liars went.events)
     × ((liars last : ℕ → Bool) → AreLiars liars went.events last → IsRightBut liars (moment d old)
     → IsRightBut last (moment went.desktop new))
 
--- These are the acts of the first n, from 1, one after another: first those of 1, then those of 2, and so on.
-unfoldable pub InTurn : (ℕ → List Act → Type 0) → ℕ → List Act → Type 0
-InTurn Own zero acts = acts ≡ []
-InTurn Own (suc n) acts = (before : List Act) × (own : List Act) × InTurn Own n before × Own (suc n) own × (acts ≡ before ++ own)
+-- ---- what is done to what a server works on, while a session goes on
+
+-- nothing is done
+pub record Idle {W : Type 0} (from to : W) (start : Moment) (acts : List Act) (events : List Event) (end : Moment) : Type 0 where
+  pub kept : to ≡ from
+  pub acts_are : acts ≡ []
+  pub events_are : events ≡ []
+  pub stays : end ≡ start
+
+-- First the one is done, and then the other: over what the first leaves, and from the moment to which its acts lead.
+pub record Then {W : Type 0} (First Next : W → W → Stretch) (from to : W) (start : Moment) (acts : List Act) (events : List Event) (end : Moment) : Type 0 where
+  pub mid : W
+  pub moment : Moment
+  pub first : List Act
+  pub next : List Act
+  pub early : List Event
+  pub late : List Event
+  pub leads : Runs served_now start first early moment
+  pub goes_on : Runs served_now moment next late end
+  pub does : First from mid start first early moment
+  pub follows : Next mid to moment next late end
+  pub acts_are : acts ≡ first ++ next
+  pub events_are : events ≡ early ++ late
+
+-- What each of the first n does, from 1, one after another.
+unfoldable pub InTurn : {W : Type 0} → (ℕ → W → W → Stretch) → ℕ → W → W → Stretch
+InTurn Own zero from to start acts events end = Idle from to start acts events end
+InTurn Own (suc n) from to start acts events end = Then (InTurn Own n) (Own (suc n)) from to start acts events end

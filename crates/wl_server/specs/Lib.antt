@@ -3,6 +3,7 @@ pub mod Due
 pub mod Phases
 pub mod Seats
 pub mod Telling
+pub mod Ways
 pub use Rattle.wl_session.specs.Agreeing
 pub use Rattle.wl_session.specs.Course
 pub use Rattle.wl_session.specs.Events

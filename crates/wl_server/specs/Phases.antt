@@ -1,89 +1,349 @@
--- The acts of a turn, in the order in which they are taken.
-use Rattle.std.specs.Prelude.{ℕ, ◌≡◌, ◌<◌, ◌≤◌, ◌+◌, ◌⊎◌, Bool, true, false, All, List, [], ◌∷◌, ◌++◌, length, map}
-use Rattle.wl_plain.specs.Act.{Act, Connect, Feed, Store, Leave, Tick, Send, Close}
-use Rattle.wl_server.specs.Acting.{InTurn}
+-- The phases of a turn: what each does to what the server works on, and which acts that is.
+use Rattle.std.specs.Prelude.{ℕ, ◌≡◌, ◌<◌, ◌≤◌, ◌+◌, ◌-◌, ◌^◌, ◌⊎◌, ◌||◌, ◌&&◌, Bool, true, false, List, [], ◌∷◌, ◌++◌, length, map}
+use Rattle.std.specs.Prelude.{Option, Some, None, Result, Ok, Err, decimal, codes}
+use Rattle.wl_hub.specs.Faults.{Rose}
+use Rattle.wl_hub.specs.Moves.{Delivers}
+use Rattle.wl_plain.specs.Act.{Act, Connect, Feed, Store, Leave, Tick, Send, Close, peer_at, status_of, store_size_of, unsent_of}
+use Rattle.wl_plain.specs.Happenings.{Single}
+use Rattle.wl_plain.specs.LeftOut.{served_now}
+use Rattle.wl_plain.specs.declared.answers.ConnectError.{ConnectError}
+use Rattle.wl_plain.specs.declared.answers.Done.TheVariants as gave
+use Rattle.wl_plain.specs.declared.answers.Fed.{Fed}
+use Rattle.wl_plain.specs.declared.answers.Fed.TheVariants.{Alive, Ended, NoClient}
+use Rattle.wl_recording.specs.Side.{Files}
+use Rattle.wl_session.specs.Course.{Runs, happenings}
+use Rattle.wl_session.specs.Events.{Event, Moment}
+use Rattle.wl_session.specs.NextStore.{next_store_of}
+use Rattle.wl_server.specs.declared.seat.Seat.{Seat}
+use Rattle.wl_server.specs.Acting.{Idle, InTurn, Stretch, Then}
+use Rattle.wl_server.specs.Seats.{Seated, seat_of, with_seat}
+use Rattle.wl_server.specs.Ways.{Serving, Ways}
 
 -- ---- connections are accepted
 
--- so many at most, each a client that connects or is refused
-abbrev pub AcceptsSome : ℕ → List Act → Type 0
-AcceptsSome most acts = All (λ act. act ≡ Connect) acts × (length acts ≤ most)
+-- the hub, and the connections
+abbrev pub Line : Type 0 → Type 0 → Type 0
+Line H C = H × Seated (Seat C)
 
-abbrev pub AcceptsOne : List Act → Type 0
-AcceptsOne acts = AcceptsSome 1 acts
+-- a connection that nothing came from yet
+abbrev pub new_seat : {C : Type 0} → C → ℕ → Seat C
+new_seat conn number = record { conn = conn; number = number; has_sent = false; has_failed = false }
+
+-- A client that connects gets the connection, with its place among those that were accepted; where no client can connect, the connection is
+-- closed at once.
+abbrev pub Seats : {H C : Type 0} → Ways H C → Result ℕ ConnectError → C → H → Seated (Seat C) → Line H C → Type 0
+Seats w (Ok client) conn hub counted to =
+    (to.0 ≡ hub) × (to.1 ≡ record counted { seats = with_seat client (Some (new_seat conn counted.accepted)) counted.seats })
+Seats w (Err error) conn hub counted to = w.closes hub conn to.0 × (w.faults to.0 ≡ w.faults hub) × (to.1 ≡ counted)
+
+-- the hub gives a connection, which is counted, and a client asks to connect
+pub record Accepts {H C : Type 0} (w : Ways H C) (from to : Line H C) (start : Moment) (acts : List Act) (events : List Event) (end : Moment) : Type 0 where
+  pub conn : C
+  pub hub : H
+  pub answer : Result ℕ ConnectError
+  pub room : from.1.accepted < 2 ^ 32 - 1
+  pub accepts : w.accepts from.0 (Some conn) hub
+  pub calm : w.faults hub ≡ w.faults from.0
+  pub seats : Seats w answer conn hub (record from.1 { accepted = from.1.accepted + 1 }) to
+  pub acts_are : acts ≡ Connect ∷ []
+  pub answers : happenings events ≡ Single Connect (gave.Connect answer) ∷ []
+
+-- none is accepted, since none waits, all numbers were given, or the hub failed
+pub record AcceptsNone {H C : Type 0} (w : Ways H C) (from to : Line H C) (start : Moment) (acts : List Act) (events : List Event) (end : Moment) : Type 0 where
+  pub why :
+      ((from.1.accepted ≡ 2 ^ 32 - 1) × (to.0 ≡ from.0))
+      ⊎ ((w.accepts from.0 None to.0 × (w.faults to.0 ≡ w.faults from.0)) ⊎ Rose (w.faults from.0) (w.faults to.0))
+  pub idle : Idle from.1 to.1 start acts events end
+
+abbrev pub AcceptsOne : {H C : Type 0} → Ways H C → Bool → Line H C → Line H C → Stretch
+AcceptsOne w true from to start acts events end = Accepts w from to start acts events end
+AcceptsOne w false from to start acts events end = AcceptsNone w from to start acts events end
+
+-- so many are accepted
+abbrev pub AcceptsSome : {H C : Type 0} → Ways H C → ℕ → Line H C → Line H C → Stretch
+AcceptsSome w n from to start acts events end = InTurn (λ k. Accepts w) n from to start acts events end
+
+-- some are, 32 at most, and no more where that stops here
+abbrev pub BeginsAccepting : {H C : Type 0} → Ways H C → Line H C → Line H C → Stretch
+BeginsAccepting w from to start acts events end = (n : ℕ) × (n ≤ 32) × AcceptsSome w n from to start acts events end
+
+-- 32 are accepted, or fewer and then no more
+abbrev pub AcceptsAll : {H C : Type 0} → Ways H C → Line H C → Line H C → Stretch
+AcceptsAll w from to start acts events end =
+    AcceptsSome w 32 from to start acts events end
+    ⊎ ((n : ℕ) × (n < 32) × Then (AcceptsSome w n) (AcceptsNone w) from to start acts events end)
 
 -- ---- a client is read
+
+-- the hub, and what a client has
+abbrev pub Link : Type 0 → Type 0 → Type 0
+Link H C = H × Seat C
 
 -- a read gives 1 to 4,096 bytes
 abbrev pub IsPiece : List ℕ → Type 0
 IsPiece piece = (0 < length piece) × (length piece ≤ 4096)
 
--- one read more is to follow, and it fed a piece; or none is, and the client may be gone
-abbrev pub ReadsOnce : ℕ → Bool → List Act → Type 0
-ReadsOnce c true acts = (piece : List ℕ) × IsPiece piece × (acts ≡ Feed c piece ∷ [])
-ReadsOnce c false acts = (acts ≡ []) ⊎ (acts ≡ Leave c ∷ [])
+-- One read gives a piece.
+pub record Gets {H C : Type 0} (w : Ways H C) (piece : List ℕ) (from to : Link H C) : Type 0 where
+  pub conn : C
+  pub long : IsPiece piece
+  pub reads : w.reads from.0 from.1.conn (Some piece) to.0 conn
+  pub calm : w.faults to.0 ≡ w.faults from.0
+  pub kept : to.1 ≡ record from.1 { conn = conn; has_sent = true }
 
--- pieces of its stream are fed, of each read one; then it may be gone; these are 16 at most
-abbrev pub Reads : ℕ → List Act → Type 0
-Reads c acts =
-    (pieces : List (List ℕ)) × (last : List Act) × All IsPiece pieces × ReadsOnce c false last × (acts ≡ map (Feed c) pieces ++ last)
-    × (length pieces + length last ≤ 16)
+-- One read gives none: it would wait; or the client is gone, at the end of what it sends or since the read failed.
+abbrev pub EndsReading : {H C : Type 0} → Ways H C → ℕ → List Act → H → C → H → C → Type 0
+EndsReading w client acts hub conn next_hub next_conn =
+    ((acts ≡ []) × w.reads hub conn None next_hub next_conn × (w.faults next_hub ≡ w.faults hub))
+    ⊎ ((acts ≡ Leave client ∷ [])
+    × ((w.reads hub conn (Some []) next_hub next_conn × (w.faults next_hub ≡ w.faults hub)) ⊎ Rose (w.faults hub) (w.faults next_hub)))
+
+pub record GetsNone {H C : Type 0} (w : Ways H C) (client : ℕ) (acts : List Act) (from to : Link H C) : Type 0 where
+  pub conn : C
+  pub ends : EndsReading w client acts from.0 from.1.conn to.0 conn
+  pub kept : to.1 ≡ record from.1 { conn = conn }
+
+-- what one read gave is fed, and one read more is to follow; or none is
+abbrev pub ReadsOnce : {H C : Type 0} → Ways H C → ℕ → Bool → Link H C → Link H C → Stretch
+ReadsOnce w client true from to start acts events end = (piece : List ℕ) × Gets w piece from to × (acts ≡ Feed client piece ∷ [])
+ReadsOnce w client false from to start acts events end = GetsNone w client acts from to
+
+-- reads gave these, one after another
+pub data GetsAll {H C : Type 0} (w : Ways H C) (from : Link H C) : List (List ℕ) → Link H C → Type 0 where
+  none : GetsAll w from [] from
+  more : {pieces : List (List ℕ)} {mid to : Link H C} (piece : List ℕ) → GetsAll w from pieces mid → Gets w piece mid to
+      → GetsAll w from (pieces ++ piece ∷ []) to
+
+-- why it is read no more: it was read 16 times, or a read gave none
+abbrev pub StopsReading : {H C : Type 0} → Ways H C → ℕ → ℕ → List Act → Link H C → Link H C → Type 0
+StopsReading w client reads acts from to =
+    ((reads ≡ 16) × (acts ≡ []) × (to ≡ from)) ⊎ ((reads < 16) × GetsNone w client acts from to)
+
+-- A client is read until a read gives none, 16 times at most: what each read gave is fed, and nothing else; then the client may be gone.
+pub record ReadsClient {H C : Type 0} (w : Ways H C) (client : ℕ) (from to : Link H C) (start : Moment) (acts : List Act) (events : List Event) (end : Moment) : Type 0 where
+  pub pieces : List (List ℕ)
+  pub last : List Act
+  pub mid : Link H C
+  pub gets : GetsAll w (from.0, record from.1 { has_sent = false }) pieces mid
+  pub stops : StopsReading w client (length pieces) last mid to
+  pub acts_are : acts ≡ map (Feed client) pieces ++ last
+
+-- the hub, and what a client has, if it has anything
+abbrev pub Place : Type 0 → Type 0 → Type 0
+Place H C = H × Option (Seat C)
+
+-- what is done with what a client has, if it has anything
+abbrev pub IfSeated : {H C : Type 0} → (Link H C → Link H C → Stretch) → Place H C → Place H C → Stretch
+IfSeated P (hub, None) to start acts events end = Idle (hub, None) to start acts events end
+IfSeated {H} {C} P (hub, Some seat) to start acts events end = (next : Seat C) × P (hub, seat) (to.0, next) start acts events end × (to.1 ≡ Some next)
+
+abbrev pub Reads : {H C : Type 0} → Ways H C → ℕ → Place H C → Place H C → Stretch
+Reads w client from to start acts events end = IfSeated (ReadsClient w client) from to start acts events end
 
 -- ---- a client's stores get their side files
 
+-- The name of a side file: the number of the client's connection, a point, and the store's number.
+abbrev pub side_name : ℕ → ℕ → List ℕ
+side_name number store = decimal number ++ codes "." ++ decimal store
+
+-- how many bytes pieces are together
+abbrev pub total : List (List ℕ) → ℕ
+total [] = 0
+total (piece ∷ pieces) = length piece + total pieces
+
+-- reads of the open file gave these, one after another
+pub data Gave {S : Type 0} (files : Files S) (from : S) : List (List ℕ) → S → Type 0 where
+  none : Gave files from [] from
+  more : {pieces : List (List ℕ)} {mid to : S} (piece : List ℕ) → Gave files from pieces mid → IsPiece piece → files.gives mid piece to
+      → Gave files from (pieces ++ piece ∷ []) to
+
+-- why no more is read: the store is full, the file ends, or a read failed
+abbrev pub EndsGiving : {S : Type 0} → Files S → ℕ → ℕ → S → S → Type 0
+EndsGiving files size at from to =
+    ((at ≡ size) × (to ≡ from)) ⊎ ((at < size) × (files.gives from [] to ⊎ Rose (files.faults from) (files.faults to)))
+
 -- pieces are put into a store, each behind the one before
 abbrev pub puts_from : ℕ → ℕ → ℕ → List (List ℕ) → List Act
-puts_from c store at [] = []
-puts_from c store at (piece ∷ pieces) = Store c store at piece ∷ puts_from c store (at + length piece) pieces
+puts_from client store at [] = []
+puts_from client store at (piece ∷ pieces) = Store client store at piece ∷ puts_from client store (at + length piece) pieces
 
-abbrev pub Puts : ℕ → ℕ → List Act → Type 0
-Puts c store acts = (pieces : List (List ℕ)) × All IsPiece pieces × (acts ≡ puts_from c store 0 pieces)
+-- One read of the open file gave a piece of so many bytes, which is put there; or none, since the file ends or the read failed.
+abbrev pub PutsOnce : {S : Type 0} → Files S → ℕ → ℕ → ℕ → ℕ → S → S → Stretch
+PutsOnce files client store at count from to start acts events end =
+    ((count ≡ 0) × (acts ≡ []) × (files.gives from [] to ⊎ Rose (files.faults from) (files.faults to)))
+    ⊎ ((piece : List ℕ) × (length piece ≡ count) × IsPiece piece × files.gives from piece to × (acts ≡ Store client store at piece ∷ []))
 
--- one read of a side file gave so many bytes, which are put there, if there are any
-abbrev pub PutsOnce : ℕ → ℕ → ℕ → ℕ → List Act → Type 0
-PutsOnce c store at count acts =
-    (piece : List ℕ) × (length piece ≡ count) × (((count ≡ 0) × (acts ≡ [])) ⊎ (IsPiece piece × (acts ≡ Store c store at piece ∷ [])))
+-- The open file is put into a store of this size, from its start on, up to the end of either.
+pub record PutsFile {S : Type 0} (files : Files S) (client store size : ℕ) (from to : S) (start : Moment) (acts : List Act) (events : List Event) (end : Moment) : Type 0 where
+  pub pieces : List (List ℕ)
+  pub mid : S
+  pub gave : Gave files from pieces mid
+  pub within : total pieces ≤ size
+  pub ends : EndsGiving files size (total pieces) mid to
+  pub acts_are : acts ≡ puts_from client store 0 pieces
 
--- its stores get them one after another
-abbrev pub Fills : ℕ → List Act → Type 0
-Fills c acts = (stores : ℕ) × InTurn (Puts c) stores acts
+-- The side file is opened; where there is none, or that fails, the store stays.
+abbrev pub Opens : {S : Type 0} → Files S → List ℕ → Bool → S → S → Type 0
+Opens files name true from to = files.opens from name true to
+Opens files name false from to = files.opens from name false to ⊎ Rose (files.faults from) (files.faults to)
+
+abbrev pub PutsIf : {S : Type 0} → Bool → Files S → ℕ → ℕ → ℕ → S → S → Stretch
+PutsIf true files client store size from to start acts events end = PutsFile files client store size from to start acts events end
+PutsIf false files client store size from to start acts events end = Idle from to start acts events end
+
+abbrev pub PutsSized : {S : Type 0} → Files S → ℕ → ℕ → ℕ → Option ℕ → S → S → Stretch
+PutsSized files client number store None from to start acts events end = Idle from to start acts events end
+PutsSized {S} files client number store (Some size) from to start acts events end =
+    (is_there : Bool) × (opened : S) × Opens files (side_name number store) is_there from opened
+    × PutsIf is_there files client store size opened to start acts events end
+
+-- A client's store gets its side file.
+abbrev pub Puts : {S : Type 0} → Files S → ℕ → ℕ → ℕ → S → S → Stretch
+Puts files client number store from to start acts events end =
+    PutsSized files client number store (store_size_of store (peer_at client start.desktop)) from to start acts events end
+
+-- The client's live stores up to this one got their side files, one after another.
+pub data FillsUpTo {S : Type 0} (files : Files S) (client number : ℕ) (from : S) (start : Moment) : ℕ → S → List Act → List Event → Moment → Type 0 where
+  none : FillsUpTo files client number from start 0 from [] [] start
+  more : (before : ℕ) (mid to : S) (moment end : Moment) (first next : List Act) (early late : List Event) (store : ℕ)
+      → FillsUpTo files client number from start before mid first early moment
+      → next_store_of before (peer_at client moment.desktop) ≡ Some store
+      → Runs served_now start first early moment → Runs served_now moment next late end
+      → Puts files client number store mid to moment next late end
+      → FillsUpTo files client number from start store to (first ++ next) (early ++ late) end
+
+-- Each live store of the client gets its side file, in rising number.
+abbrev pub FillsClient : {S : Type 0} → Files S → ℕ → ℕ → S → S → Stretch
+FillsClient files client number from to start acts events end =
+    (last : ℕ) × FillsUpTo files client number from start last to acts events end × (next_store_of last (peer_at client end.desktop) ≡ None)
+
+abbrev pub FillsIf : {S : Type 0} → Bool → Files S → ℕ → ℕ → S → S → Stretch
+FillsIf true files client number from to start acts events end = FillsClient files client number from to start acts events end
+FillsIf false files client number from to start acts events end = Idle from to start acts events end
+
+-- those of a client that sent bytes
+abbrev pub FillsSeat : {C S : Type 0} → Files S → ℕ → Option (Seat C) → S → S → Stretch
+FillsSeat files client None from to start acts events end = Idle from to start acts events end
+FillsSeat files client (Some seat) from to start acts events end = FillsIf seat.has_sent files client seat.number from to start acts events end
+
+abbrev pub Fills : {C S : Type 0} → Files S → List (Option (Seat C)) → ℕ → S → S → Stretch
+Fills files seats client from to start acts events end = FillsSeat files client (seat_of client seats) from to start acts events end
 
 -- ---- a frame is shown
 
-abbrev pub Shows : ℕ → List Act → Type 0
-Shows time acts = acts ≡ Tick time ∷ []
+abbrev pub Shows : ℕ → Stretch
+Shows time start acts events end = acts ≡ Tick time ∷ []
 
 -- ---- a client is written to
 
--- some of its bytes are sent, and it may be gone
-abbrev pub Writes : ℕ → List Act → Type 0
-Writes c acts = (acts ≡ []) ⊎ ((n : ℕ) × ((acts ≡ Send c n ∷ []) ⊎ (acts ≡ Send c n ∷ Leave c ∷ [])))
+-- a client is gone where a write to it failed
+abbrev pub leaves_if : Bool → ℕ → List Act
+leaves_if true client = Leave client ∷ []
+leaves_if false client = []
+
+abbrev pub CountsIf : Bool → ℕ → ℕ → Type 0
+CountsIf true old new = Rose old new
+CountsIf false old new = new ≡ old
+
+-- Of the bytes that wait for it the hub takes the first, until it takes no more or fails; those are sent.
+pub record Gives {H C : Type 0} (w : Ways H C) (client : ℕ) (bytes : List ℕ) (from to : Link H C) (acts : List Act) : Type 0 where
+  pub sent : ℕ
+  pub is_gone : Bool
+  pub conn : C
+  pub delivers : Delivers w.writes w.faults from.0 from.1.conn bytes sent is_gone to.0 conn
+  pub counts : CountsIf is_gone (w.faults from.0) (w.faults to.0)
+  pub kept : to.1 ≡ record from.1 { conn = conn; has_failed = from.1.has_failed || is_gone }
+  pub acts_are : acts ≡ Send client sent ∷ leaves_if is_gone client
+
+abbrev pub WritesSome : {H C : Type 0} → Ways H C → ℕ → Option (List ℕ) → Link H C → Link H C → Stretch
+WritesSome w client None from to start acts events end = Idle from to start acts events end
+WritesSome w client (Some bytes) from to start acts events end = Gives w client bytes from to acts
+
+abbrev pub WritesClient : {H C : Type 0} → Ways H C → ℕ → Link H C → Link H C → Stretch
+WritesClient w client from to start acts events end =
+    WritesSome w client (unsent_of (peer_at client start.desktop)) from to start acts events end
+
+abbrev pub Writes : {H C : Type 0} → Ways H C → ℕ → Place H C → Place H C → Stretch
+Writes w client from to start acts events end = IfSeated (WritesClient w client) from to start acts events end
 
 -- ---- a client is closed, or isn't
 
-abbrev pub Closes : ℕ → List Act → Type 0
-Closes c acts = (acts ≡ []) ⊎ (acts ≡ Close c ∷ [])
+-- nothing can be written to it any more
+abbrev pub is_cut_off : {C : Type 0} → Option (Seat C) → Bool
+is_cut_off None = true
+is_cut_off (Some seat) = seat.has_failed
+
+-- no bytes wait
+abbrev pub is_none_left : Option (List ℕ) → Bool
+is_none_left None = true
+is_none_left (Some []) = true
+is_none_left (Some (byte ∷ bytes)) = false
+
+-- nothing is left to be written to it
+abbrev pub is_finished : {C : Type 0} → Option (Seat C) → Option (List ℕ) → Bool
+is_finished seat unsent = is_cut_off seat || is_none_left unsent
+
+abbrev pub has_ended : Fed → Bool
+has_ended Alive = false
+has_ended (Ended cause) = true
+has_ended NoClient = false
+
+-- its connection is closed, if it has one
+abbrev pub Hangs : {H C : Type 0} → Ways H C → Place H C → H → Type 0
+Hangs w (hub, None) to = to ≡ hub
+Hangs w (hub, Some seat) to = w.closes hub seat.conn to × (w.faults to ≡ w.faults hub)
+
+abbrev pub ClosesIf : {H C : Type 0} → Bool → Ways H C → ℕ → Place H C → Place H C → Stretch
+ClosesIf true w client from to start acts events end = (acts ≡ Close client ∷ []) × (to.1 ≡ None) × Hangs w from to.0
+ClosesIf false w client from to start acts events end = Idle from to start acts events end
+
+-- closed is a client that ended, once its bytes went out or can't
+abbrev pub Closes : {H C : Type 0} → Ways H C → ℕ → Place H C → Place H C → Stretch
+Closes w client from to start acts events end =
+    ClosesIf (has_ended (status_of (peer_at client start.desktop)) && is_finished from.1 (unsent_of (peer_at client start.desktop)))
+    w client from to start acts events end
 
 -- ---- the turn
 
--- First connections are accepted, 32 at most. Then the clients are read, one after another, and then those that sent bytes get their side
--- files, one after another. Then a frame is shown. Then the clients are written to, one after another, and then those that ended are
--- closed, one after another.
-pub record IsTurn (time : ℕ) (acts : List Act) : Type 0 where
-  pub accepted : List Act
-  pub read : List Act
-  pub filled : List Act
-  pub shown : List Act
-  pub written : List Act
-  pub closed : List Act
-  pub accepts : AcceptsSome 32 accepted
-  pub reads : InTurn Reads 32 read
-  pub fills : InTurn Fills 32 filled
-  pub shows : Shows time shown
-  pub writes : InTurn Writes 32 written
-  pub closes : InTurn Closes 32 closed
-  pub order : acts ≡ accepted ++ (read ++ (filled ++ (shown ++ (written ++ closed))))
+-- what a client does with what it has, those of the others staying
+abbrev pub AtSeat : {H C : Type 0} → (ℕ → Place H C → Place H C → Stretch) → ℕ → H × List (Option (Seat C)) → H × List (Option (Seat C)) → Stretch
+AtSeat {H} {C} Own client from to start acts events end =
+    (next : Option (Seat C)) × Own client (from.0, seat_of client from.1) (to.0, next) start acts events end
+    × (to.1 ≡ with_seat client next from.1)
 
--- a turn begins with these
-abbrev pub StartsTurn : ℕ → List Act → Type 0
-StartsTurn time acts = (later : List Act) × IsTurn time (acts ++ later)
+abbrev pub Accepting : {H C S : Type 0} → Ways H C → Serving H C S → Serving H C S → Stretch
+Accepting w from to start acts events end =
+    AcceptsAll w (from.hub, from.connections) (to.hub, to.connections) start acts events end × (to.side ≡ from.side)
+
+-- the clients are served one after another
+abbrev pub ForEach : {H C S : Type 0} → (ℕ → Place H C → Place H C → Stretch) → ℕ → Serving H C S → Serving H C S → Stretch
+ForEach Own n from to start acts events end =
+    InTurn (AtSeat Own) n (from.hub, from.connections.seats) (to.hub, to.connections.seats) start acts events end
+    × (to.connections.accepted ≡ from.connections.accepted) × (to.side ≡ from.side)
+
+abbrev pub Filling : {H C S : Type 0} → Files S → Serving H C S → Serving H C S → Stretch
+Filling files from to start acts events end =
+    InTurn (Fills files from.connections.seats) 32 from.side to.side start acts events end × (to ≡ record from { side = to.side })
+
+abbrev pub Showing : {H C S : Type 0} → ℕ → Serving H C S → Serving H C S → Stretch
+Showing time from to start acts events end = Shows time start acts events end × (to ≡ from)
+
+-- Up to the frame: connections are accepted, 32 at most; the clients are read, one after another; those that sent bytes get their side files,
+-- one after another; and a frame is shown.
+abbrev pub UpToFrame : {H C S : Type 0} → Ways H C → Files S → ℕ → Serving H C S → Serving H C S → Stretch
+UpToFrame w files time = Then (Accepting w) (Then (ForEach (Reads w) 32) (Then (Filling files) (Showing time)))
+
+-- Then the clients are written to, one after another; and those of the first n that ended are closed, one after another.
+abbrev pub FromFrame : {H C S : Type 0} → Ways H C → ℕ → Serving H C S → Serving H C S → Stretch
+FromFrame w n = Then (ForEach (Writes w) 32) (ForEach (Closes w) n)
+
+abbrev pub IsTurn : {H C S : Type 0} → Ways H C → Files S → ℕ → Serving H C S → Serving H C S → Stretch
+IsTurn w files time = Then (UpToFrame w files time) (FromFrame w 32)
+
+-- A turn begins so: connections are accepted, and no more; or it is taken up to the frame; or it goes on until some of the clients are
+-- closed.
+abbrev pub StartsTurn : {H C S : Type 0} → Ways H C → Files S → ℕ → Serving H C S → Serving H C S → Stretch
+StartsTurn w files time from to start acts events end =
+    (BeginsAccepting w (from.hub, from.connections) (to.hub, to.connections) start acts events end × (to.side ≡ from.side))
+    ⊎ (UpToFrame w files time from to start acts events end
+    ⊎ ((n : ℕ) × (n ≤ 32) × Then (UpToFrame w files time) (FromFrame w n) from to start acts events end))

@@ -12,11 +12,12 @@ use Rattle.wl_plain.specs.declared.answers.Fed.{Fed}
 use Rattle.wl_plain.specs.declared.answers.Fed.TheVariants.{Alive, Ended, NoClient}
 use Rattle.wl_recording.specs.Text.{client_line, end_line, frame_line}
 use Rattle.wl_session.specs.Agreeing.{Agrees}
+use Rattle.wl_session.specs.Course.{moment}
 use Rattle.wl_session.specs.Damage.{count_points, has}
 use Rattle.wl_session.specs.Events.{Event, Moment}
 use Rattle.wl_session.specs.Image.{image_of}
 use Rattle.wl_session.specs.View.{SessionView}
-use Rattle.wl_server.specs.Acting.{Went}
+use Rattle.wl_server.specs.Acting.{Stretch, Went}
 
 -- what is told of one event, from one moment to another
 abbrev pub Telling : Type 0
@@ -103,14 +104,13 @@ IsToldOf report told images imaged events = Appends report told (gathered report
     × Appends images imaged (gathered pictured events)
 
 -- A session went from old to new by acts of which P holds, and the report tells of them.
-abbrev pub Reports : (List Act → Type 0) → SessionView → SessionView → Option (List ℕ) → Option (List ℕ) → Type 0
+abbrev pub Reports : Stretch → SessionView → SessionView → Option (List ℕ) → Option (List ℕ) → Type 0
 Reports P old new report told =
-    (d : Desktop) → Agrees old.desk d → (acts : List Act) × P acts × (went : Went acts old new d)
-    × Appends report told (gathered reported went.events)
+    (d : Desktop) → Agrees old.desk d → (acts : List Act) × (went : Went acts old new d)
+    × P (moment d old) acts went.events (moment went.desktop new) × Appends report told (gathered reported went.events)
 
 -- The same, and the images show them.
-abbrev pub Tells : (List Act → Type 0) → SessionView → SessionView → Option (List ℕ) → Option (List ℕ) → Option (List ℕ) → Option (List ℕ)
-    → Type 0
+abbrev pub Tells : Stretch → SessionView → SessionView → Option (List ℕ) → Option (List ℕ) → Option (List ℕ) → Option (List ℕ) → Type 0
 Tells P old new report told images imaged =
-    (d : Desktop) → Agrees old.desk d → (acts : List Act) × P acts × (went : Went acts old new d)
-    × IsToldOf report told images imaged went.events
+    (d : Desktop) → Agrees old.desk d → (acts : List Act) × (went : Went acts old new d)
+    × P (moment d old) acts went.events (moment went.desktop new) × IsToldOf report told images imaged went.events

@@ -1,15 +1,17 @@
 //! Connections are accepted.
 
-ghost use Rattle.std.specs.Prelude.{◌≡◌, length, OnOk};
+ghost use Rattle.std.specs.Prelude.{◌≡◌, length, OnOk, OnErr, IfOk, Some};
 ghost use Rattle.wl_server.specs.Acting.{Takes};
 ghost use Rattle.wl_server.specs.Telling.{Reports};
-ghost use Rattle.wl_server.specs.Phases.{AcceptsOne, AcceptsSome};
+ghost use Rattle.wl_server.specs.Phases.{Accepts, AcceptsAll, AcceptsOne, BeginsAccepting};
+ghost use Rattle.wl_server.specs.Seats.{with_seat};
+ghost use Rattle.wl_server.specs.Ways.{ways};
 
 use crate::error::{TurnError, write_failed};
 use crate::seat::Seat;
 use std::alloc::Allocator;
 use std::io::Write;
-use wl_hub::Hub;
+use wl_hub::{Hub, HubFault};
 use wl_recording::write_client;
 use wl_session::{ClientNo, ConnectError, Session};
 
@@ -25,8 +27,12 @@ pub(crate) fn accept_all<A: Allocator + Copy, H: Hub, W: Write>(
     report: &mut W,
 ) -> Result<(), TurnError>
     requires { length seats.old ≡ 32 }
-    ensures taken { Takes (AcceptsSome 32) session.old session.new }
-    ensures told { OnOk result (Reports (AcceptsSome 32) session.old session.new (W.contents report.old) (W.contents report.new)) }
+    ensures told { OnOk result (Reports (AcceptsAll (ways H.accepts H.reads H.writes H.closes H.fault_count)
+        (hub.old, record { accepted = accepted.old; seats = seats.old }) (hub.new, record { accepted = accepted.new; seats = seats.new }))
+        session.old session.new (W.contents report.old) (W.contents report.new)) }
+    ensures begun { OnErr result (Takes (BeginsAccepting (ways H.accepts H.reads H.writes H.closes H.fault_count)
+        (hub.old, record { accepted = accepted.old; seats = seats.old }) (hub.new, record { accepted = accepted.new; seats = seats.new }))
+        session.old session.new) }
 {
     for before in 0..ACCEPTS {
         if !accept_one(hub, session, seats, accepted, report)? {
@@ -45,14 +51,20 @@ fn accept_one<A: Allocator + Copy, H: Hub, W: Write>(
     report: &mut W,
 ) -> Result<bool, TurnError>
     requires { length seats.old ≡ 32 }
-    ensures taken { Takes AcceptsOne session.old session.new }
-    ensures told { OnOk result (Reports AcceptsOne session.old session.new (W.contents report.old) (W.contents report.new)) }
+    ensures told { IfOk result (λ more. Reports (AcceptsOne (ways H.accepts H.reads H.writes H.closes H.fault_count) more
+        (hub.old, record { accepted = accepted.old; seats = seats.old }) (hub.new, record { accepted = accepted.new; seats = seats.new }))
+        session.old session.new (W.contents report.old) (W.contents report.new)) }
+    ensures taken { OnErr result (Takes (Accepts (ways H.accepts H.reads H.writes H.closes H.fault_count)
+        (hub.old, record { accepted = accepted.old; seats = seats.old }) (hub.new, record { accepted = accepted.new; seats = seats.new }))
+        session.old session.new) }
 {
     if *accepted == u32::MAX {
         return Ok(false);
     }
-    let Ok(Some(conn)) = hub.accept() else {
-        return Ok(false);
+    let conn = match hub.accept() {
+        Ok(Some(conn)) => conn,
+        Ok(None) => return Ok(false),
+        Err(HubFault) => return Ok(false),
     };
     *accepted += 1;
     match session.connect() {
@@ -70,10 +82,10 @@ fn accept_one<A: Allocator + Copy, H: Hub, W: Write>(
 
 /// A client gets its seat.
 fn sit<C: Drop>(seats: &mut [Option<Seat<C>>], client: ClientNo, seat: Seat<C>)
-    ensures { length seats.new ≡ length seats.old }
+    ensures { seats.new ≡ with_seat client (Some seat) seats.old }
 {
-    let place = (client as usize).wrapping_sub(1);
-    if let Some(free) = seats.get_mut(place) {
-        *free = Some(seat);
+    let place = (client as usize).saturating_sub(1);
+    if place < seats.len() {
+        seats[place] = Some(seat);
     }
 }

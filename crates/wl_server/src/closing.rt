@@ -1,9 +1,13 @@
 //! Clients that ended are closed.
 
-ghost use Rattle.std.specs.Prelude.{◌≡◌, length, OnOk};
+ghost use Rattle.std.specs.Prelude.{◌≡◌, ◌≤◌, ℕ, length, OnOk, OnErr};
+ghost use Rattle.wl_plain.specs.Act.{unsent_of, peer_at};
+ghost use Rattle.wl_plain.specs.Desktop.{Desktop};
+ghost use Rattle.wl_session.specs.Agreeing.{Agrees};
 ghost use Rattle.wl_server.specs.Acting.{InTurn, Takes};
 ghost use Rattle.wl_server.specs.Telling.{Reports};
-ghost use Rattle.wl_server.specs.Phases.{Closes};
+ghost use Rattle.wl_server.specs.Phases.{AtSeat, Closes, Hangs, is_finished};
+ghost use Rattle.wl_server.specs.Ways.{ways};
 
 use crate::error::{TurnError, write_failed};
 use crate::seat::Seat;
@@ -21,8 +25,10 @@ pub(crate) fn close_all<A: Allocator + Copy, H: Hub, W: Write>(
     report: &mut W,
 ) -> Result<(), TurnError>
     requires { length seats.old ≡ 32 }
-    ensures taken { Takes (InTurn Closes 32) session.old session.new }
-    ensures told { OnOk result (Reports (InTurn Closes 32) session.old session.new (W.contents report.old) (W.contents report.new)) }
+    ensures told { OnOk result (Reports (InTurn (AtSeat (Closes (ways H.accepts H.reads H.writes H.closes H.fault_count))) 32 (hub.old, seats.old) (hub.new, seats.new))
+        session.old session.new (W.contents report.old) (W.contents report.new)) }
+    ensures begun { OnErr result ((n : ℕ) × (n ≤ 32) × Takes (InTurn (AtSeat (Closes (ways H.accepts H.reads H.writes H.closes H.fault_count))) n (hub.old, seats.old) (hub.new, seats.new))
+        session.old session.new) }
 {
     for k in 0..seats.len() {
         close_seat(hub, session, k as u32 + 1, &mut seats[k], report)?;
@@ -30,6 +36,7 @@ pub(crate) fn close_all<A: Allocator + Copy, H: Hub, W: Write>(
     Ok(())
 }
 
+/// Closes a client, if it ended, and its bytes went out or can't. An `Err` changes nothing but the report.
 fn close_seat<A: Allocator + Copy, H: Hub, W: Write>(
     hub: &mut H,
     session: &mut Session<A>,
@@ -37,8 +44,9 @@ fn close_seat<A: Allocator + Copy, H: Hub, W: Write>(
     seat: &mut Option<Seat<H::Conn>>,
     report: &mut W,
 ) -> Result<(), TurnError>
-    ensures taken { Takes (Closes client) session.old session.new }
-    ensures told { OnOk result (Reports (Closes client) session.old session.new (W.contents report.old) (W.contents report.new)) }
+    ensures told { OnOk result (Reports (Closes (ways H.accepts H.reads H.writes H.closes H.fault_count) client (hub.old, seat.old) (hub.new, seat.new))
+        session.old session.new (W.contents report.old) (W.contents report.new)) }
+    ensures kept { OnErr result ((session.new ≡ session.old) × (hub.new ≡ hub.old) × (seat.new ≡ seat.old)) }
 {
     let Fed::Ended(cause) = session.status(client) else {
         return Ok(());
@@ -48,10 +56,17 @@ fn close_seat<A: Allocator + Copy, H: Hub, W: Write>(
     }
     write_end(client, cause, report).map_err(write_failed)?;
     session.close(client);
-    if let Some(seat) = seat.take() {
+    hang_up(hub, seat.take());
+    Ok(())
+}
+
+/// Closes the connection that a client had, if it had one.
+fn hang_up<H: Hub>(hub: &mut H, seat: Option<Seat<H::Conn>>)
+    ensures { Hangs (ways H.accepts H.reads H.writes H.closes H.fault_count) (hub.old, seat) hub.new }
+{
+    if let Some(seat) = seat {
         hub.close(seat.conn);
     }
-    Ok(())
 }
 
 /// Whether nothing is left to be written to a client.
@@ -59,10 +74,12 @@ fn is_finished<A: Allocator + Copy, C: Drop>(
     session: &Session<A>,
     client: ClientNo,
     seat: &Option<Seat<C>>,
-) -> bool {
-    let has_failed = match seat {
+) -> bool
+    ensures { (d : Desktop) → Agrees session.now.desk d → result ≡ is_finished seat.now (unsent_of (peer_at client d)) }
+{
+    let is_cut_off = match seat {
         Some(seat) => seat.has_failed,
         None => true,
     };
-    has_failed || session.out(client).is_none_or(|bytes| bytes.is_empty())
+    is_cut_off || session.out(client).is_none_or(|bytes| bytes.is_empty())
 }

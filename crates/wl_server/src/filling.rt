@@ -1,13 +1,14 @@
 //! Side files come into the stores of clients that sent bytes.
 
-ghost use Rattle.std.specs.Prelude.{◌≡◌, ◌≤◌, IfOk, OnErr, length};
+ghost use Rattle.std.specs.Prelude.{◌≡◌, ◌≤◌, ◌+◌, ◌++◌, length};
+ghost use Rattle.wl_recording.specs.Side.{files_of};
 ghost use Rattle.wl_server.specs.Acting.{InTurn, Takes};
-ghost use Rattle.wl_server.specs.Phases.{Fills, Puts, PutsOnce};
+ghost use Rattle.wl_server.specs.Phases.{Fills, FillsClient, FillsSeat, Opens, Puts, PutsFile, PutsOnce, side_name};
 
 use crate::seat::Seat;
 use arrayvec::ArrayString;
+use itoa::Buffer;
 use std::alloc::Allocator;
-use std::fmt::Write;
 use wl_recording::{SideFault, SideFiles};
 use wl_session::{ClientNo, Session, StoreNo};
 
@@ -21,6 +22,8 @@ const NAME: usize = 21;
 #[derive(Clone, Copy)]
 struct Target {
     client: ClientNo,
+    /// The place of its client among the accepted connections, from 1.
+    number: u32,
     store: StoreNo,
 }
 
@@ -31,7 +34,7 @@ pub(crate) fn fill_all<A: Allocator + Copy, C: Drop, S: SideFiles>(
     side: &mut S,
 )
     requires { length seats.now ≡ 32 }
-    ensures { Takes (InTurn Fills 32) session.old session.new }
+    ensures { Takes (InTurn (Fills (files_of S.opens S.gives S.fault_count) seats.now) 32 side.old side.new) session.old session.new }
 {
     let mut buf = [0; PIECE];
     for k in 0..seats.len() {
@@ -39,7 +42,7 @@ pub(crate) fn fill_all<A: Allocator + Copy, C: Drop, S: SideFiles>(
     }
 }
 
-/// Fills each store of a client, if there is one and it sent bytes.
+/// Fills the stores of a client, if it has a connection and sent bytes.
 fn fill_seat<A: Allocator + Copy, C: Drop, S: SideFiles>(
     session: &mut Session<A>,
     client: ClientNo,
@@ -48,57 +51,86 @@ fn fill_seat<A: Allocator + Copy, C: Drop, S: SideFiles>(
     buf: &mut [u8],
 )
     requires { length buf.old ≡ 4096 }
-    ensures { Takes (Fills client) session.old session.new }
+    ensures { Takes (FillsSeat (files_of S.opens S.gives S.fault_count) client seat.now side.old side.new) session.old session.new }
 {
     if let Some(seat) = seat {
         if seat.has_sent {
-            fill_client(session, client, seat, side, buf);
+            fill_client(session, client, seat.number, side, buf);
         }
     }
 }
 
-/// Fills each store that a client may have.
-fn fill_client<A: Allocator + Copy, C: Drop, S: SideFiles>(
+/// Fills each live store of a client, in rising number.
+fn fill_client<A: Allocator + Copy, S: SideFiles>(
     session: &mut Session<A>,
     client: ClientNo,
-    seat: &Seat<C>,
-    side: &mut S,
-    buf: &mut [u8],
-)
-    requires { length buf.old ≡ 4096 }
-    ensures { Takes (Fills client) session.old session.new }
-{
-    for before in 0..seat.pools.asked {
-        let target = Target {
-            client,
-            store: before + 1,
-        };
-        fill_store(session, target, seat.number, side, buf);
-    }
-}
-
-/// Fills a store from its start on, if it is live. Where its file is missing or fails, the rest stays.
-fn fill_store<A: Allocator + Copy, S: SideFiles>(
-    session: &mut Session<A>,
-    target: Target,
     number: u32,
     side: &mut S,
     buf: &mut [u8],
 )
     requires { length buf.old ≡ 4096 }
-    ensures { Takes (Puts target.client target.store) session.old session.new }
+    ensures { Takes (FillsClient (files_of S.opens S.gives S.fault_count) client number side.old side.new) session.old session.new }
+{
+    let mut last = 0;
+    while let Some(store) = session.next_store(client, last) {
+        let target = Target {
+            client,
+            number,
+            store,
+        };
+        fill_store(session, target, side, buf);
+        last = store;
+    }
+}
+
+/// Fills a store from its start on. Where its file is missing or fails, the rest stays.
+fn fill_store<A: Allocator + Copy, S: SideFiles>(
+    session: &mut Session<A>,
+    target: Target,
+    side: &mut S,
+    buf: &mut [u8],
+)
+    requires { length buf.old ≡ 4096 }
+    ensures { Takes (Puts (files_of S.opens S.gives S.fault_count) target.client target.number target.store side.old side.new) session.old session.new }
 {
     if let Some(size) = session.store_size(target.client, target.store) {
-        if opens(number, target.store, side) {
+        if opens(target.number, target.store, side) {
             put_file(session, target, size, side, buf);
         }
     }
 }
 
 /// Opens the side file of a store. False where it is missing or fails.
-fn opens<S: SideFiles>(number: u32, store: StoreNo, side: &mut S) -> bool {
-    let mut name = ArrayString::<NAME>::new();
-    write!(name, "{number}.{store}").is_ok() && side.open(name.as_str()) == Ok(true)
+fn opens<S: SideFiles>(number: u32, store: StoreNo, side: &mut S) -> bool
+    ensures { Opens (files_of S.opens S.gives S.fault_count) (side_name number store) result side.old side.new }
+{
+    let name = side_name(number, store);
+    match side.open(name.as_str()) {
+        Ok(is_there) => is_there,
+        Err(SideFault) => false,
+    }
+}
+
+/// The name of the side file of a store.
+fn side_name(number: u32, store: StoreNo) -> ArrayString<NAME>
+    ensures { result.bytes ≡ side_name number store }
+{
+    let mut name = ArrayString::new();
+    let mut digits = Buffer::new();
+    push(&mut name, digits.format(number));
+    push(&mut name, ".");
+    push(&mut name, digits.format(store));
+    name
+}
+
+/// Appends a text for which there is room.
+fn push(name: &mut ArrayString<NAME>, text: &str)
+    requires { length name.old.bytes + length text.now ≤ 21 }
+    ensures { name.new.bytes ≡ name.old.bytes ++ text.now }
+{
+    let Ok(()) = name.try_push_str(text) else {
+        unreachable!()
+    };
 }
 
 /// Puts the open file's bytes into a store of this size, up to the end of either.
@@ -110,14 +142,12 @@ fn put_file<A: Allocator + Copy, S: SideFiles>(
     buf: &mut [u8],
 )
     requires { length buf.old ≡ 4096 }
-    ensures { Takes (Puts target.client target.store) session.old session.new }
+    ensures { Takes (PutsFile (files_of S.opens S.gives S.fault_count) target.client target.store size side.old side.new) session.old session.new }
 {
     let mut at = 0;
     while at < size {
         let room = PIECE.min((size - at) as usize);
-        let Ok(count) = put_piece(session, target, at, side, &mut buf[..room]) else {
-            return;
-        };
+        let count = put_piece(session, target, at, side, &mut buf[..room]);
         if count == 0 {
             return;
         }
@@ -125,22 +155,23 @@ fn put_file<A: Allocator + Copy, S: SideFiles>(
     }
 }
 
-/// Puts what one read of the open file gives into a store, and answers how many bytes. None only at the file's end.
+/// Puts what one read of the open file gives into a store, and answers how many bytes. None at the file's end, and where the read fails.
 fn put_piece<A: Allocator + Copy, S: SideFiles>(
     session: &mut Session<A>,
     target: Target,
     at: u32,
     side: &mut S,
     buf: &mut [u8],
-) -> Result<u32, SideFault>
+) -> u32
     requires { length buf.old ≤ PIECE }
-    ensures put { IfOk result (λ count. Takes (PutsOnce target.client target.store at count) session.old session.new) }
-    ensures kept { OnErr result (session.new ≡ session.old) }
-    ensures within { IfOk result (λ count. count ≤ length buf.old) }
+    ensures put { Takes (PutsOnce (files_of S.opens S.gives S.fault_count) target.client target.store at result side.old side.new) session.old session.new }
+    ensures within { result ≤ length buf.old }
 {
-    let count = side.read(buf)?;
-    if count > 0 {
-        session.store(target.client, target.store, at, &buf[..count]);
+    match side.read(buf) {
+        Ok(0) | Err(SideFault) => 0,
+        Ok(count) => {
+            session.store(target.client, target.store, at, &buf[..count]);
+            count as u32
+        }
     }
-    Ok(count as u32)
 }

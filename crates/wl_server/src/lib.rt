@@ -7,7 +7,6 @@ mod accepting;
 mod closing;
 mod error;
 mod filling;
-mod pools;
 mod reading;
 mod seat;
 mod service;
@@ -16,6 +15,7 @@ mod waiting;
 mod writing;
 
 pub use error::TurnError;
-pub use seat::Connections;
+pub use seat::{Connections, Seat};
 pub use service::{Service, turn};
+pub use waiting::Waiting;
 pub use wl_session::Session;

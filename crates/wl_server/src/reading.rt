@@ -2,7 +2,8 @@
 
 ghost use Rattle.std.specs.Prelude.{◌≡◌, length};
 ghost use Rattle.wl_server.specs.Acting.{InTurn, Takes};
-ghost use Rattle.wl_server.specs.Phases.{Reads, ReadsOnce};
+ghost use Rattle.wl_server.specs.Phases.{AtSeat, Reads, ReadsClient, ReadsOnce};
+ghost use Rattle.wl_server.specs.Ways.{ways};
 
 use crate::seat::Seat;
 use std::alloc::Allocator;
@@ -22,7 +23,7 @@ pub(crate) fn read_all<A: Allocator + Copy, H: Hub>(
     seats: &mut [Option<Seat<H::Conn>>],
 )
     requires { length seats.old ≡ 32 }
-    ensures { Takes (InTurn Reads 32) session.old session.new }
+    ensures { Takes (InTurn (AtSeat (Reads (ways H.accepts H.reads H.writes H.closes H.fault_count))) 32 (hub.old, seats.old) (hub.new, seats.new)) session.old session.new }
 {
     let mut buf = [0; PIECE];
     for k in 0..seats.len() {
@@ -30,7 +31,7 @@ pub(crate) fn read_all<A: Allocator + Copy, H: Hub>(
     }
 }
 
-/// Reads a client, if there is one.
+/// Reads a client, if it has a connection.
 fn read_seat<A: Allocator + Copy, H: Hub>(
     hub: &mut H,
     session: &mut Session<A>,
@@ -39,7 +40,7 @@ fn read_seat<A: Allocator + Copy, H: Hub>(
     buf: &mut [u8],
 )
     requires { length buf.old ≡ 4096 }
-    ensures { Takes (Reads client) session.old session.new }
+    ensures { Takes (Reads (ways H.accepts H.reads H.writes H.closes H.fault_count) client (hub.old, seat.old) (hub.new, seat.new)) session.old session.new }
 {
     if let Some(seat) = seat {
         read_client(hub, session, client, seat, buf);
@@ -55,7 +56,7 @@ fn read_client<A: Allocator + Copy, H: Hub>(
     buf: &mut [u8],
 )
     requires { length buf.old ≡ 4096 }
-    ensures { Takes (Reads client) session.old session.new }
+    ensures { Takes (ReadsClient (ways H.accepts H.reads H.writes H.closes H.fault_count) client (hub.old, seat.old) (hub.new, seat.new)) session.old session.new }
 {
     seat.has_sent = false;
     for before in 0..READS {
@@ -65,7 +66,7 @@ fn read_client<A: Allocator + Copy, H: Hub>(
     }
 }
 
-/// Reads once. False where no more is to be read: it would block, or the client is gone.
+/// Reads once, and feeds what came. False where no more is to be read: it would block, or the client is gone.
 fn read_once<A: Allocator + Copy, H: Hub>(
     hub: &mut H,
     session: &mut Session<A>,
@@ -74,14 +75,12 @@ fn read_once<A: Allocator + Copy, H: Hub>(
     buf: &mut [u8],
 ) -> bool
     requires { length buf.old ≡ 4096 }
-    ensures { Takes (ReadsOnce client result) session.old session.new }
+    ensures { Takes (ReadsOnce (ways H.accepts H.reads H.writes H.closes H.fault_count) client result (hub.old, seat.old) (hub.new, seat.new)) session.old session.new }
 {
     match receive(hub, &mut seat.conn, buf) {
         Received::Bytes(count) => {
-            let piece = &buf[..count];
             seat.has_sent = true;
-            seat.pools.watch(piece);
-            session.feed(client, piece);
+            session.feed(client, &buf[..count]);
             true
         }
         Received::Later => false,

@@ -2,33 +2,31 @@
 
 ghost use Rattle.std.specs.Prelude.{◌≡◌, None, replicate};
 ghost use Rattle.wl_server.specs.Seats.{nobody};
+ghost use Rattle.wl_server.specs.Phases.{new_seat};
 
-use crate::pools::Pools;
 use std::marker::Model;
 
 /// The connection of a client.
 #[derive(Drop)]
-pub(crate) struct Seat<C: Drop> {
-    pub(crate) conn: C,
-    /// The client's place among the accepted connections, from 1.
-    pub(crate) number: u32,
-    /// How many pools it may have.
-    pub(crate) pools: Pools,
-    /// Whether it sent bytes in this turn.
-    pub(crate) has_sent: bool,
+pub struct Seat<C: Drop> {
+    /// The hub's connection.
+    pub conn: C,
+    /// Its place among the accepted connections, from 1.
+    pub number: u32,
+    /// Whether the client sent bytes when it was last read.
+    pub has_sent: bool,
     /// Whether a write to it failed.
-    pub(crate) has_failed: bool,
+    pub has_failed: bool,
 }
 
 impl<C: Drop> Seat<C> {
     /// A connection that nothing came from yet.
     pub(crate) fn new(conn: C, number: u32) -> Seat<C>
-        ensures { result.number ≡ number }
+        ensures { result ≡ new_seat conn number }
     {
         Seat {
             conn,
             number,
-            pools: Pools::new(),
             has_sent: false,
             has_failed: false,
         }
@@ -38,8 +36,8 @@ impl<C: Drop> Seat<C> {
 /// How many clients there may be at once.
 const CLIENTS: usize = 32;
 
-/// The connections of all clients, by number from 1, and how many were accepted so far. It is seen as that, and as which of the accepted
-/// connections each client has.
+/// The connections of all clients, by number from 1, and how many were accepted so far. It is seen as that, and as the connection that each
+/// client has.
 #[derive(Drop)]
 pub struct Connections<C: Drop> {
     pub(crate) seats: [Option<Seat<C>>; CLIENTS],
@@ -47,13 +45,12 @@ pub struct Connections<C: Drop> {
 }
 
 impl<C: Drop> Model for Connections<C> {
-    ghost use Rattle.std.specs.Prelude.{map};
-    ghost use Rattle.std.specs.Option.{option_map};
+    ghost use Rattle.wl_server.specs.declared.seat.Seat.{Seat};
     ghost use Rattle.wl_server.specs.Seats.{Seated};
 
-    ghost Value = { Seated };
+    ghost Value = { Seated (Seat C) };
 
-    ghost view = { λ x. record { accepted = x.accepted; numbers = map (λ seat. option_map (λ s. s.number) seat) x.seats } };
+    ghost view = { λ x. record { accepted = x.accepted; seats = x.seats } };
 }
 
 /// No client has a connection.

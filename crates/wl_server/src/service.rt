@@ -1,9 +1,12 @@
 //! What lasts from turn to turn, and the turn.
 
 ghost use Rattle.std.specs.Prelude.{◌≡◌, ⊤, OnOk, length};
+ghost use Rattle.wl_recording.specs.Side.{files_of};
 ghost use Rattle.wl_server.specs.Acting.{IsServed, Takes};
+ghost use Rattle.wl_server.specs.Due.{left_at};
 ghost use Rattle.wl_server.specs.Phases.{IsTurn, StartsTurn};
 ghost use Rattle.wl_server.specs.Telling.{IsToldOf, Tells, images_in};
+ghost use Rattle.wl_server.specs.Ways.{serving, ways};
 
 use crate::accepting::accept_all;
 use crate::closing::close_all;
@@ -29,7 +32,8 @@ pub struct Service<A: Allocator, W: Drop, P: Drop> {
     pub report: W,
     /// What the images are written to, if there is to be any.
     pub ppm: Option<P>,
-    waiting: Waiting<A>,
+    /// The lines of the pointer file that weren't taken yet.
+    pub waiting: Waiting<A>,
 }
 
 impl<A: Allocator, W: Drop, P: Drop> Service<A, W, P> {
@@ -43,6 +47,7 @@ impl<A: Allocator, W: Drop, P: Drop> Service<A, W, P> {
         ensures session { result.session ≡ session }
         ensures report { result.report ≡ report }
         ensures ppm { result.ppm ≡ ppm }
+        ensures waiting { result.waiting ≡ lines.items }
     {
         Service {
             session,
@@ -53,9 +58,11 @@ impl<A: Allocator, W: Drop, P: Drop> Service<A, W, P> {
     }
 }
 
-/// Takes one turn of a session with its clients' connections at this time: pointer lines that are due are taken, which have no effect yet; connections
-/// that wait are accepted; clients are read, one after another; those that sent bytes get their side files; a frame is shown; clients are
-/// written to, one after another; and those that ended are closed.
+/// Takes one turn of a session with its clients' connections at this time: pointer lines that are due are taken, which have no effect yet;
+/// connections that wait are accepted, 32 at most, each a client's or closed at once; clients are read, one after another, 16 times each at most,
+/// and fed what each read gave; for those that sent bytes each live store gets its side file, from its start up to the store's size; a frame is
+/// shown; clients are written to, one after another, and the hub's answer is what was sent; and those that ended are closed, with their
+/// connections, once their bytes went out or a write failed.
 ///
 /// What it takes are steps of a session, event by event: the frame that it shows is the desktop as the frame began, painted from nothing, at
 /// each point that no window covers of a client that broke its promises (wayland.xml, wl_surface.damage and wl_buffer.release). Told are each client
@@ -70,9 +77,13 @@ pub fn turn<A: Allocator + Copy, H: Hub, W: Write + Drop, P: Write + Drop, S: Si
     side: &mut S,
     time: u32,
 ) -> Result<(), TurnError>
-    ensures taken { OnOk result (IsServed (IsTurn time) (IsToldOf (W.contents service.old.report) (W.contents service.new.report)
-        (images_in P.contents service.old.ppm) (images_in P.contents service.new.ppm)) service.old.session service.new.session) }
-    ensures begun { IsServed (StartsTurn time) (λ events. ⊤) service.old.session service.new.session }
+    ensures taken { OnOk result (IsServed (IsTurn (ways H.accepts H.reads H.writes H.closes H.fault_count) (files_of S.opens S.gives S.fault_count) time
+        (serving hub.old connections.old side.old) (serving hub.new connections.new side.new))
+        (IsToldOf (W.contents service.old.report) (W.contents service.new.report) (images_in P.contents service.old.ppm) (images_in P.contents service.new.ppm))
+        service.old.session service.new.session) }
+    ensures begun { IsServed (StartsTurn (ways H.accepts H.reads H.writes H.closes H.fault_count) (files_of S.opens S.gives S.fault_count) time
+        (serving hub.old connections.old side.old) (serving hub.new connections.new side.new)) (λ events. ⊤) service.old.session service.new.session }
+    ensures waiting { service.new.waiting ≡ left_at time service.old.waiting }
 {
     service.waiting.take(time);
     take_phases(hub, service, connections, side, time)
@@ -86,9 +97,13 @@ fn take_phases<A: Allocator + Copy, H: Hub, W: Write + Drop, P: Write + Drop, S:
     side: &mut S,
     time: u32,
 ) -> Result<(), TurnError>
-    ensures taken { OnOk result (Tells (IsTurn time) service.old.session service.new.session (W.contents service.old.report) (W.contents service.new.report)
+    ensures taken { OnOk result (Tells (IsTurn (ways H.accepts H.reads H.writes H.closes H.fault_count) (files_of S.opens S.gives S.fault_count) time
+        (serving hub.old connections.old side.old) (serving hub.new connections.new side.new))
+        service.old.session service.new.session (W.contents service.old.report) (W.contents service.new.report)
         (images_in P.contents service.old.ppm) (images_in P.contents service.new.ppm)) }
-    ensures begun { Takes (StartsTurn time) service.old.session service.new.session }
+    ensures begun { Takes (StartsTurn (ways H.accepts H.reads H.writes H.closes H.fault_count) (files_of S.opens S.gives S.fault_count) time
+        (serving hub.old connections.old side.old) (serving hub.new connections.new side.new)) service.old.session service.new.session }
+    ensures waiting { service.new.waiting ≡ service.old.waiting }
 {
     let session = &mut service.session;
     let seats = &mut connections.seats;

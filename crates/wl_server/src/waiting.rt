@@ -1,28 +1,41 @@
 //! The pointer lines that weren't taken yet.
 
-ghost use Rattle.std.specs.Prelude.{◌≡◌, ◌≤◌, drop, length, vec_len};
+ghost use Rattle.std.specs.Prelude.{◌≡◌, ◌≤◌, drop, length};
 ghost use Rattle.wl_server.specs.Due.{is_due, left_at};
 
 use std::alloc::Allocator;
+use std::marker::Model;
 use wl_recording::PointerLine;
 
-/// Lines of a pointer file, of which some were taken or passed over.
+/// Lines of a pointer file, of which some were taken or passed over. It is seen as those that are left.
 #[derive(Drop)]
-pub(crate) struct Waiting<A: Allocator> {
+pub struct Waiting<A: Allocator> {
     lines: Vec<PointerLine, A>,
     taken: usize,
-    ghost within: { taken ≤ vec_len lines },
+}
+
+impl<A: Allocator> Model for Waiting<A> {
+    ghost use Rattle.std.specs.Prelude.{List, ◌≤◌, drop, length};
+    ghost use Rattle.wl_recording.specs.declared.pointer.PointerLine.{PointerLine};
+
+    ghost Value = { List PointerLine };
+
+    ghost view = { λ w. drop w.taken w.lines.items };
+
+    ghost invariant = { λ w. w.taken ≤ length w.lines.items };
 }
 
 impl<A: Allocator> Waiting<A> {
     /// None was taken.
-    pub(crate) fn new(lines: Vec<PointerLine, A>) -> Waiting<A> {
+    pub fn new(lines: Vec<PointerLine, A>) -> Waiting<A>
+        ensures { result ≡ lines.items }
+    {
         Waiting { lines, taken: 0 }
     }
 
     /// Takes those that are due at this time, in their order, and passes over those that ask nothing.
     pub(crate) fn take(&mut self, time: u32)
-        ensures { drop self.new.taken self.new.lines.items ≡ left_at time (drop self.old.taken self.old.lines.items) }
+        ensures { self.new ≡ left_at time self.old }
     {
         self.taken = after_due(&self.lines, self.taken, time);
     }

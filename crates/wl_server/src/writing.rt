@@ -2,7 +2,8 @@
 
 ghost use Rattle.std.specs.Prelude.{◌≡◌, length};
 ghost use Rattle.wl_server.specs.Acting.{InTurn, Takes};
-ghost use Rattle.wl_server.specs.Phases.{Writes};
+ghost use Rattle.wl_server.specs.Phases.{AtSeat, Writes, WritesClient};
+ghost use Rattle.wl_server.specs.Ways.{ways};
 
 use crate::seat::Seat;
 use std::alloc::Allocator;
@@ -16,21 +17,21 @@ pub(crate) fn write_all<A: Allocator + Copy, H: Hub>(
     seats: &mut [Option<Seat<H::Conn>>],
 )
     requires { length seats.old ≡ 32 }
-    ensures { Takes (InTurn Writes 32) session.old session.new }
+    ensures { Takes (InTurn (AtSeat (Writes (ways H.accepts H.reads H.writes H.closes H.fault_count))) 32 (hub.old, seats.old) (hub.new, seats.new)) session.old session.new }
 {
     for k in 0..seats.len() {
         write_seat(hub, session, k as u32 + 1, &mut seats[k]);
     }
 }
 
-/// Writes to a client, if there is one.
+/// Writes to a client, if it has a connection.
 fn write_seat<A: Allocator + Copy, H: Hub>(
     hub: &mut H,
     session: &mut Session<A>,
     client: ClientNo,
     seat: &mut Option<Seat<H::Conn>>,
 )
-    ensures { Takes (Writes client) session.old session.new }
+    ensures { Takes (Writes (ways H.accepts H.reads H.writes H.closes H.fault_count) client (hub.old, seat.old) (hub.new, seat.new)) session.old session.new }
 {
     if let Some(seat) = seat {
         write_client(hub, session, client, seat);
@@ -44,7 +45,7 @@ fn write_client<A: Allocator + Copy, H: Hub>(
     client: ClientNo,
     seat: &mut Seat<H::Conn>,
 )
-    ensures { Takes (Writes client) session.old session.new }
+    ensures { Takes (WritesClient (ways H.accepts H.reads H.writes H.closes H.fault_count) client (hub.old, seat.old) (hub.new, seat.new)) session.old session.new }
 {
     let Some(bytes) = session.out(client) else {
         return;

@@ -16,3 +16,5 @@ mod slow;
 mod sockets;
 #[cfg(test)]
 mod turns;
+#[cfg(test)]
+mod writers;

@@ -13,6 +13,7 @@ pub mod StoreWrites
 pub use Rattle.wl_peer.specs.Peer
 pub use Rattle.wl_desk.specs.Agreeing
 pub use Rattle.wl_desk.specs.Agreement
+pub use Rattle.wl_desk.specs.NextStore
 pub use Rattle.wl_plain.specs.Desktop
 pub use Rattle.wl_plain.specs.LeftOut
 pub use Rattle.wl_plain.specs.Act

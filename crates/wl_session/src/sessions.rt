@@ -1,6 +1,6 @@
 //! The session: all clients and the frames that are shown of them.
 
-ghost use Rattle.std.specs.Prelude.{◌≡◌, ℕ, ◌*◌, ◌<◌, ◌≤◌, ◌+◌, ◌&&◌, ◌||◌, ◌==◌, ◌++◌, ◌↔◌, length, vec_len, map, take, true, false, IfOk, IfErr, OnOk, OnErr, IsErrOf};
+ghost use Rattle.std.specs.Prelude.{◌≡◌, ℕ, ◌*◌, ◌<◌, ◌≤◌, ◌+◌, ◌&&◌, ◌||◌, ◌==◌, ◌++◌, ◌↔◌, length, vec_len, map, take, true, false, IfOk, IfErr, IfSome, OnOk, OnErr, IsErrOf};
 ghost use Rattle.std.specs.Borrow.{sem};
 ghost use Rattle.std.specs.Io.BufRead.{Rests};
 ghost use Rattle.std.specs.Option.{option_copied};
@@ -9,6 +9,7 @@ ghost use Rattle.wl_paint.specs.Damage.{has};
 ghost use Rattle.wl_plain.specs.Desktop.{Desktop, empty};
 ghost use Rattle.wl_paint.specs.Frame.{color_at, filled, is_side};
 ghost use Rattle.wl_plain.specs.Act.{Connect, Feed, Store, Leave, Tick, Send, Close, peer_at, unsent_of, status_of, store_size_of};
+ghost use Rattle.wl_desk.specs.NextStore.{next_store_of};
 ghost use Rattle.wl_desk.specs.Feeding.{IsIdleIn};
 ghost use Rattle.wl_session.specs.Run.{AreRuns};
 ghost use Rattle.wl_session.specs.Step.{act_of};
@@ -140,6 +141,15 @@ impl<A: Allocator + Copy> Session<A> {
         ensures { (d : Desktop) → Agrees self.now.desk d → result ≡ store_size_of store (peer_at client d) }
     {
         self.desk.store_size(client, store)
+    }
+
+    /// The least number of a client's live store that is above this one; from 0 on, each live store after the one before. None where there
+    /// is none, as where the client isn't live. It takes no memory.
+    pub fn next_store(&self, client: ClientNo, number: StoreNo) -> Option<StoreNo>
+        ensures next { (d : Desktop) → Agrees self.now.desk d → result ≡ next_store_of number (peer_at client d) }
+        ensures rises { IfSome result (λ next. number < next) }
+    {
+        self.desk.next_store(client, number)
     }
 
     /// A client goes. True where it was alive.

@@ -1,12 +1,13 @@
 -- The turns of a new session are those that were asked.
 use Rattle.std.proofs.Common.{refl}
 use Rattle.std.proofs.lemmas.Result.{err_from_is_err_and}
-use Rattle.wl_program.proofs.Served.{pointer-fails, turns-ok, write-fails}
+use Rattle.wl_program.proofs.Served.{begun-as, pointer-fails, turns-ok, write-fails}
 use Rattle.wl_program.proofs.serving.serve.Goals as goal
 
 pub returns-clause-served : goal.returns-clause-served
 returns-clause-served g c =
-    turns-ok c.serve_on.result c.args.serve _ _ _ _ _ _ _ c.new-service.ensures.session c.in_ok-session.ensures.desk c.in_ok-session.ensures.right c.in_ok-session.ensures.first refl refl
+    turns-ok c.serve_on.result c.args.serve _ _ _ _ _ _ _ _ _ c.new-service.ensures.session c.in_ok-session.ensures.desk c.in_ok-session.ensures.right c.in_ok-session.ensures.first refl refl
+    (begun-as c.args.serve c.in_ok-hub.hub c.new-connections.result c.new-side.result c.in_ok-hub.ensures.bound c.new-connections.ensures c.new-side.ensures)
     c.serve_on.ensures.reported
 
 pub returns-in_err-lines-clause-failed : goal.returns-in_err-lines-clause-failed

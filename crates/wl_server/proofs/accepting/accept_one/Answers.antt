@@ -1,47 +1,55 @@
-use Rattle.std.proofs.Common.{Ok, Err, refl}
-use Rattle.std.proofs.KnownBytes.{Appends-nil}
-use Rattle.wl_plain.specs.Act.{Connect}
-use Rattle.wl_plain.specs.declared.answers.Done.TheVariants as gave
-use Rattle.wl_server.specs.Phases.{AcceptsOne}
-use Rattle.wl_server.proofs.Pieces.{accepts-connect, accepts-none}
-use Rattle.wl_server.proofs.Taking.{Takes-none, Takes-one}
-use Rattle.wl_server.proofs.Telling.{Reports-none, Reports-one, ok-kept}
+use Rattle.std.proofs.Common.{◌≡◌, ◌+◌, ◌∙◌, None, Some, ap, refl, inl, inr, arith}
+use Rattle.wl_server.specs.Phases.{new_seat}
+use Rattle.wl_server.specs.Seats.{with_seat}
+use Rattle.wl_server.specs.Ways.{ways}
+use Rattle.wl_server.proofs.Joining.{Gave, accept-client, accept-failed, accept-full, accept-none, accept-unsaid, accepted-as, on-err}
+use Rattle.wl_server.proofs.Telling.{ok-kept}
 use Rattle.wl_server.proofs.accepting.accept_one.Goals as goal
 
-pub returns-then-accepted-eq4294967295-clause-taken : goal.returns-then-accepted-eq4294967295-clause-taken
-returns-then-accepted-eq4294967295-clause-taken g c = Takes-none AcceptsOne _ _ refl (accepts-none 1)
+pub returns-then-accepted-eq4294967295-clause-told : goal.returns-then-accepted-eq4294967295-clause-told
+returns-then-accepted-eq4294967295-clause-told g c =
+    accept-none (ways g.H.Hub.accepts g.H.Hub.reads g.H.Hub.writes g.H.Hub.closes g.H.Hub.fault_count) _ _ _ _ _ (inl (c.if-accepted-eq4294967295.true, refl))
 
-pub returns-in_default-clause-taken : goal.returns-in_default-clause-taken
-returns-in_default-clause-taken g c = Takes-none AcceptsOne _ _ refl (accepts-none 1)
+pub returns-in-Ok-None-clause-told : goal.returns-in-Ok-None-clause-told
+returns-in-Ok-None-clause-told g c =
+    accept-none (ways g.H.Hub.accepts g.H.Hub.reads g.H.Hub.writes g.H.Hub.closes g.H.Hub.fault_count) c.args.hub.now c.accept.new.self _ _ _
+    (inr (inl (accepted-as g.H.Hub.accepts c.args.hub.now c.accept.new.self (g.H.Hub.fault_count c.args.hub.now) (g.H.Hub.fault_count c.accept.new.self) c.accept.result
+    c.in-Ok-None.field-0 None c.in-Ok-None.is c.in-Ok-None.field-0-is c.accept.ensures.answers c.accept.ensures.faults)))
 
-pub returns-in_default-2-clause-taken : goal.returns-in_default-2-clause-taken
-returns-in_default-2-clause-taken g c = Takes-none AcceptsOne _ _ refl (accepts-none 1)
+pub returns-in-Err-clause-told : goal.returns-in-Err-clause-told
+returns-in-Err-clause-told g c =
+    accept-none (ways g.H.Hub.accepts g.H.Hub.reads g.H.Hub.writes g.H.Hub.closes g.H.Hub.fault_count) c.args.hub.now c.accept.new.self _ _ _
+    (inr (inr (accept-failed _ _ c.accept.result c.in-Err.field-0 c.in-Err.is c.accept.ensures.faults)))
 
 pub returns-in_err-map_err-in-Ok-clause-taken : goal.returns-in_err-map_err-in-Ok-clause-taken
-returns-in_err-map_err-in-Ok-clause-taken g c = Takes-one AcceptsOne _ _ _ _ c.in-Ok.ensures.course accepts-connect
-
-pub returns-in_ok-map_err-in-Ok-clause-taken : goal.returns-in_ok-map_err-in-Ok-clause-taken
-returns-in_ok-map_err-in-Ok-clause-taken g c = Takes-one AcceptsOne _ _ _ _ c.in-Ok.ensures.course accepts-connect
-
-pub returns-in-Err-Full-clause-taken : goal.returns-in-Err-Full-clause-taken
-returns-in-Err-Full-clause-taken g c = Takes-one AcceptsOne _ _ _ _ c.in-Err-Full.ensures.course accepts-connect
-
--- ---- what is told
-
-pub returns-then-accepted-eq4294967295-clause-told : goal.returns-then-accepted-eq4294967295-clause-told
-returns-then-accepted-eq4294967295-clause-told g c = Reports-none AcceptsOne _ _ _ refl (accepts-none 1)
-
-pub returns-in_default-clause-told : goal.returns-in_default-clause-told
-returns-in_default-clause-told g c = Reports-none AcceptsOne _ _ _ refl (accepts-none 1)
-
-pub returns-in_default-2-clause-told : goal.returns-in_default-2-clause-told
-returns-in_default-2-clause-told g c = Reports-none AcceptsOne _ _ _ refl (accepts-none 1)
+returns-in_err-map_err-in-Ok-clause-taken g c =
+    let got = accepted-as g.H.Hub.accepts c.args.hub.now c.accept.new.self (g.H.Hub.fault_count c.args.hub.now) (g.H.Hub.fault_count c.accept.new.self) c.accept.result
+    c.in-Ok-Some.field-0 (Some c.in-Ok-Some.conn) c.in-Ok-Some.is c.in-Ok-Some.field-0-is c.accept.ensures.answers c.accept.ensures.faults in
+    let gave : Gave (ways g.H.Hub.accepts g.H.Hub.reads g.H.Hub.writes g.H.Hub.closes g.H.Hub.fault_count) c.args.hub.now c.accept.new.self c.in-Ok-Some.conn c.args.accepted.now =
+    record { room = omega arith; accepts = got.0; calm = got.1 } in
+    let seated : c.sit.new.seats ≡ with_seat c.in-Ok.client (Some (new_seat c.in-Ok-Some.conn (c.args.accepted.now + 1))) c.args.seats.now =
+    c.sit.ensures ∙ ap (λ s. with_seat c.in-Ok.client (Some s) c.args.seats.now) c.new.ensures in
+    on-err c.from_residual.result
+    (accept-unsaid (ways g.H.Hub.accepts g.H.Hub.reads g.H.Hub.writes g.H.Hub.closes g.H.Hub.fault_count) c.args.hub.now c.accept.new.self c.in-Ok-Some.conn c.args.accepted.now c.in-Ok.client c.args.seats.now c.sit.new.seats
+    c.args.session.now c.connect.new.self gave seated c.in-Ok.ensures.course)
 
 pub returns-in_ok-map_err-in-Ok-clause-told : goal.returns-in_ok-map_err-in-Ok-clause-told
 returns-in_ok-map_err-in-Ok-clause-told g c =
     let wrote = ok-kept c.write_client.result c.map_err.result _ _ c.write_client.ensures c.map_err.ensures.variant c.in_ok-map_err-in-Ok.was in
-    Reports-one AcceptsOne Connect (gave.Connect (Ok c.in-Ok.client)) _ _ _ _ (λ hs is. is) c.in-Ok.ensures.course accepts-connect (λ d e agrees. wrote)
+    let got = accepted-as g.H.Hub.accepts c.args.hub.now c.accept.new.self (g.H.Hub.fault_count c.args.hub.now) (g.H.Hub.fault_count c.accept.new.self) c.accept.result
+    c.in-Ok-Some.field-0 (Some c.in-Ok-Some.conn) c.in-Ok-Some.is c.in-Ok-Some.field-0-is c.accept.ensures.answers c.accept.ensures.faults in
+    let gave : Gave (ways g.H.Hub.accepts g.H.Hub.reads g.H.Hub.writes g.H.Hub.closes g.H.Hub.fault_count) c.args.hub.now c.accept.new.self c.in-Ok-Some.conn c.args.accepted.now =
+    record { room = omega arith; accepts = got.0; calm = got.1 } in
+    let seated : c.sit.new.seats ≡ with_seat c.in-Ok.client (Some (new_seat c.in-Ok-Some.conn (c.args.accepted.now + 1))) c.args.seats.now =
+    c.sit.ensures ∙ ap (λ s. with_seat c.in-Ok.client (Some s) c.args.seats.now) c.new.ensures in
+    accept-client (ways g.H.Hub.accepts g.H.Hub.reads g.H.Hub.writes g.H.Hub.closes g.H.Hub.fault_count) c.args.hub.now c.accept.new.self c.in-Ok-Some.conn c.args.accepted.now c.in-Ok.client c.args.seats.now c.sit.new.seats
+    c.args.session.now c.connect.new.self _ _ gave seated c.in-Ok.ensures.course wrote
 
 pub returns-in-Err-Full-clause-told : goal.returns-in-Err-Full-clause-told
 returns-in-Err-Full-clause-told g c =
-    Reports-one AcceptsOne Connect (gave.Connect (Err c.in-Err-Full.field-0)) _ _ _ _ (λ hs is. is) c.in-Err-Full.ensures.course accepts-connect (λ d e agrees. Appends-nil _)
+    let got = accepted-as g.H.Hub.accepts c.args.hub.now c.accept.new.self (g.H.Hub.fault_count c.args.hub.now) (g.H.Hub.fault_count c.accept.new.self) c.accept.result
+    c.in-Ok-Some.field-0 (Some c.in-Ok-Some.conn) c.in-Ok-Some.is c.in-Ok-Some.field-0-is c.accept.ensures.answers c.accept.ensures.faults in
+    let gave : Gave (ways g.H.Hub.accepts g.H.Hub.reads g.H.Hub.writes g.H.Hub.closes g.H.Hub.fault_count) c.args.hub.now c.accept.new.self c.in-Ok-Some.conn c.args.accepted.now =
+    record { room = omega arith; accepts = got.0; calm = got.1 } in
+    accept-full (ways g.H.Hub.accepts g.H.Hub.reads g.H.Hub.writes g.H.Hub.closes g.H.Hub.fault_count) c.args.hub.now c.accept.new.self c.close.new.self c.in-Ok-Some.conn c.args.accepted.now c.in-Err-Full.field-0
+    c.args.seats.now c.args.session.now c.connect.new.self _ gave c.close.ensures.closed c.close.ensures.faults c.in-Err-Full.ensures.course

@@ -1,40 +1,44 @@
-use Rattle.std.proofs.Common.{◌≡◌, ◌≤◌, ◌+◌, refl, arith}
+use Rattle.std.proofs.Common.{◌≡◌, ◌<◌, ◌≤◌, List, None, Option, get_or, subst, sym, arith}
+use Rattle.std.proofs.lemmas.List.{get_or_default}
+use Rattle.wl_session.specs.Course.{moment}
+use Rattle.wl_server.specs.declared.seat.Seat.{Seat}
 use Rattle.wl_server.specs.Acting.{InTurn}
-use Rattle.wl_server.specs.Phases.{Closes}
-use Rattle.wl_server.proofs.Taking.{InTurn-all, InTurn-more, InTurn-zero, Takes-is, Takes-none, Takes-then}
-use Rattle.wl_server.proofs.Telling.{Reports-is, Reports-none, Reports-then}
-use Rattle.wl_server.proofs.Turning.{closes-none}
+use Rattle.wl_server.specs.Phases.{AtSeat, Closes}
+use Rattle.wl_server.specs.Ways.{ways}
+use Rattle.wl_server.proofs.Joining.{Reports-zero, close-kept, close-next, on-err}
+use Rattle.wl_server.proofs.Taking.{InTurn-zero}
+use Rattle.wl_server.proofs.Telling.{Reports-is}
 use Rattle.wl_server.proofs.closing.close_all.Goals as goal
 
 pub loop-k-init : goal.loop-k-init
-loop-k-init g c = record {
-  taken = Takes-none (InTurn Closes 0) _ _ refl (InTurn-zero Closes);
-  told = Reports-none (InTurn Closes 0) _ _ _ refl (InTurn-zero Closes);
-}
+loop-k-init g c =
+    let w = (ways g.H.Hub.accepts g.H.Hub.reads g.H.Hub.writes g.H.Hub.closes g.H.Hub.fault_count) in
+    let from : g.row.H.Denot × List (Option (Seat g.row.H-Conn.Denot)) = (c.args.hub.now, c.args.seats.now) in
+    Reports-zero (AtSeat (Closes w)) from c.args.session.now (g.W.Write.contents c.args.report.now) (λ d. InTurn-zero (AtSeat (Closes w)) from (moment d c.args.session.now))
 
 pub loop-k-preserved : goal.loop-k-preserved
 loop-k-preserved g c =
-    let k = c.loop-k.k in
-    let before = c.loop-k.invariant in
-    let own = c.in_ok-close_seat.ensures in
-    record {
-      taken = Takes-then (InTurn Closes k) (Closes (k + 1)) (InTurn Closes (k + 1)) _ _ _ before.taken own.taken (InTurn-more Closes k);
-      told = Reports-then (InTurn Closes k) (Closes (k + 1)) (InTurn Closes (k + 1)) _ _ _ _ _ _ before.told own.told (InTurn-more Closes k);
-    }
+    let w = (ways g.H.Hub.accepts g.H.Hub.reads g.H.Hub.writes g.H.Hub.closes g.H.Hub.fault_count) in
+    close-next w c.loop-k.k c.args.hub.now c.loop-k.hub c.close_seat.new.hub c.args.seats.now c.loop-k.seats (get_or c.loop-k.seats c.loop-k.k c.index-seats-k.result) c.close_seat.new.seat _ _ _ _ _ _
+    (get_or_default c.loop-k.seats c.loop-k.k c.index-seats-k.result None (subst (λ n. c.loop-k.k < n) (sym c.loop-k.auto.seats) c.loop-k-test.true))
+    c.loop-k.invariant c.in_ok-close_seat.ensures.told
 
-pub returns-in_err-close_seat-clause-taken : goal.returns-in_err-close_seat-clause-taken
-returns-in_err-close_seat-clause-taken g c =
-    let k = c.loop-k.k in
-    let within : k + 1 ≤ 32 = omega (arith, c.requires) in
-    Takes-then (InTurn Closes k) (Closes (k + 1)) (InTurn Closes 32) _ _ _ c.loop-k.invariant.taken c.in_err-close_seat.ensures.taken
-    (λ a b closed own. InTurn-all Closes (k + 1) 32 _ within closes-none (InTurn-more Closes k a b closed own))
-
-pub returns-clause-taken : goal.returns-clause-taken
-returns-clause-taken g c =
-    let all : c.loop-k.k ≡ 32 = omega (arith, c.requires) in
-    Takes-is (InTurn Closes) c.loop-k.k 32 _ _ all c.loop-k.invariant.taken
+pub returns-in_err-close_seat-clause-begun : goal.returns-in_err-close_seat-clause-begun
+returns-in_err-close_seat-clause-begun g c =
+    let w = (ways g.H.Hub.accepts g.H.Hub.reads g.H.Hub.writes g.H.Hub.closes g.H.Hub.fault_count) in
+    let within : c.loop-k.k ≤ 32 = omega (arith, c.requires) in
+    let kept = c.in_err-close_seat.ensures.kept in
+    on-err c.from_residual.result (
+      c.loop-k.k,
+      within,
+      close-kept w c.loop-k.k c.args.hub.now c.loop-k.hub c.close_seat.new.hub c.args.seats.now c.loop-k.seats (get_or c.loop-k.seats c.loop-k.k c.index-seats-k.result) c.close_seat.new.seat
+          c.args.session.now c.loop-k.session c.close_seat.new.session _ _
+          (get_or_default c.loop-k.seats c.loop-k.k c.index-seats-k.result None (subst (λ n. c.loop-k.k < n) (sym c.loop-k.auto.seats) c.loop-k-test.true))
+          kept.0 kept.1 kept.2 c.loop-k.invariant,
+    )
 
 pub returns-clause-told : goal.returns-clause-told
 returns-clause-told g c =
+    let w = (ways g.H.Hub.accepts g.H.Hub.reads g.H.Hub.writes g.H.Hub.closes g.H.Hub.fault_count) in
     let all : c.loop-k.k ≡ 32 = omega (arith, c.requires) in
-    Reports-is (InTurn Closes) c.loop-k.k 32 _ _ _ _ all c.loop-k.invariant.told
+    Reports-is (λ n. InTurn (AtSeat (Closes w)) n (c.args.hub.now, c.args.seats.now) (c.loop-k.hub, c.loop-k.seats)) c.loop-k.k 32 _ _ _ _ all c.loop-k.invariant

@@ -1,19 +1,14 @@
-use Rattle.std.proofs.Common.{◌+◌, refl}
-use Rattle.wl_server.specs.Acting.{InTurn}
-use Rattle.wl_server.specs.Phases.{Fills, Puts}
-use Rattle.wl_server.proofs.Taking.{InTurn-more, InTurn-zero, Takes-none, Takes-then, Takes-weaker}
+use Rattle.wl_recording.specs.Side.{files_of}
+use Rattle.wl_server.proofs.Pieces.{filled-all, filled-more, filled-none}
 use Rattle.wl_server.proofs.filling.fill_client.Goals as goal
 
-pub loop-before-init : goal.loop-before-init
-loop-before-init g c = Takes-none (InTurn (Puts c.args.client) 0) _ _ refl (InTurn-zero (Puts c.args.client))
+pub loop-store-init : goal.loop-store-init
+loop-store-init g c = filled-none (files_of g.S.SideFiles.opens g.S.SideFiles.gives g.S.SideFiles.fault_count) c.args.client c.args.number c.args.side.now c.args.session.now
 
-pub loop-before-preserved : goal.loop-before-preserved
-loop-before-preserved g c =
-    let n = c.loop-before.before in
-    let Own = Puts c.args.client in
-    Takes-then (InTurn Own n) (Own (n + 1)) (InTurn Own (n + 1)) _ _ _ c.loop-before.invariant c.fill_store.ensures (InTurn-more Own n)
+pub loop-store-preserved : goal.loop-store-preserved
+loop-store-preserved g c =
+    filled-more (files_of g.S.SideFiles.opens g.S.SideFiles.gives g.S.SideFiles.fault_count) c.args.client c.args.number c.loop-store.last c.in-Some.store c.args.side.now c.loop-store.side c.fill_store.new.side c.args.session.now c.loop-store.session c.fill_store.new.session c.in-Some.ensures.next c.loop-store.invariant c.fill_store.ensures
 
 pub returns : goal.returns
 returns g c =
-    let n = c.loop-before.before in
-    Takes-weaker (InTurn (Puts c.args.client) n) (Fills c.args.client) _ _ c.loop-before.invariant (λ a filled. (n, filled))
+    filled-all (files_of g.S.SideFiles.opens g.S.SideFiles.gives g.S.SideFiles.fault_count) c.args.client c.args.number c.loop-store.last c.args.side.now c.loop-store.side c.args.session.now c.loop-store.session c.in_default.ensures.next c.loop-store.invariant

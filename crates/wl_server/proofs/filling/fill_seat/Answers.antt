@@ -1,11 +1,12 @@
-use Rattle.std.proofs.Common.{refl}
-use Rattle.wl_server.specs.Phases.{Fills}
-use Rattle.wl_server.proofs.Taking.{Takes-none}
-use Rattle.wl_server.proofs.Turning.{fills-none}
+use Rattle.wl_recording.specs.Side.{files_of}
+use Rattle.wl_server.proofs.Pieces.{fill-idle, fill-none, fill-sent}
 use Rattle.wl_server.proofs.filling.fill_seat.Goals as goal
 
+pub returns-then-seat : goal.returns-then-seat
+returns-then-seat g c = fill-sent (files_of g.S.SideFiles.opens g.S.SideFiles.gives g.S.SideFiles.fault_count) c.args.client c.args.seat.now c.in-Some.seat c.args.side.now c.fill_client.new.side c.args.session.now c.fill_client.new.session c.in-Some.is c.if-seat.true c.fill_client.ensures
+
 pub returns-else-seat : goal.returns-else-seat
-returns-else-seat g c = Takes-none (Fills c.args.client) _ _ refl (fills-none c.args.client)
+returns-else-seat g c = fill-idle (files_of g.S.SideFiles.opens g.S.SideFiles.gives g.S.SideFiles.fault_count) c.args.client c.args.seat.now c.in-Some.seat c.args.side.now c.args.session.now c.in-Some.is c.if-seat.false
 
 pub returns-in_default : goal.returns-in_default
-returns-in_default g c = Takes-none (Fills c.args.client) _ _ refl (fills-none c.args.client)
+returns-in_default g c = fill-none (files_of g.S.SideFiles.opens g.S.SideFiles.gives g.S.SideFiles.fault_count) c.args.client c.args.seat.now c.args.side.now c.args.session.now c.in_default.is

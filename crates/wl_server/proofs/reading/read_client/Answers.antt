@@ -1,27 +1,26 @@
-use Rattle.std.proofs.Common.{◌≤◌, ◌+◌, true, false, refl, arith}
-use Rattle.wl_server.specs.Phases.{Reads, ReadsOnce}
-use Rattle.wl_server.proofs.Pieces.{Fed, fed-all, fed-last, fed-more, fed-none}
-use Rattle.wl_server.proofs.Taking.{Takes-is, Takes-none, Takes-then, Takes-weaker}
+use Rattle.std.proofs.Common.{◌≡◌, true, false, arith}
+use Rattle.wl_server.specs.Phases.{ReadsOnce}
+use Rattle.wl_server.specs.Ways.{ways}
+use Rattle.wl_server.proofs.FedPieces.{fed-all, fed-last, fed-more, fed-none}
+use Rattle.wl_server.proofs.Taking.{Takes-is}
 use Rattle.wl_server.proofs.reading.read_client.Goals as goal
 
 pub loop-before-init : goal.loop-before-init
-loop-before-init g c = Takes-none (Fed c.args.client 0) _ _ refl (fed-none c.args.client)
+loop-before-init g c = fed-none (ways g.H.Hub.accepts g.H.Hub.reads g.H.Hub.writes g.H.Hub.closes g.H.Hub.fault_count) c.args.client (c.args.hub.now, record c.args.seat.now { has_sent = false }) c.args.session.now
 
 pub loop-before-preserved : goal.loop-before-preserved
 loop-before-preserved g c =
-    let n = c.loop-before.before in
-    Takes-then (Fed c.args.client n) (ReadsOnce c.args.client true) (Fed c.args.client (n + 1)) _ _ _ c.loop-before.invariant
-    (Takes-is (ReadsOnce c.args.client) c.read_once.result true _ _ c.if-not-read_once.false c.read_once.ensures) (fed-more c.args.client n)
+    let w = ways g.H.Hub.accepts g.H.Hub.reads g.H.Hub.writes g.H.Hub.closes g.H.Hub.fault_count in
+    fed-more w c.args.client c.loop-before.before (c.args.hub.now, record c.args.seat.now { has_sent = false }) (c.loop-before.hub, c.loop-before.seat) (c.read_once.new.hub, c.read_once.new.seat) c.args.session.now c.loop-before.session c.read_once.new.session c.loop-before.invariant
+    (Takes-is (λ once. ReadsOnce w c.args.client once (c.loop-before.hub, c.loop-before.seat) (c.read_once.new.hub, c.read_once.new.seat)) c.read_once.result true c.loop-before.session c.read_once.new.session c.if-not-read_once.false c.read_once.ensures)
 
 pub returns-then-not-read_once : goal.returns-then-not-read_once
 returns-then-not-read_once g c =
-    let n = c.loop-before.before in
-    Takes-then (Fed c.args.client n) (ReadsOnce c.args.client false) (Reads c.args.client) _ _ _ c.loop-before.invariant
-    (Takes-is (ReadsOnce c.args.client) c.read_once.result false _ _ c.if-not-read_once.true c.read_once.ensures)
-    (λ a b. fed-last c.args.client n a b c.loop-before-test.true)
+    let w = ways g.H.Hub.accepts g.H.Hub.reads g.H.Hub.writes g.H.Hub.closes g.H.Hub.fault_count in
+    fed-last w c.args.client c.loop-before.before (c.args.hub.now, c.args.seat.now) (c.loop-before.hub, c.loop-before.seat) (c.read_once.new.hub, c.read_once.new.seat) c.args.session.now c.loop-before.session c.read_once.new.session c.loop-before-test.true c.loop-before.invariant
+    (Takes-is (λ once. ReadsOnce w c.args.client once (c.loop-before.hub, c.loop-before.seat) (c.read_once.new.hub, c.read_once.new.seat)) c.read_once.result false c.loop-before.session c.read_once.new.session c.if-not-read_once.true c.read_once.ensures)
 
 pub returns : goal.returns
 returns g c =
-    let n = c.loop-before.before in
-    let within : n ≤ 16 = omega arith in
-    Takes-weaker (Fed c.args.client n) (Reads c.args.client) _ _ c.loop-before.invariant (λ a. fed-all c.args.client n a within)
+    let all : c.loop-before.before ≡ 16 = omega arith in
+    fed-all (ways g.H.Hub.accepts g.H.Hub.reads g.H.Hub.writes g.H.Hub.closes g.H.Hub.fault_count) c.args.client c.loop-before.before (c.args.hub.now, c.args.seat.now) (c.loop-before.hub, c.loop-before.seat) c.args.session.now c.loop-before.session all c.loop-before.invariant

@@ -15,13 +15,13 @@ use Rattle.wl_server.proofs.Telling.{Tells-one, ok-kept, painted-none, painted-s
 use Rattle.wl_server.proofs.showing.show.Goals as goal
 
 pub returns-then-count-eq0-clause-taken : goal.returns-then-count-eq0-clause-taken
-returns-then-count-eq0-clause-taken g c = Takes-one (Shows c.args.time) _ _ _ _ c.tick-frame.follows.holds-at-none.2 refl
+returns-then-count-eq0-clause-taken g c = Takes-one (Shows c.args.time) _ _ _ _ c.tick-frame.follows.holds-at-none.2 (λ d e es agrees parts. refl)
 
 pub returns-in_err-map_err-clause-taken : goal.returns-in_err-map_err-clause-taken
-returns-in_err-map_err-clause-taken g c = Takes-one (Shows c.args.time) _ _ _ _ c.tick-frame.follows.holds-at-none.2 refl
+returns-in_err-map_err-clause-taken g c = Takes-one (Shows c.args.time) _ _ _ _ c.tick-frame.follows.holds-at-none.2 (λ d e es agrees parts. refl)
 
 pub returns-clause-taken : goal.returns-clause-taken
-returns-clause-taken g c = Takes-one (Shows c.args.time) _ _ _ _ c.tick-frame.follows.holds-at-none.2 refl
+returns-clause-taken g c = Takes-one (Shows c.args.time) _ _ _ _ c.tick-frame.follows.holds-at-none.2 (λ d e es agrees parts. refl)
 
 -- ---- what is told
 
@@ -29,7 +29,7 @@ pub returns-then-count-eq0-clause-told : goal.returns-then-count-eq0-clause-told
 returns-then-count-eq0-clause-told g c =
     let damage = c.tick-frame.ensures.damage in
     let counts = c.count-count.ensures ∙ ap (λ (m : Damaged). count_points m.width m.height (has m)) damage in
-    Tells-one (Shows c.args.time) (Tick c.args.time) gave.Tick _ _ _ _ _ _ (λ hs is. is) c.tick-frame.follows.holds-at-none.2 refl
+    Tells-one (Shows c.args.time) (Tick c.args.time) gave.Tick _ _ _ _ _ _ (λ hs is. is) c.tick-frame.follows.holds-at-none.2 (λ d e es. refl)
     (λ d e agrees. (
       subst (Appends (g.W.Write.contents c.args.report.now) (g.W.Write.contents c.args.report.now)) (sym (painted-none _ _ (sym counts ∙ c.if-count-eq0.true))) (Appends-nil _),
       subst (Appends (images_in g.P.Write.contents c.args.ppm.now) (images_in g.P.Write.contents c.args.ppm.now)) (sym (painted-none _ _ (sym counts ∙ c.if-count-eq0.true))) (Appends-nil _),
@@ -42,7 +42,7 @@ returns-clause-told g c =
     let counts = c.count-count.ensures ∙ ap (λ (m : Damaged). count_points m.width m.height (has m)) c.tick-frame.ensures.damage in
     let some : 0 < c.count-count.result = omega arith in
     on_ok_weaker c.write_image.result
-    (λ shown. Tells-one (Shows c.args.time) (Tick c.args.time) gave.Tick _ _ _ _ _ _ (λ hs is. is) next.2 refl
+    (λ shown. Tells-one (Shows c.args.time) (Tick c.args.time) gave.Tick _ _ _ _ _ _ (λ hs is. is) next.2 (λ d e es. refl)
     (λ d e agrees. (
       subst (Appends (g.W.Write.contents c.args.report.now) (g.W.Write.contents c.write_frame.new.writer)) (sym (painted-some _ _ (subst (λ (n : ℕ). 0 < n) counts some)))
           (subst (λ (n : ℕ). Appends (g.W.Write.contents c.args.report.now) (g.W.Write.contents c.write_frame.new.writer) (frame_line c.args.time n)) counts wrote),

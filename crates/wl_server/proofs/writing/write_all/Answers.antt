@@ -1,18 +1,22 @@
-use Rattle.std.proofs.Common.{◌≡◌, ◌+◌, refl, arith}
+use Rattle.std.proofs.Common.{◌≡◌, ◌<◌, None, get_or, subst, sym, arith}
+use Rattle.std.proofs.lemmas.List.{get_or_default}
 use Rattle.wl_server.specs.Acting.{InTurn}
-use Rattle.wl_server.specs.Phases.{Writes}
-use Rattle.wl_server.proofs.Taking.{InTurn-more, InTurn-zero, Takes-is, Takes-none, Takes-then}
+use Rattle.wl_server.specs.Phases.{AtSeat, Writes}
+use Rattle.wl_server.specs.Ways.{ways}
+use Rattle.wl_server.proofs.Places.{next-seat}
+use Rattle.wl_server.proofs.Taking.{Takes-is, Takes-zero}
 use Rattle.wl_server.proofs.writing.write_all.Goals as goal
 
 pub loop-k-init : goal.loop-k-init
-loop-k-init g c = Takes-none (InTurn Writes 0) _ _ refl (InTurn-zero Writes)
+loop-k-init g c = Takes-zero (AtSeat (Writes (ways g.H.Hub.accepts g.H.Hub.reads g.H.Hub.writes g.H.Hub.closes g.H.Hub.fault_count))) (c.args.hub.now, c.args.seats.now) c.args.session.now
 
 pub loop-k-preserved : goal.loop-k-preserved
 loop-k-preserved g c =
-    let k = c.loop-k.k in
-    Takes-then (InTurn Writes k) (Writes (k + 1)) (InTurn Writes (k + 1)) _ _ _ c.loop-k.invariant c.write_seat.ensures (InTurn-more Writes k)
+    next-seat (Writes (ways g.H.Hub.accepts g.H.Hub.reads g.H.Hub.writes g.H.Hub.closes g.H.Hub.fault_count)) c.loop-k.k c.args.hub.now c.loop-k.hub c.write_seat.new.hub c.args.seats.now c.loop-k.seats (get_or c.loop-k.seats c.loop-k.k c.index-seats-k.result) c.write_seat.new.seat c.args.session.now c.loop-k.session c.write_seat.new.session
+    (get_or_default c.loop-k.seats c.loop-k.k c.index-seats-k.result None (subst (λ n. c.loop-k.k < n) (sym c.loop-k.auto.seats) c.loop-k-test.true))
+    c.loop-k.invariant c.write_seat.ensures
 
 pub returns : goal.returns
 returns g c =
     let all : c.loop-k.k ≡ 32 = omega (arith, c.requires) in
-    Takes-is (InTurn Writes) c.loop-k.k 32 _ _ all c.loop-k.invariant
+    Takes-is (λ n. InTurn (AtSeat (Writes (ways g.H.Hub.accepts g.H.Hub.reads g.H.Hub.writes g.H.Hub.closes g.H.Hub.fault_count))) n (c.args.hub.now, c.args.seats.now) (c.loop-k.hub, c.loop-k.seats)) c.loop-k.k 32 c.args.session.now c.loop-k.session all c.loop-k.invariant

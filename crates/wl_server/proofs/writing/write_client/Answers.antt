@@ -1,13 +1,34 @@
-use Rattle.std.proofs.Common.{refl, inl, inr}
-use Rattle.wl_server.specs.Phases.{Writes}
-use Rattle.wl_server.proofs.Taking.{Takes-none, Takes-one, Takes-two}
+use Rattle.std.proofs.Common.{true, false, refl}
+use Rattle.wl_server.specs.Ways.{ways}
+use Rattle.wl_server.proofs.SentBytes.{delivered-as, kept-gone, kept-on, write-gone, write-nothing, write-some}
 use Rattle.wl_server.proofs.writing.write_client.Goals as goal
 
 pub returns-in_default : goal.returns-in_default
-returns-in_default g c = Takes-none (Writes c.args.client) _ _ refl (inl refl)
+returns-in_default g c =
+    write-nothing (ways g.H.Hub.accepts g.H.Hub.reads g.H.Hub.writes g.H.Hub.closes g.H.Hub.fault_count) c.args.client _ _ c.in_default.ensures
 
 pub returns-then-delivered : goal.returns-then-delivered
-returns-then-delivered g c = Takes-two (Writes c.args.client) _ _ _ _ _ _ _ c.sent.ensures.course c.gone.ensures.course (inr (_, inr refl))
+returns-then-delivered g c =
+    write-gone (ways g.H.Hub.accepts g.H.Hub.reads g.H.Hub.writes g.H.Hub.closes g.H.Hub.fault_count) c.args.client _ c.in-Some.bytes.now _ _ _ _ _ _ _ c.in-Some.ensures c.sent.ensures.course c.gone.ensures.course
+    (record {
+      sent = c.deliver-delivered.result.bytes;
+      is_gone = true;
+      conn = c.deliver-delivered.new.conn;
+      delivers = delivered-as (ways g.H.Hub.accepts g.H.Hub.reads g.H.Hub.writes g.H.Hub.closes g.H.Hub.fault_count) _ _ _ _ _ _ c.deliver-delivered.result.is_gone true c.if-delivered.true c.deliver-delivered.ensures.written;
+      counts = c.deliver-delivered.ensures.fault c.if-delivered.true;
+      kept = kept-gone c.args.seat.now c.deliver-delivered.new.conn;
+      acts_are = refl;
+    })
 
 pub returns-else-delivered : goal.returns-else-delivered
-returns-else-delivered g c = Takes-one (Writes c.args.client) _ _ _ _ c.sent.ensures.course (inr (_, inl refl))
+returns-else-delivered g c =
+    write-some (ways g.H.Hub.accepts g.H.Hub.reads g.H.Hub.writes g.H.Hub.closes g.H.Hub.fault_count) c.args.client _ c.in-Some.bytes.now _ _ _ _ _ c.in-Some.ensures c.sent.ensures.course
+    (record {
+      sent = c.deliver-delivered.result.bytes;
+      is_gone = false;
+      conn = c.deliver-delivered.new.conn;
+      delivers = delivered-as (ways g.H.Hub.accepts g.H.Hub.reads g.H.Hub.writes g.H.Hub.closes g.H.Hub.fault_count) _ _ _ _ _ _ c.deliver-delivered.result.is_gone false c.if-delivered.false c.deliver-delivered.ensures.written;
+      counts = c.deliver-delivered.ensures.calm c.if-delivered.false;
+      kept = kept-on c.args.seat.now c.deliver-delivered.new.conn;
+      acts_are = refl;
+    })

@@ -1,0 +1,74 @@
+-- A client is read.
+use Rattle.std.proofs.Common.{◌≡◌, ◌<◌, ◌+◌, ℕ, true, false, List, [], ◌∷◌, ◌++◌, map, length, refl, ap, sym, subst, inl, inr, ◌∙◌, append-nil, length-append}
+use Rattle.std.proofs.lemmas.List.{map-append}
+use Rattle.wl_plain.specs.Act.{Act, Feed, Leave}
+use Rattle.wl_plain.specs.declared.answers.Done.{Done}
+use Rattle.wl_session.specs.Course.{TakesCourse}
+use Rattle.wl_session.specs.View.{SessionView}
+use Rattle.wl_server.specs.Acting.{Stretch, Takes}
+use Rattle.wl_server.specs.Phases.{Gets, GetsAll, GetsNone, Link, ReadsClient, ReadsOnce}
+use Rattle.wl_server.specs.Ways.{Ways}
+use Rattle.wl_server.proofs.Taking.{Takes-none, Takes-one, Takes-then, Takes-weaker}
+
+-- ---- one read
+
+pub read-fed : {H C : Type 0} (w : Ways H C) (client : ℕ) (piece : List ℕ) (done : Done) (from to : Link H C) (old new : SessionView) → TakesCourse (Feed client piece) done old new
+    → Gets w piece from to → Takes (ReadsOnce w client true from to) old new
+read-fed w client piece done from to old new course gets =
+    Takes-one (ReadsOnce w client true from to) (Feed client piece) done old new course (λ d e es agrees parts. (piece, gets, refl))
+
+pub read-later : {H C : Type 0} (w : Ways H C) (client : ℕ) (from to : Link H C) (old new : SessionView) → new ≡ old → GetsNone w client [] from to
+    → Takes (ReadsOnce w client false from to) old new
+read-later w client from to old new same gets = Takes-none (ReadsOnce w client false from to) old new same (λ d agrees. gets)
+
+pub read-gone : {H C : Type 0} (w : Ways H C) (client : ℕ) (done : Done) (from to : Link H C) (old new : SessionView) → TakesCourse (Leave client) done old new
+    → GetsNone w client (Leave client ∷ []) from to → Takes (ReadsOnce w client false from to) old new
+read-gone w client done from to old new course gets =
+    Takes-one (ReadsOnce w client false from to) (Leave client) done old new course (λ d e es agrees parts. gets)
+
+-- ---- read after read
+
+-- so many reads fed a piece each
+abbrev pub FedSoFar : {H C : Type 0} → Ways H C → ℕ → ℕ → Link H C → Link H C → Stretch
+FedSoFar w client n from to start acts events end =
+    (pieces : List (List ℕ)) × GetsAll w from pieces to × (length pieces ≡ n) × (acts ≡ map (Feed client) pieces)
+
+pub fed-none : {H C : Type 0} (w : Ways H C) (client : ℕ) (from : Link H C) (v : SessionView) → Takes (FedSoFar w client 0 from from) v v
+fed-none w client from v = Takes-none (FedSoFar w client 0 from from) v v refl (λ d agrees. ([], GetsAll.none, refl, refl))
+
+pub fed-more : {H C : Type 0} (w : Ways H C) (client n : ℕ) (from mid to : Link H C) (old between new : SessionView) → Takes (FedSoFar w client n from mid) old between
+    → Takes (ReadsOnce w client true mid to) between new → Takes (FedSoFar w client (n + 1) from to) old new
+fed-more w client n from mid to old between new fed once =
+    Takes-then (FedSoFar w client n from mid) (ReadsOnce w client true mid to) (FedSoFar w client (n + 1) from to) old between new fed once
+    (λ start d e a b es fs ad ae leads goes p q.
+    let pieces = p.0 ++ q.0 ∷ [] in
+    let acts : a ++ b ≡ map (Feed client) pieces = rw (p.3, q.2) (sym (map-append (Feed client) p.0 (q.0 ∷ []))) in
+    let count : length pieces ≡ n + 1 = length-append p.0 (q.0 ∷ []) ∙ ap (λ (k : ℕ). k + 1) p.2 in
+    (pieces, GetsAll.more q.0 p.1 q.1, count, acts))
+
+pub fed-last : {H C : Type 0} (w : Ways H C) (client n : ℕ) (from mid to : Link H C) (old between new : SessionView) → n < 16
+    → Takes (FedSoFar w client n (from.0, record from.1 { has_sent = false }) mid) old between → Takes (ReadsOnce w client false mid to) between new
+    → Takes (ReadsClient w client from to) old new
+fed-last w client n from mid to old between new few fed once =
+    Takes-then (FedSoFar w client n (from.0, record from.1 { has_sent = false }) mid) (ReadsOnce w client false mid to) (ReadsClient w client from to) old between new fed once
+    (λ start d e a b es fs ad ae leads goes p q. record {
+      pieces = p.0;
+      last = b;
+      mid = mid;
+      gets = p.1;
+      stops = inr (subst (λ (k : ℕ). k < 16) (sym p.2) few, q);
+      acts_are = ap (λ (front : List Act). front ++ b) p.3;
+    })
+
+pub fed-all : {H C : Type 0} (w : Ways H C) (client n : ℕ) (from to : Link H C) (old new : SessionView) → n ≡ 16
+    → Takes (FedSoFar w client n (from.0, record from.1 { has_sent = false }) to) old new → Takes (ReadsClient w client from to) old new
+fed-all w client n from to old new all fed =
+    Takes-weaker (FedSoFar w client n (from.0, record from.1 { has_sent = false }) to) (ReadsClient w client from to) old new fed
+    (λ d e a es ad ae runs p. record {
+      pieces = p.0;
+      last = [];
+      mid = to;
+      gets = p.1;
+      stops = inl (p.2 ∙ all, refl, refl);
+      acts_are = p.3 ∙ sym (append-nil (map (Feed client) p.0));
+    })

@@ -1,0 +1,133 @@
+//! What is written of a turn, and turns whose writers fail.
+
+use crate::memory::{Client, MemoryHub, OneFile};
+use std::alloc::Global;
+use std::io::{self, Write};
+use wl_server::{Connections, Service, TurnError, turn};
+use wl_session::{Config, Rgb, Session};
+
+/// A window of 2 by 1 black points: get_registry, binds of wl_compositor, wl_shm and xdg_wm_base, a surface and its toplevel, its first commit,
+/// the ack of its configure, a pool of 8 bytes with a buffer of them, and the commit that shows it.
+const WINDOW: &[u8] = b"\x01\0\0\0\x01\0\x0c\0\x02\0\0\0\
+\x02\0\0\0\0\0(\0\x01\0\0\0\x0e\0\0\0wl_compositor\0\0\0\x01\0\0\0\x03\0\0\0\
+\x02\0\0\0\0\0 \0\x03\0\0\0\x07\0\0\0wl_shm\0\0\x01\0\0\0\x04\0\0\0\
+\x02\0\0\0\0\0$\0\x06\0\0\0\x0c\0\0\0xdg_wm_base\0\x01\0\0\0\x05\0\0\0\
+\x03\0\0\0\0\0\x0c\0\x06\0\0\0\
+\x05\0\0\0\x02\0\x10\0\x07\0\0\0\x06\0\0\0\
+\x07\0\0\0\x01\0\x0c\0\x08\0\0\0\
+\x06\0\0\0\x06\0\x08\0\
+\x07\0\0\0\x04\0\x0c\0\x01\0\0\0\
+\x04\0\0\0\0\0\x10\0\x09\0\0\0\x08\0\0\0\
+\x09\0\0\0\0\0 \0\x0a\0\0\0\0\0\0\0\x02\0\0\0\x01\0\0\0\x08\0\0\0\x01\0\0\0\
+\x06\0\0\0\x01\0\x14\0\x0a\0\0\0\0\0\0\0\0\0\0\0\
+\x06\0\0\0\x06\0\x08\0";
+
+/// An output of 2 by 1 points, whose colour without windows is (1, 2, 3).
+const OUTPUT: Config = Config {
+    width: 2,
+    height: 1,
+    background: Rgb { r: 1, g: 2, b: 3 },
+};
+
+/// The image of that output where the window covers it.
+const IMAGE: &[u8] = b"P6\n2 1\n255\n\0\0\0\0\0\0";
+
+/// What is told of the client, and of the frame that shows its window.
+const TOLD: &[u8] = b"client 1\nframe 1 2\n";
+
+/// Takes so many bytes, and then fails.
+#[derive(Drop)]
+struct Failing {
+    room: usize,
+}
+
+impl Write for Failing {
+    fn write(&mut self, buf: &[u8]) -> io::Result<usize> {
+        if self.room == 0 {
+            return Err(io::ErrorKind::BrokenPipe.into());
+        }
+        let count = buf.len().min(self.room);
+        self.room -= count;
+        Ok(count)
+    }
+
+    fn flush(&mut self) -> io::Result<()> {
+        Ok(())
+    }
+}
+
+/// What the turns of a session with these writers are answered, where a client makes the window, and the service after them. It ends with the
+/// first that isn't `Ok`. None where there is no memory.
+fn takes<W: Write + Drop, P: Write + Drop>(
+    alloc: Global,
+    report: W,
+    ppm: Option<P>,
+    turns: u32,
+) -> Option<(Result<(), TurnError>, Service<Global, W, P>)> {
+    let session = Session::new(alloc, OUTPUT).ok()?;
+    let mut service = Service::new(session, Vec::new(alloc), report, ppm);
+    let mut clients = Vec::new(alloc);
+    clients.push(Client::new(alloc, WINDOW)).ok()?;
+    let mut hub = MemoryHub::new(clients, 4096);
+    let mut connections = Connections::new();
+    let mut side = OneFile {
+        name: "2.1",
+        opened: 0,
+    };
+    for time in 1..turns.saturating_add(1) {
+        let answer = turn(&mut hub, &mut service, &mut connections, &mut side, time);
+        if answer.is_err() {
+            return Some((answer, service));
+        }
+    }
+    Some((Ok(()), service))
+}
+
+/// Whether the frame of the first turn alone is told of, and its image is there.
+fn shows_one_image(alloc: Global) -> bool {
+    match takes(alloc, Vec::new(alloc), Some(Vec::new(alloc)), 3) {
+        Some((answer, service)) => {
+            answer == Ok(())
+                && service.report.as_slice() == TOLD
+                && service.ppm.is_some_and(|image| image.as_slice() == IMAGE)
+        }
+        None => false,
+    }
+}
+
+#[test]
+fn a_frame_is_told_of_with_its_image(rt: HostRuntime) {
+    assert!(rt; shows_one_image(rt.alloc()));
+}
+
+/// What turns are answered whose report takes so many bytes.
+fn report_of(alloc: Global, room: usize) -> Option<Result<(), TurnError>> {
+    let (answer, _service) = takes(alloc, Failing { room }, None::<Vec<u8>>, 3)?;
+    Some(answer)
+}
+
+/// What turns are answered whose images take so many bytes.
+fn images_of(alloc: Global, room: usize) -> Option<Result<(), TurnError>> {
+    let (answer, _service) = takes(alloc, Vec::new(alloc), Some(Failing { room }), 3)?;
+    Some(answer)
+}
+
+#[test]
+fn a_writer_that_fails_is_answered(rt: HostRuntime) {
+    for room in 0..TOLD.len() {
+        assert_eq!(rt;
+            report_of(rt.alloc(), room),
+            Some(Err(TurnError::Write)),
+            "{room}"
+        );
+    }
+    assert_eq!(rt; report_of(rt.alloc(), TOLD.len()), Some(Ok(())));
+    for room in 0..IMAGE.len() {
+        assert_eq!(rt;
+            images_of(rt.alloc(), room),
+            Some(Err(TurnError::Write)),
+            "{room}"
+        );
+    }
+    assert_eq!(rt; images_of(rt.alloc(), IMAGE.len()), Some(Ok(())));
+}

@@ -1,0 +1,5 @@
+use Rattle.std.proofs.Common.{rules}
+use Rattle.wl_session.proofs.sessions.Session.next_store.Goals as goal
+
+pub returns-clause-next : goal.returns-clause-next
+returns-clause-next g c = search rules
