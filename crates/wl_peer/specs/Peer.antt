@@ -156,6 +156,7 @@ all_removed ids p = fold (λ p id. removed id p) p ids
 abbrev pub changed_region : ℕ → Change → Peer → Peer
 changed_region id change p = record p { regions = with_id id (option_map (λ changes. changes ++ change ∷ []) (p.regions id)) p.regions }
 
+-- of a positioner this is set, in place of what was set before
 abbrev pub set_positioner : ℕ → Setting → Peer → Peer
 set_positioner id setting p =
     record p { positioners = with_id id (option_map (λ values. with_setting setting values) (p.positioners id)) p.positioners }

@@ -13,7 +13,8 @@ use Rattle.wl_store.specs.Stores.{Stock, can_hold, create_refusal}
 use Rattle.wl_peer.specs.declared.actions.Action.{Action}
 use Rattle.wl_peer.specs.declared.refusals.Refusal.{Refusal}
 use Rattle.wl_peer.specs.Buffers.{Buffer, Laid}
-use Rattle.wl_peer.specs.Judgement.{Known, action_of, binds, buffer_destroyed, buffer_laid, changed_unless_full, pool_action, pool_created, pool_resized, positioner_action, region_action, set_if_allowed}
+use Rattle.wl_peer.specs.Judgement.{Known, action_of, binds, buffer_destroyed, buffer_laid, changed_unless_full, pool_action, pool_created, pool_resized, region_action}
+use Rattle.wl_peer.specs.Judgement.{positioner_action, set_if_allowed}
 use Rattle.wl_proto.specs.declared.wl_region.WlRegionRequest.{WlRegionRequest}
 use Rattle.wl_proto.specs.declared.wl_region.WlRegionRequest.TheVariants as region
 use Rattle.wl_proto.specs.declared.xdg_positioner.XdgPositionerRequest.{XdgPositionerRequest}
