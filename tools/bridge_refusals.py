@@ -36,7 +36,7 @@ CAUSES = {
     ("xdg_popup", "invalid_grab"): "xdg_popup.grab",
 }
 # Requests that the server doesn't serve yet: it refuses them as passing a limit.
-UNSERVED = ("wl_seat.get_pointer", "xdg_wm_base.create_positioner", "xdg_surface.get_popup")
+UNSERVED = ("wl_seat.get_pointer", "xdg_surface.get_popup")
 MAX_CLIENT_ID = 0xFEFFFFFF
 
 

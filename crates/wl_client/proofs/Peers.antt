@@ -28,7 +28,11 @@ use Rattle.wl_peer.specs.Buffers.{Buffer}
 use Rattle.wl_peer.specs.Objects.{ById, Object, Objects, held_at, nothing, objects_in, object_of, with_id}
 use Rattle.wl_peer.specs.Told.{Output, Said, bind_told, code_number, display_error, error_told, said_bytes}
 use Rattle.wl_peer.specs.Judgement.{Known, buffer_created, layout_refused}
-use Rattle.wl_peer.specs.Peer.{Peer, changed_region, ended, has_room, known_of, made, newcomer, no_stores, queued, removed, with_rest, IsUnqueuedFor, QueuesOr, Queues, Errs, LacksMemory, WantsOr}
+use Rattle.wl_peer.specs.Peer.{Peer, changed_region, ended, has_room, known_of, made, newcomer, no_stores, queued, removed, set_positioner, with_rest, IsUnqueuedFor, QueuesOr, Queues, Errs}
+use Rattle.wl_peer.specs.Peer.{LacksMemory, WantsOr}
+use Rattle.wl_xdg_state.specs.Positioner.{Positioner}
+use Rattle.wl_xdg_state.specs.Settings.{with_setting}
+use Rattle.wl_xdg_state.specs.declared.settings.Setting.{Setting}
 use Rattle.wl_client.specs.Agreement.{IsCount, IsPeer, IsRegion, known_in, most_counted, output_of}
 
 pub IsPeer-queued : (v : ClientView) (p : Peer) (e : Said) → IsPeer v p → IsPeer (record v { unsent = v.unsent ++ said_bytes e }) (queued e p)
@@ -41,6 +45,7 @@ IsPeer-queued v p e is = record {
   regions = is.regions;
   pools = is.pools;
   buffers = is.buffers;
+  positioners = is.positioners;
   stores = is.stores;
   serial = is.serial;
   unsent = ap (λ u. u ++ said_bytes e) is.unsent;
@@ -58,6 +63,7 @@ IsPeer-ended v p cause is = record {
   regions = λ id. tt;
   pools = refl;
   buffers = refl;
+  positioners = refl;
   stores = refl;
   serial = is.serial;
   unsent = is.unsent;
@@ -92,6 +98,7 @@ IsPeer-with_rest v p rest is = record {
   regions = is.regions;
   pools = is.pools;
   buffers = is.buffers;
+  positioners = is.positioners;
   stores = is.stores;
   serial = is.serial;
   unsent = is.unsent;
@@ -121,6 +128,7 @@ IsPeer-made v p id entry new holds longer is = record {
   regions = is.regions;
   pools = is.pools;
   buffers = is.buffers;
+  positioners = is.positioners;
   stores = is.stores;
   serial = is.serial;
   unsent = is.unsent;
@@ -148,6 +156,7 @@ IsPeer-removed v p id was new found holds shorter is =
       regions = is.regions;
       pools = is.pools;
       buffers = is.buffers;
+      positioners = is.positioners;
       stores = is.stores;
       serial = is.serial;
       unsent = is.unsent;
@@ -179,6 +188,7 @@ IsPeer-regions v p old new id area changes same updates region is =
       regions = λ other. subst (λ (held : ById Area). IsRegion (held other) (with_id id changes p.regions other)) (sym now) (at other (other == id));
       pools = is.pools;
       buffers = is.buffers;
+      positioners = is.positioners;
       stores = is.stores;
       serial = is.serial;
       unsent = is.unsent;
@@ -201,6 +211,7 @@ IsPeer-pools v p old new id store same updates is = record {
   regions = is.regions;
   pools = held_at-updates old new v.pools id store same updates ∙ ap (λ (held : ById ℕ). with_id id store held) is.pools;
   buffers = is.buffers;
+  positioners = is.positioners;
   stores = is.stores;
   serial = is.serial;
   unsent = is.unsent;
@@ -219,12 +230,73 @@ IsPeer-buffers v p old new id buffer same updates is = record {
   regions = is.regions;
   pools = is.pools;
   buffers = held_at-updates old new v.buffers id buffer same updates ∙ ap (λ (held : ById Buffer). with_id id buffer held) is.buffers;
+  positioners = is.positioners;
   stores = is.stores;
   serial = is.serial;
   unsent = is.unsent;
   rest = is.rest;
   output = is.output;
 }
+
+pub IsPeer-positioners : (v : ClientView) (p : Peer) (old new : BTreeMap ℕ Positioner) (id : ℕ) (values : Option Positioner) → old.entries ≡ v.positioners
+    → UpdatesBy nat_cmp (nat_cmp id) old new values → IsPeer v p → IsPeer (record v { positioners = new.entries }) (record p { positioners = with_id id values p.positioners })
+IsPeer-positioners v p old new id values same updates is = record {
+  status = is.status;
+  «open» = is.open;
+  requests = is.requests;
+  objects = is.objects;
+  held = is.held;
+  regions = is.regions;
+  pools = is.pools;
+  buffers = is.buffers;
+  positioners = held_at-updates old new v.positioners id values same updates ∙ ap (λ (held : ById Positioner). with_id id values held) is.positioners;
+  stores = is.stores;
+  serial = is.serial;
+  unsent = is.unsent;
+  rest = is.rest;
+  output = is.output;
+}
+
+-- this is set of a positioner that is there
+pub positioner-set : (v : ClientView) (p : Peer) (old new : BTreeMap ℕ Positioner) (id : ℕ) (was values : Positioner) (setting : Setting) → old.entries ≡ v.positioners
+    → Some was ≡ held_at old.entries id → UpdatesBy nat_cmp (nat_cmp id) old new (Some values) → values ≡ with_setting setting was → IsPeer v p
+    → IsPeer (record v { positioners = new.entries }) (set_positioner id setting p)
+positioner-set v p old new id was values setting same found updates set is =
+    let there : Some was ≡ p.positioners id =
+    found ∙ ap (λ (m : List (ℕ × Positioner)). held_at m id) same ∙ ap (λ (held : ById Positioner). held id) is.positioners in
+    let becomes : Some values ≡ option_map (λ values. with_setting setting values) (p.positioners id) =
+    ap (λ (values : Positioner). Some values) set ∙ ap (λ (o : Option Positioner). option_map (λ values. with_setting setting values) o) there in
+    IsPeer-positioners v p old new id (option_map (λ values. with_setting setting values) (p.positioners id)) same
+    (subst (λ (o : Option Positioner). UpdatesBy nat_cmp (nat_cmp id) old new o) becomes updates) is
+
+-- nothing is set of one that isn't there
+pub positioner-absent : (v : ClientView) (p : Peer) (id : ℕ) (setting : Setting) → held_at v.positioners id ≡ None → IsPeer v p → IsPeer v (set_positioner id setting p)
+positioner-absent v p id setting none is = record {
+  status = is.status;
+  «open» = is.open;
+  requests = is.requests;
+  objects = is.objects;
+  held = is.held;
+  regions = is.regions;
+  pools = is.pools;
+  buffers = is.buffers;
+  positioners = fun_ext (λ other. at other (other == id) refl);
+  stores = is.stores;
+  serial = is.serial;
+  unsent = is.unsent;
+  rest = is.rest;
+  output = is.output;
+}
+  where
+    gone : p.positioners id ≡ None
+    gone = sym (ap (λ (held : ById Positioner). held id) is.positioners) ∙ none
+
+    at : (other : ℕ) (b : Bool) → (other == id) ≡ b
+        → held_at v.positioners other ≡ (if b then option_map (λ values. with_setting setting values) (p.positioners id) else p.positioners other)
+    at other true e =
+        ap (λ k. held_at v.positioners k) (eqb-true other id e) ∙ none
+        ∙ sym (ap (λ (o : Option Positioner). option_map (λ values. with_setting setting values) o) gone)
+    at other false e = ap (λ (held : ById Positioner). held other) is.positioners
 
 pub IsPeer-stores : (v : ClientView) (p : Peer) (change : Stock → Stock) (new : Stock) → new ≡ change v.stores → IsPeer v p → IsPeer (record v { stores = new }) (record p { stores = change p.stores })
 IsPeer-stores v p change new same is = record {
@@ -236,6 +308,7 @@ IsPeer-stores v p change new same is = record {
   regions = is.regions;
   pools = is.pools;
   buffers = is.buffers;
+  positioners = is.positioners;
   stores = same ∙ ap change is.stores;
   serial = is.serial;
   unsent = is.unsent;
@@ -382,9 +455,9 @@ counted-below kept requests is below = omega arith
 
 -- a client that has just connected
 pub IsPeer-new : (v : ClientView) (output : Output) (entry : Entry) → object_of entry ≡ record { interface = WlDisplay; version = 1 } → v.ended ≡ None → v.refused ≡ None → v.requests ≡ 0
-    → v.serial ≡ 1 → v.rest ≡ [] → v.unsent ≡ [] → HoldsAt [] v.objects 1 (Some entry) → length v.objects ≡ 1 → v.regions ≡ [] → v.pools ≡ [] → v.buffers ≡ [] → v.stores ≡ no_stores
-    → output_of v.output ≡ output → IsPeer v (newcomer output)
-IsPeer-new v output entry display alive unrefused none first rest unsent holds held regions pools buffers stores shown = record {
+    → v.serial ≡ 1 → v.rest ≡ [] → v.unsent ≡ [] → HoldsAt [] v.objects 1 (Some entry) → length v.objects ≡ 1 → v.regions ≡ [] → v.pools ≡ [] → v.buffers ≡ [] → v.positioners ≡ []
+    → v.stores ≡ no_stores → output_of v.output ≡ output → IsPeer v (newcomer output)
+IsPeer-new v output entry display alive unrefused none first rest unsent holds held regions pools buffers positioners stores shown = record {
   status = alive;
   «open» = unrefused;
   requests = none;
@@ -393,6 +466,7 @@ IsPeer-new v output entry display alive unrefused none first rest unsent holds h
   regions = λ id. rw regions tt;
   pools = ap (λ (m : List (ℕ × ℕ)). held_at m) pools;
   buffers = ap (λ (m : List (ℕ × Buffer)). held_at m) buffers;
+  positioners = ap (λ (m : List (ℕ × Positioner)). held_at m) positioners;
   stores = stores;
   serial = first;
   unsent = unsent;
@@ -435,6 +509,7 @@ region-absent v p id change none is = record {
   regions = λ other. at other (other == id) refl;
   pools = is.pools;
   buffers = is.buffers;
+  positioners = is.positioners;
   stores = is.stores;
   serial = is.serial;
   unsent = is.unsent;

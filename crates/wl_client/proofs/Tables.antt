@@ -6,7 +6,7 @@ use Rattle.std.specs.Prelude.{Ok, Err, IfSome, find, if◌then◌else◌, is_som
 use Rattle.std.proofs.lemmas.Bool.{eqb-true}
 use Rattle.wl_interface.specs.declared.interface.Interface.{Interface}
 use Rattle.wl_interface.specs.declared.interface.Interface.TheVariants.{WlRegistry, WlShmPool, WlBuffer, WlCompositor, WlSurface, WlSubcompositor, WlSubsurface, WlSeat, WlPointer, XdgWmBase}
-use Rattle.wl_interface.specs.declared.interface.Interface.TheVariants.{XdgPositioner, XdgSurface, XdgToplevel, XdgPopup}
+use Rattle.wl_interface.specs.declared.interface.Interface.TheVariants.{XdgSurface, XdgToplevel, XdgPopup}
 use Rattle.wl_proto.specs.declared.request.Request.{Request}
 use Rattle.wl_proto.specs.declared.request.Request.TheVariants as requests
 use Rattle.wl_proto.specs.declared.wl_display.WlDisplayRequest.{WlDisplayRequest}
@@ -41,7 +41,7 @@ use Rattle.wl_proto.specs.declared.xdg_toplevel.XdgToplevelRequest.TheVariants a
 use Rattle.wl_proto.specs.declared.xdg_popup.XdgPopupRequest.{XdgPopupRequest}
 use Rattle.wl_proto.specs.declared.xdg_popup.XdgPopupRequest.TheVariants as xdg_popup_requests
 use Rattle.wl_proto.specs.Messages.{request_message, wl_display_request, wl_shm_pool_request, wl_compositor_request, wl_surface_request, wl_subcompositor_request, wl_subsurface_request}
-use Rattle.wl_proto.specs.Messages.{wl_seat_request, wl_pointer_request, xdg_wm_base_request, xdg_positioner_request, xdg_surface_request, xdg_toplevel_request, xdg_popup_request}
+use Rattle.wl_proto.specs.Messages.{wl_seat_request, wl_pointer_request, xdg_wm_base_request, xdg_surface_request, xdg_toplevel_request, xdg_popup_request}
 use Rattle.wl_proto.specs.Objects.{new_id_in}
 use Rattle.wl_table.specs.declared.entry.Entry.{Entry}
 use Rattle.wl_table.specs.Objects.{Held, HoldsAt, entry_of}
@@ -53,10 +53,15 @@ use Rattle.wl_store.specs.declared.stores.StoreError.TheVariants as store_errors
 use Rattle.wl_peer.specs.declared.actions.Action.{Action}
 use Rattle.wl_peer.specs.declared.actions.Action.TheVariants.{Sync, GetRegistry, Bind, AddToRegion, SubtractFromRegion, DestroyRegion, CreatePool, CreateBuffer, ResizePool, DestroyPool, DestroyBuffer}
 use Rattle.wl_peer.specs.declared.refusals.Refusal.{Refusal}
-use Rattle.wl_peer.specs.declared.refusals.ErrorCode.TheVariants.{Implementation}
+use Rattle.wl_peer.specs.declared.actions.Action.TheVariants.{SetPositioner, DestroyPositioner}
+use Rattle.wl_peer.specs.declared.refusals.ErrorCode.TheVariants.{Implementation, InvalidInput}
+use Rattle.wl_xdg_state.specs.Settings.{is_allowed}
+use Rattle.wl_xdg_state.specs.declared.settings.Setting.{Setting}
+use Rattle.wl_xdg_state.specs.declared.settings.Setting.TheVariants as settings
 use Rattle.wl_peer.specs.Told.{display_error}
 use Rattle.wl_peer.specs.Buffers.{Buffer, Laid, buffer_asked}
 use Rattle.wl_peer.specs.Judgement.{Known, action_of, binds, buffer_destroyed, buffer_laid, display_action, is_free, pool_action, pool_created, pool_resized, region_action}
+use Rattle.wl_peer.specs.Judgement.{positioner_action, set_if_allowed}
 use Rattle.wl_peer.specs.Requests.{rect, request_of}
 use Rattle.wl_peer.specs.Objects.{Global, KeepsSurfaces, bound_interface, entry_at_version, globals, is_bound, is_of_surface, object_of, objects_in, of_surface}
 use Rattle.wl_client.specs.Serving.{ChangesTable, is_own}
@@ -173,6 +178,26 @@ keeps-buffer_destroyed old new action object None was there another is changes =
 keeps-buffer_destroyed old new action object (Some buffer) was there another is changes =
     keeps-removed old new object was there another (asked action (DestroyBuffer object buffer.laid.store) old new (same-action action (DestroyBuffer object buffer.laid.store) is) changes)
 
+keeps-set : (old new : Held) (action : Action) (object : ℕ) (setting : Setting) → Ok action ≡ set_if_allowed object setting → ChangesTable action old new → KeepsSurfaces old new
+keeps-set old new action object setting is changes = at (is_allowed setting) (record { object = object; code = InvalidInput }) is
+  where
+    at : (allowed : Bool) (refusal : Refusal) → accepted action ≡ (if allowed then accepted (SetPositioner object setting) else Err refusal) → KeepsSurfaces old new
+    at true refusal set = keeps-same old new (asked action (SetPositioner object setting) old new (same-action action (SetPositioner object setting) set) changes)
+    at false refusal set = absurd (cc)
+
+keeps-positioner : (old new : Held) (action : Action) (object : ℕ) (was : Entry) (request : XdgPositionerRequest) → entry_of old object ≡ Some was → of_surface (Some was) ≡ None
+    → Ok action ≡ positioner_action object request → ChangesTable action old new → KeepsSurfaces old new
+keeps-positioner old new action object was xdg_positioner_requests.Destroy there another is changes =
+    keeps-removed old new object was there another (asked action (DestroyPositioner object) old new (same-action action (DestroyPositioner object) is) changes)
+keeps-positioner old new action object was (xdg_positioner_requests.SetSize width height) there another is changes = keeps-set old new action object (settings.Size width height) is changes
+keeps-positioner old new action object was (xdg_positioner_requests.SetAnchorRect x y width height) there another is changes =
+    keeps-set old new action object (settings.AnchorRect (rect x y width height)) is changes
+keeps-positioner old new action object was (xdg_positioner_requests.SetAnchor anchor) there another is changes = keeps-set old new action object (settings.Anchor anchor) is changes
+keeps-positioner old new action object was (xdg_positioner_requests.SetGravity gravity) there another is changes = keeps-set old new action object (settings.Gravity gravity) is changes
+keeps-positioner old new action object was (xdg_positioner_requests.SetConstraintAdjustment adjustment) there another is changes =
+    keeps-set old new action object (settings.Adjustment adjustment) is changes
+keeps-positioner old new action object was (xdg_positioner_requests.SetOffset x y) there another is changes = keeps-set old new action object (settings.Offset x y) is changes
+
 -- ---- by requests
 
 keeps-display : (old new : Held) (action : Action) (request : WlDisplayRequest) → IfSome (new_id_in (wl_display_request request)) (λ n. is_free (objects_in old) n.id ≡ true)
@@ -237,15 +262,6 @@ of-xdg_wm_base (xdg_wm_base_requests.CreatePositioner id) = refl
 of-xdg_wm_base (xdg_wm_base_requests.GetXdgSurface id surface) = refl
 of-xdg_wm_base (xdg_wm_base_requests.Pong serial) = refl
 
-of-xdg_positioner : (request : XdgPositionerRequest) → (xdg_positioner_request request).interface ≡ XdgPositioner
-of-xdg_positioner xdg_positioner_requests.Destroy = refl
-of-xdg_positioner (xdg_positioner_requests.SetSize width height) = refl
-of-xdg_positioner (xdg_positioner_requests.SetAnchorRect x y width height) = refl
-of-xdg_positioner (xdg_positioner_requests.SetAnchor anchor) = refl
-of-xdg_positioner (xdg_positioner_requests.SetGravity gravity) = refl
-of-xdg_positioner (xdg_positioner_requests.SetConstraintAdjustment constraint_adjustment) = refl
-of-xdg_positioner (xdg_positioner_requests.SetOffset x y) = refl
-
 of-xdg_surface : (request : XdgSurfaceRequest) → (xdg_surface_request request).interface ≡ XdgSurface
 of-xdg_surface xdg_surface_requests.Destroy = refl
 of-xdg_surface (xdg_surface_requests.GetToplevel id) = refl
@@ -307,7 +323,20 @@ keeps-surfaces old new known object version target action (requests.WlSubsurface
 keeps-surfaces old new known object version target action (requests.WlSeat request) there free own is changes = foreign WlSeat (of-wl_seat request) refl own
 keeps-surfaces old new known object version target action (requests.WlPointer request) there free own is changes = foreign WlPointer (of-wl_pointer request) refl own
 keeps-surfaces old new known object version target action (requests.XdgWmBase request) there free own is changes = foreign XdgWmBase (of-xdg_wm_base request) refl own
-keeps-surfaces old new known object version target action (requests.XdgPositioner request) there free own is changes = foreign XdgPositioner (of-xdg_positioner request) refl own
+keeps-surfaces old new known object version target action (requests.XdgPositioner xdg_positioner_requests.Destroy) there free own is changes =
+    keeps-positioner old new action object _ xdg_positioner_requests.Destroy there refl is changes
+keeps-surfaces old new known object version target action (requests.XdgPositioner (xdg_positioner_requests.SetSize width height)) there free own is changes =
+    keeps-positioner old new action object _ (xdg_positioner_requests.SetSize width height) there refl is changes
+keeps-surfaces old new known object version target action (requests.XdgPositioner (xdg_positioner_requests.SetAnchorRect x y width height)) there free own is changes =
+    keeps-positioner old new action object _ (xdg_positioner_requests.SetAnchorRect x y width height) there refl is changes
+keeps-surfaces old new known object version target action (requests.XdgPositioner (xdg_positioner_requests.SetAnchor anchor)) there free own is changes =
+    keeps-positioner old new action object _ (xdg_positioner_requests.SetAnchor anchor) there refl is changes
+keeps-surfaces old new known object version target action (requests.XdgPositioner (xdg_positioner_requests.SetGravity gravity)) there free own is changes =
+    keeps-positioner old new action object _ (xdg_positioner_requests.SetGravity gravity) there refl is changes
+keeps-surfaces old new known object version target action (requests.XdgPositioner (xdg_positioner_requests.SetConstraintAdjustment adjustment)) there free own is changes =
+    keeps-positioner old new action object _ (xdg_positioner_requests.SetConstraintAdjustment adjustment) there refl is changes
+keeps-surfaces old new known object version target action (requests.XdgPositioner (xdg_positioner_requests.SetOffset x y)) there free own is changes =
+    keeps-positioner old new action object _ (xdg_positioner_requests.SetOffset x y) there refl is changes
 keeps-surfaces old new known object version target action (requests.XdgSurface request) there free own is changes = foreign XdgSurface (of-xdg_surface request) refl own
 keeps-surfaces old new known object version target action (requests.XdgToplevel request) there free own is changes = foreign XdgToplevel (of-xdg_toplevel request) refl own
 keeps-surfaces old new known object version target action (requests.XdgPopup request) there free own is changes = foreign XdgPopup (of-xdg_popup request) refl own

@@ -12,7 +12,7 @@ use Rattle.wl_surface.specs.Slots.{IsAny, Numbered, Slots, StandForAll, has_at}
 use Rattle.wl_state.specs.Surface.{Surface}
 use Rattle.wl_peer.specs.declared.actions.Action.{Action}
 use Rattle.wl_peer.specs.declared.actions.Action.TheVariants.{Sync, GetRegistry, Bind, CreateRegion, AddToRegion, SubtractFromRegion, DestroyRegion, CreatePool, CreateBuffer, ResizePool, DestroyPool}
-use Rattle.wl_peer.specs.declared.actions.Action.TheVariants.{DestroyBuffer}
+use Rattle.wl_peer.specs.declared.actions.Action.TheVariants.{DestroyBuffer, CreatePositioner, SetPositioner, DestroyPositioner}
 use Rattle.wl_peer.specs.declared.cause.Cause.TheVariants.{Protocol}
 use Rattle.wl_peer.specs.declared.refusals.ErrorCode.TheVariants.{InvalidMethod}
 use Rattle.wl_peer.specs.declared.refusals.Refusal.{Refusal}
@@ -65,6 +65,9 @@ ActsWith-other used (CreatePool id version size) p q other acts = acts
 ActsWith-other used (CreateBuffer id version laid) p q other acts = acts
 ActsWith-other used (ResizePool store size) p q other acts = acts
 ActsWith-other used (DestroyPool id store) p q other acts = acts
+ActsWith-other used (CreatePositioner id version) p q other acts = acts
+ActsWith-other used (SetPositioner id setting) p q other acts = acts
+ActsWith-other used (DestroyPositioner id) p q other acts = acts
 ActsWith-other used (DestroyBuffer id store) p q other acts = absurd (other id store refl)
 
 -- ---- the first message is taken

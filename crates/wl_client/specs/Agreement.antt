@@ -36,6 +36,7 @@ pub record IsPeer (v : ClientView) (p : Peer) : Type 0 where
   pub regions : (id : ℕ) → IsRegion (held_at v.regions id) (p.regions id)
   pub pools : held_at v.pools ≡ p.pools
   pub buffers : held_at v.buffers ≡ p.buffers
+  pub positioners : held_at v.positioners ≡ p.positioners
   pub stores : v.stores ≡ p.stores
   pub serial : v.serial ≡ p.serial
   pub unsent : v.unsent ≡ p.unsent

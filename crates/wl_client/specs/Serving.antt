@@ -6,6 +6,7 @@ use Rattle.wl_wire.specs.declared.header.Split.{Split}
 use Rattle.wl_wire.specs.declared.header.Split.TheVariants.{Message as Whole, More, Bad}
 use Rattle.wl_interface.specs.declared.interface.Interface.{Interface}
 use Rattle.wl_interface.specs.declared.interface.Interface.TheVariants.{WlDisplay, WlRegistry, WlRegion, WlShm, WlShmPool, WlBuffer}
+use Rattle.wl_interface.specs.declared.interface.Interface.TheVariants.{XdgPositioner}
 use Rattle.wl_proto.specs.Messages.{Message, request_message}
 use Rattle.wl_proto.specs.declared.request.Request.{Request}
 use Rattle.wl_wire.specs.Wire.{split_of}
@@ -13,7 +14,7 @@ use Rattle.wl_surface.specs.Slots.{IsAny, Numbered, Slots, StandForAll, has_at}
 use Rattle.wl_table.specs.Objects.{Held, HoldsAt, entry_of}
 use Rattle.wl_peer.specs.declared.actions.Action.{Action}
 use Rattle.wl_peer.specs.declared.actions.Action.TheVariants.{GetRegistry, Bind, CreateRegion, DestroyRegion, CreatePool, CreateBuffer}
-use Rattle.wl_peer.specs.declared.actions.Action.TheVariants.{DestroyPool, DestroyBuffer}
+use Rattle.wl_peer.specs.declared.actions.Action.TheVariants.{DestroyPool, DestroyBuffer, CreatePositioner, DestroyPositioner}
 use Rattle.wl_peer.specs.declared.cause.Cause.{Cause}
 use Rattle.wl_peer.specs.declared.cause.Cause.TheVariants.{Protocol, Memory, Slow}
 use Rattle.wl_peer.specs.declared.refusals.ErrorCode.TheVariants.{InvalidMethod}
@@ -40,6 +41,7 @@ is_own WlRegion = true
 is_own WlShm = true
 is_own WlShmPool = true
 is_own WlBuffer = true
+is_own XdgPositioner = true
 is_own interface = false
 
 -- the numbers of the buffers that the surfaces use, which are kept so: pending, held or applied
@@ -73,6 +75,8 @@ ChangesTable (CreateBuffer id version laid) old new = HoldsAt old new id (Some (
 ChangesTable (DestroyRegion id) old new = HoldsAt old new id None
 ChangesTable (DestroyPool id store) old new = HoldsAt old new id None
 ChangesTable (DestroyBuffer id store) old new = HoldsAt old new id None
+ChangesTable (CreatePositioner id version) old new = HoldsAt old new id (Some (entry_at_version XdgPositioner version))
+ChangesTable (DestroyPositioner id) old new = HoldsAt old new id None
 ChangesTable action old new = new ≡ old
 
 -- new holds nothing under these ids, and under every other id what old holds

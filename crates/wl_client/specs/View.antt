@@ -6,10 +6,11 @@ use Rattle.wl_table.specs.Objects.{Held}
 use Rattle.wl_peer.specs.declared.cause.Cause.{Cause}
 use Rattle.wl_client.specs.declared.outputs.Output.{Output}
 use Rattle.wl_peer.specs.Buffers.{Buffer}
+use Rattle.wl_xdg_state.specs.Positioner.{Positioner}
 
 -- why it ended; why an event wasn't queued; how many requests were counted; the bytes that wait to be read and to be sent; the table of its
--- live objects; by their ids the regions, the stores of the pools, and the buffers; the stores; the next serial; and the output that it is
--- shown on
+-- live objects; by their ids the regions, the stores of the pools, the buffers, and the values of the positioners; the stores; the next
+-- serial; and the output that it is shown on
 pub record ClientView : Type 0 where
   pub ended : Option Cause
   pub refused : Option Cause
@@ -20,6 +21,7 @@ pub record ClientView : Type 0 where
   pub regions : List (ℕ × Area)
   pub pools : List (ℕ × ℕ)
   pub buffers : List (ℕ × Buffer)
+  pub positioners : List (ℕ × Positioner)
   pub stores : Stock
   pub serial : ℕ
   pub output : Output
@@ -35,5 +37,6 @@ cleared cause v =
       regions = [];
       pools = [];
       buffers = [];
+      positioners = [];
       stores = record { held = []; made = 0 };
     }

@@ -22,6 +22,7 @@ use wl_proto::{Event, Interface, encoded_size};
 use wl_store::{Layout, Picture, StoreError, StoreNo, Stores, Transform};
 use wl_table::{Entry, Objects};
 use wl_wire::PutError;
+use wl_xdg_state::Positioner;
 
 /// How many bytes may wait for a client.
 const UNSENT_LIMIT: usize = 1_048_576;
@@ -39,6 +40,7 @@ pub struct Client<A: Allocator> {
     pub(crate) regions: BTreeMap<u32, Region<A>, A>,
     pub(crate) pools: BTreeMap<u32, StoreNo, A>,
     pub(crate) buffers: BTreeMap<u32, ShmBuffer, A>,
+    pub(crate) positioners: BTreeMap<u32, Positioner, A>,
     pub(crate) stores: Stores<A>,
     pub(crate) serial: u32,
     pub(crate) output: Output,
@@ -50,7 +52,7 @@ impl<A: Allocator> Model for Client<A> {
 
     ghost Value = { ClientView };
 
-    ghost view = { λ c. record { ended = c.ended; refused = c.refused; requests = c.requests; rest = c.rest; unsent = c.unsent; objects = c.objects; regions = c.regions.entries; pools = c.pools.entries; buffers = c.buffers.entries; stores = c.stores; serial = c.serial; output = c.output } };
+    ghost view = { λ c. record { ended = c.ended; refused = c.refused; requests = c.requests; rest = c.rest; unsent = c.unsent; objects = c.objects; regions = c.regions.entries; pools = c.pools.entries; buffers = c.buffers.entries; positioners = c.positioners.entries; stores = c.stores; serial = c.serial; output = c.output } };
 }
 
 impl<A: Allocator + Copy> Client<A> {
@@ -86,6 +88,7 @@ impl<A: Allocator + Copy> Client<A> {
             regions: BTreeMap::new(alloc),
             pools: BTreeMap::new(alloc),
             buffers: BTreeMap::new(alloc),
+            positioners: BTreeMap::new(alloc),
             stores: Stores::new(alloc),
             serial: 1,
             output,
@@ -139,6 +142,7 @@ impl<A: Allocator + Copy> Client<A> {
         self.regions = BTreeMap::new(self.alloc);
         self.pools = BTreeMap::new(self.alloc);
         self.buffers = BTreeMap::new(self.alloc);
+        self.positioners = BTreeMap::new(self.alloc);
         self.stores = Stores::new(self.alloc);
     }
 
@@ -322,6 +326,9 @@ impl<A: Allocator + Copy> Client<A> {
             Action::ResizePool(store, size) => self.resize_pool(store, size),
             Action::DestroyPool(id, store) => self.destroy_pool(id, store),
             Action::DestroyBuffer(id, store) => self.destroy_buffer(id, store),
+            Action::CreatePositioner(id, version) => self.create_positioner(id, version),
+            Action::SetPositioner(id, setting) => self.set_positioner(id, &setting),
+            Action::DestroyPositioner(id) => self.destroy_positioner(id),
         }
     }
 

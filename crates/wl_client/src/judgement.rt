@@ -8,7 +8,7 @@ ghost use Rattle.wl_client.specs.Agreement.{known_in};
 ghost use Rattle.wl_client.specs.Serving.{is_own};
 
 use crate::clients::Client;
-use crate::{wl_buffer, wl_display, wl_region, wl_registry, wl_shm, wl_shm_pool};
+use crate::{wl_buffer, wl_display, wl_region, wl_registry, wl_shm, wl_shm_pool, xdg_positioner};
 use std::alloc::Allocator;
 use wl_peer::{Action, Refusal};
 use wl_proto::Request;
@@ -40,6 +40,7 @@ impl<A: Allocator + Copy> Client<A> {
                 request,
             )),
             Request::WlBuffer(_) => Some(wl_buffer::action(&self.buffers, object)),
+            Request::XdgPositioner(request) => Some(xdg_positioner::action(object, request)),
             _ => None,
         }
     }

@@ -18,6 +18,7 @@ mod wl_region;
 mod wl_registry;
 mod wl_shm;
 mod wl_shm_pool;
+mod xdg_positioner;
 
 pub use clients::Client;
 pub use events::release_event;

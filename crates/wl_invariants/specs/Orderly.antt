@@ -1,4 +1,4 @@
--- What holds of every client wherever subsurfaces are served, and popups, positioners and the pointer are not. Each step keeps it, and each
+-- What holds of every client wherever subsurfaces are served, and popups and the pointer are not. Each step keeps it, and each
 -- message by itself.
 use Rattle.std.specs.Prelude.{ℕ, ◌≡◌, ◌≤◌, ◌==◌, true, is_some, Option, Some, None, List, [], take}
 use Rattle.std.specs.List.{list_any}

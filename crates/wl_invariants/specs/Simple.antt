@@ -13,7 +13,7 @@ use Rattle.wl_stacking.specs.Stacking.{with_mapped, without_surface_of}
 use Rattle.wl_plain.specs.Changing.{callbacks_of, effect_placing, frame_asked, mode_set, subsurface_ended, subsurface_given, surface_ended}
 use Rattle.wl_plain.specs.Changing.{tree_committed}
 use Rattle.wl_plain.specs.Demand.{Demand, Asks, EndSurface, AskFrame, CommitTree, GetSubsurface, EndSubsurface, SetMode, GetPointer}
-use Rattle.wl_plain.specs.Demand.{MakeCursor, CreatePositioner, EndPositioner, SetPositioner, GetPopup, Grab, EndPopup, EndToplevel}
+use Rattle.wl_plain.specs.Demand.{MakeCursor, GetPopup, Grab, EndPopup, EndToplevel}
 use Rattle.wl_plain.specs.Demanding.{effect_of_commit, judge_all}
 use Rattle.wl_plain.specs.Desktop.{Desktop, Resident, become}
 use Rattle.wl_plain.specs.Happens.{wants_memory}
@@ -21,13 +21,10 @@ use Rattle.wl_plain.specs.Replies.{releases}
 use Rattle.wl_plain.specs.Step.{answers_to, changed_by, configures_told, removing, with_peer, xdg_changed}
 use Rattle.wl_plain.specs.LeftOut.{served_now}
 
--- what a request that is served may demand: nothing of popups, positioners and pointers
+-- what a request that is served may demand: nothing of popups and pointers
 abbrev pub IsServed : Demand → Type 0
 IsServed (GetPointer id version) = ⊥
 IsServed (MakeCursor surface) = ⊥
-IsServed (CreatePositioner id version) = ⊥
-IsServed (EndPositioner id) = ⊥
-IsServed (SetPositioner id p) = ⊥
 IsServed (GetPopup id version xdg parent p) = ⊥
 IsServed (Grab xdg serial) = ⊥
 IsServed (EndPopup id xdg) = ⊥

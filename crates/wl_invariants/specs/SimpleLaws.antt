@@ -12,7 +12,7 @@ use Rattle.wl_invariants.specs.NoPopups.{NoPopups, OwnsNoPopups}
 use Rattle.wl_plain.specs.LeftOut.{served_now}
 use Rattle.wl_invariants.specs.Simple.{IsServed, ServesSimply, answers_simply, changed_simply, stacked_simply}
 
--- A message that is accepted demands nothing of popups, positioners and pointers.
+-- A message that is accepted demands nothing of popups and pointers.
 abbrev pub DemandsAreServed : Type 0
 DemandsAreServed =
     (r : Resident) (object opcode : ℕ) (body : List ℕ) (demand : Demand) → judge_all served_now r object opcode body ≡ Ok demand

@@ -1,4 +1,4 @@
-//! The laws of the desktop as far as it is served, with subsurfaces and without popups, positioners and the pointer: what holds of every
+//! The laws of the desktop as far as it is served, with subsurfaces and without popups and the pointer: what holds of every
 //! desktop that comes about, and what a step marks and leaves that changes one tree of surfaces. Each law is a function that promises it.
 #![tactic(auto)]
 

@@ -1,11 +1,11 @@
-//! Desktops where subsurfaces are served, and popups, positioners and the pointer are not: what is known of them, each a function that does
+//! Desktops where subsurfaces are served, and popups and the pointer are not: what is known of them, each a function that does
 //! nothing and promises it.
 
 ghost use Rattle.wl_invariants.specs.NoPopupsLaws.{EmptyHasNoPopups, NoPopupsStay, OthersStay, WindowsAreToplevels};
 ghost use Rattle.wl_invariants.specs.SimpleLaws.{ChangesSimply, DemandsAreServed, DoesNoMore, MessagesAreSimple, RepliesSimply};
 ghost use Rattle.wl_invariants.specs.SimpleLaws.{StacksSimply};
 
-/// A message that is accepted demands nothing of popups, positioners and pointers.
+/// A message that is accepted demands nothing of popups and pointers.
 pub fn demands_are_served()
     ensures { DemandsAreServed }
 {}

@@ -11,7 +11,7 @@ use Rattle.wl_peer.specs.declared.cause.Cause.{Cause}
 use Rattle.wl_peer.specs.declared.cause.Cause.TheVariants.{Protocol, Memory, Slow}
 use Rattle.wl_peer.specs.declared.actions.Action.{Action}
 use Rattle.wl_peer.specs.declared.actions.Action.TheVariants.{Sync, GetRegistry, Bind, CreateRegion, AddToRegion, SubtractFromRegion, DestroyRegion, CreatePool, CreateBuffer, ResizePool, DestroyPool}
-use Rattle.wl_peer.specs.declared.actions.Action.TheVariants.{DestroyBuffer}
+use Rattle.wl_peer.specs.declared.actions.Action.TheVariants.{DestroyBuffer, CreatePositioner, SetPositioner, DestroyPositioner}
 use Rattle.wl_peer.specs.declared.refusals.ErrorCode.TheVariants.{InvalidMethod}
 use Rattle.wl_peer.specs.declared.refusals.Refusal.{Refusal}
 use Rattle.wl_peer.specs.Told.{Said, code_number, display_error, error_told}
@@ -77,6 +77,9 @@ changed-status (CreateBuffer id version buffer) p = refl
 changed-status (ResizePool store size) p = refl
 changed-status (DestroyPool id store) p = refl
 changed-status (DestroyBuffer id store) p = refl
+changed-status (CreatePositioner id version) p = refl
+changed-status (SetPositioner id setting) p = refl
+changed-status (DestroyPositioner id) p = refl
 
 pub changed-rest : (action : Action) (p : Peer) (rest : List ℕ) → with_rest rest (changed action p) ≡ changed action (with_rest rest p)
 changed-rest (Sync callback) p rest = refl
@@ -91,6 +94,9 @@ changed-rest (CreateBuffer id version buffer) p rest = refl
 changed-rest (ResizePool store size) p rest = refl
 changed-rest (DestroyPool id store) p rest = refl
 changed-rest (DestroyBuffer id store) p rest = refl
+changed-rest (CreatePositioner id version) p rest = refl
+changed-rest (SetPositioner id setting) p rest = refl
+changed-rest (DestroyPositioner id) p rest = refl
 
 pub changed-kept : (action : Action) (p : Peer) → (changed action p).rest ≡ p.rest
 changed-kept (Sync callback) p = refl
@@ -105,6 +111,9 @@ changed-kept (CreateBuffer id version buffer) p = refl
 changed-kept (ResizePool store size) p = refl
 changed-kept (DestroyPool id store) p = refl
 changed-kept (DestroyBuffer id store) p = refl
+changed-kept (CreatePositioner id version) p = refl
+changed-kept (SetPositioner id setting) p = refl
+changed-kept (DestroyPositioner id) p = refl
 
 Acts-grown : (action : Action) (more : List ℕ) (p q : Peer) → p.status ≡ None → Acts action p q → Acts action (with_rest (p.rest ++ more) p) (grown more q)
 Acts-grown action more p q alive h = WantsOr-grown (takes_memory action) _ _ more p q alive told h

@@ -15,8 +15,12 @@ use Rattle.wl_proto.specs.declared.wl_shm.WlShmRequest.{WlShmRequest}
 use Rattle.wl_proto.specs.declared.wl_shm.WlShmRequest.TheVariants as shm
 use Rattle.wl_proto.specs.declared.wl_shm_pool.WlShmPoolRequest.{WlShmPoolRequest}
 use Rattle.wl_proto.specs.declared.wl_shm_pool.WlShmPoolRequest.TheVariants as pool
-use Rattle.wl_peer.specs.Requests.{Request, ToDisplay, ToRegistry, ToCompositor, ToRegion, ToShm, ToPool, ToBuffer, ToSeat, rect}
-use Rattle.wl_peer.specs.Requests.{request_of}
+use Rattle.wl_proto.specs.declared.xdg_positioner.XdgPositionerRequest.{XdgPositionerRequest}
+use Rattle.wl_proto.specs.declared.xdg_positioner.XdgPositionerRequest.TheVariants as positioner
+use Rattle.wl_proto.specs.declared.xdg_wm_base.XdgWmBaseRequest.{XdgWmBaseRequest}
+use Rattle.wl_proto.specs.declared.xdg_wm_base.XdgWmBaseRequest.TheVariants as base
+use Rattle.wl_peer.specs.Requests.{Request, ToDisplay, ToRegistry, ToCompositor, ToRegion, ToShm, ToPool, ToBuffer, ToSeat, ToBase}
+use Rattle.wl_peer.specs.Requests.{ToPositioner, rect, request_of}
 use Rattle.wl_interface.specs.declared.interface.Interface.{Interface}
 use Rattle.wl_proto.specs.declared.error.ProtoError.{ProtoError}
 use Rattle.wl_proto.specs.declared.argument.NewId.{NewId}
@@ -30,12 +34,15 @@ use Rattle.wl_store.specs.declared.place.LayoutError.TheVariants.{Format, Stride
 use Rattle.wl_store.specs.declared.stores.StoreError.{StoreError}
 use Rattle.wl_store.specs.declared.stores.StoreError.TheVariants.{BadSize, Shrinks}
 use Rattle.wl_peer.specs.declared.refusals.ErrorCode.TheVariants.{InvalidObject, InvalidMethod, Implementation, MissingCapability}
-use Rattle.wl_peer.specs.declared.refusals.ErrorCode.TheVariants.{InvalidFormat, InvalidStride, InvalidFd}
+use Rattle.wl_xdg_state.specs.Settings.{is_allowed}
+use Rattle.wl_xdg_state.specs.declared.settings.Setting.{Setting}
+use Rattle.wl_xdg_state.specs.declared.settings.Setting.TheVariants.{Size, AnchorRect, Anchor, Gravity, Adjustment, Offset}
+use Rattle.wl_peer.specs.declared.refusals.ErrorCode.TheVariants.{InvalidFormat, InvalidStride, InvalidFd, InvalidInput}
 use Rattle.wl_peer.specs.declared.refusals.Refusal.{Refusal}
 use Rattle.wl_peer.specs.declared.actions.Action.{Action}
 use Rattle.wl_peer.specs.declared.actions.Action.TheVariants.{Sync, GetRegistry, Bind, CreateRegion, AddToRegion, SubtractFromRegion}
 use Rattle.wl_peer.specs.declared.actions.Action.TheVariants.{DestroyRegion, CreatePool, CreateBuffer, ResizePool, DestroyPool}
-use Rattle.wl_peer.specs.declared.actions.Action.TheVariants.{DestroyBuffer}
+use Rattle.wl_peer.specs.declared.actions.Action.TheVariants.{DestroyBuffer, CreatePositioner, SetPositioner, DestroyPositioner}
 use Rattle.wl_peer.specs.Buffers.{Buffer, Laid, buffer_asked}
 use Rattle.wl_peer.specs.Objects.{ById, Object, Objects, bound_interface, fits}
 use Rattle.wl_peer.specs.Told.{display_error}
@@ -139,6 +146,25 @@ seat_refusal object (seat.GetPointer id) = display_error Implementation
 seat_refusal object (seat.GetKeyboard id) = record { object = object; code = MissingCapability }
 seat_refusal object (seat.GetTouch id) = record { object = object; code = MissingCapability }
 
+-- xdg_wm_base: by itself a client's definition leaves all but create_positioner out; the desk serves it
+abbrev pub base_action : ℕ → XdgWmBaseRequest → Result Action Refusal
+base_action version (base.CreatePositioner id) = Ok (CreatePositioner id version)
+base_action version request = Err (display_error Implementation)
+
+-- xdg_positioner: a size or an anchor rectangle that can't be, and an anchor or gravity that there isn't, are errors
+abbrev pub set_if_allowed : ℕ → Setting → Result Action Refusal
+set_if_allowed object setting =
+    if is_allowed setting then Ok (SetPositioner object setting) else Err (record { object = object; code = InvalidInput })
+
+abbrev pub positioner_action : ℕ → XdgPositionerRequest → Result Action Refusal
+positioner_action object positioner.Destroy = Ok (DestroyPositioner object)
+positioner_action object (positioner.SetSize width height) = set_if_allowed object (Size width height)
+positioner_action object (positioner.SetAnchorRect x y width height) = set_if_allowed object (AnchorRect (rect x y width height))
+positioner_action object (positioner.SetAnchor anchor) = set_if_allowed object (Anchor anchor)
+positioner_action object (positioner.SetGravity gravity) = set_if_allowed object (Gravity gravity)
+positioner_action object (positioner.SetConstraintAdjustment adjustment) = set_if_allowed object (Adjustment adjustment)
+positioner_action object (positioner.SetOffset x y) = set_if_allowed object (Offset x y)
+
 -- The request's own errors, and what it asks. What the definition of a client by itself leaves out is refused as a limit would be.
 abbrev pub action_of : Known → ℕ → ℕ → Request → Result Action Refusal
 action_of known object version (ToDisplay request) = Ok (display_action request)
@@ -149,6 +175,8 @@ action_of known object version (ToShm request) = shm_action object version known
 action_of known object version (ToPool request) = pool_action object version known.stores (known.pools object) request
 action_of known object version (ToBuffer request) = buffer_destroyed object (known.buffers object)
 action_of known object version (ToSeat request) = Err (seat_refusal object request)
+action_of known object version (ToBase request) = base_action version request
+action_of known object version (ToPositioner request) = positioner_action object request
 action_of known object version request = Err (display_error Implementation)
 
 -- A new id must be free, and no client has more than 8,192 objects.

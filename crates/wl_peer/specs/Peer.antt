@@ -8,11 +8,14 @@ use Rattle.wl_wire.specs.declared.header.Split.{Split}
 use Rattle.wl_wire.specs.declared.header.Split.TheVariants.{Message as Whole, More, Bad}
 use Rattle.wl_interface.specs.declared.interface.Interface.{Interface}
 use Rattle.wl_interface.specs.declared.interface.Interface.TheVariants.{WlDisplay, WlRegistry, WlRegion, WlShmPool, WlBuffer}
+use Rattle.wl_interface.specs.declared.interface.Interface.TheVariants.{XdgPositioner}
 use Rattle.wl_proto.specs.Spelling.{event_size}
 use Rattle.wl_geom.specs.Region.{Change, Add, Subtract}
 use Rattle.wl_store.specs.Stores.{Stock, created, let_go, resized, store_at, used, write_refusal, written}
 use Rattle.wl_store.specs.declared.stores.StoreError.{StoreError}
-use Rattle.wl_xdg_state.specs.Positioner.{Positioner}
+use Rattle.wl_xdg_state.specs.Positioner.{Positioner, first_positioner}
+use Rattle.wl_xdg_state.specs.Settings.{with_setting}
+use Rattle.wl_xdg_state.specs.declared.settings.Setting.{Setting}
 use Rattle.wl_peer.specs.declared.cause.Cause.{Cause}
 use Rattle.wl_peer.specs.declared.cause.Cause.TheVariants.{Protocol, Memory, Slow, Gone}
 use Rattle.wl_peer.specs.declared.refusals.ErrorCode.TheVariants.{InvalidMethod, NoMemory}
@@ -20,7 +23,7 @@ use Rattle.wl_peer.specs.declared.refusals.Refusal.{Refusal}
 use Rattle.wl_peer.specs.declared.actions.Action.{Action}
 use Rattle.wl_peer.specs.declared.actions.Action.TheVariants.{Sync, GetRegistry, Bind, CreateRegion, AddToRegion, SubtractFromRegion}
 use Rattle.wl_peer.specs.declared.actions.Action.TheVariants.{DestroyRegion, CreatePool, CreateBuffer, ResizePool, DestroyPool}
-use Rattle.wl_peer.specs.declared.actions.Action.TheVariants.{DestroyBuffer}
+use Rattle.wl_peer.specs.declared.actions.Action.TheVariants.{DestroyBuffer, CreatePositioner, SetPositioner, DestroyPositioner}
 use Rattle.wl_peer.specs.Buffers.{Buffer, numbered}
 use Rattle.wl_peer.specs.Judgement.{Known, judge}
 use Rattle.wl_peer.specs.Objects.{ById, Object, Objects, nothing, with_id}
@@ -153,6 +156,11 @@ all_removed ids p = fold (λ p id. removed id p) p ids
 abbrev pub changed_region : ℕ → Change → Peer → Peer
 changed_region id change p = record p { regions = with_id id (option_map (λ changes. changes ++ change ∷ []) (p.regions id)) p.regions }
 
+-- of a positioner this is set, in place of what was set before
+abbrev pub set_positioner : ℕ → Setting → Peer → Peer
+set_positioner id setting p =
+    record p { positioners = with_id id (option_map (λ values. with_setting setting values) (p.positioners id)) p.positioners }
+
 -- one use of a store less: at none it goes, so a store lives while its pool or one of its buffers does
 abbrev pub released : ℕ → Stock → Stock
 released store stores = if is_some (store_at store stores) then let_go store stores else stores
@@ -176,6 +184,10 @@ changed (CreateBuffer id version laid) p =
 changed (ResizePool store size) p = record p { stores = resized store (unsigned_abs size) p.stores }
 changed (DestroyPool id store) p = removed id (record p { pools = with_id id None p.pools; stores = released store p.stores })
 changed (DestroyBuffer id store) p = removed id (record p { buffers = with_id id None p.buffers; stores = released store p.stores })
+changed (CreatePositioner id version) p =
+    made id (object_at_version XdgPositioner version) (record p { positioners = with_id id (Some first_positioner) p.positioners })
+changed (SetPositioner id setting) p = set_positioner id setting p
+changed (DestroyPositioner id) p = removed id (record p { positioners = with_id id None p.positioners })
 
 -- What it is answered with. A sync's callback is done at once, and its id given back (wayland.xml, wl_display.sync), as is the id of
 -- an object that is destroyed (wl_display.delete_id).
@@ -186,6 +198,7 @@ answers_to output (Bind id interface version) = bind_told output id interface
 answers_to output (DestroyRegion id) = id_deleted id ∷ []
 answers_to output (DestroyPool id store) = id_deleted id ∷ []
 answers_to output (DestroyBuffer id store) = id_deleted id ∷ []
+answers_to output (DestroyPositioner id) = id_deleted id ∷ []
 answers_to output action = []
 
 -- It may want memory for what it changes.
@@ -194,6 +207,8 @@ takes_memory (Sync callback) = false
 takes_memory (DestroyRegion id) = false
 takes_memory (DestroyPool id store) = false
 takes_memory (DestroyBuffer id store) = false
+takes_memory (SetPositioner id setting) = false
+takes_memory (DestroyPositioner id) = false
 takes_memory action = true
 
 -- there may be no memory; or `Later`

@@ -4,6 +4,7 @@ use crate::buffers::Place;
 use wl_geom::Rect;
 use wl_interface::Interface;
 use wl_store::StoreNo;
+use wl_xdg_state::Setting;
 
 /// What an accepted message asks.
 #[derive(Drop)]
@@ -32,4 +33,10 @@ pub enum Action {
     DestroyPool(u32, StoreNo),
     /// wl_buffer.destroy of this buffer, which lies in this store.
     DestroyBuffer(u32, StoreNo),
+    /// xdg_wm_base.create_positioner of a new positioner of this version.
+    CreatePositioner(u32, u32),
+    /// This is set of this positioner.
+    SetPositioner(u32, Setting),
+    /// xdg_positioner.destroy of this positioner.
+    DestroyPositioner(u32),
 }

@@ -4,8 +4,7 @@ use Rattle.std.specs.Prelude.{[], ◌∷◌, ◌++◌, filter, find, flat_map, f
 use Rattle.std.specs.List.{list_any}
 use Rattle.std.specs.Option.{option_and_then, option_map, option_map_or}
 use Rattle.wl_geom.specs.declared.rect.Rect.{Rect}
-use Rattle.wl_interface.specs.declared.interface.Interface.TheVariants.{WlCallback, WlSubsurface, WlPointer, XdgPositioner, XdgPopup}
-use Rattle.wl_peer.specs.Objects.{with_id}
+use Rattle.wl_interface.specs.declared.interface.Interface.TheVariants.{WlCallback, WlSubsurface, WlPointer, XdgPopup}
 use Rattle.wl_peer.specs.Peer.{removed}
 use Rattle.wl_peer.specs.Told.{Output}
 use Rattle.wl_state.specs.Frames.{frames_asked}
@@ -17,14 +16,14 @@ use Rattle.wl_state.specs.declared.role.Role.TheVariants.{Popup as AsPopup, Curs
 use Rattle.wl_surface.specs.Waiting.{Callback}
 use Rattle.wl_xdg_state.specs.Popups.{dismissing, is_parent_of, is_toplevel, new_popup, orphaning, parent_allows, parent_of, popup_at}
 use Rattle.wl_xdg_state.specs.Popups.{popup_changed, popups_of, with_effect, with_grab}
-use Rattle.wl_xdg_state.specs.Positioner.{Placed, Positioner, first_positioner, place}
+use Rattle.wl_xdg_state.specs.Positioner.{Placed, Positioner, place}
 use Rattle.wl_xdg_state.specs.Shell.{Effect, Configures, Maps, Unmaps, Popup, XdgSurface, next_serial, with_change, without_role, xdg_at}
 use Rattle.wl_xdg_state.specs.Shell.{xdg_of}
 use Rattle.wl_stacking.specs.Pointer.{Pointer, Target}
 use Rattle.wl_stacking.specs.Stacking.{Standing, is_of, with_mapped, without_surface_of}
 use Rattle.wl_stacking.specs.Windows.{Place, Window}
 use Rattle.wl_plain.specs.Demand.{Demand, Asks, EndSurface, AskFrame, CommitTree, GetSubsurface, EndSubsurface, SetMode}
-use Rattle.wl_plain.specs.Demand.{GetPointer, MakeCursor, CreatePositioner, EndPositioner, SetPositioner, GetPopup, Grab, EndPopup}
+use Rattle.wl_plain.specs.Demand.{GetPointer, MakeCursor, GetPopup, Grab, EndPopup}
 use Rattle.wl_plain.specs.Demand.{EndToplevel, Move}
 use Rattle.wl_plain.specs.Demanding.{effect_of_commit}
 use Rattle.wl_plain.specs.Desktop.{Desktop, Resident, Subsurface}
@@ -202,10 +201,6 @@ pointer_given c id version r d =
 
 -- ---- all of them
 
--- the values of a positioner, or none where it goes
-abbrev pub with_positioner : ℕ → Option Positioner → Resident → Resident
-with_positioner id p r = with_peer (record r.peer { positioners = with_id id p r.peer.positioners }) r
-
 abbrev pub changed_for : ℕ → Demand → Resident → Desktop → Resident
 changed_for c (Asks ask) r d = changed_by ask r
 changed_for c (EndSurface id) r d = surface_ended id r
@@ -216,10 +211,6 @@ changed_for c (EndSubsurface id) r d = subsurface_ended id r
 changed_for c (SetMode link synchronised) r d = mode_set link synchronised r
 changed_for c (GetPointer id version) r d = pointer_given c id version r d
 changed_for c (MakeCursor surface) r d = with_surfaces (with_surface_change surface (with_role AsCursor) r.owned.surfaces) r
-changed_for c (CreatePositioner id version) r d =
-    making XdgPositioner id version (with_positioner id (Some first_positioner) r)
-changed_for c (EndPositioner id) r d = removing id (with_positioner id None r)
-changed_for c (SetPositioner id p) r d = with_positioner id (Some p) r
 changed_for c (GetPopup id version xdg parent p) r d = popup_given id version xdg parent p r
 changed_for c (Grab xdg serial) r d = grabbed (grab_allowed c xdg serial r d) xdg r
 changed_for c (EndPopup id xdg) r d = removing id (xdg_changed xdg without_role r)

@@ -21,10 +21,6 @@ pub data Demand : Type 0 where
   GetPointer : ℕ → ℕ → Demand
   -- a surface becomes a cursor
   MakeCursor : ℕ → Demand
-  -- a new xdg_positioner, with its version
-  CreatePositioner : ℕ → ℕ → Demand
-  EndPositioner : ℕ → Demand
-  SetPositioner : ℕ → Positioner → Demand
   -- a new popup, with its version, of an xdg_surface, with the xdg_surface of its parent and its positioner
   GetPopup : ℕ → ℕ → ℕ → ℕ → Positioner → Demand
   -- a popup asks for a grab: by its xdg_surface, with a serial

@@ -19,17 +19,17 @@ use Rattle.wl_xdg_state.specs.Shell.{Effect, Stays, Unconfigured, Configures, Xd
 use Rattle.wl_xdg_state.specs.Shell.{xdg_of}
 use Rattle.wl_xdg_state.specs.Shell.{xdg_with}
 use Rattle.wl_plain.specs.Ask.{Ask, AskSurface, Ignore, owns}
-use Rattle.wl_plain.specs.Demand.{Demand, Asks, EndSurface, AskFrame, CommitTree, CreatePositioner, EndToplevel, Move}
+use Rattle.wl_plain.specs.Demand.{Demand, Asks, EndSurface, AskFrame, CommitTree, EndToplevel, Move}
 use Rattle.wl_plain.specs.Desktop.{Resident}
 use Rattle.wl_plain.specs.LeftOut.{LeftOut}
-use Rattle.wl_peer.specs.Requests.{Request, ToCompositor, ToSurface, ToSubcompositor, ToSubsurface, ToSeat, ToPointer, ToBase, ToPositioner}
+use Rattle.wl_peer.specs.Requests.{Request, ToCompositor, ToSurface, ToSubcompositor, ToSubsurface, ToSeat, ToPointer, ToBase}
 use Rattle.wl_peer.specs.Requests.{ToXdgSurface, ToToplevel, ToPopup, request_of, rect}
 use Rattle.wl_peer.specs.ToplevelRequest.{ToplevelRequest}
 use Rattle.wl_peer.specs.ToplevelRequest as toplevel
 use Rattle.wl_plain.specs.WlPointer.{pointer_demand, seat_demand}
 use Rattle.wl_plain.specs.WlSubsurface.{past_limit, refuses, subcompositor_demand, subsurface_demand}
 use Rattle.wl_plain.specs.WlSurface.{buffer_named, region_named, surface_created, transform_set, will_show}
-use Rattle.wl_plain.specs.XdgPopup.{popup_demand, popup_made, positioner_demand, positioner_of}
+use Rattle.wl_plain.specs.XdgPopup.{popup_demand, popup_made, positioner_of}
 use Rattle.wl_plain.specs.XdgShell.{acknowledged_by, base_destroyed, geometry_set, state_asked, toplevel_made, xdg_surface_destroyed}
 use Rattle.wl_plain.specs.XdgShell.{xdg_surface_made}
 
@@ -90,7 +90,7 @@ surface_demand r object version (surface.SetBufferTransform transform) = demands
 -- xdg_wm_base
 abbrev pub base_demand : Resident → ℕ → ℕ → XdgWmBaseRequest → Result Demand Refusal
 base_demand r object version base.Destroy = demands (base_destroyed r object)
-base_demand r object version (base.CreatePositioner id) = Ok (CreatePositioner id version)
+base_demand r object version (base.CreatePositioner id) = own_demand r object version (ToBase (base.CreatePositioner id))
 base_demand r object version (base.GetXdgSurface id surface) = demands (xdg_surface_made r object version id surface)
 base_demand r object version (base.Pong serial) = Ok (Asks Ignore)
 
@@ -139,7 +139,6 @@ demand_by (ToSubsurface request) r object version = subsurface_demand r object r
 demand_by (ToSeat request) r object version = seat_demand object version request
 demand_by (ToPointer request) r object version = pointer_demand r object request
 demand_by (ToBase request) r object version = base_demand r object version request
-demand_by (ToPositioner request) r object version = positioner_demand r object request
 demand_by (ToXdgSurface request) r object version = xdg_demand r object version request
 demand_by (ToToplevel request) r object version = toplevel_demand r object request
 demand_by (ToPopup request) r object version = popup_demand r object request

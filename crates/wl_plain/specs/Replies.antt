@@ -16,7 +16,7 @@ use Rattle.wl_xdg_state.specs.Shell.{Effect, Configures, Kind, Toplevel, IsPopup
 use Rattle.wl_stacking.specs.Pointer.{Target, fixed_from}
 use Rattle.wl_stacking.specs.Windows.{Place, Window}
 use Rattle.wl_plain.specs.Changing.{callbacks_of, has_focus, placement_now, tree_committed}
-use Rattle.wl_plain.specs.Demand.{Demand, Asks, EndSurface, CommitTree, EndSubsurface, GetPointer, EndPositioner, EndPopup}
+use Rattle.wl_plain.specs.Demand.{Demand, Asks, EndSurface, CommitTree, EndSubsurface, GetPointer, EndPopup}
 use Rattle.wl_plain.specs.Demand.{EndToplevel}
 use Rattle.wl_plain.specs.Demanding.{effect_of_commit}
 use Rattle.wl_plain.specs.Desktop.{Desktop, Resident}
@@ -76,7 +76,6 @@ own_answers c (CommitTree surface) r windows d = commit_told c (effect_of_commit
     (tree_committed surface r) d
 own_answers c (EndSubsurface id) r windows d = id_deleted id ∷ []
 own_answers c (GetPointer id version) r windows d = new_pointer_told (has_focus c d.pointer.focus) id r.peer.serial windows d
-own_answers c (EndPositioner id) r windows d = id_deleted id ∷ []
 own_answers c (EndPopup id xdg) r windows d = id_deleted id ∷ []
 own_answers c (EndToplevel id xdg surface) r windows d = id_deleted id ∷ []
 own_answers c demand r windows d = []

@@ -11,12 +11,10 @@ use Rattle.wl_peer.specs.Requests.{ToSeat, ToPointer, ToBase, ToPositioner, ToXd
 abbrev pub Unserved : Type 0
 Unserved = Request → Bool
 
--- which aren't served now: those of popups, positioners and pointers
+-- which aren't served now: those of popups and pointers
 abbrev pub unserved_now : Unserved
 unserved_now (ToSeat (seat.GetPointer id)) = true
 unserved_now (ToPointer request) = true
-unserved_now (ToBase (base.CreatePositioner id)) = true
-unserved_now (ToPositioner request) = true
 unserved_now (ToXdgSurface (xdg.GetPopup id parent positioner)) = true
 unserved_now (ToPopup request) = true
 unserved_now request = false
@@ -29,8 +27,10 @@ beyond_clients (ToRegion request) = false
 beyond_clients (ToShm request) = false
 beyond_clients (ToPool request) = false
 beyond_clients (ToBuffer request) = false
+beyond_clients (ToPositioner request) = false
 beyond_clients ToNothing = false
 beyond_clients (ToCompositor (compositor.CreateRegion id)) = false
+beyond_clients (ToBase (base.CreatePositioner id)) = false
 beyond_clients (ToSeat (seat.GetKeyboard id)) = false
 beyond_clients (ToSeat (seat.GetTouch id)) = false
 beyond_clients request = true

@@ -1,50 +1,27 @@
--- What is asked of positioners and popups (xdg-shell.xml, xdg_positioner, xdg_surface.get_popup and xdg_popup).
-use Rattle.std.specs.Prelude.{ℕ, nat_le, Bool, true, false, if◌then◌else◌, Option, Some, None, Result, Ok, is_some}
+-- What is asked of popups (xdg-shell.xml, xdg_surface.get_popup and xdg_popup).
+use Rattle.std.specs.Prelude.{ℕ, Bool, true, false, if◌then◌else◌, Option, Some, None, Result, Ok, is_some}
 use Rattle.wl_proto.specs.declared.xdg_popup.XdgPopupRequest.{XdgPopupRequest}
 use Rattle.wl_proto.specs.declared.xdg_popup.XdgPopupRequest.TheVariants as popup
-use Rattle.wl_proto.specs.declared.xdg_positioner.XdgPositionerRequest.{XdgPositionerRequest}
-use Rattle.wl_proto.specs.declared.xdg_positioner.XdgPositionerRequest.TheVariants as positioner
 use Rattle.wl_peer.specs.declared.refusals.ErrorCode.TheVariants as error
 use Rattle.wl_peer.specs.declared.refusals.Refusal.{Refusal}
 use Rattle.wl_state.specs.declared.role.Role.{Role}
 use Rattle.wl_state.specs.declared.role.Role.TheVariants.{Toplevel as AsToplevel, Popup as AsPopup, Subsurface as AsSubsurface}
 use Rattle.wl_state.specs.declared.role.Role.TheVariants.{Cursor as AsCursor}
 use Rattle.wl_xdg_state.specs.Popups.{Popped, is_parent, is_popup_mapped, popup_at}
-use Rattle.wl_xdg_state.specs.Positioner.{Positioner, first_positioner, is_anchor_rect, is_complete, is_size, rect_set}
+use Rattle.wl_xdg_state.specs.Positioner.{Positioner, first_positioner, is_complete}
 use Rattle.wl_xdg_state.specs.Shell.{XdgSurface, xdg_at, xdg_with}
 use Rattle.wl_plain.specs.Ask.{Ignore}
-use Rattle.wl_plain.specs.Demand.{Demand, Asks, EndPositioner, SetPositioner, GetPopup, Grab, EndPopup}
+use Rattle.wl_plain.specs.Demand.{Demand, Asks, GetPopup, Grab, EndPopup}
 use Rattle.wl_plain.specs.Desktop.{Resident}
 use Rattle.wl_plain.specs.WlSubsurface.{past_limit, refuses}
-use Rattle.wl_peer.specs.Requests.{rect}
 use Rattle.wl_plain.specs.XdgShell.{role_of}
 
--- ---- xdg_positioner
+-- ---- xdg_surface.get_popup
 
-abbrev pub set_if : Bool → ℕ → Positioner → Result Demand Refusal
-set_if true object p = Ok (SetPositioner object p)
-set_if false object p = refuses object error.InvalidInput
-
--- size, anchor rectangle, anchor, gravity, constraint adjustment and offset
-abbrev pub positioner_asked : ℕ → Positioner → XdgPositionerRequest → Result Demand Refusal
-positioner_asked object p positioner.Destroy = Ok (EndPositioner object)
-positioner_asked object p (positioner.SetSize width height) =
-    set_if (is_size width height) object (record p { size = Some (width, height) })
-positioner_asked object p (positioner.SetAnchorRect x y width height) =
-    set_if (is_anchor_rect (rect x y width height)) object (record p { anchor_rect = rect_set (rect x y width height) })
-positioner_asked object p (positioner.SetAnchor anchor) = set_if (nat_le anchor 8) object (record p { anchor = anchor })
-positioner_asked object p (positioner.SetGravity gravity) = set_if (nat_le gravity 8) object (record p { gravity = gravity })
-positioner_asked object p (positioner.SetConstraintAdjustment adjustment) = Ok (SetPositioner object (record p { adjustment = adjustment }))
-positioner_asked object p (positioner.SetOffset x y) = Ok (SetPositioner object (record p { offset = (x, y) }))
-
+-- the values of a positioner
 abbrev pub positioner_of : Option Positioner → Positioner
 positioner_of None = first_positioner
 positioner_of (Some p) = p
-
-abbrev pub positioner_demand : Resident → ℕ → XdgPositionerRequest → Result Demand Refusal
-positioner_demand r object request = positioner_asked object (positioner_of (r.peer.positioners object)) request
-
--- ---- xdg_surface.get_popup
 
 -- the surface has a role that isn't a popup's
 abbrev pub is_no_popup : Option Role → Bool

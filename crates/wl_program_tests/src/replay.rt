@@ -4,5 +4,6 @@ mod faults;
 mod files;
 mod limits;
 mod pools;
+mod positioners;
 mod reports;
 pub(crate) mod support;

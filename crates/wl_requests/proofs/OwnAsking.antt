@@ -7,7 +7,7 @@ use Rattle.wl_wire.specs.declared.header.Split.{Split}
 use Rattle.wl_wire.specs.declared.header.Split.TheVariants.{Message as Whole}
 use Rattle.wl_wire.specs.Wire.{split_of}
 use Rattle.wl_interface.specs.declared.interface.Interface.{Interface}
-use Rattle.wl_interface.specs.declared.interface.Interface.TheVariants.{WlDisplay, WlRegistry, WlRegion, WlSurface, WlShm, WlShmPool, WlBuffer, XdgSurface, XdgToplevel}
+use Rattle.wl_interface.specs.declared.interface.Interface.TheVariants.{WlDisplay, WlRegistry, WlRegion, WlSurface, WlShm, WlShmPool, WlBuffer, XdgPositioner, XdgSurface, XdgToplevel}
 use Rattle.wl_proto.specs.Messages.{Message, request_message}
 use Rattle.wl_client.specs.Agreement.{IsPeer}
 use Rattle.wl_peer.specs.Judgement.{action_of, judge as judge_own}
@@ -20,7 +20,7 @@ use Rattle.wl_client.specs.View.{ClientView}
 use Rattle.wl_peer.specs.declared.actions.Action.{Action}
 use Rattle.wl_peer.specs.declared.refusals.Refusal.{Refusal}
 use Rattle.wl_peer.specs.declared.actions.Action.TheVariants.{Sync, GetRegistry, Bind, CreateRegion, AddToRegion, SubtractFromRegion, DestroyRegion, CreatePool, CreateBuffer, ResizePool, DestroyPool}
-use Rattle.wl_peer.specs.declared.actions.Action.TheVariants.{DestroyBuffer}
+use Rattle.wl_peer.specs.declared.actions.Action.TheVariants.{DestroyBuffer, CreatePositioner, SetPositioner, DestroyPositioner}
 use Rattle.wl_surface.specs.Slots.{has_at}
 use Rattle.wl_state.specs.Surface.{has}
 use Rattle.wl_surface.specs.Surfaces.{is_used}
@@ -111,6 +111,7 @@ own-asked WlRegion r object version m own is = rw is refl
 own-asked WlShm r object version m own is = rw is refl
 own-asked WlShmPool r object version m own is = rw is refl
 own-asked WlBuffer r object version m own is = rw is refl
+own-asked XdgPositioner r object version m own is = rw is refl
 own-asked interface r object version m own is = absurd (cc)
 
 own-demand-of : (r : Resident) (object version : ℕ) (m : Message) → is_own m.interface ≡ true
@@ -149,6 +150,9 @@ own-requests (CreatePool id version size) left n le = omega (arith, le)
 own-requests (CreateBuffer id version buffer) left n le = omega (arith, le)
 own-requests (ResizePool store size) left n le = omega (arith, le)
 own-requests (DestroyPool id store) left n le = omega (arith, le)
+own-requests (CreatePositioner id version) left n le = omega (arith, le)
+own-requests (SetPositioner id setting) left n le = omega (arith, le)
+own-requests (DestroyPositioner id) left n le = omega (arith, le)
 own-requests (DestroyBuffer id store) left n le =
     subst (λ (m : ℕ). n ≤ m)
     (sym (kept-requests (has_used (λ number. is_used number left.owned.surfaces) (left.peer.buffers id)) left.peer.stores (changed (DestroyBuffer id store) (counted left.peer))))

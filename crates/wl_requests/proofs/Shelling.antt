@@ -317,6 +317,7 @@ drawn v w p is e = rw e (record {
   regions = is.regions;
   pools = is.pools;
   buffers = is.buffers;
+  positioners = is.positioners;
   stores = is.stores;
   serial = ap next_serial is.serial;
   unsent = is.unsent;

@@ -156,6 +156,6 @@ subcompositor-stays old r object version (subcompositor.GetSubsurface id child p
 pub base-stays : {A : Type 0} (old : Kept A) (r : Resident) (object version : ℕ) (request : XdgWmBaseRequest)
     → StacksSo old r (demand_of served_now r object version (xdg_wm_base_request request)) Stays
 base-stays old r object version base.Destroy = asks-stay old r _
-base-stays old r object version (base.CreatePositioner id) = tt
+base-stays old r object version (base.CreatePositioner id) = refl
 base-stays old r object version (base.GetXdgSurface id surface) = asks-stay old r _
 base-stays old r object version (base.Pong serial) = refl

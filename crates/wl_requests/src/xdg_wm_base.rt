@@ -4,7 +4,8 @@ ghost use Rattle.std.specs.Prelude.{◌≡◌, ◌↔◌, IsTrue, Ok};
 ghost use Rattle.wl_proto.specs.Messages.{xdg_wm_base_request};
 ghost use Rattle.wl_interface.specs.declared.interface.Interface.TheVariants.{WlSurface};
 ghost use Rattle.wl_proto.specs.declared.xdg_wm_base.XdgWmBaseRequest.TheVariants.{Destroy, GetXdgSurface};
-ghost use Rattle.wl_plain.specs.Ask.{EndObject, Ignore};
+ghost use Rattle.wl_peer.specs.declared.actions.Action.TheVariants.{CreatePositioner};
+ghost use Rattle.wl_plain.specs.Ask.{EndObject, Ignore, Own};
 ghost use Rattle.wl_plain.specs.Demand.{Asks};
 ghost use Rattle.wl_owning.specs.Owning.{targets_in};
 ghost use Rattle.wl_requests.specs.Residents.{AnswersDemand, Does, GoesAlone, IsBase, IsFree, IsSurface, Leaves, NewIsFree, ObjectsFit};
@@ -96,6 +97,16 @@ impl<A: Allocator + Copy> Resident<A> {
         }
     }
 
+    /// xdg_wm_base.create_positioner: a new positioner, for which nothing is set, under a free id.
+    fn create_positioner(&mut self, version: u32, id: u32)
+        ensures answers { IsFree self.old id → AnswersDemand (λ r. Ok (Asks (Own (CreatePositioner id version)))) self.old self.new }
+        ensures rest { Leaves self.old self.new }
+        ensures surfaces { self.new.owned.linked ≡ self.old.owned.linked }
+    {
+        self.client.count();
+        self.client.create_positioner(id, version);
+    }
+
     /// xdg_wm_base.get_xdg_surface: a new xdg_surface, under a free id, of the wl_surface with this id, whose surface has this number.
     fn get_xdg_surface(
         &mut self,
@@ -146,7 +157,7 @@ impl<A: Allocator + Copy> Resident<A> {
     {
         match *request {
             XdgWmBaseRequest::Destroy => self.destroy_base(object, version),
-            XdgWmBaseRequest::CreatePositioner { .. } => self.refuse_unserved(),
+            XdgWmBaseRequest::CreatePositioner { id } => self.create_positioner(version, id),
             XdgWmBaseRequest::GetXdgSurface { id, surface } => {
                 if let Some(number) = self.surface_of(surface) {
                     self.get_xdg_surface(object, version, id, surface, number);

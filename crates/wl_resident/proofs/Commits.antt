@@ -6,7 +6,7 @@ use Rattle.wl_client.specs.First.{IsRefused, Passes}
 use Rattle.wl_client.specs.Serving.{is_own}
 use Rattle.wl_family.specs.Family.{links_in}
 use Rattle.wl_interface.specs.declared.interface.Interface.{Interface}
-use Rattle.wl_interface.specs.declared.interface.Interface.TheVariants.{WlBuffer, WlDisplay, WlRegion, WlRegistry, WlShm, WlShmPool}
+use Rattle.wl_interface.specs.declared.interface.Interface.TheVariants.{WlBuffer, WlDisplay, WlRegion, WlRegistry, WlShm, WlShmPool, XdgPositioner}
 use Rattle.wl_laws.proofs.Lists.Keys.{differ, none-some}
 use Rattle.wl_changes.specs.Changes.{IsDemanded}
 use Rattle.wl_owning.specs.Subsurfaces.{AreOfSurfaces, child_of}
@@ -155,6 +155,7 @@ module _ {A : Type 0} (old : Kept A) (r : Resident) where
   own-asked WlShm object version m own is = rw is refl
   own-asked WlShmPool object version m own is = rw is refl
   own-asked WlBuffer object version m own is = rw is refl
+  own-asked XdgPositioner object version m own is = rw is refl
   own-asked interface object version m own is = absurd (cc)
 
   own-stays : (object version : ℕ) (m : Message) → is_own m.interface ≡ true → StacksSo old r (demand_of served_now r object version m) Stays

@@ -6,7 +6,7 @@ use Rattle.wl_wire.specs.Wire.{split_of}
 use Rattle.wl_wire.specs.declared.header.Split.{Split}
 use Rattle.wl_wire.specs.declared.header.Split.TheVariants.{Message as Whole, More, Bad}
 use Rattle.wl_interface.specs.declared.interface.Interface.{Interface}
-use Rattle.wl_interface.specs.declared.interface.Interface.TheVariants.{WlDisplay, WlRegistry, WlRegion, WlSurface, WlShm, WlShmPool, WlBuffer, XdgToplevel}
+use Rattle.wl_interface.specs.declared.interface.Interface.TheVariants.{WlDisplay, WlRegistry, WlRegion, WlSurface, WlShm, WlShmPool, WlBuffer, XdgPositioner, XdgToplevel}
 use Rattle.wl_proto.specs.Messages.{Message, request_message, wl_compositor_request, wl_seat_request, wl_subcompositor_request, wl_subsurface_request, wl_surface_request}
 use Rattle.wl_proto.specs.Messages.{xdg_surface_request, xdg_wm_base_request}
 use Rattle.wl_proto.specs.declared.wl_compositor.WlCompositorRequest.{WlCompositorRequest}
@@ -142,7 +142,7 @@ subcompositor-untouched r object version (subcompositor.GetSubsurface id child p
 
 base-untouched : (r : Resident) (object version : ℕ) (request : XdgWmBaseRequest) → Untouched (demand_of served_now r object version (xdg_wm_base_request request))
 base-untouched r object version base.Destroy = asks-untouched (base_destroyed r object)
-base-untouched r object version (base.CreatePositioner id) = tt
+base-untouched r object version (base.CreatePositioner id) = λ q. refl
 base-untouched r object version (base.GetXdgSurface id surface) = asks-untouched (xdg_surface_made r object version id surface)
 base-untouched r object version (base.Pong serial) = λ q. refl
 
@@ -190,6 +190,7 @@ own-judged WlRegion r object version m own is = rw is refl
 own-judged WlShm r object version m own is = rw is refl
 own-judged WlShmPool r object version m own is = rw is refl
 own-judged WlBuffer r object version m own is = rw is refl
+own-judged XdgPositioner r object version m own is = rw is refl
 own-judged interface r object version m own is = absurd (cc)
 
 own-untouched : (r : Resident) (object version : ℕ) (m : Message) → is_own m.interface ≡ true → Untouched (demand_of served_now r object version m)

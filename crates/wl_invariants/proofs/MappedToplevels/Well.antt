@@ -26,7 +26,7 @@ use Rattle.wl_peer.specs.declared.refusals.Refusal.{Refusal}
 use Rattle.wl_peer.specs.Judgement.{action_of, after_new_id, is_free, judged, judged_at}
 use Rattle.wl_peer.specs.Objects.{Object, Objects, fits}
 use Rattle.wl_peer.specs.Peer.{counted, known_of, with_rest}
-use Rattle.wl_peer.specs.Requests.{Request, ToCompositor, ToSurface, ToSubcompositor, ToSubsurface, ToSeat, ToPointer, ToBase, ToPositioner, ToXdgSurface, ToToplevel, ToPopup, request_of}
+use Rattle.wl_peer.specs.Requests.{Request, ToCompositor, ToSurface, ToSubcompositor, ToSubsurface, ToSeat, ToPointer, ToBase, ToXdgSurface, ToToplevel, ToPopup, request_of}
 use Rattle.wl_peer.specs.ToplevelRequest.{ToplevelRequest}
 use Rattle.wl_peer.specs.ToplevelRequest as toplevel
 use Rattle.wl_state.specs.Request.{Request as Asked, Member, PlaceAbove, PlaceBelow}
@@ -122,12 +122,12 @@ module _ (r : Resident) where
 
   -- ---- the shell
 
-  base-well : (object version : ℕ) (request : XdgWmBaseRequest) → unserved_now (ToBase request) ≡ false → IsWellSo r (base_demand r object version request)
-  base-well object version base.Destroy served = ask-well (list_any (λ x. x.base == object) r.owned.shell) _ _ (λ used. tt) (λ unused. tt)
-  base-well object version (base.CreatePositioner id) served = absurd (cc)
-  base-well object version (base.GetXdgSurface id surface) served =
+  base-well : (object version : ℕ) (request : XdgWmBaseRequest) → IsWellSo r (base_demand r object version request)
+  base-well object version base.Destroy = ask-well (list_any (λ x. x.base == object) r.owned.shell) _ _ (λ used. tt) (λ unused. tt)
+  base-well object version (base.CreatePositioner id) = tt
+  base-well object version (base.GetXdgSurface id surface) =
       ask-well (is_foreign (role_of r surface) || is_some (xdg_of surface r.owned.shell)) _ _ (λ other. tt) (λ free. ask-well (has_any r surface) _ _ (λ full. tt) (λ none. tt))
-  base-well object version (base.Pong serial) served = tt
+  base-well object version (base.Pong serial) = tt
 
   xdg-well : (x : Option Xdg) (version : ℕ) (request : XdgSurfaceRequest) → unserved_now (ToXdgSurface request) ≡ false → IsWellSo r (xdg_asked r x version request)
   xdg-well None version request served = tt
@@ -179,14 +179,13 @@ module _ (r : Resident) where
   interface-well (ToSeat (seat.GetPointer id)) object version served = absurd (cc)
   interface-well (ToSeat (seat.GetKeyboard id)) object version served = tt
   interface-well (ToSeat (seat.GetTouch id)) object version served = tt
-  interface-well (ToBase request) object version served = base-well object version request served
+  interface-well (ToBase request) object version served = base-well object version request
   interface-well (ToXdgSurface request) object version served = xdg-well (xdg_at object r.owned.shell) version request served
   interface-well (ToToplevel request) object version served = toplevel-well object (xdg_with object r.owned.shell) request
   interface-well (ToSubcompositor subcompositor.Destroy) object version served = tt
   interface-well (ToSubcompositor (subcompositor.GetSubsurface id child parent)) object version served = made-well object version id child parent
   interface-well (ToSubsurface request) object version served = link-well object (link_of_subsurface object r) request
   interface-well (ToPointer request) object version served = absurd (cc)
-  interface-well (ToPositioner request) object version served = absurd (cc)
   interface-well (ToPopup request) object version served = absurd (cc)
   interface-well request object version served = own-well object version request
 

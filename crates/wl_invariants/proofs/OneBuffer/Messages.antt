@@ -4,7 +4,7 @@ use Rattle.std.specs.Prelude.{◌⊎◌, fold}
 use Rattle.wl_store.specs.Stores.{Stock}
 use Rattle.wl_peer.specs.declared.actions.Action.{Action}
 use Rattle.wl_peer.specs.declared.actions.Action.TheVariants.{Sync, GetRegistry, Bind, CreateRegion, AddToRegion, SubtractFromRegion, DestroyRegion, CreatePool, CreateBuffer, ResizePool, DestroyPool}
-use Rattle.wl_peer.specs.declared.actions.Action.TheVariants.{DestroyBuffer}
+use Rattle.wl_peer.specs.declared.actions.Action.TheVariants.{DestroyBuffer, CreatePositioner, SetPositioner, DestroyPositioner}
 use Rattle.wl_peer.specs.Buffers.{Buffer as Made, Laid, numbered}
 use Rattle.wl_peer.specs.Objects.{ById, with_id}
 use Rattle.wl_peer.specs.Peer.{Peer, changed, removed}
@@ -18,8 +18,8 @@ use Rattle.wl_xdg_state.specs.Positioner.{Positioner}
 use Rattle.wl_xdg_state.specs.Shell.{Effect, Stays, Unconfigured, Configures, Maps, Unmaps, XdgSurface, xdg_at, xdg_of}
 use Rattle.wl_plain.specs.Ask.{Ask, Own, CreateSurface, AskSurface, EndObject, GetXdgSurface, DestroyXdgSurface, GetToplevel, Acknowledge, ConfigureAgain, Ignore}
 use Rattle.wl_plain.specs.Changing.{callbacks_of, changed_for, drawing, effect_done, grab_allowed, grabbed, has_focus, in_rising_order, link_with_id, mode_set, popup_given_to, tree_committed}
-use Rattle.wl_plain.specs.Demand.{Demand, Asks, EndSurface, AskFrame, CommitTree, GetSubsurface, EndSubsurface, SetMode, GetPointer, MakeCursor, CreatePositioner, EndPositioner}
-use Rattle.wl_plain.specs.Demand.{SetPositioner, GetPopup, Grab, EndPopup, EndToplevel, Move}
+use Rattle.wl_plain.specs.Demand.{Demand, Asks, EndSurface, AskFrame, CommitTree, GetSubsurface, EndSubsurface, SetMode, GetPointer, MakeCursor}
+use Rattle.wl_plain.specs.Demand.{GetPopup, Grab, EndPopup, EndToplevel, Move}
 use Rattle.wl_plain.specs.Demanding.{effect_of_commit}
 use Rattle.wl_plain.specs.Desktop.{Desktop, Resident}
 use Rattle.wl_plain.specs.Step.{changed_by, toplevel_given}
@@ -120,6 +120,9 @@ module _ (n : ℕ) (r : Resident) (next : r.peer.requests ≡ n + 1) (one : OneB
   own-keeps used (CreateBuffer id version laid) = created id laid
   own-keeps used (ResizePool store size) = own-same
   own-keeps used (DestroyPool id store) = own-same
+  own-keeps used (CreatePositioner id version) = own-same
+  own-keeps used (SetPositioner id setting) = own-same
+  own-keeps used (DestroyPositioner id) = own-same
   own-keeps used (DestroyBuffer id store) = gone (has_used used (r.peer.buffers id)) r.peer.stores id store
 
   asked-keeps : (id : ℕ) (request : Request) → IsRequestFrom r.peer.buffers request
@@ -159,9 +162,6 @@ module _ (n : ℕ) (r : Resident) (next : r.peer.requests ≡ n + 1) (one : OneB
       spared (changed_for c (GetPointer id version) r d)
       (drawing-spares (has_focus c d.pointer.focus) (record r { pointers = in_rising_order id r.pointers }))
   demand-keeps c (MakeCursor surface) d from = spared (changed_for c (MakeCursor surface) r d) (refl, role-fewer surface _ r.owned.surfaces)
-  demand-keeps c (CreatePositioner id version) d from = own-same
-  demand-keeps c (EndPositioner id) d from = own-same
-  demand-keeps c (SetPositioner id p) d from = own-same
   demand-keeps c (GetPopup id version xdg parent p) d from =
       spared (changed_for c (GetPopup id version xdg parent p) r d) (popup-spares id xdg parent p (xdg_at xdg r.owned.shell) r)
   demand-keeps c (Grab xdg serial) d from = spared (changed_for c (Grab xdg serial) r d) (grab-spares (grab_allowed c xdg serial r d) xdg r)

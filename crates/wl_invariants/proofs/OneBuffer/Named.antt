@@ -15,8 +15,6 @@ use Rattle.wl_proto.specs.declared.wl_surface.WlSurfaceRequest.{WlSurfaceRequest
 use Rattle.wl_proto.specs.declared.wl_surface.WlSurfaceRequest.TheVariants as surface
 use Rattle.wl_proto.specs.declared.xdg_popup.XdgPopupRequest.{XdgPopupRequest}
 use Rattle.wl_proto.specs.declared.xdg_popup.XdgPopupRequest.TheVariants as popup
-use Rattle.wl_proto.specs.declared.xdg_positioner.XdgPositionerRequest.{XdgPositionerRequest}
-use Rattle.wl_proto.specs.declared.xdg_positioner.XdgPositionerRequest.TheVariants as positioner
 use Rattle.wl_proto.specs.declared.xdg_surface.XdgSurfaceRequest.{XdgSurfaceRequest}
 use Rattle.wl_proto.specs.declared.xdg_surface.XdgSurfaceRequest.TheVariants as xdg
 use Rattle.wl_proto.specs.declared.xdg_wm_base.XdgWmBaseRequest.{XdgWmBaseRequest}
@@ -36,7 +34,7 @@ use Rattle.wl_state.specs.Request.{Buffer, Member, Request, Attach, PlaceAbove, 
 use Rattle.wl_surface.specs.Surfaces.{Link}
 use Rattle.wl_surface.specs.Trees.{is_bad_parent, is_too_deep}
 use Rattle.wl_xdg_state.specs.Popups.{Popped, is_parent, is_popup_mapped, popup_at}
-use Rattle.wl_xdg_state.specs.Positioner.{Positioner, is_anchor_rect, is_complete, is_size}
+use Rattle.wl_xdg_state.specs.Positioner.{Positioner, is_complete}
 use Rattle.wl_xdg_state.specs.Shell.{Effect, Stays, Unconfigured, Configures, Maps, Unmaps, XdgSurface as Xdg, answers_states, is_full, is_waiting, stage_of, xdg_at, xdg_of, xdg_with}
 use Rattle.wl_plain.specs.Ask.{Ask, AskSurface, owns}
 use Rattle.wl_plain.specs.Demand.{Demand, Asks}
@@ -47,7 +45,7 @@ use Rattle.wl_plain.specs.LeftOut.{LeftOut}
 use Rattle.wl_plain.specs.WlPointer.{is_no_cursor}
 use Rattle.wl_plain.specs.WlSubsurface.{beside, demand_by_link, has_subsurface, is_no_subsurface, link_of_subsurface, placed_beside, subsurface_made}
 use Rattle.wl_plain.specs.WlSurface.{buffer_of}
-use Rattle.wl_plain.specs.XdgPopup.{grab_of, is_no_popup, may_be_parent, popup_asked, popup_made, positioner_asked, positioner_of, set_if}
+use Rattle.wl_plain.specs.XdgPopup.{grab_of, is_no_popup, may_be_parent, popup_asked, popup_made, positioner_of}
 use Rattle.wl_plain.specs.XdgShell.{acknowledged_by, geometry_set, has_any, is_foreign, is_no_toplevel, role_of, state_asked}
 use Rattle.wl_laws.proofs.Soundness.AllowedHeard.{judged-hears}
 use Rattle.wl_invariants.specs.OneBuffer.{Attaches}
@@ -160,19 +158,6 @@ module _ (r : Resident) where
       if-asks (is_foreign (role_of r surface) || is_some (xdg_of surface r.owned.shell)) _ _ tt (if-asks (has_any r surface) _ _ tt tt)
   base-froms object version (base.Pong serial) = tt
 
-  set-froms : (b : Bool) (object : ℕ) (p : Positioner) → Froms (set_if b object p)
-  set-froms true object p = tt
-  set-froms false object p = tt
-
-  positioner-froms : (object : ℕ) (p : Positioner) (request : XdgPositionerRequest) → Froms (positioner_asked object p request)
-  positioner-froms object p positioner.Destroy = tt
-  positioner-froms object p (positioner.SetSize width height) = set-froms (is_size width height) object _
-  positioner-froms object p (positioner.SetAnchorRect x y width height) = set-froms (is_anchor_rect (rect x y width height)) object _
-  positioner-froms object p (positioner.SetAnchor anchor) = set-froms (nat_le anchor 8) object _
-  positioner-froms object p (positioner.SetGravity gravity) = set-froms (nat_le gravity 8) object _
-  positioner-froms object p (positioner.SetConstraintAdjustment adjustment) = tt
-  positioner-froms object p (positioner.SetOffset x y) = tt
-
   popup-made-froms : (x : Xdg) (version id parent : ℕ) (p : Positioner) → Froms (popup_made r x version id parent p)
   popup-made-froms x version id parent p =
       if-froms (is_some x.role) _ _ tt
@@ -242,7 +227,7 @@ module _ (r : Resident) where
   demand-froms (ToPointer (pointer.SetCursor serial surface x y)) object version =
       if-froms (surface == 0) _ _ tt (if-froms (is_no_cursor (role_of r surface) || is_some (xdg_of surface r.owned.shell)) _ _ tt tt)
   demand-froms (ToBase request) object version = base-froms object version request
-  demand-froms (ToPositioner request) object version = positioner-froms object (positioner_of (r.peer.positioners object)) request
+  demand-froms (ToPositioner request) object version = own-froms (action_of (known_of r.peer) object version (ToPositioner request))
   demand-froms (ToXdgSurface request) object version = xdg-froms (xdg_at object r.owned.shell) version request
   demand-froms (ToToplevel request) object version = toplevel-froms object (xdg_with object r.owned.shell) request
   demand-froms (ToPopup request) object version = popup-froms object (xdg_with object r.owned.shell) request

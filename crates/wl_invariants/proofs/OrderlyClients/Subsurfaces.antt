@@ -16,8 +16,8 @@ use Rattle.wl_xdg_state.specs.Shell.{Configures, Effect, Maps, Stays, Unconfigur
 use Rattle.wl_xdg_state.specs.Shell.{with_change as with_xdg_change, without_role, xdg_at, xdg_of}
 use Rattle.wl_plain.specs.Ask.{Ask, Own, CreateSurface, AskSurface, EndObject, GetXdgSurface, DestroyXdgSurface, GetToplevel, Acknowledge, ConfigureAgain, Ignore}
 use Rattle.wl_plain.specs.Changing.{link_with_id, mode_set, subsurface_given, surface_ended, tree_committed, without_child}
-use Rattle.wl_plain.specs.Demand.{Demand, Asks, EndSurface, AskFrame, CommitTree, GetSubsurface, EndSubsurface, SetMode, GetPointer, MakeCursor, CreatePositioner, EndPositioner}
-use Rattle.wl_plain.specs.Demand.{SetPositioner, GetPopup, Grab, EndPopup, EndToplevel, Move}
+use Rattle.wl_plain.specs.Demand.{Demand, Asks, EndSurface, AskFrame, CommitTree, GetSubsurface, EndSubsurface, SetMode, GetPointer, MakeCursor}
+use Rattle.wl_plain.specs.Demand.{GetPopup, Grab, EndPopup, EndToplevel, Move}
 use Rattle.wl_plain.specs.Demanding.{effect_of_commit}
 use Rattle.wl_plain.specs.Desktop.{Resident, Subsurface}
 use Rattle.wl_plain.specs.Step.{asked_so_far, changed_by, toplevel_given}
@@ -220,9 +220,6 @@ demanded-subsurfaces (EndToplevel id xdg top) r there served ok are =
 demanded-subsurfaces (Move surface serial) r there served ok are = are
 demanded-subsurfaces (GetPointer id version) r there served ok are = absurd served
 demanded-subsurfaces (MakeCursor surface) r there served ok are = absurd served
-demanded-subsurfaces (CreatePositioner id version) r there served ok are = absurd served
-demanded-subsurfaces (EndPositioner id) r there served ok are = absurd served
-demanded-subsurfaces (SetPositioner id p) r there served ok are = absurd served
 demanded-subsurfaces (GetPopup id version xdg parent p) r there served ok are = absurd served
 demanded-subsurfaces (Grab xdg serial) r there served ok are = absurd served
 demanded-subsurfaces (EndPopup id xdg) r there served ok are = absurd served

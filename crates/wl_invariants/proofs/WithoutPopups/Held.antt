@@ -5,10 +5,10 @@ use Rattle.std.specs.List.{list_any}
 use Rattle.std.specs.Option.{option_map_or}
 use Rattle.std.proofs.lemmas.Bool.{eqb-true}
 use Rattle.wl_interface.specs.declared.interface.Interface.{Interface}
-use Rattle.wl_interface.specs.declared.interface.Interface.TheVariants.{WlBuffer, WlCallback, WlRegion, WlShmPool, WlSubsurface, WlSurface}
+use Rattle.wl_interface.specs.declared.interface.Interface.TheVariants.{WlBuffer, WlCallback, WlRegion, WlShmPool, WlSubsurface, WlSurface, XdgPositioner}
 use Rattle.wl_peer.specs.declared.actions.Action.{Action}
 use Rattle.wl_peer.specs.declared.actions.Action.TheVariants.{Sync, GetRegistry, Bind, CreateRegion, AddToRegion, SubtractFromRegion, DestroyRegion, CreatePool, CreateBuffer, ResizePool, DestroyPool}
-use Rattle.wl_peer.specs.declared.actions.Action.TheVariants.{DestroyBuffer}
+use Rattle.wl_peer.specs.declared.actions.Action.TheVariants.{DestroyBuffer, CreatePositioner, SetPositioner, DestroyPositioner}
 use Rattle.wl_peer.specs.Judgement.{is_free}
 use Rattle.wl_peer.specs.Objects.{Object, Objects, interface_number, is_of, with_id}
 use Rattle.wl_peer.specs.Peer.{Peer, changed, object_at_version}
@@ -179,6 +179,9 @@ module _ (all : Surfaces) (subs : List Subsurface) (calls : List Callback) where
   own-held used (CreateBuffer id version laid) r ok held = held-at all subs calls r.peer.objects held id _ (bare-new r.peer.objects id ok)
   own-held used (ResizePool store size) r ok held = held
   own-held used (DestroyPool id store) r ok held = held-at all subs calls r.peer.objects held id None (bare-of WlShmPool refl refl refl r.peer.objects id ok)
+  own-held used (CreatePositioner id version) r ok held = held-at all subs calls r.peer.objects held id _ (bare-new r.peer.objects id ok)
+  own-held used (SetPositioner id setting) r ok held = held
+  own-held used (DestroyPositioner id) r ok held = held-at all subs calls r.peer.objects held id None (bare-of XdgPositioner refl refl refl r.peer.objects id ok)
   own-held used (DestroyBuffer id store) r ok held =
       stored-held (has_used used (r.peer.buffers id)) r.peer.stores (changed (DestroyBuffer id store) r.peer)
       (held-at all subs calls r.peer.objects held id None (bare-of WlBuffer refl refl refl r.peer.objects id ok))

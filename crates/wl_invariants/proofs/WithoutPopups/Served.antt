@@ -1,4 +1,4 @@
--- What a request demands that is served where popups, positioners and pointers are not.
+-- What a request demands that is served where popups and pointers are not.
 use Rattle.std.proofs.Common.{◌≡◌, ℕ, List, Bool, true, false, Option, Some, None, Result, refl, subst}
 use Rattle.std.specs.Prelude.{Ok, Err, ◌||◌, if◌then◌else◌, is_some, nat_le}
 use Rattle.std.specs.List.{list_all}
@@ -22,7 +22,7 @@ use Rattle.wl_peer.specs.declared.refusals.Refusal.{Refusal}
 use Rattle.wl_peer.specs.Judgement.{action_of, after_new_id, is_free, judged, judged_at}
 use Rattle.wl_peer.specs.Objects.{Object, Objects, fits}
 use Rattle.wl_peer.specs.Peer.{known_of}
-use Rattle.wl_peer.specs.Requests.{Request, ToCompositor, ToSurface, ToSubcompositor, ToSubsurface, ToSeat, ToPointer, ToBase, ToPositioner, ToXdgSurface, ToToplevel, ToPopup, request_of, rect}
+use Rattle.wl_peer.specs.Requests.{Request, ToCompositor, ToSurface, ToSubcompositor, ToSubsurface, ToSeat, ToPointer, ToBase, ToXdgSurface, ToToplevel, ToPopup, request_of, rect}
 use Rattle.wl_peer.specs.ToplevelRequest.{ToplevelRequest}
 use Rattle.wl_peer.specs.ToplevelRequest as toplevel
 use Rattle.wl_state.specs.Request.{Request as Asked, Member, PlaceAbove, PlaceBelow}
@@ -96,11 +96,11 @@ link-served r object (Some l) subsurface.SetDesync = tt
 
 -- ---- the shell
 
-base-served : (r : Resident) (object version : ℕ) (request : XdgWmBaseRequest) → unserved_now (ToBase request) ≡ false → IsServedSo (base_demand r object version request)
-base-served r object version base.Destroy served = demands-served (base_destroyed r object)
-base-served r object version (base.CreatePositioner id) served = absurd (cc)
-base-served r object version (base.GetXdgSurface id surface) served = demands-served (xdg_surface_made r object version id surface)
-base-served r object version (base.Pong serial) served = tt
+base-served : (r : Resident) (object version : ℕ) (request : XdgWmBaseRequest) → IsServedSo (base_demand r object version request)
+base-served r object version base.Destroy = demands-served (base_destroyed r object)
+base-served r object version (base.CreatePositioner id) = tt
+base-served r object version (base.GetXdgSurface id surface) = demands-served (xdg_surface_made r object version id surface)
+base-served r object version (base.Pong serial) = tt
 
 xdg-served : (r : Resident) (x : Option Xdg) (version : ℕ) (request : XdgSurfaceRequest) → unserved_now (ToXdgSurface request) ≡ false → IsServedSo (xdg_asked r x version request)
 xdg-served r None version request served = tt
@@ -140,14 +140,13 @@ interface-served (ToSurface request) r object version served = surface-served r 
 interface-served (ToSeat (seat.GetPointer id)) r object version served = absurd (cc)
 interface-served (ToSeat (seat.GetKeyboard id)) r object version served = tt
 interface-served (ToSeat (seat.GetTouch id)) r object version served = tt
-interface-served (ToBase request) r object version served = base-served r object version request served
+interface-served (ToBase request) r object version served = base-served r object version request
 interface-served (ToXdgSurface request) r object version served = xdg-served r (xdg_at object r.owned.shell) version request served
 interface-served (ToToplevel request) r object version served = toplevel-served object (xdg_with object r.owned.shell) request
 interface-served (ToSubcompositor subcompositor.Destroy) r object version served = tt
 interface-served (ToSubcompositor (subcompositor.GetSubsurface id child parent)) r object version served = made-served r object version id child parent
 interface-served (ToSubsurface request) r object version served = link-served r object (link_of_subsurface object r) request
 interface-served (ToPointer request) r object version served = absurd (cc)
-interface-served (ToPositioner request) r object version served = absurd (cc)
 interface-served (ToPopup request) r object version served = absurd (cc)
 interface-served request r object version served = own-served r object version request
 

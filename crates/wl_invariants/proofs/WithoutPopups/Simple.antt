@@ -12,8 +12,8 @@ use Rattle.wl_xdg_state.proofs.Standing.{popup-still as popup-still-there}
 use Rattle.wl_stacking.specs.Pointer.{first_pointer}
 use Rattle.wl_stacking.specs.Windows.{Window}
 use Rattle.wl_plain.specs.Changing.{changed_for, commit_done, drawing, effect_done, is_configure, placement_now, stacked_by, stacked_for, toplevel_ended, tree_committed, with_kept_move}
-use Rattle.wl_plain.specs.Demand.{Demand, Asks, EndSurface, AskFrame, CommitTree, GetSubsurface, EndSubsurface, SetMode, GetPointer, MakeCursor, CreatePositioner, EndPositioner}
-use Rattle.wl_plain.specs.Demand.{SetPositioner, GetPopup, Grab, EndPopup, EndToplevel, Move}
+use Rattle.wl_plain.specs.Demand.{Demand, Asks, EndSurface, AskFrame, CommitTree, GetSubsurface, EndSubsurface, SetMode, GetPointer, MakeCursor}
+use Rattle.wl_plain.specs.Demand.{GetPopup, Grab, EndPopup, EndToplevel, Move}
 use Rattle.wl_plain.specs.Demanding.{effect_of_commit, effect_on_xdg, is_dismissed}
 use Rattle.wl_plain.specs.Desktop.{Desktop, Resident}
 use Rattle.wl_plain.specs.Replies.{commit_told, configure_told, own_answers, releases}
@@ -104,9 +104,6 @@ changes_simply c (EndToplevel id xdg top) r d owns served = toplevel-same id xdg
 changes_simply c (Move id serial) r d owns served = refl
 changes_simply c (GetPointer id version) r d owns served = absurd served
 changes_simply c (MakeCursor surface) r d owns served = absurd served
-changes_simply c (CreatePositioner id version) r d owns served = absurd served
-changes_simply c (EndPositioner id) r d owns served = absurd served
-changes_simply c (SetPositioner id p) r d owns served = absurd served
 changes_simply c (GetPopup id version xdg parent p) r d owns served = absurd served
 changes_simply c (Grab xdg serial) r d owns served = absurd served
 changes_simply c (EndPopup id xdg) r d owns served = absurd served
@@ -158,9 +155,6 @@ answers-same c (EndToplevel id xdg surface) r windows d top served = refl
 answers-same c (Move id serial) r windows d top served = refl
 answers-same c (GetPointer id version) r windows d top served = absurd served
 answers-same c (MakeCursor surface) r windows d top served = absurd served
-answers-same c (CreatePositioner id version) r windows d top served = absurd served
-answers-same c (EndPositioner id) r windows d top served = absurd served
-answers-same c (SetPositioner id p) r windows d top served = absurd served
 answers-same c (GetPopup id version xdg parent p) r windows d top served = absurd served
 answers-same c (Grab xdg serial) r windows d top served = absurd served
 answers-same c (EndPopup id xdg) r windows d top served = absurd served
@@ -224,9 +218,6 @@ stacks_simply c (Move id serial) r windows d still owns served =
     subst (λ p. stacked_for c (Move id serial) r windows (record d { pointer = p }) ≡ record d { pointer = p }) (sym still) (moved-plain c id serial r windows d)
 stacks_simply c (GetPointer id version) r windows d still owns served = absurd served
 stacks_simply c (MakeCursor surface) r windows d still owns served = absurd served
-stacks_simply c (CreatePositioner id version) r windows d still owns served = absurd served
-stacks_simply c (EndPositioner id) r windows d still owns served = absurd served
-stacks_simply c (SetPositioner id p) r windows d still owns served = absurd served
 stacks_simply c (GetPopup id version xdg parent p) r windows d still owns served = absurd served
 stacks_simply c (Grab xdg serial) r windows d still owns served = absurd served
 stacks_simply c (EndPopup id xdg) r windows d still owns served = absurd served

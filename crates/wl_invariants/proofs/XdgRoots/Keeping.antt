@@ -15,8 +15,8 @@ use Rattle.wl_xdg_state.specs.Shell.{Effect, Stays, Unconfigured, Configures, Ma
 use Rattle.wl_stacking.specs.Stacking.{Standing}
 use Rattle.wl_plain.specs.Ask.{Ask, Own, CreateSurface, AskSurface, EndObject, GetXdgSurface, DestroyXdgSurface, GetToplevel, Acknowledge, ConfigureAgain, Ignore}
 use Rattle.wl_plain.specs.Changing.{changed_for, drawing, effect_done, grab_allowed, grabbed, has_focus, in_rising_order, popup_given_to, tree_committed, unlinked_at, without_child}
-use Rattle.wl_plain.specs.Demand.{Demand, Asks, EndSurface, AskFrame, CommitTree, GetSubsurface, EndSubsurface, SetMode, GetPointer, MakeCursor, CreatePositioner, EndPositioner}
-use Rattle.wl_plain.specs.Demand.{SetPositioner, GetPopup, Grab, EndPopup, EndToplevel, Move}
+use Rattle.wl_plain.specs.Demand.{Demand, Asks, EndSurface, AskFrame, CommitTree, GetSubsurface, EndSubsurface, SetMode, GetPointer, MakeCursor}
+use Rattle.wl_plain.specs.Demand.{GetPopup, Grab, EndPopup, EndToplevel, Move}
 use Rattle.wl_plain.specs.Demanding.{effect_of_commit}
 use Rattle.wl_plain.specs.Desktop.{Desktop, Resident, Subsurface}
 use Rattle.wl_plain.specs.Step.{changed_by, toplevel_given, with_peer}
@@ -123,9 +123,6 @@ module _ (Holds : ℕ → Surfaces → List Subsurface → Type 0) (keeps : Keep
     demand-kept c (GetPointer id version) tops d ok names it known =
         keeps.later p.requests _ _ (drawn-kept p.requests (has_focus c d.pointer.focus) (record Now { pointers = in_rising_order id r.pointers }) known)
     demand-kept c (MakeCursor surface) tops d ok names it known = keeps.later p.requests _ _ (keeps.role p.requests surface AsCursor r.owned.surfaces r.subsurfaces known)
-    demand-kept c (CreatePositioner id version) tops d ok names it known = keeps.later p.requests _ _ known
-    demand-kept c (EndPositioner id) tops d ok names it known = keeps.later p.requests _ _ known
-    demand-kept c (SetPositioner id q) tops d ok names it known = keeps.later p.requests _ _ known
     demand-kept c (GetPopup id version xdg parent q) tops d ok names it known =
         keeps.later p.requests _ _ (popup-kept p.requests id xdg parent q (xdg_at xdg r.owned.shell) Now known)
     demand-kept c (Grab xdg serial) tops d ok names it known = keeps.later p.requests _ _ (grab-kept p.requests (grab_allowed c xdg serial Now d) xdg Now known)

@@ -22,8 +22,6 @@ use Rattle.wl_proto.specs.declared.wl_surface.WlSurfaceRequest.{WlSurfaceRequest
 use Rattle.wl_proto.specs.declared.wl_surface.WlSurfaceRequest.TheVariants as surface
 use Rattle.wl_proto.specs.declared.xdg_popup.XdgPopupRequest.{XdgPopupRequest}
 use Rattle.wl_proto.specs.declared.xdg_popup.XdgPopupRequest.TheVariants as popup
-use Rattle.wl_proto.specs.declared.xdg_positioner.XdgPositionerRequest.{XdgPositionerRequest}
-use Rattle.wl_proto.specs.declared.xdg_positioner.XdgPositionerRequest.TheVariants as positioner
 use Rattle.wl_proto.specs.declared.xdg_surface.XdgSurfaceRequest.{XdgSurfaceRequest}
 use Rattle.wl_proto.specs.declared.xdg_surface.XdgSurfaceRequest.TheVariants as xdg
 use Rattle.wl_proto.specs.declared.xdg_wm_base.XdgWmBaseRequest.{XdgWmBaseRequest}
@@ -33,7 +31,7 @@ use Rattle.wl_peer.specs.declared.refusals.Refusal.{Refusal}
 use Rattle.wl_peer.specs.Judgement.{action_of}
 use Rattle.wl_peer.specs.Objects.{Objects, fits, is_of}
 use Rattle.wl_peer.specs.Peer.{known_of}
-use Rattle.wl_peer.specs.Requests.{Request as Asked, base_request, compositor_request, pointer_request, popup_request, positioner_request, rect, request_in, seat_request, subcompositor_request}
+use Rattle.wl_peer.specs.Requests.{Request as Asked, base_request, compositor_request, pointer_request, popup_request, rect, request_in, seat_request, subcompositor_request}
 use Rattle.wl_peer.specs.Requests.{subsurface_request, surface_request, toplevel_request, word_in, xdg_request}
 use Rattle.wl_peer.specs.Requests as to
 use Rattle.wl_peer.specs.ToplevelRequest.{ToplevelRequest}
@@ -42,7 +40,7 @@ use Rattle.wl_state.specs.Request.{Member, PlaceAbove, PlaceBelow, Request, SetP
 use Rattle.wl_surface.specs.Surfaces.{Link, Surfaces}
 use Rattle.wl_surface.specs.Trees.{is_bad_parent, is_too_deep}
 use Rattle.wl_xdg_state.specs.Popups.{Popped, is_parent, is_popup_mapped, popup_at}
-use Rattle.wl_xdg_state.specs.Positioner.{Positioner, is_anchor_rect, is_complete, is_size}
+use Rattle.wl_xdg_state.specs.Positioner.{is_complete}
 use Rattle.wl_xdg_state.specs.Shell.{Effect, Stays, Unconfigured, Configures, Maps, Unmaps, XdgSurface as Xdg, answers_states, is_full, is_waiting, stage_of, xdg_at, xdg_of, xdg_with}
 use Rattle.wl_plain.specs.Ask.{Ask, AskSurface, owns}
 use Rattle.wl_plain.specs.Demand.{Demand, Asks, GetSubsurface}
@@ -52,7 +50,7 @@ use Rattle.wl_plain.specs.Desktop.{Resident}
 use Rattle.wl_plain.specs.LeftOut.{LeftOut}
 use Rattle.wl_plain.specs.WlPointer.{is_no_cursor, pointer_demand, seat_demand}
 use Rattle.wl_plain.specs.WlSubsurface.{beside, demand_by_link, has_subsurface, is_no_subsurface, link_of_subsurface, placed_beside, subcompositor_demand, subsurface_made}
-use Rattle.wl_plain.specs.XdgPopup.{grab_of, is_no_popup, may_be_parent, popup_asked, positioner_asked, positioner_of, set_if}
+use Rattle.wl_plain.specs.XdgPopup.{grab_of, is_no_popup, may_be_parent, popup_asked, positioner_of}
 use Rattle.wl_plain.specs.XdgShell.{has_any, is_foreign, is_no_toplevel, role_of, state_asked}
 use Rattle.wl_laws.proofs.Soundness.Allowed.{link-lives}
 use Rattle.wl_laws.proofs.Soundness.AllowedHeard.{judged-hears}
@@ -198,19 +196,6 @@ base-named r object version (base.GetXdgSurface id surface) =
     ask-either r (is_foreign (role_of r surface) || is_some (xdg_of surface r.owned.shell)) _ _ tt (ask-either r (has_any r surface) _ _ tt tt)
 base-named r object version (base.Pong serial) = tt
 
-set-named : (r : Resident) (b : Bool) (object : ℕ) (p : Positioner) → AllNamed r (set_if b object p)
-set-named r true object p = tt
-set-named r false object p = tt
-
-positioner-named : (r : Resident) (object : ℕ) (p : Positioner) (request : XdgPositionerRequest) → AllNamed r (positioner_asked object p request)
-positioner-named r object p positioner.Destroy = tt
-positioner-named r object p (positioner.SetSize width height) = set-named r (is_size width height) object _
-positioner-named r object p (positioner.SetAnchorRect x y width height) = set-named r (is_anchor_rect (rect x y width height)) object _
-positioner-named r object p (positioner.SetAnchor anchor) = set-named r (nat_le anchor 8) object _
-positioner-named r object p (positioner.SetGravity gravity) = set-named r (nat_le gravity 8) object _
-positioner-named r object p (positioner.SetConstraintAdjustment adjustment) = tt
-positioner-named r object p (positioner.SetOffset x y) = tt
-
 xdg-named : (r : Resident) (o : Option Xdg) (version : ℕ) (request : XdgSurfaceRequest) → AllNamed r (xdg_asked r o version request)
 xdg-named r None version request = tt
 xdg-named r (Some x) version xdg.Destroy = ask-either r (is_some x.role) _ _ tt tt
@@ -266,7 +251,7 @@ demanded-named WlSubsurface r object version opcode fields heard = subsurface-na
 demanded-named WlSeat r object version opcode fields heard = seat-named r object version (seat_request opcode fields)
 demanded-named WlPointer r object version opcode fields heard = pointer-named r object (pointer_request opcode fields)
 demanded-named XdgWmBase r object version opcode fields heard = base-named r object version (base_request opcode fields)
-demanded-named XdgPositioner r object version opcode fields heard = positioner-named r object (positioner_of (r.peer.positioners object)) (positioner_request opcode fields)
+demanded-named XdgPositioner r object version opcode fields heard = own-request r object version (request_in XdgPositioner opcode fields)
 demanded-named XdgSurface r object version opcode fields heard = xdg-named r (xdg_at object r.owned.shell) version (xdg_request opcode fields)
 demanded-named XdgToplevel r object version opcode fields heard = toplevel-named r object (xdg_with object r.owned.shell) (toplevel_request opcode fields)
 demanded-named XdgPopup r object version opcode fields heard = popup-named r object (xdg_with object r.owned.shell) (popup_request opcode fields)

@@ -14,8 +14,8 @@ use Rattle.wl_stacking.specs.Stacking.{Standing, is_of}
 use Rattle.wl_stacking.specs.Windows.{Window}
 use Rattle.wl_plain.specs.declared.answers.Done.{Done}
 use Rattle.wl_plain.specs.Changing.{changed_for, stacked_by, stacked_for}
-use Rattle.wl_plain.specs.Demand.{Demand, Asks, EndSurface, AskFrame, CommitTree, GetSubsurface, EndSubsurface, SetMode, GetPointer, MakeCursor, CreatePositioner, EndPositioner}
-use Rattle.wl_plain.specs.Demand.{SetPositioner, GetPopup, Grab, EndPopup, EndToplevel, Move}
+use Rattle.wl_plain.specs.Demand.{Demand, Asks, EndSurface, AskFrame, CommitTree, GetSubsurface, EndSubsurface, SetMode, GetPointer, MakeCursor}
+use Rattle.wl_plain.specs.Demand.{GetPopup, Grab, EndPopup, EndToplevel, Move}
 use Rattle.wl_plain.specs.Demanding.{effect_of_commit}
 use Rattle.wl_plain.specs.Desktop.{Desktop, Resident, become, client_at, with_client}
 use Rattle.wl_plain.specs.LeftOut.{LeftOut}
@@ -64,9 +64,6 @@ stacked_for-left c other (EndSubsurface id) r windows d differ = (refl, refl)
 stacked_for-left c other (SetMode link synchronised) r windows d differ = (refl, refl)
 stacked_for-left c other (GetPointer id version) r windows d differ = (refl, refl)
 stacked_for-left c other (MakeCursor surface) r windows d differ = (refl, refl)
-stacked_for-left c other (CreatePositioner id version) r windows d differ = (refl, refl)
-stacked_for-left c other (EndPositioner id) r windows d differ = (refl, refl)
-stacked_for-left c other (SetPositioner id p) r windows d differ = (refl, refl)
 stacked_for-left c other (GetPopup id version xdg parent p) r windows d differ = (refl, refl)
 stacked_for-left c other (Grab xdg serial) r windows d differ = (refl, refl)
 stacked_for-left c other (EndPopup id xdg) r windows d differ = (refl, refl)

@@ -4,7 +4,7 @@ use Rattle.wl_interface.specs.declared.interface.Interface.TheVariants.{XdgTople
 use Rattle.wl_store.specs.Stores.{Stock}
 use Rattle.wl_peer.specs.declared.actions.Action.{Action}
 use Rattle.wl_peer.specs.declared.actions.Action.TheVariants.{Sync, GetRegistry, Bind, CreateRegion, AddToRegion, SubtractFromRegion, DestroyRegion, CreatePool, CreateBuffer, ResizePool, DestroyPool}
-use Rattle.wl_peer.specs.declared.actions.Action.TheVariants.{DestroyBuffer}
+use Rattle.wl_peer.specs.declared.actions.Action.TheVariants.{DestroyBuffer, CreatePositioner, SetPositioner, DestroyPositioner}
 use Rattle.wl_peer.specs.declared.cause.Cause.{Cause}
 use Rattle.wl_peer.specs.Peer.{Peer, changed, with_rest}
 use Rattle.wl_xdg_state.specs.Shell.{XdgSurface as Xdg, xdg_at}
@@ -43,6 +43,9 @@ own-stream (CreatePool id version size) r s rest = refl
 own-stream (CreateBuffer id version buffer) r s rest = refl
 own-stream (ResizePool store size) r s rest = refl
 own-stream (DestroyPool id store) r s rest = refl
+own-stream (CreatePositioner id version) r s rest = refl
+own-stream (SetPositioner id setting) r s rest = refl
+own-stream (DestroyPositioner id) r s rest = refl
 own-stream (DestroyBuffer id store) r s rest =
     ap (λ (p : Peer). record r { peer = p })
     (keeps-stream (has_used (λ number. is_used number r.owned.surfaces) (r.peer.buffers id)) r.peer.stores (changed (DestroyBuffer id store) r.peer) s rest)

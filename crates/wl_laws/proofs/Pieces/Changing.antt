@@ -36,8 +36,8 @@ use Rattle.wl_xdg_state.specs.Shell.{Effect, Stays, Unconfigured, Configures, Ma
 use Rattle.wl_stacking.specs.Windows.{Window}
 use Rattle.wl_plain.specs.Changing.{after_all, callbacks_of, changed_for, drawing, effect_done, grab_allowed, grabbed, has_focus, in_rising_order, is_held_elsewhere, is_latest, mode_set}
 use Rattle.wl_plain.specs.Changing.{popup_given_to, stacked_by, stacked_for, tree_committed, with_kept_move, without_callbacks, without_child}
-use Rattle.wl_plain.specs.Demand.{Demand, Asks, EndSurface, AskFrame, CommitTree, GetSubsurface, EndSubsurface, SetMode, GetPointer, MakeCursor, CreatePositioner, EndPositioner}
-use Rattle.wl_plain.specs.Demand.{SetPositioner, GetPopup, Grab, EndPopup, EndToplevel, Move}
+use Rattle.wl_plain.specs.Demand.{Demand, Asks, EndSurface, AskFrame, CommitTree, GetSubsurface, EndSubsurface, SetMode, GetPointer, MakeCursor}
+use Rattle.wl_plain.specs.Demand.{GetPopup, Grab, EndPopup, EndToplevel, Move}
 use Rattle.wl_plain.specs.Demanding.{base_demand, demand_by, demand_of, effect_of_commit, judge_all, surface_demand, xdg_asked}
 use Rattle.wl_plain.specs.Desktop.{Desktop, Resident}
 use Rattle.wl_plain.specs.LeftOut.{LeftOut}
@@ -186,9 +186,6 @@ module _ (c : ℕ) (more : List ℕ) where
   done-behind (GetPointer id version) r d rest =
       ap (λ (q : Resident). making WlPointer id version q) (drawing-behind (has_focus c d.pointer.focus) (record r { pointers = in_rising_order id r.pointers }) rest)
   done-behind (MakeCursor surface) r d rest = refl
-  done-behind (CreatePositioner id version) r d rest = refl
-  done-behind (EndPositioner id) r d rest = refl
-  done-behind (SetPositioner id p) r d rest = refl
   done-behind (GetPopup id version xdg parent p) r d rest = ap (λ (q : Resident). making XdgPopup id version q) (popup-behind id xdg parent p (xdg_at xdg r.owned.shell) r rest)
   done-behind (Grab xdg serial) r d rest =
       ap (λ (b : Bool). grabbed b xdg (with_behind rest r)) (allowed-behind xdg serial r d rest) ∙ grab-behind (grab_allowed c xdg serial r d) xdg r rest
@@ -229,9 +226,6 @@ module _ (c : ℕ) (more : List ℕ) where
   own-behind (SetMode link synchronised) r windows d rest = refl
   own-behind (GetPointer id version) r windows d rest = pointer-behind (has_focus c d.pointer.focus) id r.peer.serial windows d
   own-behind (MakeCursor surface) r windows d rest = refl
-  own-behind (CreatePositioner id version) r windows d rest = refl
-  own-behind (EndPositioner id) r windows d rest = refl
-  own-behind (SetPositioner id p) r windows d rest = refl
   own-behind (GetPopup id version xdg parent p) r windows d rest = refl
   own-behind (Grab xdg serial) r windows d rest = refl
   own-behind (EndPopup id xdg) r windows d rest = refl
@@ -272,9 +266,6 @@ module _ (c : ℕ) (more : List ℕ) where
   stacks (SetMode link synchronised) r windows d rest = refl
   stacks (GetPointer id version) r windows d rest = refl
   stacks (MakeCursor surface) r windows d rest = refl
-  stacks (CreatePositioner id version) r windows d rest = refl
-  stacks (EndPositioner id) r windows d rest = refl
-  stacks (SetPositioner id p) r windows d rest = refl
   stacks (GetPopup id version xdg parent p) r windows d rest = refl
   stacks (Grab xdg serial) r windows d rest = refl
   stacks (EndPopup id xdg) r windows d rest = refl

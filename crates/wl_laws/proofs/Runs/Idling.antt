@@ -22,8 +22,8 @@ use Rattle.wl_xdg_state.specs.Positioner.{Positioner}
 use Rattle.wl_xdg_state.specs.Shell.{Effect, Stays, Unconfigured, Configures, Maps, Unmaps, XdgSurface, xdg_at, xdg_of}
 use Rattle.wl_plain.specs.Changing.{callbacks_of, changed_for, drawing, effect_done, grab_allowed, grabbed, has_focus, in_rising_order, mode_set, popup_given_to, stacked_by, stacked_for}
 use Rattle.wl_plain.specs.Changing.{tree_committed}
-use Rattle.wl_plain.specs.Demand.{Demand, Asks, EndSurface, AskFrame, CommitTree, GetSubsurface, EndSubsurface, SetMode, GetPointer, MakeCursor, CreatePositioner, EndPositioner}
-use Rattle.wl_plain.specs.Demand.{SetPositioner, GetPopup, Grab, EndPopup, EndToplevel, Move}
+use Rattle.wl_plain.specs.Demand.{Demand, Asks, EndSurface, AskFrame, CommitTree, GetSubsurface, EndSubsurface, SetMode, GetPointer, MakeCursor}
+use Rattle.wl_plain.specs.Demand.{GetPopup, Grab, EndPopup, EndToplevel, Move}
 use Rattle.wl_plain.specs.Demanding.{effect_of_commit, judge_all}
 use Rattle.wl_plain.specs.Desktop.{Desktop, Resident, become_by, client_at, client_in, place, resident_of, with_client, with_number, with_place}
 use Rattle.wl_plain.specs.LeftOut.{LeftOut}
@@ -192,9 +192,6 @@ change-quiet c (EndSubsurface id) d r = (refl, refl)
 change-quiet c (SetMode link synchronised) d r = mode-quiet link synchronised r
 change-quiet c (GetPointer id version) d r = drawing-quiet (has_focus c d.pointer.focus) (record r { pointers = in_rising_order id r.pointers })
 change-quiet c (MakeCursor surface) d r = (refl, refl)
-change-quiet c (CreatePositioner id version) d r = (refl, refl)
-change-quiet c (EndPositioner id) d r = (refl, refl)
-change-quiet c (SetPositioner id p) d r = (refl, refl)
 change-quiet c (GetPopup id version xdg parent p) d r = popup-quiet id xdg parent p (xdg_at xdg r.owned.shell) r
 change-quiet c (Grab xdg serial) d r = grab-quiet (grab_allowed c xdg serial r d) xdg r
 change-quiet c (EndPopup id xdg) d r = (refl, refl)
@@ -221,9 +218,6 @@ stacked-for c (EndSubsurface id) r windows d = refl
 stacked-for c (SetMode link synchronised) r windows d = refl
 stacked-for c (GetPointer id version) r windows d = refl
 stacked-for c (MakeCursor surface) r windows d = refl
-stacked-for c (CreatePositioner id version) r windows d = refl
-stacked-for c (EndPositioner id) r windows d = refl
-stacked-for c (SetPositioner id p) r windows d = refl
 stacked-for c (GetPopup id version xdg parent p) r windows d = refl
 stacked-for c (Grab xdg serial) r windows d = refl
 stacked-for c (EndPopup id xdg) r windows d = refl

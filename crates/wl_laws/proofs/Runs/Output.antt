@@ -17,8 +17,8 @@ use Rattle.wl_stacking.specs.PointerActions as pointer
 use Rattle.wl_stacking.specs.Windows.{Place, Window}
 use Rattle.wl_plain.specs.declared.answers.Done.{Done}
 use Rattle.wl_plain.specs.Changing.{changed_for, grab_holder, stacked_by, stacked_for}
-use Rattle.wl_plain.specs.Demand.{Demand, Asks, EndSurface, AskFrame, CommitTree, GetSubsurface, EndSubsurface, SetMode, GetPointer, MakeCursor, CreatePositioner, EndPositioner}
-use Rattle.wl_plain.specs.Demand.{SetPositioner, GetPopup, Grab, EndPopup, EndToplevel, Move}
+use Rattle.wl_plain.specs.Demand.{Demand, Asks, EndSurface, AskFrame, CommitTree, GetSubsurface, EndSubsurface, SetMode, GetPointer, MakeCursor}
+use Rattle.wl_plain.specs.Demand.{GetPopup, Grab, EndPopup, EndToplevel, Move}
 use Rattle.wl_plain.specs.Demanding.{effect_of_commit}
 use Rattle.wl_plain.specs.Desktop.{Desktop, Resident, arrival, become, become_by, client_at, with_client}
 use Rattle.wl_plain.specs.LeftOut.{LeftOut}
@@ -134,9 +134,6 @@ stacked-same c (EndSubsurface id) r windows d = refl
 stacked-same c (SetMode link synchronised) r windows d = refl
 stacked-same c (GetPointer id version) r windows d = refl
 stacked-same c (MakeCursor surface) r windows d = refl
-stacked-same c (CreatePositioner id version) r windows d = refl
-stacked-same c (EndPositioner id) r windows d = refl
-stacked-same c (SetPositioner id p) r windows d = refl
 stacked-same c (GetPopup id version xdg parent p) r windows d = refl
 stacked-same c (Grab xdg serial) r windows d = refl
 stacked-same c (EndPopup id xdg) r windows d = refl

@@ -15,8 +15,8 @@ use Rattle.wl_xdg_state.specs.Popups.{is_toplevel}
 use Rattle.wl_xdg_state.specs.Shell.{Effect, Stays, Unconfigured, Configures, Maps, Unmaps}
 use Rattle.wl_stacking.specs.Windows.{Window}
 use Rattle.wl_plain.specs.Changing.{changed_for, stacked_by, stacked_for}
-use Rattle.wl_plain.specs.Demand.{Demand, Asks, EndSurface, AskFrame, CommitTree, GetSubsurface, EndSubsurface, SetMode, GetPointer, MakeCursor, CreatePositioner, EndPositioner}
-use Rattle.wl_plain.specs.Demand.{SetPositioner, GetPopup, Grab, EndPopup, EndToplevel, Move}
+use Rattle.wl_plain.specs.Demand.{Demand, Asks, EndSurface, AskFrame, CommitTree, GetSubsurface, EndSubsurface, SetMode, GetPointer, MakeCursor}
+use Rattle.wl_plain.specs.Demand.{GetPopup, Grab, EndPopup, EndToplevel, Move}
 use Rattle.wl_plain.specs.Demanding.{effect_of_commit, judge_all}
 use Rattle.wl_plain.specs.Desktop.{Desktop, Resident, become_by, client_at, client_in, resident_of, with_client, with_number, status_in, status_of}
 use Rattle.wl_plain.specs.LeftOut.{LeftOut}
@@ -150,9 +150,6 @@ demand-clients c (EndSubsurface id) r windows d = refl
 demand-clients c (SetMode link synchronised) r windows d = refl
 demand-clients c (GetPointer id version) r windows d = refl
 demand-clients c (MakeCursor surface) r windows d = refl
-demand-clients c (CreatePositioner id version) r windows d = refl
-demand-clients c (EndPositioner id) r windows d = refl
-demand-clients c (SetPositioner id p) r windows d = refl
 demand-clients c (GetPopup id version xdg parent p) r windows d = refl
 demand-clients c (Grab xdg serial) r windows d = refl
 demand-clients c (EndPopup id xdg) r windows d = refl

@@ -1,6 +1,6 @@
 -- What is known of an accepted message.
 use Rattle.std.proofs.Common.{◌≡◌, ℕ, zero, suc, List, [], ◌∷◌, Bool, true, false, Option, Some, None, refl, ap, sym, subst, ◌∙◌, inr}
-use Rattle.std.specs.Prelude.{Ok, pos, ◌==◌, ◌&&◌, ◌||◌, int_le, if◌then◌else◌, is_some, nat_le}
+use Rattle.std.specs.Prelude.{Ok, pos, ◌==◌, ◌&&◌, ◌||◌, int_le, if◌then◌else◌, is_some}
 use Rattle.std.specs.Option.{option_and_then}
 use Rattle.std.proofs.lemmas.Bool.{eqb-true}
 use Rattle.wl_wire.specs.Wire.{Field}
@@ -10,13 +10,12 @@ use Rattle.wl_interface.specs.declared.interface.Interface.TheVariants.{WlOutput
 use Rattle.wl_proto.specs.Table.{AnObject}
 use Rattle.wl_proto.specs.declared.xdg_popup.XdgPopupRequest.{XdgPopupRequest}
 use Rattle.wl_proto.specs.declared.xdg_popup.XdgPopupRequest.TheVariants as popup
-use Rattle.wl_peer.specs.Requests.{number_in, word_in, pointer_request, popup_request, positioner_request, request_in, seat_request, subcompositor_request, subsurface_request, surface_request}
-use Rattle.wl_peer.specs.Requests.{toplevel_request, rect}
+use Rattle.wl_peer.specs.Requests.{number_in, word_in, pointer_request, popup_request, request_in, seat_request, subcompositor_request, subsurface_request, surface_request}
+use Rattle.wl_peer.specs.Requests.{toplevel_request}
 use Rattle.wl_state.specs.Request.{Member, PlaceAbove, PlaceBelow}
 use Rattle.wl_surface.specs.Surfaces.{Link, link_at}
 use Rattle.wl_surface.specs.Trees.{is_bad_parent, is_too_deep}
 use Rattle.wl_xdg_state.specs.Popups.{Popped, is_parent, is_popup_mapped, popup_at}
-use Rattle.wl_xdg_state.specs.Positioner.{Positioner, is_anchor_rect, is_size}
 use Rattle.wl_xdg_state.specs.Shell.{Effect, Stays, Unconfigured, Configures, Maps, Unmaps, XdgSurface as Xdg, is_full, xdg_at, xdg_of, xdg_with}
 use Rattle.wl_plain.specs.Demand.{Demand}
 use Rattle.wl_plain.specs.Demanding.{committed_by, demand_by, demand_of, effect_of_commit, judge_all, moved_by_pointer, surface_demand, toplevel_asked, toplevel_destroyed}
@@ -26,7 +25,7 @@ use Rattle.wl_peer.specs.ToplevelRequest.{ToplevelRequest}
 use Rattle.wl_peer.specs.ToplevelRequest as toplevel
 use Rattle.wl_plain.specs.WlPointer.{is_no_cursor, pointer_demand, seat_demand}
 use Rattle.wl_plain.specs.WlSubsurface.{beside, demand_by_link, has_subsurface, is_no_subsurface, link_of_subsurface, living, placed_beside, subcompositor_demand, subsurface_at, subsurface_made}
-use Rattle.wl_plain.specs.XdgPopup.{grab_of, popup_asked, positioner_asked, positioner_of, set_if}
+use Rattle.wl_plain.specs.XdgPopup.{grab_of, popup_asked}
 use Rattle.wl_plain.specs.XdgShell.{role_of}
 use Rattle.wl_laws.proofs.Soundness.Orderly.{HasId, IsAllowed, IsOn, IsObject, IsOfParent}
 use Rattle.wl_laws.proofs.Soundness.AllowedAsks.{Allows, ask-either, base-allowed, compositor-allowed, either, none-there, own-allowed-so, state-allowed, xdg-allowed}
@@ -154,22 +153,6 @@ pointer-allowed r object opcode fields =
 
 -- ---- the shell
 
-set-allowed : (r : Resident) (b : Bool) (object : ℕ) (p : Positioner) → Allows r (set_if b object p)
-set-allowed r true object p = tt
-set-allowed r false object p = tt
-
-positioner-allowed : (r : Resident) (object : ℕ) (p : Positioner) (opcode : ℕ) (fields : List Field) → IsHeardBy XdgPositioner r object opcode fields
-    → Allows r (positioner_asked object p (positioner_request opcode fields))
-positioner-allowed r object p zero fields heard = heard.live
-positioner-allowed r object p (suc zero) fields heard = set-allowed r (is_size (number_in 0 fields) (number_in 1 fields)) object _
-positioner-allowed r object p (suc (suc zero)) fields heard =
-    set-allowed r (is_anchor_rect (rect (number_in 0 fields) (number_in 1 fields) (number_in 2 fields) (number_in 3 fields))) object _
-positioner-allowed r object p (suc (suc (suc zero))) fields heard = set-allowed r (nat_le (word_in 0 fields) 8) object _
-positioner-allowed r object p (suc (suc (suc (suc zero)))) fields heard = set-allowed r (nat_le (word_in 0 fields) 8) object _
-positioner-allowed r object p (suc (suc (suc (suc (suc zero))))) fields heard = tt
-positioner-allowed r object p (suc (suc (suc (suc (suc (suc zero)))))) fields heard = tt
-positioner-allowed r object p (suc (suc (suc (suc (suc (suc (suc opcode))))))) fields heard = absurd heard.kinds
-
 moved-allowed : (r : Resident) (serial : ℕ) (o : Option Xdg) → Allows r (moved_by_pointer serial o)
 moved-allowed r serial None = tt
 moved-allowed r serial (Some x) = tt
@@ -209,7 +192,7 @@ demanded-allowed WlSubsurface r object version opcode fields heard = subsurface-
 demanded-allowed WlSeat r object version opcode fields heard = seat-allowed r object version opcode fields heard
 demanded-allowed WlPointer r object version opcode fields heard = pointer-allowed r object opcode fields
 demanded-allowed XdgWmBase r object version opcode fields heard = base-allowed r object version opcode fields heard
-demanded-allowed XdgPositioner r object version opcode fields heard = positioner-allowed r object (positioner_of (r.peer.positioners object)) opcode fields heard
+demanded-allowed XdgPositioner r object version opcode fields heard = own-allowed-so XdgPositioner r object version opcode fields heard
 demanded-allowed XdgSurface r object version opcode fields heard = xdg-allowed r object version opcode fields (xdg_at object r.owned.shell) refl heard
 demanded-allowed XdgToplevel r object version opcode fields heard = toplevel-allowed r object (xdg_with object r.owned.shell) refl heard.live (toplevel_request opcode fields)
 demanded-allowed XdgPopup r object version opcode fields heard = popup-allowed r object (xdg_with object r.owned.shell) refl heard.live (popup_request opcode fields)

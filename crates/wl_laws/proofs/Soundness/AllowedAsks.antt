@@ -69,7 +69,7 @@ compositor-allowed r object version (suc (suc opcode)) fields heard = absurd hea
 
 pub base-allowed : (r : Resident) (object version opcode : ℕ) (fields : List Field) → IsHeardBy XdgWmBase r object opcode fields → Allows r (base_demand r object version (base_request opcode fields))
 base-allowed r object version zero fields heard = ask-either r (list_any (λ x. x.base == object) r.owned.shell) _ _ (λ f. tt) (λ f. inl heard.live)
-base-allowed r object version (suc zero) fields heard = fresh-first r.peer.objects _ [] _ fields heard.kinds heard.fresh
+base-allowed r object version (suc zero) fields heard = own-allowed-so XdgWmBase r object version 1 fields heard
 base-allowed r object version (suc (suc zero)) fields heard =
     let surface = word_in 1 fields in
     ask-either r (is_foreign (role_of r surface) || is_some (xdg_of surface r.owned.shell)) _ _ (λ f. tt)

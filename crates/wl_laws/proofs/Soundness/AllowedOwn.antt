@@ -4,7 +4,7 @@ use Rattle.std.specs.Prelude.{Ok, Err, if◌then◌else◌, cond, find, nat_le}
 use Rattle.std.specs.Option.{option_map}
 use Rattle.wl_wire.specs.Wire.{Field}
 use Rattle.wl_interface.specs.declared.interface.Interface.{Interface}
-use Rattle.wl_interface.specs.declared.interface.Interface.TheVariants.{WlDisplay, WlRegistry, WlCompositor, WlRegion, WlShm, WlShmPool, WlBuffer}
+use Rattle.wl_interface.specs.declared.interface.Interface.TheVariants.{WlDisplay, WlRegistry, WlCompositor, WlRegion, WlShm, WlShmPool, WlBuffer, XdgWmBase, XdgPositioner}
 use Rattle.wl_proto.specs.Table.{AUint, AnInt}
 use Rattle.wl_store.specs.declared.place.LayoutError.{LayoutError}
 use Rattle.wl_store.specs.declared.stores.StoreError.{StoreError}
@@ -14,9 +14,15 @@ use Rattle.wl_peer.specs.declared.actions.Action.{Action}
 use Rattle.wl_peer.specs.declared.refusals.Refusal.{Refusal}
 use Rattle.wl_peer.specs.Buffers.{Buffer, Laid}
 use Rattle.wl_peer.specs.Judgement.{Known, action_of, binds, buffer_destroyed, buffer_laid, changed_unless_full, pool_action, pool_created, pool_resized, region_action}
+use Rattle.wl_peer.specs.Judgement.{positioner_action, set_if_allowed}
 use Rattle.wl_proto.specs.declared.wl_region.WlRegionRequest.{WlRegionRequest}
 use Rattle.wl_proto.specs.declared.wl_region.WlRegionRequest.TheVariants as region
-use Rattle.wl_peer.specs.Requests.{pool_request, region_request, request_in, number_in, text_in, word_in}
+use Rattle.wl_proto.specs.declared.xdg_positioner.XdgPositionerRequest.{XdgPositionerRequest}
+use Rattle.wl_proto.specs.declared.xdg_positioner.XdgPositionerRequest.TheVariants as positioner
+use Rattle.wl_xdg_state.specs.Settings.{is_allowed}
+use Rattle.wl_xdg_state.specs.declared.settings.Setting.{Setting}
+use Rattle.wl_xdg_state.specs.declared.settings.Setting.TheVariants.{Size, AnchorRect, Anchor, Gravity, Adjustment, Offset}
+use Rattle.wl_peer.specs.Requests.{pool_request, positioner_request, region_request, rect, request_in, number_in, text_in, word_in}
 use Rattle.wl_peer.specs.Objects.{Global, bound_interface, globals, is_bound}
 use Rattle.wl_plain.specs.Desktop.{Resident}
 use Rattle.wl_laws.proofs.Soundness.Orderly.{IsNew, IsObject, IsOwn, is_no_surface}
@@ -121,6 +127,26 @@ buffer-allowed : (r : Resident) (object : ℕ) (o : Option Buffer) → IsObject 
 buffer-allowed r object None live = tt
 buffer-allowed r object (Some buffer) live = live
 
+base-allowed : (r : Resident) (object opcode : ℕ) (fields : List Field) → IsHeardBy XdgWmBase r object opcode fields → (known : Known) (version : ℕ)
+    → AllowsOwn r (action_of known object version (request_in XdgWmBase opcode fields))
+base-allowed r object zero fields heard known version = tt
+base-allowed r object (suc zero) fields heard known version = fresh-first r.peer.objects _ [] [] fields heard.kinds heard.fresh
+base-allowed r object (suc (suc zero)) fields heard known version = tt
+base-allowed r object (suc (suc (suc zero))) fields heard known version = tt
+base-allowed r object (suc (suc (suc (suc opcode)))) fields heard known version = absurd heard.kinds
+
+set-allowed : (r : Resident) (object : ℕ) (setting : Setting) → AllowsOwn r (set_if_allowed object setting)
+set-allowed r object setting = own-either r (is_allowed setting) _ _ (λ e. tt) (λ e. tt)
+
+positioner-allowed : (r : Resident) (object : ℕ) (request : XdgPositionerRequest) → IsObject XdgPositioner object r → AllowsOwn r (positioner_action object request)
+positioner-allowed r object positioner.Destroy live = live
+positioner-allowed r object (positioner.SetSize width height) live = set-allowed r object (Size width height)
+positioner-allowed r object (positioner.SetAnchorRect x y width height) live = set-allowed r object (AnchorRect (rect x y width height))
+positioner-allowed r object (positioner.SetAnchor anchor) live = set-allowed r object (Anchor anchor)
+positioner-allowed r object (positioner.SetGravity gravity) live = set-allowed r object (Gravity gravity)
+positioner-allowed r object (positioner.SetConstraintAdjustment adjustment) live = set-allowed r object (Adjustment adjustment)
+positioner-allowed r object (positioner.SetOffset x y) live = set-allowed r object (Offset x y)
+
 -- what a client's own interfaces accept
 pub own-allowed : (interface : Interface) (r : Resident) (object opcode : ℕ) (fields : List Field) → IsHeardBy interface r object opcode fields → (known : Known) (version : ℕ)
     → AllowsOwn r (action_of known object version (request_in interface opcode fields))
@@ -131,4 +157,6 @@ own-allowed WlRegion r object opcode fields heard known version = region-allowed
 own-allowed WlShm r object opcode fields heard known version = shm-allowed r object opcode fields heard known version
 own-allowed WlShmPool r object opcode fields heard known version = pool-allowed r object opcode fields heard version known.stores (known.pools object)
 own-allowed WlBuffer r object opcode fields heard known version = buffer-allowed r object (known.buffers object) heard.live
+own-allowed XdgWmBase r object opcode fields heard known version = base-allowed r object opcode fields heard known version
+own-allowed XdgPositioner r object opcode fields heard known version = positioner-allowed r object (positioner_request opcode fields) heard.live
 own-allowed interface r object opcode fields heard known version = tt

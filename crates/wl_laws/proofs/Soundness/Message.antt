@@ -3,7 +3,7 @@ use Rattle.std.proofs.Common.{◌≡◌, ℕ, ◌+◌, List, Bool, true, false, 
 use Rattle.std.specs.Prelude.{◌==◌, ◌&&◌}
 use Rattle.wl_peer.specs.declared.actions.Action.{Action}
 use Rattle.wl_peer.specs.declared.actions.Action.TheVariants.{Sync, GetRegistry, Bind, CreateRegion, AddToRegion, SubtractFromRegion, DestroyRegion, CreatePool, CreateBuffer, ResizePool, DestroyPool}
-use Rattle.wl_peer.specs.declared.actions.Action.TheVariants.{DestroyBuffer}
+use Rattle.wl_peer.specs.declared.actions.Action.TheVariants.{DestroyBuffer, CreatePositioner, SetPositioner, DestroyPositioner}
 use Rattle.wl_peer.specs.Peer.{counted, with_rest}
 use Rattle.wl_state.specs.Request.{Frame}
 use Rattle.wl_surface.specs.Surfaces.{Link, Surfaces}
@@ -11,8 +11,8 @@ use Rattle.wl_xdg_state.specs.Positioner.{Positioner}
 use Rattle.wl_xdg_state.specs.Shell.{Effect, Stays, Unconfigured, Configures, Maps, Unmaps, XdgSurface as Xdg, xdg_at, xdg_of}
 use Rattle.wl_plain.specs.Ask.{Ask, Own, CreateSurface, AskSurface, EndObject, GetXdgSurface, DestroyXdgSurface, GetToplevel, Acknowledge, ConfigureAgain, Ignore}
 use Rattle.wl_plain.specs.Changing.{changed_for, drawing, effect_done, grab_allowed, grabbed, has_focus, in_rising_order, link_with_id, popup_given_to, tree_committed}
-use Rattle.wl_plain.specs.Demand.{Demand, Asks, EndSurface, AskFrame, CommitTree, GetSubsurface, EndSubsurface, SetMode, GetPointer, MakeCursor, CreatePositioner, EndPositioner}
-use Rattle.wl_plain.specs.Demand.{SetPositioner, GetPopup, Grab, EndPopup, EndToplevel, Move}
+use Rattle.wl_plain.specs.Demand.{Demand, Asks, EndSurface, AskFrame, CommitTree, GetSubsurface, EndSubsurface, SetMode, GetPointer, MakeCursor}
+use Rattle.wl_plain.specs.Demand.{GetPopup, Grab, EndPopup, EndToplevel, Move}
 use Rattle.wl_plain.specs.Demanding.{effect_of_commit}
 use Rattle.wl_plain.specs.Desktop.{Desktop, Resident}
 use Rattle.wl_laws.specs.Soundness.{IsLive}
@@ -46,6 +46,9 @@ module _ (r : Resident) (rest : List ℕ) where
   own-counted (CreateBuffer id version laid) h = h
   own-counted (ResizePool store size) h = h
   own-counted (DestroyPool id store) h = h
+  own-counted (CreatePositioner id version) h = h
+  own-counted (SetPositioner id setting) h = h
+  own-counted (DestroyPositioner id) h = h
   own-counted (DestroyBuffer id store) h = h
 
   asked-counted : (ask : Ask) → IsAsked r ask → IsAsked Counted ask
@@ -70,9 +73,6 @@ module _ (r : Resident) (rest : List ℕ) where
   allowed-counted (SetMode link synchronised) h = h
   allowed-counted (GetPointer id version) h = h
   allowed-counted (MakeCursor surface) h = h
-  allowed-counted (CreatePositioner id version) h = h
-  allowed-counted (EndPositioner id) h = h
-  allowed-counted (SetPositioner id p) h = h
   allowed-counted (GetPopup id version xdg parent p) h = h
   allowed-counted (Grab xdg serial) h = h
   allowed-counted (EndPopup id xdg) h = h
@@ -152,9 +152,6 @@ forest-kept c (SetMode link false) r d ok roles forest = next r.peer.requests _ 
 forest-kept c (GetPointer id version) r d ok roles forest =
     by-same r.peer.requests r.owned.surfaces _ (drawn-surfaces (has_focus c d.pointer.focus) (record r { pointers = in_rising_order id r.pointers })) forest
 forest-kept c (MakeCursor surface) r d ok roles forest = next r.peer.requests _ (forest-role r.peer.requests surface _ r.owned.surfaces forest)
-forest-kept c (CreatePositioner id version) r d ok roles forest = next r.peer.requests r.owned.surfaces forest
-forest-kept c (EndPositioner id) r d ok roles forest = next r.peer.requests r.owned.surfaces forest
-forest-kept c (SetPositioner id p) r d ok roles forest = next r.peer.requests r.owned.surfaces forest
 forest-kept c (GetPopup id version xdg parent p) r d ok roles forest = popup-forest r.peer.requests id xdg parent p (xdg_at xdg r.owned.shell) r forest
 forest-kept c (Grab xdg serial) r d ok roles forest =
     by-same r.peer.requests r.owned.surfaces _ (grab-surfaces (grab_allowed c xdg serial r d) xdg r) forest

@@ -6,7 +6,7 @@ use Rattle.wl_interface.specs.declared.interface.Interface.{Interface}
 use Rattle.wl_interface.specs.declared.interface.Interface.TheVariants as of
 use Rattle.wl_peer.specs.declared.actions.Action.{Action}
 use Rattle.wl_peer.specs.declared.actions.Action.TheVariants.{Sync, GetRegistry, Bind, CreateRegion, AddToRegion, SubtractFromRegion, DestroyRegion, CreatePool, CreateBuffer, ResizePool, DestroyPool}
-use Rattle.wl_peer.specs.declared.actions.Action.TheVariants.{DestroyBuffer}
+use Rattle.wl_peer.specs.declared.actions.Action.TheVariants.{DestroyBuffer, CreatePositioner, SetPositioner, DestroyPositioner}
 use Rattle.wl_peer.specs.Objects.{Objects, is_of, with_id}
 use Rattle.wl_peer.specs.Peer.{Peer, object_at_version, changed}
 use Rattle.wl_peer.specs.Used.{changed_with, has_used, keeps_store}
@@ -25,8 +25,8 @@ use Rattle.wl_stacking.specs.Stacking.{Owned}
 use Rattle.wl_plain.specs.Ask.{Ask, Own, CreateSurface, AskSurface, EndObject, GetXdgSurface, DestroyXdgSurface, GetToplevel, Acknowledge, ConfigureAgain, Ignore}
 use Rattle.wl_plain.specs.Changing.{after_all, is_asked, link_with_id, unlinked_at, changed_for, drawing, effect_done, frame_asked, grab_allowed, grabbed, has_focus, in_rising_order, mode_set}
 use Rattle.wl_plain.specs.Changing.{placement_now, popup_given_to, subsurface_ended, subsurface_given, surface_ended, toplevel_ended, tree_committed, without_callbacks, without_child}
-use Rattle.wl_plain.specs.Demand.{Demand, Asks, EndSurface, AskFrame, CommitTree, GetSubsurface, EndSubsurface, SetMode, GetPointer, MakeCursor, CreatePositioner, EndPositioner}
-use Rattle.wl_plain.specs.Demand.{SetPositioner, GetPopup, Grab, EndPopup, EndToplevel, Move}
+use Rattle.wl_plain.specs.Demand.{Demand, Asks, EndSurface, AskFrame, CommitTree, GetSubsurface, EndSubsurface, SetMode, GetPointer, MakeCursor}
+use Rattle.wl_plain.specs.Demand.{GetPopup, Grab, EndPopup, EndToplevel, Move}
 use Rattle.wl_plain.specs.Demanding.{effect_of_commit}
 use Rattle.wl_plain.specs.Desktop.{Desktop, Resident, Subsurface}
 use Rattle.wl_plain.specs.Step.{asked_so_far, changed_by, configured, making, toplevel_given, with_shell, with_surfaces, xdg_changed}
@@ -133,6 +133,9 @@ own-has used (CreatePool id version size) r ok h = has-object r.peer.objects r.o
 own-has used (CreateBuffer id version laid) r ok h = has-object r.peer.objects r.owned.surfaces r.subsurfaces r.owned.shell r.callbacks h id version ok of.WlBuffer refl
 own-has used (ResizePool store size) r ok h = h
 own-has used (DestroyPool id store) r ok h = has-object-gone r.peer.objects r.owned.surfaces r.subsurfaces r.owned.shell r.callbacks h id of.WlShmPool refl refl refl refl refl ok
+own-has used (CreatePositioner id version) r ok h = has-object r.peer.objects r.owned.surfaces r.subsurfaces r.owned.shell r.callbacks h id version ok of.XdgPositioner refl
+own-has used (SetPositioner id setting) r ok h = h
+own-has used (DestroyPositioner id) r ok h = has-object-gone r.peer.objects r.owned.surfaces r.subsurfaces r.owned.shell r.callbacks h id of.XdgPositioner refl refl refl refl refl ok
 own-has used (DestroyBuffer id store) r ok h = at (has_used used (r.peer.buffers id))
   where
     at : (b : Bool) → Has (keeps_store b r.peer.stores (changed (DestroyBuffer id store) r.peer)).objects r.owned.surfaces r.subsurfaces r.owned.shell r.callbacks
@@ -243,9 +246,6 @@ changed-has c (SetMode link synchronised) r d ok h = mode-has link synchronised 
 changed-has c (GetPointer id version) r d ok h = pointer-made (has_focus c d.pointer.focus) id version r ok h
 changed-has c (MakeCursor surface) r d ok h =
     there-has r (with_surface_change surface (with_role role.Cursor) r.owned.surfaces) (there-changed surface (with_role role.Cursor) r.owned.surfaces (λ s. refl)) h
-changed-has c (CreatePositioner id version) r d ok h = has-object r.peer.objects r.owned.surfaces r.subsurfaces r.owned.shell r.callbacks h id version ok of.XdgPositioner refl
-changed-has c (EndPositioner id) r d ok h = has-object-gone r.peer.objects r.owned.surfaces r.subsurfaces r.owned.shell r.callbacks h id of.XdgPositioner refl refl refl refl refl ok
-changed-has c (SetPositioner id p) r d ok h = h
 changed-has c (GetPopup id version xdg parent p) r d ok h = popup-made id version xdg parent p r (xdg_at xdg r.owned.shell) ok.0 refl h
 changed-has c (Grab xdg serial) r d ok h = grabbed-has (grab_allowed c xdg serial r d) xdg r h
 changed-has c (EndPopup id xdg) r d ok h = popup-ended id xdg r ok h

@@ -7,7 +7,7 @@ use Rattle.wl_interface.specs.declared.interface.Interface.{Interface}
 use Rattle.wl_interface.specs.declared.interface.Interface.TheVariants.{WlCallback, WlRegion, WlShmPool, WlBuffer, WlSurface, WlSubcompositor, WlSubsurface, XdgWmBase, XdgPositioner, XdgSurface}
 use Rattle.wl_interface.specs.declared.interface.Interface.TheVariants.{XdgToplevel, XdgPopup}
 use Rattle.wl_peer.specs.declared.actions.Action.{Action}
-use Rattle.wl_peer.specs.declared.actions.Action.TheVariants.{GetRegistry, Bind, CreateRegion, DestroyRegion, CreatePool, CreateBuffer, DestroyPool, DestroyBuffer}
+use Rattle.wl_peer.specs.declared.actions.Action.TheVariants.{GetRegistry, Bind, CreateRegion, DestroyRegion, CreatePool, CreateBuffer, DestroyPool, DestroyBuffer, CreatePositioner, DestroyPositioner}
 use Rattle.wl_peer.specs.declared.cause.Cause.{Cause}
 use Rattle.wl_peer.specs.Judgement.{is_free}
 use Rattle.wl_peer.specs.Objects.{is_of}
@@ -21,8 +21,8 @@ use Rattle.wl_xdg_state.specs.Popups.{is_toplevel_kind}
 use Rattle.wl_xdg_state.specs.Shell.{Mapped, RoleObject, Shell, Toplevel, XdgSurface as Xdg, xdg_at, xdg_of, xdg_with}
 use Rattle.wl_stacking.specs.Stacking.{Standing}
 use Rattle.wl_plain.specs.Ask.{Ask, Own, CreateSurface, AskSurface, EndObject, GetXdgSurface, DestroyXdgSurface, GetToplevel, Acknowledge, ConfigureAgain, Ignore}
-use Rattle.wl_plain.specs.Demand.{Demand, Asks, EndSurface, AskFrame, CommitTree, GetSubsurface, EndSubsurface, SetMode, GetPointer, MakeCursor, CreatePositioner, EndPositioner}
-use Rattle.wl_plain.specs.Demand.{SetPositioner, GetPopup, Grab, EndPopup, EndToplevel, Move}
+use Rattle.wl_plain.specs.Demand.{Demand, Asks, EndSurface, AskFrame, CommitTree, GetSubsurface, EndSubsurface, SetMode, GetPointer, MakeCursor}
+use Rattle.wl_plain.specs.Demand.{GetPopup, Grab, EndPopup, EndToplevel, Move}
 use Rattle.wl_plain.specs.Desktop.{Desktop, Resident, client_at, toplevels_of}
 use Rattle.wl_laws.specs.Laws.{AreApart}
 use Rattle.wl_laws.specs.Apart.{AreApartBy, AreObjects}
@@ -164,6 +164,8 @@ IsOwn r (CreateBuffer id version laid) = IsNew id r
 IsOwn r (DestroyRegion id) = IsObject WlRegion id r
 IsOwn r (DestroyPool id store) = IsObject WlShmPool id r
 IsOwn r (DestroyBuffer id store) = IsObject WlBuffer id r
+IsOwn r (CreatePositioner id version) = IsNew id r
+IsOwn r (DestroyPositioner id) = IsObject XdgPositioner id r
 IsOwn r action = Unit {0}
 
 abbrev pub IsAsked : Resident → Ask → Type 0
@@ -193,9 +195,6 @@ IsAllowed r (EndSubsurface id) = IsObject WlSubsurface id r
 IsAllowed r (SetMode link synchronised) = Unit {0}
 IsAllowed r (GetPointer id version) = IsNew id r
 IsAllowed r (MakeCursor surface) = (is_no_cursor (role_of r surface) ≡ false) × (xdg_of surface r.owned.shell ≡ None)
-IsAllowed r (CreatePositioner id version) = IsNew id r
-IsAllowed r (EndPositioner id) = IsObject XdgPositioner id r
-IsAllowed r (SetPositioner id p) = Unit {0}
 IsAllowed r (GetPopup id version xdg parent p) = IsNew id r × HasNoRole (xdg_at xdg r.owned.shell)
 IsAllowed r (Grab xdg serial) = Unit {0}
 IsAllowed r (EndPopup id xdg) = IsObject XdgPopup id r × HasId xdg (xdg_with id r.owned.shell)

@@ -35,8 +35,8 @@ use Rattle.wl_laws.proofs.Soundness.Linked.{linked-live}
 use Rattle.wl_laws.proofs.Lists.Standings.{any-last}
 use Rattle.wl_plain.specs.Demanding.{effect_of_commit}
 use Rattle.wl_plain.specs.Ask.{Ask, Own, CreateSurface, AskSurface, EndObject, GetXdgSurface, DestroyXdgSurface, GetToplevel, Acknowledge, ConfigureAgain, Ignore}
-use Rattle.wl_plain.specs.Demand.{Demand, Asks, EndSurface, AskFrame, CommitTree, GetSubsurface, EndSubsurface, SetMode, GetPointer, MakeCursor, CreatePositioner, EndPositioner}
-use Rattle.wl_plain.specs.Demand.{SetPositioner, GetPopup, Grab, EndPopup, EndToplevel, Move}
+use Rattle.wl_plain.specs.Demand.{Demand, Asks, EndSurface, AskFrame, CommitTree, GetSubsurface, EndSubsurface, SetMode, GetPointer, MakeCursor}
+use Rattle.wl_plain.specs.Demand.{GetPopup, Grab, EndPopup, EndToplevel, Move}
 
 -- ---- what is kept
 
@@ -424,9 +424,6 @@ roles-kept c (GetPointer id version) r d is objects forest has =
     roles-same (drawing (has_focus c d.pointer.focus) first) (pointer_given c id version r d) refl refl
     (roles-drawn (has_focus c d.pointer.focus) first (roles-same r first refl refl has))
 roles-kept c (MakeCursor surface) r d is objects forest has = roles-cursor surface r is.0 has
-roles-kept c (CreatePositioner id version) r d is objects forest has = roles-same r (changed_for c (CreatePositioner id version) r d) refl refl has
-roles-kept c (EndPositioner id) r d is objects forest has = roles-same r (changed_for c (EndPositioner id) r d) refl refl has
-roles-kept c (SetPositioner id p) r d is objects forest has = roles-same r (changed_for c (SetPositioner id p) r d) refl refl has
 roles-kept c (GetPopup id version xdg parent p) r d is objects forest has =
     roles-same (popup_given_to id xdg parent p (xdg_at xdg r.owned.shell) r) (popup_given id version xdg parent p r) refl refl (roles-popup id xdg parent p r has)
 roles-kept c (Grab xdg serial) r d is objects forest has = roles-grabbed (grab_allowed c xdg serial r d) xdg r has

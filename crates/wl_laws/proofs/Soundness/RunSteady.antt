@@ -4,7 +4,7 @@ use Rattle.std.specs.Prelude.{fold}
 use Rattle.wl_store.specs.Stores.{Stock}
 use Rattle.wl_peer.specs.declared.actions.Action.{Action}
 use Rattle.wl_peer.specs.declared.actions.Action.TheVariants.{Sync, GetRegistry, Bind, CreateRegion, AddToRegion, SubtractFromRegion, DestroyRegion, CreatePool, CreateBuffer, ResizePool, DestroyPool}
-use Rattle.wl_peer.specs.declared.actions.Action.TheVariants.{DestroyBuffer}
+use Rattle.wl_peer.specs.declared.actions.Action.TheVariants.{DestroyBuffer, CreatePositioner, SetPositioner, DestroyPositioner}
 use Rattle.wl_peer.specs.Peer.{Peer, changed, removed}
 use Rattle.wl_peer.specs.Used.{changed_with, has_used, keeps_store}
 use Rattle.wl_xdg_state.specs.Positioner.{Positioner}
@@ -13,8 +13,8 @@ use Rattle.wl_surface.specs.Surfaces.{is_used}
 use Rattle.wl_surface.specs.Waiting.{Callback}
 use Rattle.wl_plain.specs.Ask.{Ask, Own, CreateSurface, AskSurface, EndObject, GetXdgSurface, DestroyXdgSurface, GetToplevel, Acknowledge, ConfigureAgain, Ignore}
 use Rattle.wl_plain.specs.Changing.{callbacks_of, changed_for, drawing, effect_done, grab_allowed, grabbed, has_focus, in_rising_order, mode_set, popup_given_to, tree_committed}
-use Rattle.wl_plain.specs.Demand.{Demand, Asks, EndSurface, AskFrame, CommitTree, GetSubsurface, EndSubsurface, SetMode, GetPointer, MakeCursor, CreatePositioner, EndPositioner}
-use Rattle.wl_plain.specs.Demand.{SetPositioner, GetPopup, Grab, EndPopup, EndToplevel, Move}
+use Rattle.wl_plain.specs.Demand.{Demand, Asks, EndSurface, AskFrame, CommitTree, GetSubsurface, EndSubsurface, SetMode, GetPointer, MakeCursor}
+use Rattle.wl_plain.specs.Demand.{GetPopup, Grab, EndPopup, EndToplevel, Move}
 use Rattle.wl_plain.specs.Demanding.{effect_of_commit}
 use Rattle.wl_plain.specs.Desktop.{Desktop, Resident}
 use Rattle.wl_plain.specs.Step.{changed_by, toplevel_given}
@@ -38,6 +38,9 @@ own-steady used (CreatePool id version size) p = (refl, refl)
 own-steady used (CreateBuffer id version laid) p = (refl, refl)
 own-steady used (ResizePool store size) p = (refl, refl)
 own-steady used (DestroyPool id store) p = (refl, refl)
+own-steady used (CreatePositioner id version) p = (refl, refl)
+own-steady used (SetPositioner id setting) p = (refl, refl)
+own-steady used (DestroyPositioner id) p = (refl, refl)
 own-steady used (DestroyBuffer id store) p = stored-steady (has_used used (p.buffers id)) p.stores (changed (DestroyBuffer id store) p)
 
 toplevel-steady : (id xdg : ℕ) (x : Option XdgSurface) (r : Resident) → IsSteady r.peer (toplevel_given id xdg x r).peer
@@ -94,9 +97,6 @@ changed-steady c (EndSubsurface id) d r = (refl, refl)
 changed-steady c (SetMode link synchronised) d r = mode-steady link synchronised r
 changed-steady c (GetPointer id version) d r = drawing-steady (has_focus c d.pointer.focus) (record r { pointers = in_rising_order id r.pointers })
 changed-steady c (MakeCursor surface) d r = (refl, refl)
-changed-steady c (CreatePositioner id version) d r = (refl, refl)
-changed-steady c (EndPositioner id) d r = (refl, refl)
-changed-steady c (SetPositioner id p) d r = (refl, refl)
 changed-steady c (GetPopup id version xdg parent p) d r = popup-steady id xdg parent p (xdg_at xdg r.owned.shell) r
 changed-steady c (Grab xdg serial) d r = grab-steady (grab_allowed c xdg serial r d) xdg r
 changed-steady c (EndPopup id xdg) d r = (refl, refl)

@@ -29,8 +29,8 @@ use Rattle.wl_xdg_state.specs.Positioner.{Positioner}
 use Rattle.wl_peer.specs.Objects.{Object, interface_number, is_of as is_object_of}
 use Rattle.wl_interface.specs.declared.interface.Interface.TheVariants.{XdgPopup, XdgToplevel}
 use Rattle.wl_plain.specs.Ask.{Ask, Own, CreateSurface, AskSurface, EndObject, GetXdgSurface, DestroyXdgSurface, GetToplevel, Acknowledge, ConfigureAgain, Ignore}
-use Rattle.wl_plain.specs.Demand.{Demand, Asks, EndSurface, AskFrame, CommitTree, GetSubsurface, EndSubsurface, SetMode, GetPointer, MakeCursor, CreatePositioner, EndPositioner}
-use Rattle.wl_plain.specs.Demand.{SetPositioner, GetPopup, Grab, EndPopup, EndToplevel, Move}
+use Rattle.wl_plain.specs.Demand.{Demand, Asks, EndSurface, AskFrame, CommitTree, GetSubsurface, EndSubsurface, SetMode, GetPointer, MakeCursor}
+use Rattle.wl_plain.specs.Demand.{GetPopup, Grab, EndPopup, EndToplevel, Move}
 
 -- ---- lists
 
@@ -522,9 +522,6 @@ standing-kept c (SetMode link false) r windows d is has roles stands = stands
 standing-kept c (GetPointer id version) r windows d is has roles stands =
     subst (λ (o : Owned). StandsSo o.shell (toplevels_of c d)) (sym (drawing-shell (has_focus c d.pointer.focus) (record r { pointers = in_rising_order id r.pointers }))) stands
 standing-kept c (MakeCursor surface) r windows d is has roles stands = stands
-standing-kept c (CreatePositioner id version) r windows d is has roles stands = stands
-standing-kept c (EndPositioner id) r windows d is has roles stands = stands
-standing-kept c (SetPositioner id p) r windows d is has roles stands = stands
 standing-kept c (GetPopup id version xdg parent p) r windows d is has roles stands = standing-popup-given id xdg parent p r (toplevels_of c d) has.shell.0 is.1 stands
 standing-kept c (Grab xdg serial) r windows d is has roles stands = standing-grabbed (grab_allowed c xdg serial r d) xdg r (toplevels_of c d) stands
 standing-kept c (EndPopup id xdg) r windows d is has roles stands = standing-popup-ended id xdg r (toplevels_of c d) has is.0 is.1 stands

@@ -6,6 +6,7 @@ use Rattle.wl_proto.specs.declared.argument.NewId.{NewId}
 use Rattle.wl_proto.specs.declared.error.ProtoError.{ProtoError}
 use Rattle.wl_proto.specs.declared.wl_compositor.WlCompositorRequest.TheVariants as compositor
 use Rattle.wl_proto.specs.declared.wl_seat.WlSeatRequest.TheVariants as seat
+use Rattle.wl_proto.specs.declared.xdg_wm_base.XdgWmBaseRequest.TheVariants as base
 use Rattle.wl_proto.specs.Messages.{Message}
 use Rattle.wl_proto.specs.Objects.{objects_in as objects_named, new_id_in}
 use Rattle.wl_proto.specs.Spelling.{decoded}
@@ -48,7 +49,10 @@ asked (ToSeat (seat.GetPointer id)) r object version = refl
 asked (ToSeat (seat.GetKeyboard id)) r object version = refl
 asked (ToSeat (seat.GetTouch id)) r object version = refl
 asked (ToPointer request) r object version = refl
-asked (ToBase request) r object version = refl
+asked (ToBase base.Destroy) r object version = refl
+asked (ToBase (base.CreatePositioner id)) r object version = refl
+asked (ToBase (base.GetXdgSurface id surface)) r object version = refl
+asked (ToBase (base.Pong serial)) r object version = refl
 asked (ToPositioner request) r object version = refl
 asked (ToXdgSurface request) r object version = refl
 asked (ToToplevel request) r object version = refl

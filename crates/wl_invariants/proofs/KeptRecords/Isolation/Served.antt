@@ -6,7 +6,7 @@ use Rattle.wl_wire.specs.declared.header.Split.{Split}
 use Rattle.wl_wire.specs.declared.header.Split.TheVariants.{Message as Whole, More, Bad}
 use Rattle.wl_peer.specs.declared.actions.Action.{Action}
 use Rattle.wl_peer.specs.declared.actions.Action.TheVariants.{Sync, GetRegistry, Bind, CreateRegion, AddToRegion, SubtractFromRegion, DestroyRegion, CreatePool, CreateBuffer, ResizePool, DestroyPool}
-use Rattle.wl_peer.specs.declared.actions.Action.TheVariants.{DestroyBuffer}
+use Rattle.wl_peer.specs.declared.actions.Action.TheVariants.{DestroyBuffer, CreatePositioner, SetPositioner, DestroyPositioner}
 use Rattle.wl_peer.specs.declared.cause.Cause.{Cause}
 use Rattle.wl_peer.specs.declared.cause.Cause.TheVariants.{Memory}
 use Rattle.wl_peer.specs.declared.refusals.Refusal.{Refusal}
@@ -60,6 +60,9 @@ changed-alone (CreatePool id version size) r alone = refl
 changed-alone (CreateBuffer id version buffer) r alone = refl
 changed-alone (ResizePool store size) r alone = refl
 changed-alone (DestroyPool id store) r alone = refl
+changed-alone (CreatePositioner id version) r alone = refl
+changed-alone (SetPositioner id setting) r alone = refl
+changed-alone (DestroyPositioner id) r alone = refl
 changed-alone (DestroyBuffer id store) r alone = unkept r id store alone
 
 -- another peer leaves it without more
@@ -78,6 +81,9 @@ owned-alone (CreatePool id version size) r alone = owns-on _ r alone
 owned-alone (CreateBuffer id version buffer) r alone = owns-on _ r alone
 owned-alone (ResizePool store size) r alone = owns-on _ r alone
 owned-alone (DestroyPool id store) r alone = owns-on _ r alone
+owned-alone (CreatePositioner id version) r alone = owns-on _ r alone
+owned-alone (SetPositioner id setting) r alone = owns-on _ r alone
+owned-alone (DestroyPositioner id) r alone = owns-on _ r alone
 owned-alone (DestroyBuffer id store) r alone = owns-on _ r alone
 
 -- ---- what becomes of the client there, and of the desktop

@@ -67,3 +67,18 @@ pub returns-in-DestroyBuffer-clause-acts : goal.returns-in-DestroyBuffer-clause-
 returns-in-DestroyBuffer-clause-acts g c = λ p is.
     let next = c.destroy_buffer.ensures.acts (counted p) (c.count.ensures.counts p is) in
     (next.0, rw c.in-DestroyBuffer.is next.1, next.2)
+
+pub returns-in-CreatePositioner-clause-acts : goal.returns-in-CreatePositioner-clause-acts
+returns-in-CreatePositioner-clause-acts g c = λ p is.
+    let next = c.create_positioner.ensures.acts (counted p) (c.count.ensures.counts p is) in
+    (next.0, rw c.in-CreatePositioner.is next.1, next.2)
+
+pub returns-in-SetPositioner-clause-acts : goal.returns-in-SetPositioner-clause-acts
+returns-in-SetPositioner-clause-acts g c = λ p is.
+    let next = c.set_positioner.ensures.acts (counted p) (c.count.ensures.counts p is) in
+    (next.0, rw c.in-SetPositioner.is next.1, next.2)
+
+pub returns-in-DestroyPositioner-clause-acts : goal.returns-in-DestroyPositioner-clause-acts
+returns-in-DestroyPositioner-clause-acts g c = λ p is.
+    let next = c.destroy_positioner.ensures.acts (counted p) (c.count.ensures.counts p is) in
+    (next.0, rw c.in-DestroyPositioner.is next.1, next.2)
