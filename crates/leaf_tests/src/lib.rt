@@ -35,6 +35,8 @@ mod stacked;
 #[cfg(test)]
 mod stores;
 #[cfg(test)]
+mod subsurfaces;
+#[cfg(test)]
 mod support;
 #[cfg(test)]
 mod surface_cases;

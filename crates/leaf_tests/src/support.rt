@@ -59,6 +59,24 @@ fn refuses_all_after_those_it_serves(rt: HostRuntime) {
     }
 }
 
+// Whether the work fails once and succeeds then. None where it isn't refused.
+fn is_refused_once(alloc: Global, served: u64) -> Option<bool> {
+    let heap = Refusing::once(alloc, served);
+    let first = work(&heap);
+    if heap.refused() {
+        Some(first == Err(AllocError) && work(&heap) == Ok(8))
+    } else {
+        None
+    }
+}
+
+#[test]
+fn refuses_one_alone(rt: HostRuntime) {
+    assert!(rt; is_refused_once(rt.alloc(), 0) == Some(true));
+    assert!(rt; is_refused_once(rt.alloc(), 2) == Some(true));
+    assert!(rt; is_refused_once(rt.alloc(), 1000).is_none());
+}
+
 fn is_read(reader: &mut FaultyReader, buf: &mut [u8], wanted: usize) -> bool {
     match reader.read(buf) {
         Ok(count) => count == wanted,

@@ -12,16 +12,20 @@ fn entry(interface: Interface, target: usize) -> Entry {
     }
 }
 
-// Inserts a surface whose target is its id.
-fn inserts<A: Allocator + Copy>(objects: &mut Objects<A>, id: u32) -> bool {
-    objects.insert(id, entry(Interface::WlSurface, id as usize)) == Ok(())
+// A surface whose target is its id.
+pub(crate) fn surface(id: u32) -> Entry {
+    entry(Interface::WlSurface, id as usize)
+}
+
+pub(crate) fn inserts<A: Allocator + Copy>(objects: &mut Objects<A>, id: u32) -> bool {
+    objects.insert(id, surface(id)) == Ok(())
 }
 
 fn refuses<A: Allocator + Copy>(objects: &mut Objects<A>, id: u32, error: TableError) -> bool {
     objects.insert(id, entry(Interface::WlShm, 0)) == Err(error)
 }
 
-fn has<A: Allocator>(objects: &Objects<A>, id: u32, target: usize) -> bool {
+pub(crate) fn has<A: Allocator>(objects: &Objects<A>, id: u32, target: usize) -> bool {
     objects.get(id) == Some(entry(Interface::WlSurface, target))
 }
 
@@ -63,7 +67,7 @@ fn holds_objects_by_their_ids(rt: HostRuntime) {
     assert!(rt; inserts_within_its_ids(&mut objects) && sets_and_removes(&mut objects));
 }
 
-const IN_ANY_ORDER: &[u32] = &[9000, 5, 1, 8193, 8192, 4];
+pub(crate) const IN_ANY_ORDER: &[u32] = &[9000, 5, 1, 8193, 8192, 4];
 
 fn inserts_in_any_order<A: Allocator + Copy>(objects: &mut Objects<A>) -> bool {
     for &id in IN_ANY_ORDER {

@@ -41,7 +41,7 @@ fn puts_at_most_65532_bytes(rt: HostRuntime) {
     assert!(rt; puts_at_most(rt.alloc()));
 }
 
-const ARGS: &[Arg] = &[
+pub(crate) const ARGS: &[Arg] = &[
     Arg::Int(-2),
     Arg::Fixed(Fixed(-256)),
     Arg::Str(b"wl"),

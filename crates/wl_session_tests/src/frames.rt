@@ -227,7 +227,7 @@ const ID_USED_AGAIN: &[Row] = &[
 ];
 
 /// The client 2 has the registry 2, the wl_compositor 3, the wl_shm 4 and the xdg_wm_base 5, and a toplevel that was configured.
-const SECOND: &[Row] = &[
+pub(crate) const SECOND: &[Row] = &[
     Row::Calls(Step::Connect, Done::Connect(Ok(2))),
     Row::From(2, Message(1, 1, &[Arg::NewId(2)])),
     Row::From(
@@ -342,16 +342,16 @@ const BELOW: &[Row] = &[
 ];
 
 /// Nine points of the buffer 11 are red: 31 to 33 of the rows 33 to 35.
-const NINE_RED: &[Row] = &[
+pub(crate) const NINE_RED: &[Row] = &[
     Row::Fills(1, 1, 11804, 3, RED),
     Row::Fills(1, 1, 11964, 3, RED),
     Row::Fills(1, 1, 12124, 3, RED),
 ];
 
-const SHOWS_BLACK: &[Row] = &[Row::Shows(1600, 1600, &[Pixel(31, 33, 0, 0, 0)])];
+pub(crate) const SHOWS_BLACK: &[Row] = &[Row::Shows(1600, 1600, &[Pixel(31, 33, 0, 0, 0)])];
 
 /// The client 2 shows a green buffer 10 of 8 by 8 pixels, at (32, 32).
-const GREEN_SQUARE: &[Row] = &[
+pub(crate) const GREEN_SQUARE: &[Row] = &[
     Row::From(
         2,
         Message(

@@ -3,9 +3,15 @@
 #![tactic(auto)]
 
 #[cfg(test)]
+mod accepted;
+#[cfg(test)]
 mod acting;
 #[cfg(test)]
+mod acts;
+#[cfg(test)]
 mod begun;
+#[cfg(test)]
+mod broken;
 #[cfg(test)]
 mod callbacks;
 #[cfg(test)]
@@ -19,11 +25,17 @@ mod memory;
 #[cfg(test)]
 mod painter;
 #[cfg(test)]
+mod places;
+#[cfg(test)]
 mod plays;
 #[cfg(test)]
 mod pools;
 #[cfg(test)]
+mod recorded;
+#[cfg(test)]
 mod recordings;
+#[cfg(test)]
+mod refused;
 #[cfg(test)]
 mod regions;
 #[cfg(test)]

@@ -9,7 +9,7 @@ use wl_session::{Cause, Done, Fed, Step};
 use wl_wire::Arg;
 
 /// What the registry 2 tells.
-const GLOBALS: &[Message] = &[
+pub(crate) const GLOBALS: &[Message] = &[
     Message(
         2,
         0,
@@ -264,6 +264,17 @@ const REGISTRY_8193: &[Row] = &[
     Row::ErrorTold(1, 3, b"implementation"),
 ];
 
+/// The client has 8,192 objects: wl_display, the registry 2, the wl_compositor 3, and regions. The next is past the limit.
+const REGION_8193: &[Row] = &[
+    Row::Sends(Message(1, 1, &[Arg::NewId(2)])),
+    Row::Binds(1, b"wl_compositor", 2, 3, Fed::Alive),
+    Row::Takes,
+    Row::MakesRegions(4, 8_193),
+    Row::Waits(1, Some(&[])),
+    Row::Errs(Message(3, 1, &[Arg::NewId(8_193)]), 1, 3),
+    Row::ErrorTold(1, 3, b"implementation"),
+];
+
 /// The id of a sync's callback is free again once it was given back.
 const USED_AGAIN: &[Row] = &[
     Row::Sends(Message(1, 0, &[Arg::NewId(2)])),
@@ -314,6 +325,7 @@ const CASES: &[Case] = &[
     ),
     ("an error that has no room ends as slow", &[UNREAD, NO_ROOM]),
     ("no client has 8193 objects", &[REGISTRY_8193]),
+    ("regions count among them", &[REGION_8193]),
 ];
 
 const CASES_OF_GLOBALS: &[Case] = &[

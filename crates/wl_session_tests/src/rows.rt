@@ -18,6 +18,13 @@ pub(crate) struct Message<'a>(pub u32, pub u16, pub &'a [Arg<'a>]);
 #[derive(Clone, Copy)]
 pub(crate) struct Pixel(pub usize, pub usize, pub u8, pub u8, pub u8);
 
+/// From which column and row to before which.
+#[derive(Clone, Copy)]
+pub(crate) struct Span {
+    pub from: usize,
+    pub past: usize,
+}
+
 /// Something that is done in a session, or how the session is, with what is wanted of it.
 #[derive(Clone, Copy)]
 pub(crate) enum Row<'a> {
@@ -31,6 +38,8 @@ pub(crate) enum Row<'a> {
     From(u32, Message<'a>),
     /// The client 1 binds by its registry 2: a global's name, interface and version, and the new id. How the client is afterwards.
     Binds(u32, &'a [u8], u32, u32, Fed),
+    /// The client 1 sends a message and lives on. What waits for it then are these messages, and they are taken.
+    Accepts(Message<'a>, &'a [Message<'a>]),
     /// The client 1 sends a message, and ends by an error of this object and code.
     Errs(Message<'a>, u32, u32),
     /// A piece of the client 1 comes byte by byte. Nothing waits for it before each byte, and it lives on.
@@ -43,6 +52,8 @@ pub(crate) enum Row<'a> {
     GetsRegistries(u32, u32),
     /// The client 1 binds compositors with these ids by its registry 2.
     BindsCompositors(u32, u32),
+    /// The client 1 makes regions with these ids by its wl_compositor 3, and lives on.
+    MakesRegions(u32, u32),
     /// The client 1 makes pools of one byte with these ids by its wl_shm 4, and lives on.
     MakesPools(u32, u32),
     /// The client 1 makes surfaces with these ids by its wl_compositor 3, and lives on.
@@ -58,6 +69,9 @@ pub(crate) enum Row<'a> {
     TakesOf(u32),
     /// So many pixels of a client's store from a byte on get this value: blue, green, red and alpha.
     Fills(u32, u32, u32, u32, &'a [u8]),
+    /// A pixel of the store 1 of a client at a byte gets this value, of which nothing is told. At the tick after it nothing is damaged, and all is as at
+    /// the one before but in the columns and rows of this span.
+    Spoils(u32, u32, &'a [u8], Span),
     /// A tick: how many points of its frame are damaged at least and at most, and some of its pixels.
     Shows(u32, u32, &'a [Pixel]),
     /// How a client is.
@@ -153,6 +167,18 @@ fn take_all(session: &mut Session<Global>) -> bool {
     session.sent(1, count)
 }
 
+/// Whether the client 1 lives on after a message, and is told these.
+fn accepts(
+    alloc: Global,
+    session: &mut Session<Global>,
+    message: Message,
+    told: &[Message],
+) -> bool {
+    sent(alloc, session, message) == Some(Fed::Alive)
+        && is_told(alloc, session, told)
+        && take_all(session)
+}
+
 fn take_all_of(session: &mut Session<Global>, client: u32) -> bool {
     let count = session.out(client).map_or(0, |out| out.len());
     session.sent(client, count)
@@ -191,6 +217,46 @@ fn shows(session: &mut Session<Global>, least: u32, most: u32, pixels: &[Pixel])
     let count = frame.damage.count();
     let bytes = frame.pixels.pixels();
     least <= count && count <= most && pixels.iter().all(|pixel| is_pixel(bytes, 64, pixel))
+}
+
+impl Span {
+    fn has(self, place: usize) -> bool {
+        self.from <= place && place < self.past
+    }
+}
+
+/// Whether two images that are 64 pixels wide are the same but in the columns and rows of a span.
+fn are_same_but(span: Span, one: &[u8], other: &[u8]) -> bool {
+    for (at, (byte, wanted)) in one.iter().zip(other).enumerate() {
+        let point = at / 4;
+        if byte != wanted && !(span.has(point % 64) && span.has(point / 64)) {
+            return false;
+        }
+    }
+    one.len() == other.len()
+}
+
+/// All pixels of a tick. None where there is no memory for them.
+fn image(alloc: Global, session: &mut Session<Global>) -> Option<Vec<u8, Global>> {
+    session.tick(0).pixels.pixels().to_vec(alloc).ok()
+}
+
+fn shows_same_but(session: &mut Session<Global>, span: Span, before: &[u8]) -> bool {
+    let frame = session.tick(0);
+    frame.damage.count() == 0 && are_same_but(span, frame.pixels.pixels(), before)
+}
+
+fn spoil(
+    alloc: Global,
+    session: &mut Session<Global>,
+    place: &Place,
+    pixel: &[u8],
+    span: Span,
+) -> bool {
+    match image(alloc, session) {
+        Some(before) => { fill(session, place, 1, pixel) && shows_same_but(session, span, &before) }
+        None => false,
+    }
 }
 
 pub(crate) fn has_out(session: &Session<Global>, client: u32, bytes: &[u8]) -> bool {
@@ -296,6 +362,15 @@ fn make_pools(alloc: Global, session: &mut Session<Global>, first: u32, past: u3
     true
 }
 
+fn make_regions(alloc: Global, session: &mut Session<Global>, first: u32, past: u32) -> bool {
+    for id in first..past {
+        if sent(alloc, session, Message(3, 1, &[Arg::NewId(id)])) != Some(Fed::Alive) {
+            return false;
+        }
+    }
+    true
+}
+
 fn make_surfaces(alloc: Global, session: &mut Session<Global>, first: u32, past: u32) -> bool {
     for id in first..past {
         if sent(alloc, session, Message(3, 0, &[Arg::NewId(id)])) != Some(Fed::Alive) {
@@ -342,6 +417,7 @@ fn is_met(alloc: Global, session: &mut Session<Global>, row: &Row) -> bool {
         Row::Binds(name, interface, version, id, fed) => {
             bind(alloc, session, &bind_args(name, interface, version, id)) == Some(fed)
         }
+        Row::Accepts(message, told) => accepts(alloc, session, message, told),
         Row::Errs(message, object, code) => {
             sent(alloc, session, message) == Some(protocol(object, code))
         }
@@ -350,6 +426,7 @@ fn is_met(alloc: Global, session: &mut Session<Global>, row: &Row) -> bool {
         Row::Connects(first, past) => connect(session, first, past),
         Row::GetsRegistries(first, past) => get_registries(alloc, session, first, past),
         Row::BindsCompositors(first, past) => bind_compositors(alloc, session, first, past),
+        Row::MakesRegions(first, past) => make_regions(alloc, session, first, past),
         Row::MakesPools(first, past) => make_pools(alloc, session, first, past),
         Row::MakesSurfaces(first, past) => make_surfaces(alloc, session, first, past),
         Row::Nests(first, past) => nest(alloc, session, first, past),
@@ -358,6 +435,14 @@ fn is_met(alloc: Global, session: &mut Session<Global>, row: &Row) -> bool {
         Row::TakesOf(client) => take_all_of(session, client),
         Row::Fills(client, store, at, count, pixel) => {
             fill(session, &Place { client, store, at }, count, pixel)
+        }
+        Row::Spoils(client, at, pixel, span) => {
+            let place = Place {
+                client,
+                store: 1,
+                at,
+            };
+            spoil(alloc, session, &place, pixel, span)
         }
         Row::Shows(least, most, pixels) => shows(session, least, most, pixels),
         Row::Is(client, wanted) => session.status(client) == wanted,

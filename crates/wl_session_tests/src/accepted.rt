@@ -1,0 +1,217 @@
+//! Each request that is served, where it is accepted: its client lives on, and is told what the protocol says (wayland.xml and xdg-shell.xml).
+
+use crate::begun::{
+    ACKNOWLEDGES, ATTACH_10, BUFFER_10, BUFFERS, COMMIT, CONFIGURED, CONFIGURES, GLOBALS, GREEN,
+    MADE, MAPS,
+};
+use crate::registry::GLOBALS as ANNOUNCED;
+use crate::rows::{CLIENT, Fault, Message, Pixel, REGISTRY, Row, play, play_after};
+use std::alloc::Global;
+use wl_session::Fed;
+use wl_wire::Arg;
+
+/// A rectangle of four numbers.
+const RECT: &[Arg] = &[Arg::Int(0), Arg::Int(0), Arg::Int(40), Arg::Int(40)];
+
+/// wl_registry.bind of the wl_compositor 3, and of the wl_shm 4.
+const BIND_COMPOSITOR: &[Arg] = &[
+    Arg::Uint(1),
+    Arg::Str(b"wl_compositor"),
+    Arg::Uint(2),
+    Arg::NewId(3),
+];
+
+const BIND_SHM: &[Arg] = &[
+    Arg::Uint(3),
+    Arg::Str(b"wl_shm"),
+    Arg::Uint(1),
+    Arg::NewId(4),
+];
+
+/// The requests of wl_display, wl_registry, wl_compositor, wl_region, wl_shm, wl_shm_pool and wl_buffer.
+const CORE: &[Row] = &[
+    Row::Accepts(
+        Message(1, 0, &[Arg::NewId(2)]),
+        &[
+            Message(2, 0, &[Arg::Uint(0)]),
+            Message(1, 1, &[Arg::Uint(2)]),
+        ],
+    ),
+    Row::Accepts(Message(1, 1, &[Arg::NewId(2)]), ANNOUNCED),
+    Row::Accepts(Message(2, 0, BIND_COMPOSITOR), &[]),
+    Row::Accepts(
+        Message(2, 0, BIND_SHM),
+        &[
+            Message(4, 0, &[Arg::Uint(0)]),
+            Message(4, 0, &[Arg::Uint(1)]),
+        ],
+    ),
+    Row::Accepts(Message(3, 0, &[Arg::NewId(6)]), &[]),
+    Row::Accepts(Message(3, 1, &[Arg::NewId(12)]), &[]),
+    Row::Accepts(Message(12, 1, RECT), &[]),
+    Row::Accepts(Message(12, 2, RECT), &[]),
+    Row::Accepts(Message(12, 0, &[]), &[Message(1, 1, &[Arg::Uint(12)])]),
+    Row::Accepts(Message(4, 0, &[Arg::NewId(9), Arg::Int(6400)]), &[]),
+    Row::Accepts(BUFFER_10, &[]),
+    Row::Store(1, 1, Some(6400)),
+    Row::Accepts(Message(9, 2, &[Arg::Int(12800)]), &[]),
+    Row::Store(1, 1, Some(12800)),
+    Row::Accepts(Message(9, 1, &[]), &[Message(1, 1, &[Arg::Uint(9)])]),
+    Row::Accepts(Message(10, 0, &[]), &[Message(1, 1, &[Arg::Uint(10)])]),
+    Row::Store(1, 1, None),
+];
+
+#[test]
+fn requests_of_the_core_are_accepted(rt: HostRuntime) {
+    assert_eq!(rt; play(rt.alloc(), &[CLIENT, CORE]), Ok(()));
+}
+
+/// The requests of wl_surface but destroy: the window is shown, and its frame callback is answered.
+const OF_A_SURFACE: &[Row] = &[
+    Row::Sends(Message(3, 1, &[Arg::NewId(12)])),
+    Row::Sends(Message(12, 1, RECT)),
+    Row::Accepts(ATTACH_10, &[]),
+    Row::Accepts(Message(6, 2, RECT), &[]),
+    Row::Accepts(Message(6, 3, &[Arg::NewId(14)]), &[]),
+    Row::Accepts(Message(6, 4, &[Arg::Object(12)]), &[]),
+    Row::Accepts(Message(6, 5, &[Arg::Object(12)]), &[]),
+    Row::Accepts(Message(6, 7, &[Arg::Int(2)]), &[]),
+    Row::Accepts(COMMIT, &[]),
+    Row::Shows(1600, 1600, &[]),
+    Row::Told(&[
+        Message(14, 0, &[Arg::Uint(0)]),
+        Message(1, 1, &[Arg::Uint(14)]),
+    ]),
+    Row::Takes,
+];
+
+/// Those of wl_subcompositor and wl_subsurface: the green surface 17 is shown at (4, 4), above its parent. Its surface goes, and so does the wl_subcompositor.
+const OF_A_SUBSURFACE: &[Row] = &[
+    Row::Fills(1, 1, 6400, 1600, GREEN),
+    Row::Binds(2, b"wl_subcompositor", 1, 15, Fed::Alive),
+    Row::Sends(Message(3, 0, &[Arg::NewId(17)])),
+    Row::Sends(Message(17, 1, &[Arg::Object(11), Arg::Int(0), Arg::Int(0)])),
+    Row::Accepts(
+        Message(15, 1, &[Arg::NewId(18), Arg::Object(17), Arg::Object(6)]),
+        &[],
+    ),
+    Row::Accepts(Message(18, 1, &[Arg::Int(4), Arg::Int(4)]), &[]),
+    Row::Accepts(Message(18, 3, &[Arg::Object(6)]), &[]),
+    Row::Accepts(Message(18, 2, &[Arg::Object(6)]), &[]),
+    Row::Accepts(Message(18, 5, &[]), &[]),
+    Row::Accepts(Message(18, 4, &[]), &[]),
+    Row::Accepts(Message(17, 6, &[]), &[]),
+    Row::Accepts(COMMIT, &[]),
+    Row::Shows(
+        1600,
+        1936,
+        &[
+            Pixel(3, 4, 0, 0, 0),
+            Pixel(4, 3, 0, 0, 0),
+            Pixel(4, 4, 0, 255, 0),
+            Pixel(43, 43, 0, 255, 0),
+            Pixel(44, 43, 0, 0, 0),
+        ],
+    ),
+    Row::Accepts(Message(18, 0, &[]), &[Message(1, 1, &[Arg::Uint(18)])]),
+    Row::Accepts(
+        Message(17, 0, &[]),
+        &[Message(1, 1, &[Arg::Uint(17)]), Message(11, 0, &[])],
+    ),
+    Row::Accepts(Message(15, 0, &[]), &[Message(1, 1, &[Arg::Uint(15)])]),
+];
+
+#[test]
+fn requests_of_surfaces_are_accepted(rt: HostRuntime) {
+    assert_eq!(rt; accepts_surfaces(rt.alloc()), Ok(()));
+}
+
+fn accepts_surfaces(alloc: Global) -> Result<(), Fault> {
+    play_after(alloc, CONFIGURED_TOPLEVEL, &[OF_A_SURFACE, OF_A_SUBSURFACE])
+}
+
+/// A toplevel whose configure was acknowledged, and its buffers.
+const CONFIGURED_TOPLEVEL: &[&[Row]] = &[
+    REGISTRY,
+    GLOBALS,
+    MADE,
+    CONFIGURES,
+    ACKNOWLEDGES,
+    BUFFERS,
+];
+
+/// The wl_seat 12, the wl_output 13 and the surface 6.
+const SEATED: &[Row] = &[
+    Row::Binds(5, b"wl_seat", 1, 12, Fed::Alive),
+    Row::Binds(4, b"wl_output", 1, 13, Fed::Alive),
+    Row::Sends(Message(3, 0, &[Arg::NewId(6)])),
+    Row::Takes,
+];
+
+/// The requests of xdg_wm_base, xdg_surface and xdg_toplevel up to the first configure, and its acknowledgement.
+const OF_THE_SHELL: &[Row] = &[
+    Row::Accepts(Message(5, 3, &[Arg::Uint(7)]), &[]),
+    Row::Accepts(Message(5, 2, &[Arg::NewId(7), Arg::Object(6)]), &[]),
+    Row::Accepts(Message(7, 1, &[Arg::NewId(8)]), &[]),
+    Row::Accepts(Message(8, 1, &[Arg::Object(0)]), &[]),
+    Row::Accepts(Message(8, 2, &[Arg::Str(b"title")]), &[]),
+    Row::Accepts(Message(8, 3, &[Arg::Str(b"app.id")]), &[]),
+    Row::Accepts(Message(8, 7, &[Arg::Int(80), Arg::Int(80)]), &[]),
+    Row::Accepts(Message(8, 8, &[Arg::Int(1), Arg::Int(1)]), &[]),
+    Row::Accepts(COMMIT, &[CONFIGURED, Message(7, 0, &[Arg::Uint(1)])]),
+    Row::Accepts(Message(7, 4, &[Arg::Uint(1)]), &[]),
+    Row::Accepts(Message(7, 3, RECT), &[]),
+];
+
+/// Those of a mapped xdg_toplevel. What asks for another state is answered by a configure; no other request but destroy has an effect, for the seat has
+/// told of no press.
+const OF_A_TOPLEVEL: &[Row] = &[
+    Row::Accepts(
+        Message(
+            8,
+            4,
+            &[Arg::Object(12), Arg::Uint(1), Arg::Int(3), Arg::Int(4)],
+        ),
+        &[],
+    ),
+    Row::Accepts(Message(8, 5, &[Arg::Object(12), Arg::Uint(1)]), &[]),
+    Row::Accepts(
+        Message(8, 6, &[Arg::Object(12), Arg::Uint(1), Arg::Uint(8)]),
+        &[],
+    ),
+    Row::Accepts(
+        Message(8, 9, &[]),
+        &[CONFIGURED, Message(7, 0, &[Arg::Uint(2)])],
+    ),
+    Row::Accepts(
+        Message(8, 10, &[]),
+        &[CONFIGURED, Message(7, 0, &[Arg::Uint(3)])],
+    ),
+    Row::Accepts(
+        Message(8, 11, &[Arg::Object(13)]),
+        &[CONFIGURED, Message(7, 0, &[Arg::Uint(4)])],
+    ),
+    Row::Accepts(
+        Message(8, 12, &[]),
+        &[CONFIGURED, Message(7, 0, &[Arg::Uint(5)])],
+    ),
+    Row::Accepts(Message(8, 13, &[]), &[]),
+    Row::Shows(1600, 1600, &[]),
+    Row::Accepts(Message(8, 0, &[]), &[Message(1, 1, &[Arg::Uint(8)])]),
+    Row::Accepts(Message(7, 0, &[]), &[Message(1, 1, &[Arg::Uint(7)])]),
+    Row::Accepts(Message(5, 0, &[]), &[Message(1, 1, &[Arg::Uint(5)])]),
+    Row::Shows(1600, 1600, &[]),
+];
+
+fn accepts_shell(alloc: Global) -> Result<(), Fault> {
+    play_after(
+        alloc,
+        &[REGISTRY, GLOBALS, BUFFERS, SEATED],
+        &[OF_THE_SHELL, MAPS, OF_A_TOPLEVEL],
+    )
+}
+
+#[test]
+fn requests_of_the_shell_are_accepted(rt: HostRuntime) {
+    assert_eq!(rt; accepts_shell(rt.alloc()), Ok(()));
+}
