@@ -5,7 +5,7 @@ use Rattle.wl_proto.specs.declared.wl_seat.WlSeatRequest.TheVariants as seat
 use Rattle.wl_proto.specs.declared.xdg_surface.XdgSurfaceRequest.TheVariants as xdg
 use Rattle.wl_proto.specs.declared.xdg_wm_base.XdgWmBaseRequest.TheVariants as base
 use Rattle.wl_peer.specs.Requests.{Request, ToDisplay, ToRegistry, ToCompositor, ToRegion, ToShm, ToPool, ToBuffer}
-use Rattle.wl_peer.specs.Requests.{ToSeat, ToPointer, ToBase, ToPositioner, ToXdgSurface, ToPopup, ToNothing}
+use Rattle.wl_peer.specs.Requests.{ToSeat, ToBase, ToPositioner, ToXdgSurface, ToPopup, ToNothing}
 
 -- Which requests aren't served: they are refused as a limit would be.
 abbrev pub Unserved : Type 0
