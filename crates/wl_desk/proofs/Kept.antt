@@ -140,6 +140,7 @@ come-seated c others base d r piece v pile is lives =
           regions = p.regions;
           pools = p.pools;
           buffers = p.buffers;
+          positioners = p.positioners;
           stores = p.stores;
           serial = p.serial;
           unsent = p.unsent;
