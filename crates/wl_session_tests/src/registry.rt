@@ -154,7 +154,19 @@ const KEYBOARD: &[Row] = &[
     Row::ErrorTold(7, 0, b"missing_capability"),
 ];
 
-const NOT_SERVED: &[Row] = &[Row::Errs(Message(8, 1, &[Arg::NewId(9)]), 1, 3)];
+/// The xdg_positioner 9, and the xdg_surface 11 of the wl_surface 10.
+const POSITIONER: &[Row] = &[
+    Row::Sends(Message(8, 1, &[Arg::NewId(9)])),
+    Row::Sends(Message(3, 0, &[Arg::NewId(10)])),
+    Row::Sends(Message(8, 2, &[Arg::NewId(11), Arg::Object(10)])),
+];
+
+/// xdg_surface.get_popup.
+const NOT_SERVED: &[Row] = &[Row::Errs(
+    Message(11, 2, &[Arg::NewId(12), Arg::Object(0), Arg::Object(9)]),
+    1,
+    3,
+)];
 
 /// The wl_surface 9 becomes a subsurface of 10.
 const SUBSURFACE: &[Row] = &[
@@ -398,7 +410,7 @@ const ROWS: &[(Case, &[Row])] = &[
     (
         (
             "what is not served is refused as a limit",
-            &[REGISTRY, ALL_GLOBALS],
+            &[REGISTRY, ALL_GLOBALS, POSITIONER],
         ),
         NOT_SERVED,
     ),
