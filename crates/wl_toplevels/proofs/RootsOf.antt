@@ -1,1 +1,3 @@
+pub mod Away
 pub mod Staying
+pub mod Turns

@@ -35,7 +35,7 @@ abbrev pub has_parent_in : List Root → StackedPopup → Bool
 has_parent_in rs p = list_any (λ r. has_parent r.surface p) rs
 
 -- the roots that are stacked before are among those that are stacked in the end
-in-first : (x : ℕ) (rs qs : List Root) → In x rs ≡ true → In x (rs ++ qs) ≡ true
+pub in-first : (x : ℕ) (rs qs : List Root) → In x rs ≡ true → In x (rs ++ qs) ≡ true
 in-first x [] qs e = absurd (differ e)
 in-first x (r ∷ rs) qs e = at (roots_at x r) (in-first x rs qs) e
   where
