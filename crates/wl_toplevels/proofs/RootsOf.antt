@@ -1,3 +1,6 @@
 pub mod Away
+pub mod Change
+pub mod Kept
+pub mod Stacks
 pub mod Staying
 pub mod Turns

@@ -1,0 +1,34 @@
+-- What a message of a client does to the windows of the desktop: it changes those that are stacked with one toplevel, or none.
+use Rattle.std.specs.Prelude.{ℕ, ◌≡◌, ◌==◌, true}
+use Rattle.std.specs.List.{list_any}
+use Rattle.wl_tree_laws.specs.Hanging.{AreNumbered, AreTied}
+use Rattle.wl_tree_laws.specs.Laws.{AreOnceLinked}
+use Rattle.wl_xdg_state.specs.Shell.{xdg_of}
+use Rattle.wl_stacking.specs.Stacking.{is_of}
+use Rattle.wl_plain.specs.Desktop.{Desktop, owned_in}
+use Rattle.wl_plain.specs.Marks.{AreDistinct}
+use Rattle.wl_plain.specs.Moments.{applied_between}
+use Rattle.wl_plain.specs.Stacked.{all_windows}
+use Rattle.wl_laws.specs.Apart.{AreApartBy}
+use Rattle.wl_laws.specs.Soundness.{IsSound}
+use Rattle.wl_invariants.specs.Orderly.{HasMappedToplevel}
+use Rattle.wl_invariants.specs.TreeMarksLaws.{AreUndamaged}
+
+-- No window changes, no damage is applied to the surface of one, and no surface has two.
+pub record StaysPainted (d e : Desktop) : Type 0 where
+  pub windows : all_windows e ≡ all_windows d
+  pub undamaged : AreUndamaged (applied_between d e) (all_windows d)
+  pub distinct : AreDistinct (all_windows d)
+
+-- Toplevels, popups and subsurfaces make trees, and none is two of these. Of each client the links are told apart, by number and, while they
+-- live, by child, and hang together with what was asked of the surfaces; no surface has two xdg_surfaces, and no id is of two of these; and
+-- those toplevels that stand are mapped.
+pub record HasTrees (d : Desktop) : Type 0 where
+  pub sound : IsSound d
+  pub once : (c : ℕ) → AreOnceLinked (owned_in d c).surfaces.links
+  pub numbered : (c : ℕ) → AreNumbered (owned_in d c).surfaces.links
+  pub tied : (c : ℕ) → AreTied (owned_in d c).surfaces
+  pub xdg_apart : (c : ℕ) → AreApartBy (λ surface x. x.surface == surface) (owned_in d c).shell
+  pub ids_apart : (c : ℕ) → AreApartBy (λ id x. x.id == id) (owned_in d c).shell
+  pub mapped :
+      (c surface : ℕ) → list_any (is_of c surface) d.standing ≡ true → HasMappedToplevel (xdg_of surface (owned_in d c).shell)
