@@ -1,3 +1,4 @@
 pub mod Changes
 pub mod Roots
+pub mod StackedWith
 pub mod Toplevel

@@ -4,9 +4,13 @@ use Rattle.std.specs.List.{All, list_any}
 use Rattle.wl_surface.specs.Surfaces.{Surfaces}
 use Rattle.wl_stacking.specs.Windows.{Root, StackedPopup, corner_in, has_parent, roots_of}
 
--- the popup is mapped, and its parent is one of these roots
+-- the parent of the popup is one of these roots
+abbrev pub has_parent_in : List Root → StackedPopup → Bool
+has_parent_in roots p = list_any (λ r. has_parent r.surface p) roots
+
+-- and it is mapped
 abbrev pub is_on_one : List Root → StackedPopup → Bool
-is_on_one roots p = p.is_mapped && list_any (λ r. has_parent r.surface p) roots
+is_on_one roots p = p.is_mapped && has_parent_in roots p
 
 -- the surfaces of these roots have their corners where they had them
 abbrev pub CornersStay : Surfaces → Surfaces → List Root → Type 0

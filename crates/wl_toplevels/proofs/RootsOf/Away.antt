@@ -10,8 +10,8 @@ use Rattle.wl_laws.specs.Soundness.{AreOnce, has_surface}
 use Rattle.wl_laws.proofs.Marks.Stacks.{Each, and-both, and-left, and-right, differ, each-both, equal-numbers, or-left, or-right, unless}
 use Rattle.wl_laws.proofs.Soundness.Trees.{each-append, none-append, or-here, or-none, or-there}
 use Rattle.wl_laws.proofs.Soundness.Windows.{In, roots_at, same_popup}
-use Rattle.wl_toplevels.specs.Roots.{is_on_one}
-use Rattle.wl_toplevels.proofs.RootsOf.Staying.{has_parent_in, in-first, in_parent}
+use Rattle.wl_toplevels.specs.Roots.{has_parent_in, is_on_one}
+use Rattle.wl_toplevels.proofs.RootsOf.Staying.{in-first, in_parent}
 
 -- ---- what a popup adds
 

@@ -13,10 +13,10 @@ use Rattle.wl_plain.specs.Stacked.{all_windows}
 use Rattle.wl_laws.specs.Laws.{AreApart}
 use Rattle.wl_laws.specs.Soundness.{IsSound}
 use Rattle.wl_laws.proofs.Lists.Standings.{of-it}
-use Rattle.wl_laws.proofs.Marks.Stacks.{Each, and-both, each-false, each-both, each-map}
+use Rattle.wl_laws.proofs.Marks.Stacks.{Each, and-both, each-false, each-both}
 use Rattle.wl_laws.proofs.Soundness.Trees.{each-append, none-append}
 use Rattle.wl_laws.proofs.Soundness.Windows.{sound_is_distinct}
-use Rattle.wl_invariants.specs.TreeMarksLaws.{AreUndamaged, among}
+use Rattle.wl_invariants.specs.TreeMarksLaws.{among}
 use Rattle.wl_toplevels.specs.Changes.{StaysPainted}
 use Rattle.wl_toplevels.specs.Toplevel.{AreInTurn, ChangesToplevel, SameRoot, has_toplevel, windows_with, windows_with_standing}
 use Rattle.wl_toplevels.proofs.RootsOf.Kept.{ToplevelIsKept, all-shown, all-undamaged, no-toplevel, own-toplevel, shown, shown_of}

@@ -1,5 +1,5 @@
 -- A toplevel that keeps its roots with their trees keeps its windows, and no damage is applied to them.
-use Rattle.std.proofs.Common.{◌≡◌, ℕ, ◌&&◌, Bool, true, false, Option, List, [], ◌∷◌, ◌++◌, ◌==◌, refl, ap, sym, subst, ◌∙◌}
+use Rattle.std.proofs.Common.{◌≡◌, ℕ, ◌&&◌, true, false, Option, List, [], ◌∷◌, ◌++◌, ◌==◌, refl, ap, sym, subst, ◌∙◌}
 use Rattle.std.specs.Prelude.{ℤ, filter, flat_map, int_le, map, pos, unsigned_abs}
 use Rattle.std.specs.List.{list_any}
 use Rattle.std.specs.Option.{option_map}
@@ -9,7 +9,7 @@ use Rattle.wl_state.specs.State.{History}
 use Rattle.wl_surface.specs.Surfaces.{Surfaces, history_in}
 use Rattle.wl_stacking.specs.Popups.{stacked_popups}
 use Rattle.wl_stacking.specs.Stacking.{Owned, Standing, geometry_in, is_of, root_of}
-use Rattle.wl_stacking.specs.Windows.{Owner, Place, Root, StackedPopup, Window, corner_in, owner_of, root_on, roots_of, tree, windows, windows_of}
+use Rattle.wl_stacking.specs.Windows.{Owner, Place, Root, StackedPopup, Window, corner_in, owner_of, root_on, roots_of, tree, windows}
 use Rattle.wl_plain.specs.Desktop.{Desktop, owned_in}
 use Rattle.wl_plain.specs.Moments.{applied_between}
 use Rattle.wl_laws.proofs.Lists.Standings.{of-client, of-it, of-surface}
@@ -19,7 +19,8 @@ use Rattle.wl_invariants.specs.TreeMarksLaws.{AreUndamaged}
 use Rattle.wl_invariants.proofs.TreeSteps.Damage.{and-none, applies-nothing}
 use Rattle.wl_invariants.proofs.TreeSteps.Owners.{tree-owned}
 use Rattle.wl_invariants.proofs.TreeSteps.Reading.{each-always, flat-each}
-use Rattle.wl_toplevels.specs.Roots.{RootsStay, is_on_one}
+use Rattle.wl_toplevels.specs.Roots.{is_on_one}
+use Rattle.wl_toplevels.specs.StackedWith.{stacked_roots}
 use Rattle.wl_toplevels.specs.Toplevel.{has_toplevel}
 use Rattle.wl_toplevels.proofs.RootsOf.Away.{stacked-each}
 use Rattle.wl_toplevels.proofs.RootsOf.Staying.{each-all, roots-stay}
@@ -32,11 +33,7 @@ surfaces_in d c = (owned_in d c).surfaces
 abbrev pub popups_in : Desktop → ℕ → List StackedPopup
 popups_in d c = stacked_popups (owned_in d c)
 
--- the roots that are stacked with it
-abbrev pub stacked_roots : Desktop → Standing → List Root
-stacked_roots d s = roots_of (surfaces_in d s.client) (root_of (owned_in d) s) (popups_in d s.client)
-
--- their windows
+-- the windows of a root
 abbrev pub tree_in : Desktop → Root → List Window
 tree_in d r = tree 17 (owner_of r) (surfaces_in d r.client) r.surface r.place
 

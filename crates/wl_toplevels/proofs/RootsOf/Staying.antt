@@ -9,7 +9,7 @@ use Rattle.wl_surface.specs.Surfaces.{Surfaces}
 use Rattle.wl_stacking.specs.Windows.{Place, Root, StackedPopup, corner_in, geometry_corner, has_parent, popup_place, root_on, roots_of, stacked, stacked_on}
 use Rattle.wl_laws.proofs.Marks.Stacks.{Each, differ, unless}
 use Rattle.wl_laws.proofs.Soundness.Windows.{In, roots_at}
-use Rattle.wl_toplevels.specs.Roots.{RootsStay, is_on_one}
+use Rattle.wl_toplevels.specs.Roots.{RootsStay, has_parent_in, is_on_one}
 
 -- ---- lists
 
@@ -30,9 +30,6 @@ all-each P (x ∷ xs) all = (all 0 x (omega arith), all-each P xs (λ k d low. a
 
 abbrev pub Within : List Root → List Root → Type 0
 Within rs all = (x : ℕ) → In x rs ≡ true → In x all ≡ true
-
-abbrev pub has_parent_in : List Root → StackedPopup → Bool
-has_parent_in rs p = list_any (λ r. has_parent r.surface p) rs
 
 -- the roots that are stacked before are among those that are stacked in the end
 pub in-first : (x : ℕ) (rs qs : List Root) → In x rs ≡ true → In x (rs ++ qs) ≡ true
