@@ -1,6 +1,7 @@
 pub mod Away
 pub mod Change
 pub mod Kept
+pub mod Same
 pub mod Stacked
 pub mod Stacks
 pub mod Staying

@@ -110,7 +110,7 @@ of-all root [] e = refl
 of-all root (w ∷ ws) e =
     ap (λ b. cond b (w ∷ of_root root ws) (of_root root ws)) (equal-numbers root w.owner.root (sym e.0)) ∙ ap (λ ys. w ∷ ys) (of-all root ws e.1)
 
-abbrev AreApart : List ℕ → Type 0
+abbrev pub AreApart : List ℕ → Type 0
 AreApart xs = AreOnce (λ x y. x == y) xs
 
 module _ (tree : Root → List Window) (own : (r : Root) → Each (IsOfRoot r.surface) (tree r)) where
