@@ -1,9 +1,11 @@
 pub mod Away
 pub mod Change
 pub mod Kept
+pub mod One
 pub mod Same
 pub mod Stacked
 pub mod Stacks
 pub mod Staying
 pub mod Touched
+pub mod Trees
 pub mod Turns
