@@ -1,0 +1,16 @@
+//! The pointer apart: a step of the desktop is what it is where nobody has pointed yet, and then the pointer is put back and its focus settled. Each
+//! function does nothing and promises one law.
+#![tactic(auto)]
+
+ghost use Rattle.wl_pointed.specs.Apart.{PointerApart, PointerApartThrough};
+
+/// A message is served with the pointer put aside; then the pointer is put back, and its focus is settled. So it is with all messages but
+/// wl_seat.get_pointer of the client that has the focus.
+pub fn pointer_apart()
+    ensures { PointerApart }
+{}
+
+/// So it is with the desktops on the way.
+pub fn pointer_apart_through()
+    ensures { PointerApartThrough }
+{}
