@@ -1,2 +1,3 @@
+pub mod Entering
 pub mod Messages
 pub mod Pointers

@@ -156,7 +156,7 @@ done-still c (EndToplevel id xdg surface) r d = refl
 done-still c (Move surface serial) r d = refl
 
 -- what may want memory doesn't begin to move a toplevel
-plain-for : (demand : Demand) (c : ℕ) (d : Desktop) → wants_memory demand ≡ true → pointer_for demand c d ≡ d.pointer
+pub plain-for : (demand : Demand) (c : ℕ) (d : Desktop) → wants_memory demand ≡ true → pointer_for demand c d ≡ d.pointer
 plain-for (Asks ask) c d wants = refl
 plain-for (EndSurface id) c d wants = refl
 plain-for (AskFrame id version surface) c d wants = refl
@@ -174,12 +174,12 @@ plain-for (Move surface serial) c d wants = absurd (differ (sym wants))
 
 -- ---- what becomes of a client
 
-becomes-back : (s : Option Cause) (c : ℕ) (r : Resident) (q : Peer) (d : Desktop)
+pub becomes-back : (s : Option Cause) (c : ℕ) (r : Resident) (q : Peer) (d : Desktop)
     → after_status s c (become_by s c r q d) ≡ pointed (pointer_if s c d.pointer) (after_status s c (become_by s c r q (unpointed d)))
 becomes-back None c r q d = refl
 becomes-back (Some cause) c r q d = refl
 
-becomes-still : (s : Option Cause) (c : ℕ) (r : Resident) (q : Peer) (d : Desktop) → (after_status s c (become_by s c r q (unpointed d))).pointer ≡ first_pointer
+pub becomes-still : (s : Option Cause) (c : ℕ) (r : Resident) (q : Peer) (d : Desktop) → (after_status s c (become_by s c r q (unpointed d))).pointer ≡ first_pointer
 becomes-still None c r q d = refl
 becomes-still (Some cause) c r q d = refl
 
@@ -189,9 +189,24 @@ becomes-keeps None c r q d moved = keeping-stays d.pointer d.standing moved
 becomes-keeps (Some cause) c r q d moved =
     keeping-without c d.pointer d.standing ∙ ap (pointer_without c) (keeping-stays d.pointer d.standing moved)
 
-after-status : (s : Option Cause) (c : ℕ) (d : Desktop) → status_in c (after_status s c d) ≡ status_in c d
+pub after-status : (s : Option Cause) (c : ℕ) (d : Desktop) → status_in c (after_status s c d) ≡ status_in c d
 after-status None c d = refl
 after-status (Some cause) c d = refl
+
+-- ---- the pointer is put back
+
+-- by why a message's client ended, if it did, and by what it asked
+pub put-is : (left : LeftOut) (c : ℕ) (d : Desktop) (s : Option Cause) (p : Pointer) (x : Desktop) → status_in c x ≡ s → pointer_asked (asked left c d) c d ≡ p
+    → put_back left c d x ≡ pointed (keeping x.standing (pointer_if s c p)) x
+put-is left c d s p x status from = ap₂ (λ (s : Option Cause) (p : Pointer). pointed (keeping x.standing (pointer_if s c p)) x) status from
+
+pub becomes-put : (left : LeftOut) (c : ℕ) (r there : Resident) (q : Peer) (d : Desktop) → client_at c d ≡ Some there → MovedStands d → pointer_asked (asked left c d) c d ≡ d.pointer
+    → becomes c r q d ≡ put_back left c d (becomes c r q (unpointed d))
+becomes-put left c r there q d is moved plain =
+    let x : Desktop = becomes c r q (unpointed d) in
+    let status : status_in c x ≡ q.status = after-status q.status c (become_by q.status c r q (unpointed d)) ∙ status-become c r q (unpointed d) there is in
+    becomes-back q.status c r q d
+    ∙ sym (put-is left c d q.status d.pointer x status plain ∙ ap (λ (p : Pointer). pointed p x) (becomes-keeps q.status c r q d moved))
 
 -- ---- a message
 
@@ -199,19 +214,12 @@ module _ (left : LeftOut) (c : ℕ) (d : Desktop) (path : List Desktop) (e : Des
   abbrev On : (List Desktop → Desktop → Type 0) → Type 0
   On Step = SettlesOn (put_back left c d) Step path e
 
-  put-is : (s : Option Cause) (p : Pointer) (x : Desktop) → status_in c x ≡ s → pointer_asked (asked left c d) c d ≡ p → put_back left c d x ≡ pointed (keeping x.standing (pointer_if s c p)) x
-  put-is s p x status from = ap₂ (λ (s : Option Cause) (p : Pointer). pointed (keeping x.standing (pointer_if s c p)) x) status from
-
   became : (Q : Peer → Type 0) (r : Resident) → pointer_asked (asked left c d) c d ≡ d.pointer → BecomesThen Q c r (unpointed d) (settling_through path e)
       → On (λ path new. BecomesThen Q c r d (settling_through path new))
   became Q r plain h =
       let q : Peer = h.0 in
-      let x : Desktop = becomes c r q (unpointed d) in
-      let status : status_in c x ≡ q.status = after-status q.status c (become_by q.status c r q (unpointed d)) ∙ status-become c r q (unpointed d) there is in
-      let back : becomes c r q d ≡ put_back left c d x =
-      becomes-back q.status c r q d
-      ∙ sym (put-is q.status d.pointer x status plain ∙ ap (λ (p : Pointer). pointed p x) (becomes-keeps q.status c r q d moved)) in
-      let on = settles-on (put_back left c d) (unstruck x) (unstruck (becomes c r q d)) (becomes-still q.status c r q d) back refl back path e h.2 in
+      let back : becomes c r q d ≡ put_back left c d (becomes c r q (unpointed d)) = becomes-put left c r there q d is moved plain in
+      let on = settles-on (put_back left c d) (unstruck (becomes c r q (unpointed d))) (unstruck (becomes c r q d)) (becomes-still q.status c r q d) back refl back path e h.2 in
       (on.0, on.1, λ later new k. (q, h.1, on.2 later new k))
 
   -- it ends where an event of its wasn't queued
@@ -223,7 +231,7 @@ module _ (left : LeftOut) (c : ℕ) (d : Desktop) (path : List Desktop) (e : Des
       ap (λ (o : Option Resident). status_in c (ended_at c cause o x)) here ∙ ap status_of (number-same x.clients c (Some (resident_of (ended cause r.peer))) r here) in
       let standing : (ended_by s x).standing ≡ without_client c x.standing = ap (λ (o : Option Resident). (ended_at c cause o x).standing) here in
       ap (ended_by s) back ∙ ended-put c cause (keeping x.standing p) x r here
-      ∙ sym (put-is (Some cause) p (ended_by s x) status from
+      ∙ sym (put-is left c d (Some cause) p (ended_by s x) status from
       ∙ ap (λ (p : Pointer). pointed p (ended_by s x)) (ap (λ ss. keeping ss (pointer_without c p)) standing ∙ keeping-without c p x.standing))
 
   why-still : (why : Option Cause) (r : Resident) (x : Desktop) → client_at c x ≡ Some r → x.pointer ≡ first_pointer → (ended_all (struck_by c why []) x).pointer ≡ first_pointer
@@ -261,7 +269,7 @@ module _ (left : LeftOut) (c : ℕ) (d : Desktop) (path : List Desktop) (e : Des
       let from : pointer_asked (asked left c d) c d ≡ pointer_for demand c d = ap (λ (o : Option Demand). pointer_asked o c d) asked-is in
       let pointed-so : y ≡ pointed p x =
       ap₂ (λ (m : Resident) (on : Desktop). with_client c (Some (with_peer q m)) on) (sym same) (done-back c demand r d) in
-      let back : y ≡ put_back left c d x = pointed-so ∙ sym (put-is None (pointer_for demand c d) x (ap status_of here ∙ lives) from) in
+      let back : y ≡ put_back left c d x = pointed-so ∙ sym (put-is left c d None (pointer_for demand c d) x (ap status_of here ∙ lives) from) in
       let on = settles-on (put_back left c d) (changed_so c demand r (unpointed d) q why) (changed_so c demand r d q why)
       (why-still why (with_peer q made) x here (done-still c demand r d)) back (why-ends why (with_peer q made) (pointer_for demand c d) x y here from pointed-so)
       (why-last why (with_peer q made) (pointer_for demand c d) x y here from pointed-so back) path e h.3 in

@@ -58,7 +58,7 @@ settles-nowhere old new still h =
     subst (λ (p : Pointer). AppliesAll (all_windows old.desktop) (focus_or [] p (all_windows old.desktop)) old new) still h
 
 -- nobody is to end, so it is over
-settled-nowhere : (n : ℕ) (d e : Desktop) (path : List Desktop) → d.pointer ≡ first_pointer → SettlesAllThrough (suc n) (unstruck d) path e → (e ≡ d) × (path ≡ e ∷ [])
+pub settled-nowhere : (n : ℕ) (d e : Desktop) (path : List Desktop) → d.pointer ≡ first_pointer → SettlesAllThrough (suc n) (unstruck d) path e → (e ≡ d) × (path ≡ e ∷ [])
 settled-nowhere n d e path still h =
     let same : h.0 ≡ unstruck d = settles-nowhere (unstruck d) h.0 still h.1 in
     let over : EndsFirstThrough (SettlesAllThrough n) [] d h.2 e = subst (λ (m : Midstep). EndsFirstThrough (SettlesAllThrough n) m.struck m.desktop h.2 e) same h.4 in

@@ -3,6 +3,7 @@
 #![tactic(auto)]
 
 ghost use Rattle.wl_pointed.specs.Apart.{PointerApart, PointerApartThrough};
+ghost use Rattle.wl_pointed.specs.Entering.{NewPointerApart, NewPointerApartThrough};
 
 /// A message is served with the pointer put aside; then the pointer is put back, and its focus is settled. So it is with all messages but
 /// wl_seat.get_pointer of the client that has the focus.
@@ -13,4 +14,15 @@ pub fn pointer_apart()
 /// So it is with the desktops on the way.
 pub fn pointer_apart_through()
     ensures { PointerApartThrough }
+{}
+
+/// wl_seat.get_pointer of the client that has the focus is served with the pointer put aside; then the pointer is put back, and the new
+/// wl_pointer is told of the focus before that is settled (wayland.xml, wl_pointer.enter).
+pub fn new_pointer_apart()
+    ensures { NewPointerApart }
+{}
+
+/// So it is with the desktops on the way.
+pub fn new_pointer_apart_through()
+    ensures { NewPointerApartThrough }
 {}
