@@ -311,4 +311,4 @@ pointer-apart left c d e new moved asks h settles =
     let way = (messages_lead_through left c (unpointed d) e).1 h in
     let on = pointer-apart-through left c d way.0 e moved asks way.1 in
     let rest = settling-with new (unstruck (put_back left c d e)) settles in
-    (messages_lead_through left c d new).0 (map (put_back left c d) on.0 ++ rest.1.0) (on.2 rest.1.0 new rest.1.2)
+    (messages_lead_through left c d new).0 (map (put_back left c d) on.0 ++ put_back left c d e ∷ rest.1.0) (on.2 rest.1.0 new rest.1.2)

@@ -9,7 +9,7 @@ use Rattle.wl_stacking.specs.PointerActions.{focus_or}
 use Rattle.wl_stacking.specs.Stacking.{Standing, is_of, without_client}
 use Rattle.wl_plain.specs.Changing.{kept_move}
 use Rattle.wl_plain.specs.Desktop.{Desktop, Resident, client_at}
-use Rattle.wl_plain.specs.Settling.{AppliesAll, Midstep, Settles, ended_all, ended_at, ended_by, pointer_without, unless_of, unstruck}
+use Rattle.wl_plain.specs.Settling.{AppliesAll, Midstep, Settles, Strike, ended_all, ended_at, ended_by, pointer_without, unless_of, unstruck}
 use Rattle.wl_plain.specs.Stacked.{all_windows}
 use Rattle.wl_plain.specs.Through.{EndsFirstThrough, SettlesAllThrough, ends_through, settling_through}
 use Rattle.wl_laws.proofs.Lists.Standings.{ended-other}
@@ -45,6 +45,18 @@ keeping-stays p standing e = ap (λ (m : Option Target). record p { move = m }) 
 
 -- ---- a client ends
 
+-- who ends leaves a pointer that is nowhere where it is
+pub ended-nowhere : (s : Strike) (d : Desktop) → d.pointer ≡ first_pointer → (ended_by s d).pointer ≡ first_pointer
+ended-nowhere s d still = at (client_at s.client d)
+  where
+    at : (o : Option Resident) → (ended_at s.client s.cause o d).pointer ≡ first_pointer
+    at None = still
+    at (Some r) = ap (pointer_without s.client) still
+
+pub all-nowhere : (ss : List Strike) (d : Desktop) → d.pointer ≡ first_pointer → (ended_all ss d).pointer ≡ first_pointer
+all-nowhere [] d still = still
+all-nowhere (s ∷ ss) d still = all-nowhere ss (ended_by s d) (ended-nowhere s d still)
+
 pub ended-put : (c : ℕ) (cause : Cause) (p : Pointer) (d : Desktop) (r : Resident) → client_at c d ≡ Some r
     → ended_by (record { client = c; cause = cause }) (pointed p d) ≡ pointed (pointer_without c p) (ended_by (record { client = c; cause = cause }) d)
 ended-put c cause p d r there =
@@ -64,18 +76,37 @@ settled-nowhere n d e path still h =
     let over : EndsFirstThrough (SettlesAllThrough n) [] d h.2 e = subst (λ (m : Midstep). EndsFirstThrough (SettlesAllThrough n) m.struck m.desktop h.2 e) same h.4 in
     (over.1, h.3 ∙ ap₂ (λ (x : Desktop) (xs : List Desktop). x ∷ xs) (ap (λ (m : Midstep). m.desktop) same ∙ sym over.1) over.0)
 
+-- the desktops of a step's own change and of each end, but for the last of them
+before_end : List Strike → Desktop → List Desktop
+before_end [] d = []
+before_end (s ∷ ss) d = d ∷ before_end ss (ended_by s d)
+
+last-of-all : (ss : List Strike) (d : Desktop) (later : List Desktop) → d ∷ ends_through ss d ++ later ≡ before_end ss d ++ ended_all ss d ∷ later
+unfolding before_end
+last-of-all [] d later = refl
+last-of-all (s ∷ ss) d later = ap (λ (xs : List Desktop). d ∷ xs) (last-of-all ss (ended_by s d) later)
+
+last-put : (put : Desktop → Desktop) (ss : List Strike) (d : Desktop) (later : List Desktop)
+    → put d ∷ map put (ends_through ss d) ++ later ≡ map put (before_end ss d) ++ put (ended_all ss d) ∷ later
+unfolding before_end
+last-put put [] d later = refl
+last-put put (s ∷ ss) d later = ap (λ (xs : List Desktop). put d ∷ xs) (last-put put ss (ended_by s d) later)
+
 -- What comes after a step's own change with the pointer put aside comes after it with the pointer put back, and then the focus is settled.
 pub settles-on : (put : Desktop → Desktop) (aside back : Midstep) → (ended_all aside.struck aside.desktop).pointer ≡ first_pointer → back.desktop ≡ put aside.desktop
     → ends_through back.struck back.desktop ≡ map put (ends_through aside.struck aside.desktop)
     → ended_all back.struck back.desktop ≡ put (ended_all aside.struck aside.desktop)
     → (path : List Desktop) (e : Desktop) → settling_through path e aside → SettlesOn put (λ path new. settling_through path new back) path e
 settles-on put aside back still first ends last path e h =
-    let over = settled-nowhere 32 (ended_all aside.struck aside.desktop) e h.0 still h.2 in (
-      aside.desktop ∷ ends_through aside.struck aside.desktop,
-      h.1 ∙ ap (λ (later : List Desktop). aside.desktop ∷ ends_through aside.struck aside.desktop ++ later) over.1,
+    let ss : List Strike = aside.struck in
+    let d : Desktop = aside.desktop in
+    let over = settled-nowhere 32 (ended_all ss d) e h.0 still h.2 in (
+      before_end ss d,
+      h.1 ∙ ap (λ (later : List Desktop). d ∷ ends_through ss d ++ later) over.1 ∙ last-of-all ss d (e ∷ []) ∙ ap (λ (x : Desktop). before_end ss d ++ x ∷ e ∷ []) (sym over.0),
       λ later new k. (
         later,
-        ap₂ (λ (x : Desktop) (xs : List Desktop). x ∷ xs ++ later) (sym first) (sym ends),
+        ap (λ (x : Desktop). map put (before_end ss d) ++ put x ∷ later) over.0 ∙ sym (last-put put ss d later)
+            ∙ ap₂ (λ (x : Desktop) (xs : List Desktop). x ∷ xs ++ later) (sym first) (sym ends),
         subst (λ (x : Desktop). SettlesAllThrough 33 (unstruck x) later new) (ap put over.0 ∙ sym last) k,
       ),
     )

@@ -4,6 +4,7 @@
 
 ghost use Rattle.wl_pointed.specs.Apart.{PointerApart, PointerApartThrough};
 ghost use Rattle.wl_pointed.specs.Entering.{NewPointerApart, NewPointerApartThrough};
+ghost use Rattle.wl_pointed.specs.Happenings.{EndsApart, FramesApart, QuietApart};
 
 /// A message is served with the pointer put aside; then the pointer is put back, and its focus is settled. So it is with all messages but
 /// wl_seat.get_pointer of the client that has the focus.
@@ -25,4 +26,19 @@ pub fn new_pointer_apart()
 /// So it is with the desktops on the way.
 pub fn new_pointer_apart_through()
     ensures { NewPointerApartThrough }
+{}
+
+/// Where a client connects, is written to, sent to or closed, or its bytes come, the pointer stays as it is.
+pub fn quiet_apart()
+    ensures { QuietApart }
+{}
+
+/// Where memory is wanting, or a client goes, the pointer leaves it, and then its focus is settled.
+pub fn ends_apart()
+    ensures { EndsApart }
+{}
+
+/// Where a frame is shown, the pointer leaves each client that ended, and then its focus is settled.
+pub fn frames_apart()
+    ensures { FramesApart }
 {}
