@@ -1,0 +1,5 @@
+pub mod Entering
+pub mod Frames
+pub mod Happenings
+pub mod Messages
+pub mod Pointers

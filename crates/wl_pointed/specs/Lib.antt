@@ -1,0 +1,4 @@
+pub mod Apart
+pub mod Entering
+pub mod Happenings
+pub mod Pointed
