@@ -31,12 +31,12 @@ use Rattle.wl_lending.proofs.Stood.{surface-stands}
 use Rattle.wl_lending.proofs.Truth.{some-same}
 
 -- what is kept of a surface that a window shows stands for what counts of it
-record Keeps (kept : Option Kept) (h : History) : Type 0 where
-  slot : Kept
-  there : kept ≡ Some slot
-  stands : Stands slot h
+pub record Keeps (kept : Option Kept) (h : History) : Type 0 where
+  pub slot : Kept
+  pub there : kept ≡ Some slot
+  pub stands : Stands slot h
 
-keeps : (kept : Option Kept) (o : Option Surface) (h : History) → StandsAt kept o → option_map (λ (s : Surface). s.history) o ≡ Some h → Keeps kept h
+pub keeps : (kept : Option Kept) (o : Option Surface) (h : History) → StandsAt kept o → option_map (λ (s : Surface). s.history) o ≡ Some h → Keeps kept h
 keeps None None h is found = absurd (cc)
 keeps (Some k) None h is found = absurd is
 keeps None (Some s) h is found = absurd is

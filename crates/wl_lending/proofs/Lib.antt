@@ -6,3 +6,4 @@ pub mod Said
 pub mod Stood
 pub mod Lent
 pub mod Standing
+pub mod Hits

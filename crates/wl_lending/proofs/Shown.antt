@@ -7,18 +7,12 @@ use Rattle.wl_state.specs.State.{History, applied, counting, order, position}
 use Rattle.wl_surface.specs.Surfaces.{Link, Surfaces, history_in, link_at}
 use Rattle.wl_stacking.specs.Stacking.{root_of}
 use Rattle.wl_stacking.specs.Windows.{Owner, Place, Root, StackedPopup, Window, child_windows, corner_at, member_windows, owner_of}
-use Rattle.wl_stacking.specs.Windows.{roots_of, shown_windows, surface_windows, tree, window_showing, window_with, windows_of}
+use Rattle.wl_stacking.specs.Windows.{roots_of, shown_windows, surface_windows, tree, window_with, windows_of}
 use Rattle.wl_plain.specs.Desktop.{Desktop, owned_in}
 use Rattle.wl_stacking.specs.Popups.{stacked_popups}
 use Rattle.wl_plain.specs.Stacked.{all_windows}
+use Rattle.wl_lending.specs.Hit.{ShowsSurface}
 use Rattle.wl_lending.proofs.Truth.{each-flat}
-
--- the window's surface is among these, and the window shows what counts of it
-pub record ShowsSurface (all : Surfaces) (w : Window) : Type 0 where
-  pub history : History
-  pub found : history_in w.surface all ≡ Some history
-  pub buffer : (applied history).buffer ≡ Some w.buffer
-  pub shows : w ≡ window_showing w.owner w.surface w.corner (applied history) w.buffer
 
 module _ (surfaces : ℕ → Surfaces) where
   -- it is among its client's

@@ -1,3 +1,4 @@
+pub mod Hit
 pub mod Lent
 pub mod Painting
 pub mod Stacked

@@ -1,11 +1,13 @@
-//! The windows of the output, lent to be painted: what they are lent as, that painting them is painting the desktop from nothing, and that
-//! what is kept of them goes on standing for the desktop's windows.
+//! The windows of the output, lent to be painted: what they are lent as, that painting them is painting the desktop from nothing, which of them
+//! a point hits, and that what is kept of them goes on standing for the desktop's windows.
 #![tactic(auto)]
 
+mod hitting;
 mod painting;
 mod stacking;
 mod windows;
 
+pub use hitting::{Surfaced, hit, takes_input};
 pub use painting::{lends_opaque_as_said, paints_the_desktop};
 pub use stacking::{
     both_are_stacked, first_are_stacked, stacked_are_told, stacked_client_gone, stacked_pushed,

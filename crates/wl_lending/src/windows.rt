@@ -42,7 +42,7 @@ fn or_transparent(picture: Option<Picture<'_>>) -> Picture<'_>
 }
 
 /// What counts of a surface, if it is there.
-fn current_of<A: Allocator>(
+pub(crate) fn current_of<A: Allocator>(
     surfaces: Option<&Surfaces<A>>,
     surface: SurfaceNo,
 ) -> Option<Current<'_, A>>

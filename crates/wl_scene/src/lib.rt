@@ -1,8 +1,15 @@
-//! The scene: the mapped toplevels of all clients in stacking order, and what a client owns of it.
+//! The scene: the mapped toplevels of all clients in stacking order, and what a client owns of it; and the pointer, with the surface that
+//! has its focus.
 #![tactic(auto)]
 
+mod actions;
+mod coordinates;
+mod focus;
 mod owned;
 mod scene;
 
+pub use actions::{Action, Actions};
+pub use coordinates::fixed;
+pub use focus::{Focus, Point};
 pub use owned::Owned;
 pub use scene::{Scene, Surface, Toplevel};

@@ -1,0 +1,31 @@
+-- Which window of the output a point hits, by what is kept of the windows and of their surfaces.
+use Rattle.std.specs.Prelude.{ℕ, ◌≡◌, List, Option, Some, None}
+use Rattle.wl_state.specs.State.{History, applied}
+use Rattle.wl_surface.specs.Slots.{Slots}
+use Rattle.wl_surface.specs.Surfaces.{Surfaces, history_in}
+use Rattle.wl_peer.specs.Objects.{ById}
+use Rattle.wl_stacking.specs.Windows.{Window, window_showing}
+use Rattle.wl_stacked.specs.declared.stacked.Stacked.{Stacked}
+use Rattle.wl_plain.specs.Desktop.{Desktop, owned_in}
+use Rattle.wl_plain.specs.Stacked.{all_windows}
+use Rattle.wl_lending.specs.Painting.{IsStoodFor}
+use Rattle.wl_lending.specs.Stacked.{AreStacked, IsStacked}
+
+-- the window's surface is among these, and the window shows what counts of it
+pub record ShowsSurface (all : Surfaces) (w : Window) : Type 0 where
+  pub history : History
+  pub found : history_in w.surface all ≡ Some history
+  pub buffer : (applied history).buffer ≡ Some w.buffer
+  pub shows : w ≡ window_showing w.owner w.surface w.corner (applied history) w.buffer
+
+-- What is kept stands for the desktop: the surfaces of each client, and the windows in their order.
+pub record AreKept (slots : ℕ → Slots) (numbers : ℕ → ById ℕ) (stacked : List Stacked) (d : Desktop) : Type 0 where
+  pub surfaces : (c : ℕ) → IsStoodFor (numbers c) (slots c) (owned_in d c).surfaces
+  pub windows : AreStacked numbers stacked (all_windows d)
+
+-- a window that is kept stands for one of the desktop, or there is none of either
+abbrev pub IsStackedOrNone : (ℕ → ById ℕ) → Option Stacked → Option Window → Type 0
+IsStackedOrNone numbers None None = Unit {0}
+IsStackedOrNone numbers (Some s) (Some w) = IsStacked numbers s w
+IsStackedOrNone numbers None (Some w) = ⊥
+IsStackedOrNone numbers (Some s) None = ⊥
