@@ -2,6 +2,7 @@ pub mod Away
 pub mod Change
 pub mod Kept
 pub mod One
+pub mod Popped
 pub mod Same
 pub mod Stacked
 pub mod Stacks

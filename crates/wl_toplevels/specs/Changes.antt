@@ -1,16 +1,18 @@
 -- What a message of a client does to the windows of the desktop: it changes those that are stacked with one toplevel, or none.
-use Rattle.std.specs.Prelude.{ℕ, ◌≡◌, ◌==◌, true}
-use Rattle.std.specs.List.{list_any}
+use Rattle.std.specs.Prelude.{ℕ, ◌≡◌, ◌==◌, true, is_some}
+use Rattle.std.specs.List.{All, list_any}
+use Rattle.wl_surface.specs.Surfaces.{history_in}
 use Rattle.wl_tree_laws.specs.Hanging.{AreNumbered, AreTied}
 use Rattle.wl_tree_laws.specs.Laws.{AreOnceLinked}
 use Rattle.wl_xdg_state.specs.Shell.{xdg_of}
-use Rattle.wl_stacking.specs.Stacking.{is_of}
+use Rattle.wl_stacking.specs.Popups.{stacked_popups}
+use Rattle.wl_stacking.specs.Stacking.{is_of, shows_buffer}
 use Rattle.wl_plain.specs.Desktop.{Desktop, owned_in}
 use Rattle.wl_plain.specs.Marks.{AreDistinct}
 use Rattle.wl_plain.specs.Moments.{applied_between}
 use Rattle.wl_plain.specs.Stacked.{all_windows}
 use Rattle.wl_laws.specs.Apart.{AreApartBy}
-use Rattle.wl_laws.specs.Soundness.{IsSound}
+use Rattle.wl_laws.specs.Soundness.{IsNoChild, IsSound}
 use Rattle.wl_invariants.specs.Orderly.{HasMappedToplevel}
 use Rattle.wl_invariants.specs.TreeMarksLaws.{AreUndamaged}
 
@@ -21,8 +23,8 @@ pub record StaysPainted (d e : Desktop) : Type 0 where
   pub distinct : AreDistinct (all_windows d)
 
 -- Toplevels, popups and subsurfaces make trees, and none is two of these. Of each client the links are told apart, by number and, while they
--- live, by child, and hang together with what was asked of the surfaces; no surface has two xdg_surfaces, and no id is of two of these; and
--- those toplevels that stand are mapped.
+-- live, by child, and hang together with what was asked of the surfaces; no surface has two xdg_surfaces, no id is of two of these, and a
+-- surface that has one is no child; those toplevels that stand are mapped, and they and the popups that are mapped show buffers.
 pub record HasTrees (d : Desktop) : Type 0 where
   pub sound : IsSound d
   pub once : (c : ℕ) → AreOnceLinked (owned_in d c).surfaces.links
@@ -30,5 +32,13 @@ pub record HasTrees (d : Desktop) : Type 0 where
   pub tied : (c : ℕ) → AreTied (owned_in d c).surfaces
   pub xdg_apart : (c : ℕ) → AreApartBy (λ surface x. x.surface == surface) (owned_in d c).shell
   pub ids_apart : (c : ℕ) → AreApartBy (λ id x. x.id == id) (owned_in d c).shell
+  pub xdg_roots :
+      (c surface : ℕ) → is_some (xdg_of surface (owned_in d c).shell) ≡ true → IsNoChild surface (owned_in d c).surfaces
   pub mapped :
       (c surface : ℕ) → list_any (is_of c surface) d.standing ≡ true → HasMappedToplevel (xdg_of surface (owned_in d c).shell)
+  pub toplevels_show :
+      (c surface : ℕ) → list_any (is_of c surface) d.standing ≡ true
+      → shows_buffer (history_in surface (owned_in d c).surfaces) ≡ true
+  pub popups_show :
+      (c : ℕ)
+      → All (λ p. p.is_mapped ≡ true → shows_buffer (history_in p.surface (owned_in d c).surfaces) ≡ true) (stacked_popups (owned_in d c))

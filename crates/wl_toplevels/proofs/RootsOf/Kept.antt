@@ -1,21 +1,23 @@
 -- A toplevel that keeps its roots with their trees keeps its windows, and no damage is applied to them.
-use Rattle.std.proofs.Common.{◌≡◌, ℕ, ◌&&◌, true, false, Option, List, [], ◌∷◌, ◌++◌, ◌==◌, refl, ap, sym, subst, ◌∙◌}
+use Rattle.std.proofs.Common.{◌≡◌, ℕ, ◌&&◌, true, false, Option, Some, None, List, [], ◌∷◌, ◌++◌, ◌==◌, refl, ap, sym, subst, ◌∙◌}
 use Rattle.std.specs.Prelude.{ℤ, filter, flat_map, int_le, map, pos, unsigned_abs}
 use Rattle.std.specs.List.{list_any}
 use Rattle.std.specs.Option.{option_map}
 use Rattle.std.proofs.lemmas.Bool.{eqb-true}
 use Rattle.wl_geom.specs.declared.rect.Rect.{Rect}
-use Rattle.wl_state.specs.State.{History}
+use Rattle.wl_state.specs.Request.{Request}
+use Rattle.wl_state.specs.State.{History, counting, offset}
 use Rattle.wl_surface.specs.Surfaces.{Surfaces, history_in}
 use Rattle.wl_stacking.specs.Popups.{stacked_popups}
 use Rattle.wl_stacking.specs.Stacking.{Owned, Standing, geometry_in, is_of, root_of}
-use Rattle.wl_stacking.specs.Windows.{Owner, Place, Root, StackedPopup, Window, corner_in, owner_of, root_on, roots_of, tree, windows}
+use Rattle.wl_stacking.specs.Windows.{Owner, Place, Root, StackedPopup, Window, corner_at, corner_in, moved, owner_of, root_on, roots_of, tree, windows}
 use Rattle.wl_plain.specs.Desktop.{Desktop, owned_in}
 use Rattle.wl_plain.specs.Moments.{applied_between}
 use Rattle.wl_laws.proofs.Lists.Standings.{of-client, of-it, of-surface}
 use Rattle.wl_laws.proofs.Marks.Stacks.{Each, and-both, and-left, and-right, differ, each-both, each-map, equal-numbers, or-left, or-right, unless}
 use Rattle.wl_laws.proofs.Soundness.Trees.{each-append, each-flat, none-append, or-none}
 use Rattle.wl_invariants.specs.TreeMarksLaws.{AreUndamaged}
+use Rattle.wl_invariants.specs.TreeStepsLaws.{counted_in}
 use Rattle.wl_invariants.proofs.TreeSteps.Damage.{and-none, applies-nothing}
 use Rattle.wl_invariants.proofs.TreeSteps.Owners.{tree-owned}
 use Rattle.wl_invariants.proofs.TreeSteps.Reading.{each-always, flat-each}
@@ -44,15 +46,34 @@ shown d s = flat_map (tree_in d) (stacked_roots d s)
 abbrev pub shown_of : Desktop → List Standing → List Window
 shown_of d ss = windows (surfaces_in d) (popups_in d) (map (root_of (owned_in d)) ss)
 
+-- ---- the corner of a root
+
+abbrev corner_of : Place → Option History → Place
+corner_of place None = place
+corner_of place (Some h) = corner_at place h
+
+abbrev corner_by : Place → Option (List Request) → Place
+corner_by place None = place
+corner_by place (Some rs) = moved place (offset rs).x (offset rs).y
+
+-- it is read from what counts of its surface
+corner-reads : (place : Place) (o : Option History) → corner_of place o ≡ corner_by place (option_map counting o)
+corner-reads place None = refl
+corner-reads place (Some h) = refl
+
+pub counted-corner : (all new : Surfaces) (r : Root) → counted_in r.surface new ≡ counted_in r.surface all → corner_in new r ≡ corner_in all r
+counted-corner all new r same =
+    corner-reads r.place (history_in r.surface new) ∙ (ap (corner_by r.place) same ∙ sym (corner-reads r.place (history_in r.surface all)))
+
 -- ---- what is kept
 
 -- no damage is applied to the surface of the window
 abbrev pub IsUndamaged : Desktop → Desktop → Window → Type 0
 IsUndamaged d e w = (x y : ℤ) → applied_between d e w.owner.client w.surface x y ≡ false
 
--- The tree of this root of a client keeps its windows, wherever it stands, and its root keeps its corner.
+-- The tree of this root of a client keeps its windows, wherever it stands, and what counts of its root.
 pub record RootIsKept (c : ℕ) (d e : Desktop) (x : ℕ) : Type 0 where
-  pub corner : (r : Root) → r.surface ≡ x → corner_in (surfaces_in e c) r ≡ corner_in (surfaces_in d c) r
+  pub counts : counted_in x (surfaces_in e c) ≡ counted_in x (surfaces_in d c)
   pub windows : (owner : Owner) (place : Place) → tree 17 owner (surfaces_in e c) x place ≡ tree 17 owner (surfaces_in d c) x place
   pub undamaged : (owner : Owner) (place : Place) → owner.client ≡ c → Each (IsUndamaged d e) (tree 17 owner (surfaces_in d c) x place)
 
@@ -107,7 +128,7 @@ module _ (d e : Desktop) where
           ap (λ geometry. roots_of (surfaces_in e s.client) (at geometry) (popups_in e s.client)) kept.geometry
           ∙ roots-stay (surfaces_in d s.client) (surfaces_in e s.client) (root_of (owned_in d) s) (popups_in d s.client) (popups_in e s.client)
           (each-all (λ r. corner_in (surfaces_in e s.client) r ≡ corner_in (surfaces_in d s.client) r) (stacked_roots d s)
-          (each-map (λ r. RootIsKept s.client d e r.surface) (λ r. corner_in (surfaces_in e s.client) r ≡ corner_in (surfaces_in d s.client) r) (λ r keeps. keeps.corner r refl)
+          (each-map (λ r. RootIsKept s.client d e r.surface) (λ r. corner_in (surfaces_in e s.client) r ≡ corner_in (surfaces_in d s.client) r) (λ r keeps. counted-corner (surfaces_in d s.client) (surfaces_in e s.client) r keeps.counts)
           (stacked_roots d s) kept.roots)) kept.popups
 
   pub kept-undamaged : (s : Standing) → ToplevelIsKept d e s → Each (IsUndamaged d e) (shown d s)
@@ -134,7 +155,7 @@ module _ (d e : Desktop) where
     where
       root : (x : ℕ) → RootIsKept s.client d e x
       root x = record {
-        corner = λ r is. ap (λ (o : Owned). corner_in o.surfaces r) same;
+        counts = ap (λ (o : Owned). counted_in x o.surfaces) same;
         windows = λ owner place. ap (λ (o : Owned). tree 17 owner o.surfaces x place) same;
         undamaged = λ owner place is.
             each-map (λ w. w.owner ≡ owner) (IsUndamaged d e)

@@ -1,18 +1,17 @@
 -- Which trees of a client are kept: those that the surface that changes is not in, or all.
-use Rattle.std.proofs.Common.{◌≡◌, ℕ, ◌&&◌, true, false, List, Option, Some, None, refl, ap, sym, subst, ◌∙◌}
+use Rattle.std.proofs.Common.{◌≡◌, ℕ, ◌&&◌, true, false, None, ap, sym, subst, ◌∙◌}
 use Rattle.std.specs.Prelude.{ℤ, ◌==◌, int_le, pos, unsigned_abs}
 use Rattle.std.specs.Option.{option_map}
-use Rattle.wl_state.specs.Request.{Request}
-use Rattle.wl_state.specs.State.{History, counting, offset}
-use Rattle.wl_surface.specs.Surfaces.{Surfaces, history_in}
+use Rattle.wl_state.specs.State.{counting}
+use Rattle.wl_surface.specs.Surfaces.{history_in}
 use Rattle.wl_surface.specs.Trees.{descends_from, levels, link_of}
-use Rattle.wl_stacking.specs.Windows.{Place, Root, corner_at, corner_in, moved, tree}
+use Rattle.wl_stacking.specs.Windows.{tree}
 use Rattle.wl_plain.specs.Desktop.{Desktop}
 use Rattle.wl_plain.specs.Moments.{applied_between}
 use Rattle.wl_laws.specs.Soundness.{IsNoChild}
 use Rattle.wl_laws.proofs.Marks.Stacks.{differ, each-both, each-map, equal-numbers, unless}
 use Rattle.wl_laws.proofs.Soundness.LinkedDepths.{descends-itself}
-use Rattle.wl_invariants.specs.TreeStepsLaws.{IsRootOf, KeepsAll, KeepsOthers, counted_in}
+use Rattle.wl_invariants.specs.TreeStepsLaws.{IsRootOf, KeepsAll, KeepsOthers}
 use Rattle.wl_invariants.proofs.TreeSteps.Damage.{and-none, applies-nothing}
 use Rattle.wl_invariants.proofs.TreeSteps.Descents.{no-child-is-top, roots-apart}
 use Rattle.wl_invariants.proofs.TreeSteps.Others.{none-under, other-trees-stay}
@@ -21,33 +20,13 @@ use Rattle.wl_invariants.proofs.TreeSteps.Staying.{all-trees-stay}
 use Rattle.wl_toplevels.specs.Changes.{HasTrees}
 use Rattle.wl_toplevels.proofs.RootsOf.Kept.{IsUndamaged, RootIsKept, same-undamaged, surfaces_in}
 
--- ---- the corner of a root
-
-abbrev corner_of : Place → Option History → Place
-corner_of place None = place
-corner_of place (Some h) = corner_at place h
-
-abbrev corner_by : Place → Option (List Request) → Place
-corner_by place None = place
-corner_by place (Some rs) = moved place (offset rs).x (offset rs).y
-
--- it is read from what counts of its surface
-corner-reads : (place : Place) (o : Option History) → corner_of place o ≡ corner_by place (option_map counting o)
-corner-reads place None = refl
-corner-reads place (Some h) = refl
-
-pub counted-corner : (all new : Surfaces) (r : Root) → counted_in r.surface new ≡ counted_in r.surface all → corner_in new r ≡ corner_in all r
-counted-corner all new r same =
-    corner-reads r.place (history_in r.surface new) ∙ (ap (corner_by r.place) same ∙ sym (corner-reads r.place (history_in r.surface all)))
-
 -- ---- the trees that the surface is not in
 
 module _ (c : ℕ) (d e : Desktop) (had : HasTrees d) where
   pub other-tree : (id root : ℕ) → KeepsOthers id (surfaces_in d c) (surfaces_in e c) → IsRootOf (surfaces_in d c) id root → (x : ℕ) → IsNoChild x (surfaces_in d c)
       → (x == root) ≡ false → RootIsKept c d e x
   other-tree id root keeps its x no_child other = record {
-    corner = λ r is. counted-corner (surfaces_in d c) (surfaces_in e c) r
-        (ap (option_map counting) (histories r.surface (subst (λ n. descends_from levels (surfaces_in d c) x n ≡ true) (sym is) (descends-itself levels (surfaces_in d c) x))));
+    counts = ap (option_map counting) (histories x (descends-itself levels (surfaces_in d c) x));
     windows = (other-trees-stay (surfaces_in d c) (surfaces_in e c) id x (had.sound.trees c) (had.once c) (had.numbered c) keeps top elsewhere).1;
     undamaged = λ owner place own.
         each-both (λ w. w.owner ≡ owner) (λ w. descends_from levels (surfaces_in d c) x w.surface ≡ true) (IsUndamaged d e)
@@ -73,7 +52,7 @@ module _ (c : ℕ) (d e : Desktop) (had : HasTrees d) where
 
   pub any-tree : KeepsAll (surfaces_in d c) (surfaces_in e c) → (x : ℕ) → RootIsKept c d e x
   any-tree keeps x = record {
-    corner = λ r is. counted-corner (surfaces_in d c) (surfaces_in e c) r (keeps.counts r.surface);
+    counts = keeps.counts x;
     windows = λ owner place. all-trees-stay (surfaces_in d c) (surfaces_in e c) (had.sound.trees c) (had.once c) keeps owner x place;
     undamaged = λ owner place own.
         each-map (λ w. w.owner ≡ owner) (IsUndamaged d e)
