@@ -1,5 +1,7 @@
 pub mod Entering
 pub mod Frames
 pub mod Happenings
+pub mod Marking
 pub mod Messages
 pub mod Pointers
+pub mod Rounds

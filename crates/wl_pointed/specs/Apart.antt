@@ -14,12 +14,13 @@ PointerApart =
     (left : LeftOut) (c : ℕ) (d e new : Desktop) → MovedStands d → AsksNoFocus left c d → Serves left c (unpointed d) e
     → SettlesAll 33 (unstruck (put_back left c d e)) new → Serves left c d new
 
--- A step that leads through these desktops, with the pointer put aside, settles nothing at its end: the last of them stands there twice. With
--- the pointer put back it leads through the same, and then through those of the settling.
+-- A step that leads through these desktops, with the pointer put aside, settles nothing at its end: the last of them stands there twice.
+-- With the pointer put back it leads through the same, and then through those of the settling.
 abbrev pub SettlesOn : (Desktop → Desktop) → (List Desktop → Desktop → Type 0) → List Desktop → Desktop → Type 0
 SettlesOn put Step path e =
     (before : List Desktop) × (path ≡ before ++ e ∷ e ∷ [])
-    × ((later : List Desktop) (new : Desktop) → SettlesAllThrough 33 (unstruck (put e)) later new → Step (map put before ++ put e ∷ later) new)
+    × ((later : List Desktop) (new : Desktop) → SettlesAllThrough 33 (unstruck (put e)) later new
+    → Step (map put before ++ put e ∷ later) new)
 
 -- So it is with the desktops on the way.
 abbrev pub PointerApartThrough : Type 0

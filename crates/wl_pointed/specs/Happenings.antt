@@ -40,7 +40,8 @@ is_quiet (Single act done) = is_quiet_act act done
 -- The pointer stays as it is.
 abbrev pub QuietApart : Type 0
 QuietApart =
-    (left : LeftOut) (h : Happening) (d : Desktop) (path : List Desktop) (e : Desktop) → is_quiet h ≡ true → Leads left h (unpointed d) path e
+    (left : LeftOut) (h : Happening) (d : Desktop) (path : List Desktop) (e : Desktop)
+    → is_quiet h ≡ true → Leads left h (unpointed d) path e
     → Leads left h d (pointed d.pointer e ∷ []) (pointed d.pointer e)
 
 -- ---- where its client ends
@@ -52,7 +53,8 @@ IsEndOf c h = (h ≡ Starve c) ⊎ (h ≡ Single (Leave c) (gave.Gone true))
 -- The pointer leaves the client, and its focus is settled.
 abbrev pub EndsApart : Type 0
 EndsApart =
-    (left : LeftOut) (c : ℕ) (h : Happening) (d : Desktop) (path : List Desktop) (e : Desktop) → IsEndOf c h → Leads left h (unpointed d) path e
+    (left : LeftOut) (c : ℕ) (h : Happening) (d : Desktop) (path : List Desktop) (e : Desktop)
+    → IsEndOf c h → Leads left h (unpointed d) path e
     → SettlesOn (pointed (pointer_without c d.pointer)) (Leads left h d) path e
 
 -- ---- a frame is shown

@@ -1,4 +1,6 @@
 pub mod Apart
 pub mod Entering
 pub mod Happenings
+pub mod Marking
 pub mod Pointed
+pub mod Rounds

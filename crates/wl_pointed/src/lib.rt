@@ -5,6 +5,8 @@
 ghost use Rattle.wl_pointed.specs.Apart.{PointerApart, PointerApartThrough};
 ghost use Rattle.wl_pointed.specs.Entering.{NewPointerApart, NewPointerApartThrough};
 ghost use Rattle.wl_pointed.specs.Happenings.{EndsApart, FramesApart, QuietApart};
+ghost use Rattle.wl_pointed.specs.Marking.{MarksApart, MarksInParts, RoundsMarkEnds, SettlingMarksNothing};
+ghost use Rattle.wl_pointed.specs.Rounds.{ButtonsEnd, MotionsEnd, RoundsAreFew, RoundsSettle, SettlesIdly, StruckLive};
 
 /// A message is served with the pointer put aside; then the pointer is put back, and its focus is settled. So it is with all messages but
 /// wl_seat.get_pointer of the client that has the focus.
@@ -41,4 +43,54 @@ pub fn ends_apart()
 /// Where a frame is shown, the pointer leaves each client that ended, and then its focus is settled.
 pub fn frames_apart()
     ensures { FramesApart }
+{}
+
+/// The ends of a step are rounds: the focus is settled, and the first client that is to end then does; where none is, the step is over.
+pub fn rounds_settle()
+    ensures { RoundsSettle }
+{}
+
+/// Each round ends a client that lives, so of 32 clients there are 32 rounds at most.
+pub fn rounds_are_few()
+    ensures { RoundsAreFew }
+{}
+
+/// Whatever the pointer does, the clients that are to end for it live.
+pub fn struck_live()
+    ensures { StruckLive }
+{}
+
+/// To settle a focus that is settled does nothing.
+pub fn settles_idly()
+    ensures { SettlesIdly }
+{}
+
+/// After a motion the focus is settled, and ends may follow at once.
+pub fn motions_end()
+    ensures { MotionsEnd }
+{}
+
+/// After a button the focus is settled before ends follow.
+pub fn buttons_end()
+    ensures { ButtonsEnd }
+{}
+
+/// What is marked through desktops is what is marked through the first of them, and then through the others.
+pub fn marks_in_parts()
+    ensures { MarksInParts }
+{}
+
+/// With the pointer put back a step marks what it marks with the pointer put aside, and then what is marked from its last desktop on.
+pub fn marks_apart()
+    ensures { MarksApart }
+{}
+
+/// To settle the focus marks nothing.
+pub fn settling_marks_nothing()
+    ensures { SettlingMarksNothing }
+{}
+
+/// A round marks what its end marks.
+pub fn rounds_mark_ends()
+    ensures { RoundsMarkEnds }
 {}
