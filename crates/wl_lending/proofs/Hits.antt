@@ -1,7 +1,7 @@
 -- What a point hits of the windows that are kept is what it hits of those that they stand for.
-use Rattle.std.proofs.Common.{◌≡◌, ℕ, suc, zero, ◌<◌, Bool, true, false, List, [], ◌∷◌, ◌++◌, Option, Some, None, refl, ap, sym, subst, ◌∙◌, length, take, cond, arith, ℤ, pos, ◌-ℤ◌}
-use Rattle.std.specs.Prelude.{◌&&◌, slice_index_or}
-use Rattle.std.specs.List.{AllByRecursion as Each}
+use Rattle.std.proofs.Common.{◌≡◌, ℕ, suc, zero, ◌<◌, Bool, true, false, List, [], ◌∷◌, ◌++◌, Option, Some, None, refl, ap, sym, subst, ◌∙◌, length, take, cond, arith, eqb-true, ℤ, pos, ◌-ℤ◌}
+use Rattle.std.specs.Prelude.{◌==◌, ◌&&◌, slice_index_or}
+use Rattle.std.specs.List.{list_any, AllByRecursion as Each}
 use Rattle.std.proofs.lemmas.List.{take_all}
 use Rattle.std.proofs.lemmas.List.Sums.{fold-append}
 use Rattle.wl_geom.specs.Rect.{in_span}
@@ -9,16 +9,19 @@ use Rattle.wl_state.specs.State.{applied}
 use Rattle.wl_surface.specs.Slots.{Slots, kept_at}
 use Rattle.wl_surface.specs.Surfaces.{Surfaces, surface_at}
 use Rattle.wl_peer.specs.Objects.{ById}
+use Rattle.wl_stacking.specs.Pointer.{is_stacked}
 use Rattle.wl_stacking.specs.Windows.{Window, contains, hit, hit_after, is_hit, takes_input}
 use Rattle.wl_stacked.specs.declared.stacked.Stacked.{Stacked}
 use Rattle.wl_windows.specs.declared.window.TreeWindow.{TreeWindow}
 use Rattle.wl_plain.specs.Desktop.{Desktop, owned_in}
 use Rattle.wl_plain.specs.Stacked.{all_windows}
-use Rattle.wl_lending.specs.Hit.{AreKept, IsStackedOrNone, ShowsSurface}
+use Rattle.wl_lending.specs.Hit.{AreKept, IsStackedOrNone, ShowsSurface, is_window_of}
 use Rattle.wl_lending.specs.Painting.{IsStoodFor}
-use Rattle.wl_lending.specs.Stacked.{AreStacked, IsStacked}
+use Rattle.wl_lending.specs.Stacked.{AreNumberedOnce, AreStacked, IsStacked}
 use Rattle.wl_lending.proofs.Lent.{Keeps, keeps}
 use Rattle.wl_lending.proofs.Shown.{IsShown, all-shown}
+use Rattle.wl_lending.proofs.Standing.{any-same}
+use Rattle.wl_lending.proofs.Truth.{same-equal, some-same}
 use Rattle.wl_lending.proofs.Stood.{surface-stands}
 
 -- ---- one window
@@ -104,3 +107,22 @@ module _ (x y : ℤ) (slots : ℕ → Slots) (numbers : ℕ → ById ℕ) (ss : 
 
     pub below : (lent : Slots) (b : Bool) → lent ≡ slots s.client → Tells lent b → b ≡ false → hit x y ws ≡ hit x y (take k ws)
     below lent b same tells e = upto ∙ ap (λ (i : Bool). cond i (Some at.window) (hit x y (take k ws))) (is-told lent b same tells ∙ e)
+
+-- ---- a surface among the windows
+
+module _ (numbers : ℕ → ById ℕ) (client id n : ℕ) (once : AreNumberedOnce (numbers client)) (named : numbers client id ≡ Some n) where
+  of-surface : (s : Stacked) (w : Window) → IsStacked numbers s w → is_window_of client n s ≡ ((w.owner.client == client) && (w.surface == id))
+  of-surface s w is = at (s.client == client) refl
+    where
+      at : (b : Bool) → (s.client == client) ≡ b → (b && (s.window.surface == n)) ≡ ((w.owner.client == client) && (w.surface == id))
+      at false apart = ap (λ (b : Bool). b && (w.surface == id)) (sym (sym (ap (λ (m : ℕ). m == client) is.client) ∙ apart))
+      at true here =
+          let own : s.client ≡ client = eqb-true s.client client here in
+          let surface : numbers client w.surface ≡ Some s.window.surface = ap (λ (m : ℕ). numbers m w.surface) (sym own) ∙ is.surface in
+          same-equal s.window.surface n w.surface id (λ e. once w.surface id n (surface ∙ ap Some e) named)
+          (λ e. some-same s.window.surface n (sym surface ∙ ap (numbers client) e ∙ named))
+          ∙ ap (λ (b : Bool). b && (w.surface == id)) (sym (sym (ap (λ (m : ℕ). m == client) is.client) ∙ here))
+
+  pub among : (ss : List Stacked) (ws : List Window) → AreStacked numbers ss ws
+      → list_any (is_window_of client n) ss ≡ is_stacked (record { client = client; surface = id }) ws
+  among = any-same numbers (is_window_of client n) (λ w. (w.owner.client == client) && (w.surface == id)) of-surface

@@ -59,7 +59,7 @@ stacked-renumbered old new ss ws roots surfaces are =
 -- ---- tests that agree on what is kept and what it stands for
 
 module _ (numbers : ℕ → ById ℕ) (p : Stacked → Bool) (q : Window → Bool) (same : (s : Stacked) (w : Window) → IsStacked numbers s w → p s ≡ q w) where
-  any-same : (ss : List Stacked) (ws : List Window) → AreStacked numbers ss ws → list_any p ss ≡ list_any q ws
+  pub any-same : (ss : List Stacked) (ws : List Window) → AreStacked numbers ss ws → list_any p ss ≡ list_any q ws
   any-same [] [] are = refl
   any-same [] (w ∷ ws) are = absurd are
   any-same (s ∷ ss) [] are = absurd are

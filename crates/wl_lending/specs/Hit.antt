@@ -1,5 +1,5 @@
 -- Which window of the output a point hits, by what is kept of the windows and of their surfaces.
-use Rattle.std.specs.Prelude.{ℕ, ◌≡◌, List, Option, Some, None}
+use Rattle.std.specs.Prelude.{◌==◌, ◌&&◌, Bool, ℕ, ◌≡◌, List, Option, Some, None}
 use Rattle.wl_state.specs.State.{History, applied}
 use Rattle.wl_surface.specs.Slots.{Slots}
 use Rattle.wl_surface.specs.Surfaces.{Surfaces, history_in}
@@ -29,3 +29,7 @@ IsStackedOrNone numbers None None = Unit {0}
 IsStackedOrNone numbers (Some s) (Some w) = IsStacked numbers s w
 IsStackedOrNone numbers None (Some w) = ⊥
 IsStackedOrNone numbers (Some s) None = ⊥
+
+-- a window that is kept is that of the surface of this number of a client
+abbrev pub is_window_of : ℕ → ℕ → Stacked → Bool
+is_window_of client surface s = (s.client == client) && (s.window.surface == surface)

@@ -1,6 +1,7 @@
 //! What a point of the output hits.
 
 ghost use Rattle.std.specs.Prelude.{◌≡◌, ◌&&◌, ◌-ℤ◌, ℕ, List, Option, Some, option_copied, pos};
+ghost use Rattle.std.specs.List.{list_any};
 ghost use Rattle.wl_geom.specs.Rect.{in_span};
 ghost use Rattle.wl_geom.specs.Region.{Change};
 ghost use Rattle.wl_state.specs.Kept.{IsInput, Kept, Stands};
@@ -8,19 +9,20 @@ ghost use Rattle.wl_state.specs.State.{History, applied};
 ghost use Rattle.wl_surface.specs.Slots.{Slots, kept_at};
 ghost use Rattle.wl_surface.specs.Surfaces.{Surfaces as Asked};
 ghost use Rattle.wl_peer.specs.Objects.{ById};
+ghost use Rattle.wl_stacking.specs.Pointer.{is_stacked};
 ghost use Rattle.wl_stacking.specs.Windows.{Window, hit as hit_of, is_hit, takes_input as input_at};
 ghost use Rattle.wl_plain.specs.Desktop.{Desktop};
 ghost use Rattle.wl_plain.specs.Stacked.{all_windows};
-ghost use Rattle.wl_lending.specs.Hit.{AreKept, IsStackedOrNone, ShowsSurface};
+ghost use Rattle.wl_lending.specs.Hit.{AreKept, IsStackedOrNone, ShowsSurface, is_window_of};
 ghost use Rattle.wl_lending.specs.Lent.{slots_or_none};
 ghost use Rattle.wl_lending.specs.Painting.{IsStoodFor};
-ghost use Rattle.wl_lending.specs.Stacked.{IsStacked};
+ghost use Rattle.wl_lending.specs.Stacked.{AreNumberedOnce, AreStacked, IsStacked};
 
 use crate::windows::current_of;
 use std::alloc::Allocator;
 use wl_geom::Region;
 use wl_stacked::Stacked;
-use wl_surface::Surfaces;
+use wl_surface::{SurfaceNo, Surfaces};
 use wl_windows::TreeWindow;
 
 /// The surfaces of the clients.
@@ -92,8 +94,8 @@ fn surface_takes<A: Allocator>(
     region_takes(current.input, right, down)
 }
 
-/// Whether a window of the output takes the input at a point of the output, in pixels, by its client's surfaces: the point lies in the window,
-/// and its surface's applied input region holds it (wayland.xml, wl_surface.set_input_region).
+/// Whether a window of the output takes the input at a point of the output, in pixels, by its client's surfaces: the point lies in the
+/// window, and its surface's applied input region holds it (wayland.xml, wl_surface.set_input_region).
 pub fn takes_input<A: Allocator>(
     stacked: &Stacked,
     surfaces: Option<&Surfaces<A>>,
@@ -120,4 +122,27 @@ pub fn hit<S: Surfaced>(windows: &[Stacked], clients: &S, x: i32, y: i32) -> Opt
         }
     }
     None
+}
+
+fn is_window_of(stacked: &Stacked, client: u32, surface: SurfaceNo) -> bool
+    ensures { result ≡ is_window_of client surface stacked.now }
+{
+    stacked.client == client && stacked.window.surface == surface
+}
+
+fn has_window(windows: &[Stacked], client: u32, surface: SurfaceNo) -> bool
+    ensures { result ≡ list_any (is_window_of client surface) windows.now }
+{
+    windows
+        .iter()
+        .any(|stacked| is_window_of(stacked, client, surface))
+}
+
+/// Whether a surface of a client, by its number, has a window on the output.
+pub fn is_among(windows: &[Stacked], client: u32, surface: SurfaceNo) -> bool
+    ensures { (numbers : ℕ → ById ℕ) (ws : List Window) (id : ℕ)
+        → AreStacked numbers windows.now ws → AreNumberedOnce (numbers client) → numbers client id ≡ Some surface
+        → result ≡ is_stacked (record { client = client; surface = id }) ws }
+{
+    has_window(windows, client, surface)
 }

@@ -1,5 +1,5 @@
-//! The windows of the output, lent to be painted: what they are lent as, that painting them is painting the desktop from nothing, which of them
-//! a point hits, and that what is kept of them goes on standing for the desktop's windows.
+//! The windows of the output, lent to be painted: what they are lent as, that painting them is painting the desktop from nothing; which of
+//! them a point hits; and that what is kept of them goes on standing for the desktop's windows.
 #![tactic(auto)]
 
 mod hitting;
@@ -7,7 +7,7 @@ mod painting;
 mod stacking;
 mod windows;
 
-pub use hitting::{Surfaced, hit, takes_input};
+pub use hitting::{Surfaced, hit, is_among, takes_input};
 pub use painting::{lends_opaque_as_said, paints_the_desktop};
 pub use stacking::{
     both_are_stacked, first_are_stacked, stacked_are_told, stacked_client_gone, stacked_pushed,

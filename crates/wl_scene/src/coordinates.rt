@@ -22,8 +22,8 @@ fn held(exact: i64) -> i32
 }
 
 /// A coordinate of a point of the output as a surface is told it whose upper left corner is at `corner`, both in pixels of the output: how
-/// far it is from the corner, in 256ths of a pixel (wayland.xml, wl_pointer.motion; a 24.8 fixed number). What such a number can't say is held
-/// to the nearest pixel that it can.
+/// far it is from the corner, in 256ths of a pixel (wayland.xml, wl_pointer.motion; a 24.8 fixed number). What such a number can't say is
+/// held to the nearest pixel that it can.
 pub fn fixed(place: i32, corner: i32) -> i32
     ensures { result ≡ fixed_from place corner }
 {

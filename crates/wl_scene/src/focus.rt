@@ -22,8 +22,8 @@ pub struct Point {
     pub y: i32,
 }
 
-/// The pointer (wayland.xml, wl_pointer). It is seen as its place in the output, once it has one; the buttons that are down, 16 at most; the
-/// serial of the press that began the present hold, where it was sent; the surface that has its focus; and the toplevel that it moves.
+/// The pointer (wayland.xml, wl_pointer). It is seen as its place in the output, once it has one; the buttons that are down, 16 at most;
+/// the serial of the press that began the present hold, where it was sent; the surface that has its focus; and the toplevel that it moves.
 ///
 /// It is told what it hits, and not the windows; what it does is to be done by the caller, one after another.
 #[derive(Drop)]
@@ -170,8 +170,8 @@ impl Focus {
     }
 
     /// The windows may have changed: where the focus moves, the surface that had it is left and the one that has it now is entered
-    /// (wayland.xml, wl_pointer.leave and wl_pointer.enter). It is told which surface the pointer hits, which counts only where no button is
-    /// down, and whether the surface that has the focus is among the windows, which counts only where one is.
+    /// (wayland.xml, wl_pointer.leave and wl_pointer.enter). It is told which surface the pointer hits, which counts only where no button
+    /// is down, and whether the surface that has the focus is among the windows, which counts only where one is.
     pub fn settle(&mut self, hit: Option<Surface>, is_stacked: bool) -> Actions
         ensures acts { (ws : List Window) → IsSeen (target_or_none hit) is_stacked self.old ws
             → map action_of result.items ≡ actions Settle self.old ws }
@@ -193,8 +193,8 @@ impl Focus {
     }
 
     /// The pointer went where it is, at a time in milliseconds: where the focus stays, its surface is told of the motion (wayland.xml,
-    /// wl_pointer.motion), unless a toplevel is moved; where it moves, the surface that had it is left and the one that has it now is entered.
-    /// It is told of the windows what [`Focus::settle`] is.
+    /// wl_pointer.motion), unless a toplevel is moved; where it moves, the surface that had it is left and the one that has it now is
+    /// entered. It is told of the windows what [`Focus::settle`] is.
     pub fn went(&mut self, time: u32, hit: Option<Surface>, is_stacked: bool) -> Actions
         ensures acts { (ws : List Window) → IsSeen (target_or_none hit) is_stacked self.old ws
             → map action_of result.items ≡ actions (Went time) self.old ws }
@@ -206,8 +206,8 @@ impl Focus {
         self.refocus(focus, staying)
     }
 
-    /// A button is pressed at a time in milliseconds, while a client holds a grab, or none does: the toplevel that holds what the pointer hits
-    /// comes to the top, the popups with a grab of a client of which nothing is hit are dismissed, and the focus is told of the press
+    /// A button is pressed at a time in milliseconds, while a client holds a grab, or none does: the toplevel that holds what the pointer
+    /// hits comes to the top, the popups with a grab of a client of which nothing is hit are dismissed, and the focus is told of the press
     /// (wayland.xml, wl_pointer.button; xdg-shell.xml, xdg_popup.grab). Nothing happens where the button is down already or 16 are.
     pub fn press(
         &mut self,
@@ -244,8 +244,8 @@ impl Focus {
         }
     }
 
-    /// A button is released at a time in milliseconds, and the focus is told of it (wayland.xml, wl_pointer.button). After the last one nothing
-    /// is held, and nothing is moved. Nothing happens where the button isn't down.
+    /// A button is released at a time in milliseconds, and the focus is told of it (wayland.xml, wl_pointer.button). After the last one
+    /// nothing is held, and nothing is moved. Nothing happens where the button isn't down.
     pub fn release(&mut self, time: u32, button: u32) -> Actions
         ensures acts { is_down button self.old.buttons ≡ true
             → (ws : List Window) → map action_of result.items ≡ actions (Release time button) self.new ws }
