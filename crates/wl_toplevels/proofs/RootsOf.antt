@@ -4,6 +4,7 @@ pub mod Kept
 pub mod One
 pub mod Popped
 pub mod Same
+pub mod Shells
 pub mod Stacked
 pub mod Stacks
 pub mod Staying
