@@ -1,3 +1,4 @@
+pub mod Alike
 pub mod Away
 pub mod Change
 pub mod Kept

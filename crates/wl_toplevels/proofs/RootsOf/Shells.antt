@@ -182,6 +182,6 @@ module _ (c : ℕ) (d : Desktop) (had : HasTrees d) where
     }
 
 -- nothing changes of the xdg_surfaces
-same-list : {X : Type 0} (xs : List X) → xs ≡ map (λ x. x) xs
+pub same-list : {X : Type 0} (xs : List X) → xs ≡ map (λ x. x) xs
 same-list [] = refl
 same-list (x ∷ xs) = ap (λ ys. x ∷ ys) (same-list xs)
