@@ -1,6 +1,7 @@
 pub mod Alike
 pub mod Away
 pub mod Change
+pub mod Commits
 pub mod Kept
 pub mod One
 pub mod Popped
