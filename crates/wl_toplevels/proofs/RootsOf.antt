@@ -1,9 +1,12 @@
+pub mod Alike
 pub mod Away
 pub mod Change
+pub mod Commits
 pub mod Kept
 pub mod One
 pub mod Popped
 pub mod Same
+pub mod Shells
 pub mod Stacked
 pub mod Stacks
 pub mod Staying
