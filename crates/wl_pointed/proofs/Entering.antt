@@ -87,6 +87,19 @@ lacking p q (inr h) = ap (λ (x : Peer). x.status) h.1
 abbrev midstep : Desktop → List Strike → Midstep
 midstep d struck = record { desktop = d; struck = struck }
 
+-- a client that came to be one is another after it was told
+put-twice : (c : ℕ) (q : Peer) (now drawn made : Resident) (d : Desktop) (struck : List Strike) (told : Midstep) → now ≡ drawn
+    → told ≡ midstep (with_client c (Some (with_peer q now)) (with_client c (Some made) d)) struck → told ≡ midstep (with_client c (Some (with_peer q drawn)) d) struck
+put-twice c q now drawn made d struck told same h =
+    let twice : midstep (with_client c (Some (with_peer q now)) (with_client c (Some made) d)) struck ≡ midstep (with_client c (Some (with_peer q now)) d) struck =
+    ap (λ (x : Desktop). midstep x struck) (client-twice c (Some (with_peer q now)) (Some made) d) in
+    let other : midstep (with_client c (Some (with_peer q now)) d) struck ≡ midstep (with_client c (Some (with_peer q drawn)) d) struck =
+    ap (λ (m : Resident). midstep (with_client c (Some (with_peer q m)) d) struck) same in
+    h ∙ twice ∙ other
+
+settles-as : (path : List Desktop) (new : Desktop) (m n : Midstep) → m ≡ n → settling_through path new m → settling_through path new n
+settles-as path new m n same h = subst (λ (x : Midstep). settling_through path new x) same h
+
 -- ---- it is told of the focus
 
 module _ (left : LeftOut) (c id version : ℕ) (d : Desktop) (path : List Desktop) (e : Desktop) (told : Midstep) (moved : MovedStands d) (asks : asked left c d ≡ Some (GetPointer id version))
@@ -146,10 +159,8 @@ module _ (left : LeftOut) (c id version : ℕ) (d : Desktop) (path : List Deskto
       subst (λ (m : Resident). QueuesTo (replies left c demand r drawn (all_windows d) d) m.peer t.0 t.1) (sym same)
       (subst (λ (told : List Said). QueuesTo told (drawing true made).peer t.0 t.1) (sym events) t.2) in
       let last : told ≡ changed_so c demand r d t.0 t.1 =
-      t.3
-      ∙ ap (λ (y : Desktop). midstep y (struck_by c t.1 [])) (client-twice c (Some (with_peer t.0 (drawing true made))) (Some made) (done_for c demand r d)
-      ∙ ap (λ (m : Resident). with_client c (Some (with_peer t.0 m)) (done_for c demand r d)) (sym same)) in
-      (t.0, t.1, queued, subst (λ (m : Midstep). settling_through later new m) last k)
+      put-twice c t.0 (drawing true made) drawn made (done_for c demand r d) (struck_by c t.1 []) told (sym same) t.3 in
+      (t.0, t.1, queued, settles-as later new told (changed_so c demand r d t.0 t.1) last k)
 
   answered : (judged : Result Demand Refusal) (r : Resident) → asked_of judged ≡ Some demand → r.peer.status ≡ None → r.owned ≡ there.owned
       → AnswersThen left judged c r (unpointed d) (settling_through path e)

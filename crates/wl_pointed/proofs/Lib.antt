@@ -3,5 +3,6 @@ pub mod Frames
 pub mod Happenings
 pub mod Marking
 pub mod Messages
+pub mod Moved
 pub mod Pointers
 pub mod Rounds

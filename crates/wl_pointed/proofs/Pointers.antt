@@ -19,7 +19,7 @@ use Rattle.wl_pointed.specs.Pointed.{keeping, pointed}
 -- ---- what is moved stands
 
 -- where a client ended, its toplevels don't stand, and the others do as before
-kept-without : (c : ℕ) (t : Option Target) (standing : List Standing) → kept_move (unless_of c t) (without_client c standing) ≡ unless_of c (kept_move t standing)
+pub kept-without : (c : ℕ) (t : Option Target) (standing : List Standing) → kept_move (unless_of c t) (without_client c standing) ≡ unless_of c (kept_move t standing)
 kept-without c None standing = refl
 kept-without c (Some t) standing = at (t.client == c) refl
   where

@@ -6,6 +6,7 @@ ghost use Rattle.wl_pointed.specs.Apart.{PointerApart, PointerApartThrough};
 ghost use Rattle.wl_pointed.specs.Entering.{NewPointerApart, NewPointerApartThrough};
 ghost use Rattle.wl_pointed.specs.Happenings.{EndsApart, FramesApart, QuietApart};
 ghost use Rattle.wl_pointed.specs.Marking.{MarksApart, MarksInParts, RoundsMarkEnds, SettlingMarksNothing};
+ghost use Rattle.wl_pointed.specs.Moved.{MovedStandsOn};
 ghost use Rattle.wl_pointed.specs.Rounds.{ButtonsEnd, MotionsEnd, RoundsAreFew, RoundsSettle, SettlesIdly, StruckLive};
 
 /// A message is served with the pointer put aside; then the pointer is put back, and its focus is settled. So it is with all messages but
@@ -93,4 +94,9 @@ pub fn settling_marks_nothing()
 /// A round marks what its end marks.
 pub fn rounds_mark_ends()
     ensures { RoundsMarkEnds }
+{}
+
+/// A toplevel that is moved with the pointer stands, whatever happens.
+pub fn moved_stands_on()
+    ensures { MovedStandsOn }
 {}
