@@ -7,3 +7,6 @@ pub mod XdgRoots
 pub mod TreeBuffers
 pub mod OrderlyClients
 pub mod MappedToplevels
+pub mod EachClient
+pub mod EachPopup
+pub mod NobodyPoints

@@ -3,6 +3,8 @@ pub mod Alone
 pub mod MappedLaws
 pub mod NoPopups
 pub mod NoPopupsLaws
+pub mod NobodyPoints
+pub mod NobodyPointsLaws
 pub mod OneBuffer
 pub mod Orderly
 pub mod OrderlyLaws

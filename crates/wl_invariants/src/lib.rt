@@ -3,6 +3,7 @@
 #![tactic(auto)]
 
 mod mapped;
+mod nobody_points;
 mod one_buffer;
 mod orderly;
 mod records;
@@ -15,6 +16,10 @@ mod xdg_roots;
 pub use mapped::{
     empty_is_mapped, ends_keep_mapped, frames_keep_mapped, mapped_stays, messages_keep_mapped,
     pieces_keep_mapped,
+};
+pub use nobody_points::{
+    empty_is_unpointed, ends_keep_unpointed, frames_keep_unpointed, grabs_are_refused,
+    grabs_dismiss, messages_keep_unpointed, pieces_keep_unpointed, unpointed_stays,
 };
 pub use one_buffer::{
     arrival_has_one_buffer, empty_has_one_buffer, had_are_attached, happens_keeps_one_buffer,
