@@ -9,4 +9,5 @@ pub mod OrderlyClients
 pub mod MappedToplevels
 pub mod EachClient
 pub mod EachPopup
+pub mod InOrder
 pub mod NobodyPoints

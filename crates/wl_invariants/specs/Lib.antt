@@ -1,5 +1,7 @@
 pub mod Acts
 pub mod Alone
+pub mod InOrder
+pub mod InOrderLaws
 pub mod MappedLaws
 pub mod NoPopups
 pub mod NoPopupsLaws

@@ -2,6 +2,7 @@
 //! desktop that comes about, and what a step marks and leaves that changes one tree of surfaces. Each law is a function that promises it.
 #![tactic(auto)]
 
+mod in_order;
 mod mapped;
 mod nobody_points;
 mod one_buffer;
@@ -13,6 +14,11 @@ mod tree_steps;
 mod without_popups;
 mod xdg_roots;
 
+pub use in_order::{
+    clients_are_in_order, demands_keep_in_order, empty_is_in_order, ends_keep_in_order,
+    frames_keep_in_order, in_order_stays, messages_keep_in_order, orderly_is_in_order,
+    owns_orderly_is_in_order, peers_keep_in_order, pieces_keep_in_order, popups_are_numbered,
+};
 pub use mapped::{
     empty_is_mapped, ends_keep_mapped, frames_keep_mapped, mapped_stays, messages_keep_mapped,
     pieces_keep_mapped,

@@ -146,7 +146,8 @@ serial-none : (serial : ℕ) (o : Option ℕ) → o ≡ None → is_serial seria
 serial-none serial o none = ap (is_serial serial) none
 
 pub none-allowed : (c xdg serial : ℕ) (r : Resident) (d : Desktop) → r.press ≡ None → r.release ≡ None → grab_allowed c xdg serial r d ≡ false
-none-allowed c xdg serial r d press release = at (is_latest serial r) (or-none (is_serial serial r.press) (is_serial serial r.release) (serial-none serial r.press press) (serial-none serial r.release release)) _
+none-allowed c xdg serial r d press release = at (is_latest serial r)
+    (or-none (is_serial serial r.press) (is_serial serial r.release) (serial-none serial r.press press) (serial-none serial r.release release)) _
   where
     at : (b : Bool) → b ≡ false → (more : Bool) → (b && more) ≡ false
     at true e more = absurd (differ e)
