@@ -11,3 +11,4 @@ pub mod EachClient
 pub mod EachPopup
 pub mod InOrder
 pub mod NobodyPoints
+pub mod ShownSurfaces

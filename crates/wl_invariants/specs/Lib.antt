@@ -11,6 +11,8 @@ pub mod OneBuffer
 pub mod Orderly
 pub mod OrderlyLaws
 pub mod Roots
+pub mod Shown
+pub mod ShownLaws
 pub mod Simple
 pub mod SimpleLaws
 pub mod Standing
