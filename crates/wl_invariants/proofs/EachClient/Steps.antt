@@ -332,9 +332,9 @@ module _ (Absent : List Standing → Type 0) (By : Option Cause → Resident →
 
     -- ---- a piece
 
-    reaches : (n c : ℕ) (d e : Desktop) → All d → Reaches left c n d e → All e
-    reaches zero c d e all h = subst All (sym h) all
-    reaches (suc n) c d e all h = serves-keeps c h.0 e (reaches n c d h.0 all h.1) h.2
+    pub reaches-keeps : (n c : ℕ) (d e : Desktop) → All d → Reaches left c n d e → All e
+    reaches-keeps zero c d e all h = subst All (sym h) all
+    reaches-keeps (suc n) c d e all h = serves-keeps c h.0 e (reaches-keeps n c d h.0 all h.1) h.2
 
     stops : (c : ℕ) (o : Option Resident) (d e : Desktop) → client_at c d ≡ o → All d → StopsAt c o d e → All e
     stops c None d e is all h = absurd h
@@ -346,7 +346,7 @@ module _ (Absent : List Standing → Type 0) (By : Option Cause → Resident →
     feeds None c piece r d e status is all h =
         let come : Peer = with_rest (r.peer.rest ++ piece) r.peer in
         let start : All (with_client c (Some (with_peer come r)) d) = piece-keeps c r (r.peer.rest ++ piece) d all is in
-        stops c (client_at c h.1) h.1 e refl (reaches h.0 c (with_client c (Some (with_peer come r)) d) h.1 start h.2) h.3
+        stops c (client_at c h.1) h.1 e refl (reaches-keeps h.0 c (with_client c (Some (with_peer come r)) d) h.1 start h.2) h.3
 
     fed : (c : ℕ) (piece : List ℕ) (o : Option Resident) (d : Desktop) (done : Done) (e : Desktop) → client_at c d ≡ o → All d → IsFedAt left c piece o d done e → All e
     fed c piece None d done e is all h = subst All (sym h.1) all

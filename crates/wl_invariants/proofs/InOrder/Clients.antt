@@ -78,7 +78,7 @@ none-apart (x ∷ xs) tops = (λ key is. absurd (differ (sym is ∙ numbered-non
 
 -- ---- a client that lives
 
-known-of : (r : Resident) → OwnsNoPopups r → OwnsKnown r
+pub known-of : (r : Resident) → OwnsNoPopups r → OwnsKnown r
 known-of r owns = record { apart = owns.apart; known = owns.known; subsurfaces = owns.subsurfaces; children = owns.children; callbacks = owns.callbacks }
 
 pub of-known : (r : Resident) → OwnsKnown r → AreToplevels r.owned.shell → OwnsNoPopups r

@@ -58,7 +58,7 @@ no-surface output id = at (id == 1)
     at true = refl
     at false = refl
 
-arrival-knows : (output : Output) → OwnsKnown (arrival output)
+pub arrival-knows : (output : Output) → OwnsKnown (arrival output)
 arrival-knows output =
     record {
       apart = tt;
