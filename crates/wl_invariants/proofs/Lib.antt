@@ -7,3 +7,8 @@ pub mod XdgRoots
 pub mod TreeBuffers
 pub mod OrderlyClients
 pub mod MappedToplevels
+pub mod EachClient
+pub mod EachPopup
+pub mod InOrder
+pub mod NobodyPoints
+pub mod ShownSurfaces

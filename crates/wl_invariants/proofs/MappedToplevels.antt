@@ -1,5 +1,3 @@
-pub mod Demands
-pub mod Fitting
 pub mod Found
 pub mod Roots
 pub mod Steps

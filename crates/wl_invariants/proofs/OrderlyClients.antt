@@ -4,6 +4,5 @@ pub mod Desktops
 pub mod Judged
 pub mod Kept
 pub mod Steps
-pub mod Subsurfaces
 pub mod Told
 pub mod Whole

@@ -3,7 +3,6 @@ pub mod Ids
 pub mod Left
 pub mod Messages
 pub mod Others
-pub mod Owns
 pub mod Pointer
 pub mod Served
 pub mod Simple

@@ -5,7 +5,7 @@ use Rattle.std.specs.List.{list_all}
 use Rattle.std.specs.Option.{option_map}
 use Rattle.std.proofs.lemmas.Bool.{and_from}
 use Rattle.std.proofs.lemmas.List.Folds.{list_all-append}
-use Rattle.wl_state.specs.declared.role.Role.TheVariants.{Cursor as AsCursor, Subsurface as AsSubsurface, Toplevel as AsToplevel}
+use Rattle.wl_state.specs.declared.role.Role.TheVariants.{Cursor as AsCursor, Popup as AsPopup, Subsurface as AsSubsurface, Toplevel as AsToplevel}
 use Rattle.wl_state.specs.Request.{AddChild, Commit, Frame, Request}
 use Rattle.wl_state.specs.State.{History}
 use Rattle.wl_state.specs.Surface.{Surface, asking, new_surface, with_role}
@@ -13,18 +13,19 @@ use Rattle.wl_surface.specs.Surfaces.{Surfaces, history_in, with_change, without
 use Rattle.wl_surface.specs.Trees.{committed_in, desynchronised_in, destroyed_in, ended_in, linked, links_with}
 use Rattle.wl_tree_laws.proofs.Coming.{history-without}
 use Rattle.wl_invariants.proofs.TreeSteps.Commits.{asked_more, history-asked, role-keeps-all}
+use Rattle.wl_xdg_state.specs.Positioner.{Positioner}
 use Rattle.wl_xdg_state.specs.Shell.{Configures, Effect, Maps, Stays, Unconfigured, Unmaps, XdgSurface, xdg_at, xdg_of}
 use Rattle.wl_plain.specs.Ask.{Ask, AskSurface, CreateSurface, GetToplevel}
-use Rattle.wl_plain.specs.Changing.{link_with_id, mode_set, tree_committed, unlinked_at}
-use Rattle.wl_plain.specs.Demand.{AskFrame, Asks, CommitTree, Demand, EndSubsurface, EndSurface, GetSubsurface, MakeCursor, SetMode}
+use Rattle.wl_plain.specs.Changing.{Placing, changed_for, drawing, effect_placing, grab_allowed, grabbed, has_focus, in_rising_order, link_with_id, mode_set, placement_now, popup_given_to}
+use Rattle.wl_plain.specs.Changing.{tree_committed, unlinked_at}
+use Rattle.wl_plain.specs.Demand.{AskFrame, Asks, CommitTree, Demand, EndPopup, EndSubsurface, EndSurface, EndToplevel, GetPointer, GetPopup, GetSubsurface, Grab, MakeCursor, Move, SetMode}
 use Rattle.wl_plain.specs.Demanding.{effect_of_commit}
-use Rattle.wl_plain.specs.Desktop.{Resident}
-use Rattle.wl_plain.specs.Step.{toplevel_given}
+use Rattle.wl_plain.specs.Desktop.{Desktop, Resident}
+use Rattle.wl_plain.specs.Step.{changed_by, toplevel_given}
 use Rattle.wl_laws.proofs.Lists.Keys.{none-some, some-same}
 use Rattle.wl_laws.proofs.Lists.Surfaces.{has_id}
 use Rattle.wl_laws.proofs.Soundness.Moves.{Moves, moves-committed, moves-desynchronised, moves-those, moves-unlinked}
 use Rattle.wl_invariants.specs.Standing.{AreTurned, turns_well}
-use Rattle.wl_invariants.specs.Simple.{changed_simply, effect_on}
 use Rattle.wl_invariants.proofs.MappedToplevels.Well.{IsWell}
 
 -- ---- one surface
@@ -111,19 +112,32 @@ linked-all number child parent all is = asked-all parent (AddChild number) mid r
 -- ---- what is demanded of a client
 
 -- what a commit comes to for the shell changes no surface
-effect-turned : (id : ℕ) (effect : Effect) (x : Option XdgSurface) (r : Resident) → AreTurned r.owned.surfaces → AreTurned (effect_on id effect x r).owned.surfaces
-effect-turned id effect None r is = is
-effect-turned id Stays (Some x) r is = is
-effect-turned id Unconfigured (Some x) r is = is
-effect-turned id Configures (Some x) r is = is
-effect-turned id Maps (Some x) r is = is
-effect-turned id Unmaps (Some x) r is = is
+effect-turned : (where_to : Placing) (id : ℕ) (effect : Effect) (x : Option XdgSurface) (r : Resident) → AreTurned r.owned.surfaces
+    → AreTurned (effect_placing where_to id effect x r).owned.surfaces
+effect-turned where_to id effect None r is = is
+effect-turned where_to id Stays (Some x) r is = is
+effect-turned where_to id Unconfigured (Some x) r is = is
+effect-turned where_to id Configures (Some x) r is = is
+effect-turned where_to id Maps (Some x) r is = is
+effect-turned where_to id Unmaps (Some x) r is = is
+
+popup-turned : (id xdg parent : ℕ) (p : Positioner) (x : Option XdgSurface) (r : Resident) → AreTurned r.owned.surfaces → AreTurned (popup_given_to id xdg parent p x r).owned.surfaces
+popup-turned id xdg parent p None r is = is
+popup-turned id xdg parent p (Some x) r is = λ surface. subst IsTurned (sym ((role-keeps-all r.owned.surfaces x.surface AsPopup).0 surface)) (is surface)
+
+drawn-turned : (b : Bool) (r : Resident) → AreTurned r.owned.surfaces → AreTurned (drawing b r).owned.surfaces
+drawn-turned true r is = is
+drawn-turned false r is = is
+
+grabbed-turned : (b : Bool) (xdg : ℕ) (r : Resident) → AreTurned r.owned.surfaces → AreTurned (grabbed b xdg r).owned.surfaces
+grabbed-turned true xdg r is = is
+grabbed-turned false xdg r is = is
 
 given-turned : (id xdg : ℕ) (x : Option XdgSurface) (r : Resident) → AreTurned r.owned.surfaces → AreTurned (toplevel_given id xdg x r).owned.surfaces
 given-turned id xdg None r is = is
 given-turned id xdg (Some x) r is = λ surface. subst IsTurned (sym ((role-keeps-all r.owned.surfaces x.surface AsToplevel).0 surface)) (is surface)
 
-ask-turned : (ask : Ask) (r : Resident) → AreTurned r.owned.surfaces → IsWell r (Asks ask) → AreTurned (changed_simply (Asks ask) r).owned.surfaces
+ask-turned : (ask : Ask) (r : Resident) → AreTurned r.owned.surfaces → IsWell r (Asks ask) → AreTurned (changed_by ask r).owned.surfaces
 ask-turned (CreateSurface id version) r is well = λ surface. made-all id surface r.owned.surfaces.surfaces (is surface)
 ask-turned (AskSurface id request) r is well = asked-all id request r.owned.surfaces well is
 ask-turned (GetToplevel id version xdg) r is well = given-turned id xdg (xdg_at xdg r.owned.shell) r is
@@ -134,14 +148,20 @@ mode-turned link true r is = is
 mode-turned link false r is = moved-all r.owned.surfaces (desynchronised_in link r.owned.surfaces) (moves-desynchronised link r.owned.surfaces) is
 
 -- What is demanded leaves them so.
-pub demand-turned : (demand : Demand) (r : Resident) → AreTurned r.owned.surfaces → IsWell r demand → AreTurned (changed_simply demand r).owned.surfaces
-demand-turned (Asks ask) r is well = ask-turned ask r is well
-demand-turned (EndSurface id) r is well = destroyed-all id r.owned.surfaces is
-demand-turned (AskFrame id version surface) r is well = asked-all surface (Frame r.peer.requests) r.owned.surfaces refl is
-demand-turned (CommitTree id) r is well = effect-turned id (effect_of_commit r id) (xdg_of id r.owned.shell) (tree_committed id r) (committed-all id r.owned.surfaces is)
-demand-turned (GetSubsurface id version child parent) r is well = linked-all r.peer.requests child parent r.owned.surfaces is
-demand-turned (EndSubsurface id) r is well =
+pub demand-turned : (c : ℕ) (demand : Demand) (r : Resident) (d : Desktop) → AreTurned r.owned.surfaces → IsWell r demand → AreTurned (changed_for c demand r d).owned.surfaces
+demand-turned c (Asks ask) r d is well = ask-turned ask r is well
+demand-turned c (EndSurface id) r d is well = destroyed-all id r.owned.surfaces is
+demand-turned c (AskFrame id version surface) r d is well = asked-all surface (Frame r.peer.requests) r.owned.surfaces refl is
+demand-turned c (CommitTree id) r d is well =
+    effect-turned (placement_now c r d) id (effect_of_commit r id) (xdg_of id r.owned.shell) (tree_committed id r) (committed-all id r.owned.surfaces is)
+demand-turned c (GetSubsurface id version child parent) r d is well = linked-all r.peer.requests child parent r.owned.surfaces is
+demand-turned c (EndSubsurface id) r d is well =
     moved-all r.owned.surfaces (unlinked_at (link_with_id id r) r.owned.surfaces) (moves-unlinked (link_with_id id r) r.owned.surfaces) is
-demand-turned (SetMode link b) r is well = mode-turned link b r is
-demand-turned (MakeCursor surface) r is well = λ other. subst IsTurned (sym ((role-keeps-all r.owned.surfaces surface AsCursor).0 other)) (is other)
-demand-turned demand r is well = is
+demand-turned c (SetMode link b) r d is well = mode-turned link b r is
+demand-turned c (GetPointer id version) r d is well = drawn-turned (has_focus c d.pointer.focus) (record r { pointers = in_rising_order id r.pointers }) is
+demand-turned c (MakeCursor surface) r d is well = λ other. subst IsTurned (sym ((role-keeps-all r.owned.surfaces surface AsCursor).0 other)) (is other)
+demand-turned c (GetPopup id version xdg parent p) r d is well = popup-turned id xdg parent p (xdg_at xdg r.owned.shell) r is
+demand-turned c (Grab xdg serial) r d is well = grabbed-turned (grab_allowed c xdg serial r d) xdg r is
+demand-turned c (EndPopup id xdg) r d is well = is
+demand-turned c (EndToplevel id xdg top) r d is well = is
+demand-turned c (Move surface serial) r d is well = is

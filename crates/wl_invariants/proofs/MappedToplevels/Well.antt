@@ -15,6 +15,8 @@ use Rattle.wl_proto.specs.declared.wl_subsurface.WlSubsurfaceRequest.{WlSubsurfa
 use Rattle.wl_proto.specs.declared.wl_subsurface.WlSubsurfaceRequest.TheVariants as subsurface
 use Rattle.wl_proto.specs.declared.wl_surface.WlSurfaceRequest.{WlSurfaceRequest}
 use Rattle.wl_proto.specs.declared.wl_surface.WlSurfaceRequest.TheVariants as surface
+use Rattle.wl_proto.specs.declared.xdg_popup.XdgPopupRequest.{XdgPopupRequest}
+use Rattle.wl_proto.specs.declared.xdg_popup.XdgPopupRequest.TheVariants as popup
 use Rattle.wl_proto.specs.declared.xdg_surface.XdgSurfaceRequest.{XdgSurfaceRequest}
 use Rattle.wl_proto.specs.declared.xdg_surface.XdgSurfaceRequest.TheVariants as xdg
 use Rattle.wl_proto.specs.declared.xdg_wm_base.XdgWmBaseRequest.{XdgWmBaseRequest}
@@ -33,6 +35,8 @@ use Rattle.wl_peer.specs.ToplevelRequest as toplevel
 use Rattle.wl_state.specs.Request.{Request as Asked, Member, PlaceAbove, PlaceBelow}
 use Rattle.wl_surface.specs.Surfaces.{Link}
 use Rattle.wl_surface.specs.Trees.{is_bad_parent, is_too_deep}
+use Rattle.wl_xdg_state.specs.Popups.{Popped, is_parent, is_popup_mapped, popup_at}
+use Rattle.wl_xdg_state.specs.Positioner.{Positioner, is_complete}
 use Rattle.wl_xdg_state.specs.Shell.{Effect, Stays, Unconfigured, Configures, Maps, Unmaps, XdgSurface as Xdg, answers_states, is_full, is_waiting, stage_of, xdg_at, xdg_of, xdg_with}
 use Rattle.wl_plain.specs.Ask.{Ask, AskSurface, Ignore, owns}
 use Rattle.wl_plain.specs.Demand.{Asks, CommitTree, Demand}
@@ -43,10 +47,10 @@ use Rattle.wl_plain.specs.WlPointer.{cursor_set, is_no_cursor}
 use Rattle.wl_plain.specs.WlSubsurface.{beside, demand_by_link, has_subsurface, is_no_subsurface, link_of_subsurface, placed_beside, subsurface_made}
 use Rattle.wl_plain.specs.WlSurface.{transform_set, will_show}
 use Rattle.wl_plain.specs.Step.{with_peer}
+use Rattle.wl_plain.specs.XdgPopup.{grab_of, is_no_popup, may_be_parent, popup_asked, popup_destroyed, popup_made, positioner_of}
 use Rattle.wl_plain.specs.XdgShell.{has_any, is_foreign, is_no_toplevel, role_of, state_asked}
 use Rattle.wl_invariants.specs.Standing.{turns_well}
-use Rattle.wl_plain.specs.LeftOut.{served_now}
-use Rattle.wl_plain.specs.Served.{unserved_now}
+use Rattle.wl_plain.specs.LeftOut.{LeftOut}
 
 abbrev pub IsWell : Resident → Demand → Type 0
 IsWell r (Asks (AskSurface id request)) = turns_well request ≡ true
@@ -138,15 +142,33 @@ module _ (r : Resident) where
       ask-well (is_foreign (role_of r surface) || is_some (xdg_of surface r.owned.shell)) _ _ (λ other. tt) (λ free. ask-well (has_any r surface) _ _ (λ full. tt) (λ none. tt))
   base-well object version (base.Pong serial) = tt
 
-  xdg-well : (x : Option Xdg) (version : ℕ) (request : XdgSurfaceRequest) → unserved_now (ToXdgSurface request) ≡ false → IsWellSo r (xdg_asked r x version request)
-  xdg-well None version request served = tt
-  xdg-well (Some x) version xdg.Destroy served = ask-well (is_some x.role) _ _ (λ there. tt) (λ none. tt)
-  xdg-well (Some x) version (xdg.GetToplevel id) served =
+  popup-well : (x : Xdg) (version id parent : ℕ) (p : Positioner) → IsWellSo r (popup_made r x version id parent p)
+  popup-well x version id parent p =
+      if-well (is_some x.role) _ _ (λ there. tt)
+      (λ none. if-well (is_no_popup (role_of r x.surface)) _ _ (λ other. tt)
+      (λ fits. if-well (may_be_parent (xdg_at parent r.owned.shell)) _ _ (λ may. if-well (is_complete p) _ _ (λ complete. tt) (λ lacks. tt)) (λ may_not. tt)))
+
+  popup-gone-well : (object : ℕ) (x : Xdg) → IsWellSo r (popup_destroyed r object x)
+  popup-gone-well object x = if-well (is_parent x.id r.owned.shell) _ _ (λ parent. tt) (λ none. tt)
+
+  grab-well : (object serial : ℕ) (x : Xdg) (o : Option Popped) → IsWellSo r (grab_of object serial x o)
+  grab-well object serial x None = tt
+  grab-well object serial x (Some p) = if-well p.popup.is_dismissed _ _ (λ dismissed. tt) (λ live. if-well (is_popup_mapped p) _ _ (λ mapped. tt) (λ unmapped. tt))
+
+  popup-asked-well : (object : ℕ) (o : Option Xdg) (request : XdgPopupRequest) → IsWellSo r (popup_asked r object o request)
+  popup-asked-well object None request = tt
+  popup-asked-well object (Some x) popup.Destroy = popup-gone-well object x
+  popup-asked-well object (Some x) (popup.Grab by serial) = grab-well object serial x (popup_at x.id r.owned.shell)
+
+  xdg-well : (x : Option Xdg) (version : ℕ) (request : XdgSurfaceRequest) → IsWellSo r (xdg_asked r x version request)
+  xdg-well None version request = tt
+  xdg-well (Some x) version xdg.Destroy = ask-well (is_some x.role) _ _ (λ there. tt) (λ none. tt)
+  xdg-well (Some x) version (xdg.GetToplevel id) =
       ask-well (is_some x.role) _ _ (λ there. tt) (λ none. ask-well (is_no_toplevel (role_of r x.surface)) _ _ (λ other. tt) (λ fits. tt))
-  xdg-well (Some x) version (xdg.GetPopup id parent positioner) served = absurd (cc)
-  xdg-well (Some x) version (xdg.SetWindowGeometry a b width height) served =
+  xdg-well (Some x) version (xdg.GetPopup id parent positioner) = popup-well x version id parent (positioner_of (r.peer.positioners positioner))
+  xdg-well (Some x) version (xdg.SetWindowGeometry a b width height) =
       ask-well (is_some x.role) _ _ (λ there. ask-well (int_lt (pos 0) width && int_lt (pos 0) height) _ _ (λ fits. refl) (λ no_size. tt)) (λ none. tt)
-  xdg-well (Some x) version (xdg.AckConfigure serial) served =
+  xdg-well (Some x) version (xdg.AckConfigure serial) =
       ask-well (is_some x.role) _ _ (λ there. ask-well (is_waiting serial x.configures) _ _ (λ waits. tt) (λ unknown. tt)) (λ none. tt)
 
   state-well : (o : Option Xdg) → IsWellSo r (demands (state_asked o))
@@ -181,26 +203,26 @@ module _ (r : Resident) where
   own-well : (object version : ℕ) (request : Request) → IsWellSo r (own_demand r object version request)
   own-well object version request = owned-well (action_of (known_of r.peer) object version request)
 
-  interface-well : (request : Request) (object version : ℕ) → unserved_now request ≡ false → IsWellSo r (demand_by request r object version)
-  interface-well (ToCompositor (compositor.CreateSurface id)) object version served = ask-well (nat_le 256 (length r.owned.surfaces.surfaces)) _ _ (λ full. tt) (λ room. tt)
-  interface-well (ToCompositor (compositor.CreateRegion id)) object version served = own-well object version (ToCompositor (compositor.CreateRegion id))
-  interface-well (ToSurface request) object version served = surface-well object version request
-  interface-well (ToSeat (seat.GetPointer id)) object version served = tt
-  interface-well (ToSeat (seat.GetKeyboard id)) object version served = tt
-  interface-well (ToSeat (seat.GetTouch id)) object version served = tt
-  interface-well (ToBase request) object version served = base-well object version request
-  interface-well (ToXdgSurface request) object version served = xdg-well (xdg_at object r.owned.shell) version request served
-  interface-well (ToToplevel request) object version served = toplevel-well object (xdg_with object r.owned.shell) request
-  interface-well (ToSubcompositor subcompositor.Destroy) object version served = tt
-  interface-well (ToSubcompositor (subcompositor.GetSubsurface id child parent)) object version served = made-well object version id child parent
-  interface-well (ToSubsurface request) object version served = link-well object (link_of_subsurface object r) request
-  interface-well (ToPointer (pointer.SetCursor serial surface x y)) object version served = cursor-well object surface
-  interface-well (ToPopup request) object version served = absurd (cc)
-  interface-well request object version served = own-well object version request
+  interface-well : (request : Request) (object version : ℕ) → IsWellSo r (demand_by request r object version)
+  interface-well (ToCompositor (compositor.CreateSurface id)) object version = ask-well (nat_le 256 (length r.owned.surfaces.surfaces)) _ _ (λ full. tt) (λ room. tt)
+  interface-well (ToCompositor (compositor.CreateRegion id)) object version = own-well object version (ToCompositor (compositor.CreateRegion id))
+  interface-well (ToSurface request) object version = surface-well object version request
+  interface-well (ToSeat (seat.GetPointer id)) object version = tt
+  interface-well (ToSeat (seat.GetKeyboard id)) object version = tt
+  interface-well (ToSeat (seat.GetTouch id)) object version = tt
+  interface-well (ToBase request) object version = base-well object version request
+  interface-well (ToXdgSurface request) object version = xdg-well (xdg_at object r.owned.shell) version request
+  interface-well (ToToplevel request) object version = toplevel-well object (xdg_with object r.owned.shell) request
+  interface-well (ToSubcompositor subcompositor.Destroy) object version = tt
+  interface-well (ToSubcompositor (subcompositor.GetSubsurface id child parent)) object version = made-well object version id child parent
+  interface-well (ToSubsurface request) object version = link-well object (link_of_subsurface object r) request
+  interface-well (ToPointer (pointer.SetCursor serial surface x y)) object version = cursor-well object surface
+  interface-well (ToPopup request) object version = popup-asked-well object (xdg_with object r.owned.shell) request
+  interface-well request object version = own-well object version request
 
-  demand-well : (object version : ℕ) (m : Message) → IsWellSo r (demand_of served_now r object version m)
-  demand-well object version m =
-      if-well (unserved_now (request_of m)) _ _ (λ left. tt) (λ served. interface-well (request_of m) object version served)
+  demand-well : (left : LeftOut) (object version : ℕ) (m : Message) → IsWellSo r (demand_of left r object version m)
+  demand-well left object version m =
+      if-well (left.requests (request_of m)) _ _ (λ out. tt) (λ served. interface-well (request_of m) object version)
 
   -- ---- the judgement
 
@@ -215,15 +237,15 @@ module _ (r : Resident) where
   judged-well objects held demand (Ok m) well =
       if-well (list_all (fits objects) (objects_named m)) _ _ (λ fit. new_id-well objects held (new_id_in m) (demand m) (well m)) (λ unfit. tt)
 
-  judged_at-well : (object opcode : ℕ) (body : List ℕ) (o : Option Object)
-      → IsWellSo r (judged_at r.peer.objects r.peer.held (λ version m. demand_of served_now r object version m) opcode body o)
-  judged_at-well object opcode body None = tt
-  judged_at-well object opcode body (Some o) =
-      judged-well r.peer.objects r.peer.held (λ m. demand_of served_now r object o.version m) (decoded o.interface o.version opcode body) (λ m. demand-well object o.version m)
+  judged_at-well : (left : LeftOut) (object opcode : ℕ) (body : List ℕ) (o : Option Object)
+      → IsWellSo r (judged_at r.peer.objects r.peer.held (λ version m. demand_of left r object version m) opcode body o)
+  judged_at-well left object opcode body None = tt
+  judged_at-well left object opcode body (Some o) =
+      judged-well r.peer.objects r.peer.held (λ m. demand_of left r object o.version m) (decoded o.interface o.version opcode body) (λ m. demand-well left object o.version m)
 
   -- a message that is accepted is so
-  pub well : (object opcode : ℕ) (body : List ℕ) (demand : Demand) → judge_all served_now r object opcode body ≡ Ok demand → IsWell r demand
-  well object opcode body demand e = subst (IsWellSo r) e (judged_at-well object opcode body (r.peer.objects object))
+  pub well : (left : LeftOut) (object opcode : ℕ) (body : List ℕ) (demand : Demand) → judge_all left r object opcode body ≡ Ok demand → IsWell r demand
+  well left object opcode body demand e = subst (IsWellSo r) e (judged_at-well left object opcode body (r.peer.objects object))
 
 -- with its request counted and its bytes taken too
 pub well-counted : (r : Resident) (rest : List ℕ) (demand : Demand) → IsWell r demand → IsWell (with_peer (counted (with_rest rest r.peer)) r) demand

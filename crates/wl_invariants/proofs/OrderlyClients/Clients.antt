@@ -48,7 +48,7 @@ apart-by : (s : Option Cause) (r : Resident) (tops : List Standing) → OrderlyB
 apart-by None r tops owns = owns.1.apart
 apart-by (Some cause) r tops owns = subst AreApart (sym owns.1) tt
 
-apart-at : (o : Option Resident) (tops : List Standing) → OrderlyAt o tops → AreApart tops
+pub apart-at : (o : Option Resident) (tops : List Standing) → OrderlyAt o tops → AreApart tops
 apart-at None tops owns = subst AreApart (sym owns) tt
 apart-at (Some r) tops owns = apart-by r.peer.status r tops owns
 

@@ -27,10 +27,10 @@ use Rattle.wl_laws.proofs.Runs.Places.{number-other}
 use Rattle.wl_invariants.proofs.KeptRecords.Toplevels.Back.{settled-back}
 use Rattle.wl_invariants.proofs.KeptRecords.Toplevels.Serves.{becomes-same}
 use Rattle.wl_invariants.specs.Acts.{LeavesPointer}
-use Rattle.wl_invariants.specs.NoPopups.{NoPopups, OwnsNoPopupsBy, OwnsNoPopupsAt}
+use Rattle.wl_invariants.specs.NoPopups.{NoPopups}
 use Rattle.wl_invariants.specs.Simple.{AnswersSimply, Becomes, DoesSimply, ServesSimply, TakesSimply, WantsOr, changed_simply, stacked_simply}
 use Rattle.wl_invariants.proofs.WithoutPopups.Messages.{messages_are_simple}
-use Rattle.wl_invariants.proofs.WithoutPopups.Stays.{owns-by-peer, reaches-has, stacked-clients, stacked-others, with-has}
+use Rattle.wl_invariants.proofs.WithoutPopups.Stays.{piece-has, reaches-has, stacked-clients, stacked-others}
 
 -- each other client is as it was, with its toplevels
 abbrev IsAsWas : ℕ → Desktop → Desktop → Type 0
@@ -127,8 +127,7 @@ feeds-others (Some cause) c piece r d e is has h = same-others c d e h
 feeds-others None c piece r d e is has h =
     let come : Peer = with_rest (r.peer.rest ++ piece) r.peer in
     let from : Desktop = with_client c (Some (with_peer come r)) d in
-    let owns : OwnsNoPopupsBy r.peer.status r (toplevels_of c d) = subst (λ o. OwnsNoPopupsAt o (toplevels_of c d)) is (has.each c) in
-    let start : NoPopups from = with-has c (Some (with_peer come r)) d has (owns-by-peer r.peer.status r come (toplevels_of c d) refl owns) in
+    let start : NoPopups from = piece-has c r (r.peer.rest ++ piece) d has is in
     then-others c d from e (with-others c (Some (with_peer come r)) d from refl)
     (then-others c from h.1 e (reaches-others h.0 c from h.1 start h.2) (stops-others c (client_at c h.1) h.1 e (reaches-has h.0 c from h.1 start h.2) h.3))
 

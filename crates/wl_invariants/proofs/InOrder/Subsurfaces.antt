@@ -4,23 +4,26 @@ use Rattle.std.specs.Prelude.{◌==◌, ◌⊎◌, ◌||◌, is_some, not}
 use Rattle.std.specs.List.{list_any}
 use Rattle.std.specs.Option.{option_and_then, option_map_or}
 use Rattle.std.proofs.lemmas.Bool.{eqb-true, ne_eqb, or_cases}
-use Rattle.wl_interface.specs.declared.interface.Interface.TheVariants.{WlSurface}
+use Rattle.wl_interface.specs.declared.interface.Interface.TheVariants.{WlPointer, WlSurface, XdgPopup}
 use Rattle.wl_peer.specs.Objects.{is_of}
 use Rattle.wl_state.specs.declared.role.Role.{Role}
-use Rattle.wl_state.specs.declared.role.Role.TheVariants.{Cursor as AsCursor, Subsurface as AsSubsurface, Toplevel as AsToplevel}
+use Rattle.wl_state.specs.declared.role.Role.TheVariants.{Cursor as AsCursor, Popup as AsPopup, Subsurface as AsSubsurface, Toplevel as AsToplevel}
 use Rattle.wl_state.specs.Request.{AddChild, Frame}
 use Rattle.wl_state.specs.Surface.{Surface, new_surface, with_role}
 use Rattle.wl_surface.specs.Surfaces.{Surfaces, surface_at, with_change, with_new}
 use Rattle.wl_surface.specs.Trees.{linked}
-use Rattle.wl_xdg_state.specs.Shell.{Configures, Effect, Maps, Stays, Unconfigured, Unmaps, XdgSurface as Xdg, acknowledging, configuring, new_toplevel}
+use Rattle.wl_xdg_state.specs.Popups.{dismissing, is_parent_of, new_popup, orphaning, popup_changed, with_effect, with_grab}
+use Rattle.wl_xdg_state.specs.Positioner.{Placed, Positioner}
+use Rattle.wl_xdg_state.specs.Shell.{Configures, Effect, Maps, Stays, Unconfigured, Unmaps, Popup, Shell, XdgSurface as Xdg, acknowledging, configuring, new_toplevel}
 use Rattle.wl_xdg_state.specs.Shell.{with_change as with_xdg_change, without_role, xdg_at, xdg_of}
 use Rattle.wl_plain.specs.Ask.{Ask, Own, CreateSurface, AskSurface, EndObject, GetXdgSurface, DestroyXdgSurface, GetToplevel, Acknowledge, ConfigureAgain, Ignore}
-use Rattle.wl_plain.specs.Changing.{link_with_id, mode_set, subsurface_given, surface_ended, tree_committed, without_child}
+use Rattle.wl_plain.specs.Changing.{Placing, changed_for, drawing, effect_placing, frame_asked, grab_allowed, grabbed, has_focus, in_rising_order, is_configure, link_with_id, mode_set}
+use Rattle.wl_plain.specs.Changing.{placement_now, popup_given_to, subsurface_ended, subsurface_given, surface_ended, toplevel_ended, tree_committed, without_child}
 use Rattle.wl_plain.specs.Demand.{Demand, Asks, EndSurface, AskFrame, CommitTree, GetSubsurface, EndSubsurface, SetMode, GetPointer, MakeCursor}
 use Rattle.wl_plain.specs.Demand.{GetPopup, Grab, EndPopup, EndToplevel, Move}
 use Rattle.wl_plain.specs.Demanding.{effect_of_commit}
-use Rattle.wl_plain.specs.Desktop.{Resident, Subsurface}
-use Rattle.wl_plain.specs.Step.{asked_so_far, changed_by, toplevel_given}
+use Rattle.wl_plain.specs.Desktop.{Desktop, Resident, Subsurface}
+use Rattle.wl_plain.specs.Step.{asked_so_far, changed_by, making, toplevel_given, with_surfaces, xdg_changed}
 use Rattle.wl_plain.specs.WlPointer.{is_no_cursor}
 use Rattle.wl_plain.specs.WlSubsurface.{has_subsurface, is_of_child}
 use Rattle.wl_plain.specs.XdgShell.{is_foreign, role_of}
@@ -29,9 +32,9 @@ use Rattle.wl_laws.proofs.Lists.Standings.{any-last}
 use Rattle.wl_laws.proofs.Soundness.Moves.{destroyed-role, trees-asked, trees-committed, trees-desynchronised, trees-synchronised, trees-unlinked}
 use Rattle.wl_laws.proofs.Soundness.ObjectsKeys.{any-less, any-map, any-of-filter}
 use Rattle.wl_laws.proofs.Soundness.Orderly.{IsAllowed, IsAsked, role_in}
-use Rattle.wl_laws.proofs.Soundness.Roles.{KeepsShell, StaysChild, has_surface, no-child, role-else, role-now, role-still, shell-changed, shell-same, shell-without}
+use Rattle.wl_laws.proofs.Soundness.Roles.{KeepsShell, StaysChild, has_surface, no-child, role-else, role-now, role-still, shell-changed, shell-dismissed, shell-more, shell-orphaned}
+use Rattle.wl_laws.proofs.Soundness.Roles.{shell-same, shell-without}
 use Rattle.wl_laws.proofs.Soundness.Standing.{found-first}
-use Rattle.wl_invariants.specs.Simple.{IsServed, changed_simply, effect_on}
 
 pub record AreSubsurfaces (r : Resident) : Type 0 where
   pub roles : (surface : ℕ) → has_subsurface surface r ≡ true → role_of r surface ≡ Some AsSubsurface
@@ -64,6 +67,20 @@ foreign o none is = differ (sym (ap is_foreign is) ∙ none)
 
 no-cursor : (o : Option Role) → is_no_cursor o ≡ false → o ≡ Some AsSubsurface → ⊥
 no-cursor o none is = differ (sym (ap is_no_cursor is) ∙ none)
+
+popup-given : (id xdg parent : ℕ) (p : Positioner) (o : Option Xdg) (r : Resident) → xdg_at xdg r.owned.shell ≡ o → AreSubsurfaces r → AreSubsurfaces (popup_given_to id xdg parent p o r)
+popup-given id xdg parent p None r found are = are
+popup-given id xdg parent p (Some x) r found are =
+    let change = new_popup id parent p r.peer.requests (asked_so_far x.surface r) in
+    let shell : KeepsShell r.owned.shell (with_xdg_change xdg change r.owned.shell) = shell-changed xdg change r.owned.shell (λ y. refl) in
+    step r (popup_given_to id xdg parent p (Some x) r)
+    (λ surface has. (
+      has,
+      λ role bare. (
+        role-else x.surface AsPopup r.owned.surfaces surface AsSubsurface (no-child xdg surface r.owned.shell x found bare) role,
+        shell.none surface bare,
+      ),
+    )) are
 
 given : (id xdg : ℕ) (o : Option Xdg) (r : Resident) → xdg_at xdg r.owned.shell ≡ o → AreSubsurfaces r → AreSubsurfaces (toplevel_given id xdg o r)
 given id xdg None r found are = are
@@ -107,9 +124,9 @@ asked (ConfigureAgain xdg) r ok are =
 asked Ignore r ok are = are
 
 -- one that becomes a cursor has no wl_subsurface
-cursor : (surface : ℕ) (r : Resident) → is_no_cursor (role_of r surface) ≡ false → AreSubsurfaces r → AreSubsurfaces (changed_simply (MakeCursor surface) r)
+cursor : (surface : ℕ) (r : Resident) → is_no_cursor (role_of r surface) ≡ false → AreSubsurfaces r → AreSubsurfaces (with_surfaces (with_change surface (with_role AsCursor) r.owned.surfaces) r)
 cursor surface r none are =
-    step r (changed_simply (MakeCursor surface) r)
+    step r (with_surfaces (with_change surface (with_role AsCursor) r.owned.surfaces) r)
     (λ other has. (
       has,
       λ role bare. (role-else surface AsCursor r.owned.surfaces other AsSubsurface (λ same. no-cursor (role_of r surface) none (ap (role_of r) same ∙ role)) role, bare),
@@ -198,42 +215,73 @@ joined id version child parent r there none are =
 
 -- ---- a commit, and the rest
 
-effect-kept : (id : ℕ) (effect : Effect) (o : Option Xdg) (r : Resident) → AreSubsurfaces r → AreSubsurfaces (effect_on id effect o r)
-effect-kept id effect None r are = are
-effect-kept id Stays (Some x) r are = kept r (effect_on id Stays (Some x) r) (λ id. refl) (shell-changed x.id _ r.owned.shell (λ y. refl)) refl are
-effect-kept id Unconfigured (Some x) r are = kept r (effect_on id Unconfigured (Some x) r) (λ id. refl) (shell-changed x.id _ r.owned.shell (λ y. refl)) refl are
-effect-kept id Configures (Some x) r are = kept r (effect_on id Configures (Some x) r) (λ id. refl) (shell-changed x.id _ r.owned.shell (λ y. refl)) refl are
-effect-kept id Maps (Some x) r are = kept r (effect_on id Maps (Some x) r) (λ id. refl) (shell-changed x.id _ r.owned.shell (λ y. refl)) refl are
-effect-kept id Unmaps (Some x) r are = kept r (effect_on id Unmaps (Some x) r) (λ id. refl) (shell-changed x.id _ r.owned.shell (λ y. refl)) refl are
+effect-surface : (serial since : ℕ) (where_to : Popup → Option Placed) (effect : Effect) (x : Xdg) → (with_effect serial since where_to effect x).surface ≡ x.surface
+effect-surface serial since where_to Stays x = refl
+effect-surface serial since where_to Unconfigured x = refl
+effect-surface serial since where_to Configures x = refl
+effect-surface serial since where_to Maps x = refl
+effect-surface serial since where_to Unmaps x = refl
+
+effect-kept : (where_to : Placing) (id : ℕ) (effect : Effect) (o : Option Xdg) (r : Resident) → AreSubsurfaces r → AreSubsurfaces (effect_placing where_to id effect o r)
+effect-kept where_to id effect None r are = are
+effect-kept where_to id effect (Some x) r are = at (is_configure effect)
+  where
+    changed : Resident
+    changed = xdg_changed x.id (with_effect r.peer.serial (asked_so_far id r) where_to effect) r
+
+    keeps : KeepsShell r.owned.shell changed.owned.shell
+    keeps = shell-changed x.id (with_effect r.peer.serial (asked_so_far id r) where_to effect) r.owned.shell (λ y. effect-surface r.peer.serial (asked_so_far id r) where_to effect y)
+
+    at : (b : Bool) → AreSubsurfaces (drawing b changed)
+    at true = kept r (drawing true changed) (λ id. refl) keeps refl are
+    at false = kept r (drawing false changed) (λ id. refl) keeps refl are
 
 mode-kept : (link : ℕ) (b : Bool) (r : Resident) → AreSubsurfaces r → AreSubsurfaces (mode_set link b r)
 mode-kept link true r are = kept r (mode_set link true r) (trees-synchronised link r.owned.surfaces).surfaces.roles (shell-same r.owned.shell) refl are
 mode-kept link false r are = kept r (mode_set link false r) (trees-desynchronised link r.owned.surfaces).surfaces.roles (shell-same r.owned.shell) refl are
 
+drawn-kept : (b : Bool) (r : Resident) → AreSubsurfaces r → AreSubsurfaces (drawing b r)
+drawn-kept true r are = kept r (drawing true r) (λ id. refl) (shell-same r.owned.shell) refl are
+drawn-kept false r are = are
+
+grabbed-kept : (b : Bool) (xdg : ℕ) (r : Resident) → AreSubsurfaces r → AreSubsurfaces (grabbed b xdg r)
+grabbed-kept true xdg r are = kept r (grabbed true xdg r) (λ id. refl) (shell-changed xdg (popup_changed with_grab) r.owned.shell (λ x. refl)) refl are
+grabbed-kept false xdg r are = kept r (grabbed false xdg r) (λ id. refl) (shell-dismissed (λ p. p.xdg.id == xdg) r.owned.shell) refl are
+
 -- what is demanded leaves each surface that has a wl_subsurface so
-pub demanded-subsurfaces : (demand : Demand) (r : Resident) → ((id : ℕ) → is_of WlSurface (r.peer.objects id) ≡ true → is_some (surface_at id r.owned.surfaces) ≡ true) → IsServed demand
-    → IsAllowed r demand → AreSubsurfaces r → AreSubsurfaces (changed_simply demand r)
-demanded-subsurfaces (Asks ask) r there served ok are = asked ask r ok are
-demanded-subsurfaces (EndSurface id) r there served ok are = destroyed id r are
-demanded-subsurfaces (AskFrame id version surface) r there served ok are =
-    kept r (changed_simply (AskFrame id version surface) r) (trees-asked surface (Frame r.peer.requests) r.owned.surfaces).surfaces.roles (shell-same r.owned.shell) refl are
-demanded-subsurfaces (CommitTree surface) r there served ok are =
-    effect-kept surface (effect_of_commit r surface) (xdg_of surface r.owned.shell) (tree_committed surface r)
+pub demanded-subsurfaces : (c : ℕ) (demand : Demand) (r : Resident) (d : Desktop) → ((id : ℕ) → is_of WlSurface (r.peer.objects id) ≡ true → is_some (surface_at id r.owned.surfaces) ≡ true)
+    → IsAllowed r demand → AreSubsurfaces r → AreSubsurfaces (changed_for c demand r d)
+demanded-subsurfaces c (Asks ask) r d there ok are = asked ask r ok are
+demanded-subsurfaces c (EndSurface id) r d there ok are = destroyed id r are
+demanded-subsurfaces c (AskFrame id version surface) r d there ok are =
+    kept r (frame_asked id version surface r) (trees-asked surface (Frame r.peer.requests) r.owned.surfaces).surfaces.roles (shell-same r.owned.shell) refl are
+demanded-subsurfaces c (CommitTree surface) r d there ok are =
+    effect-kept (placement_now c r d) surface (effect_of_commit r surface) (xdg_of surface r.owned.shell) (tree_committed surface r)
     (kept r (tree_committed surface r) (trees-committed surface r.owned.surfaces).surfaces.roles (shell-same r.owned.shell) refl are)
-demanded-subsurfaces (GetSubsurface id version child parent) r there served ok are = joined id version child parent r (there child ok.1) ok.4 are
-demanded-subsurfaces (EndSubsurface id) r there served ok are =
-    step r (changed_simply (EndSubsurface id) r)
+demanded-subsurfaces c (GetSubsurface id version child parent) r d there ok are = joined id version child parent r (there child ok.1) ok.4 are
+demanded-subsurfaces c (EndSubsurface id) r d there ok are =
+    step r (subsurface_ended id r)
     (λ surface has. (
       any-of-filter (of surface) (λ s. not (s.id == id)) r.subsurfaces has,
       λ role bare. ((trees-unlinked (link_with_id id r) r.owned.surfaces).surfaces.roles surface ∙ role, bare),
     )) are
-demanded-subsurfaces (SetMode link synchronised) r there served ok are = mode-kept link synchronised r are
-demanded-subsurfaces (EndToplevel id xdg top) r there served ok are =
-    kept r (changed_simply (EndToplevel id xdg top) r) (λ id. refl) (shell-changed xdg without_role r.owned.shell (λ x. refl)) refl are
-demanded-subsurfaces (Move surface serial) r there served ok are = are
-demanded-subsurfaces (GetPointer id version) r there served ok are =
-    kept r (changed_simply (GetPointer id version) r) (λ id. refl) (shell-same r.owned.shell) refl are
-demanded-subsurfaces (MakeCursor surface) r there served ok are = cursor surface r ok.0 are
-demanded-subsurfaces (GetPopup id version xdg parent p) r there served ok are = absurd served
-demanded-subsurfaces (Grab xdg serial) r there served ok are = absurd served
-demanded-subsurfaces (EndPopup id xdg) r there served ok are = absurd served
+demanded-subsurfaces c (SetMode link synchronised) r d there ok are = mode-kept link synchronised r are
+demanded-subsurfaces c (GetPointer id version) r d there ok are =
+    let now : Resident = record r { pointers = in_rising_order id r.pointers } in
+    let drawn : Resident = drawing (has_focus c d.pointer.focus) now in
+    kept drawn (making WlPointer id version drawn) (λ id. refl) (shell-same drawn.owned.shell) refl
+    (drawn-kept (has_focus c d.pointer.focus) now (kept r now (λ id. refl) (shell-same r.owned.shell) refl are))
+demanded-subsurfaces c (MakeCursor surface) r d there ok are = cursor surface r ok.0 are
+demanded-subsurfaces c (GetPopup id version xdg parent p) r d there ok are =
+    let given_so : Resident = popup_given_to id xdg parent p (xdg_at xdg r.owned.shell) r in
+    kept given_so (making XdgPopup id version given_so) (λ id. refl) (shell-same given_so.owned.shell) refl (popup-given id xdg parent p (xdg_at xdg r.owned.shell) r refl are)
+demanded-subsurfaces c (Grab xdg serial) r d there ok are = grabbed-kept (grab_allowed c xdg serial r d) xdg r are
+demanded-subsurfaces c (EndPopup id xdg) r d there ok are =
+    kept r (changed_for c (EndPopup id xdg) r d) (λ id. refl) (shell-changed xdg without_role r.owned.shell (λ x. refl)) refl are
+demanded-subsurfaces c (EndToplevel id xdg top) r d there ok are =
+    let dismissed : Shell = dismissing (λ p. is_parent_of xdg p.popup) r.owned.shell in
+    kept r (toplevel_ended id xdg r) (λ id. refl)
+    (shell-more r.owned.shell (orphaning xdg dismissed) (with_xdg_change xdg without_role (orphaning xdg dismissed))
+    (shell-more r.owned.shell dismissed (orphaning xdg dismissed) (shell-dismissed (λ p. is_parent_of xdg p.popup) r.owned.shell) (shell-orphaned xdg dismissed))
+    (shell-changed xdg without_role (orphaning xdg dismissed) (λ x. refl))) refl are
+demanded-subsurfaces c (Move surface serial) r d there ok are = are

@@ -1,0 +1,9 @@
+-- What each client owns is in order wherever nobody points, with popups and whatever is left out.
+pub mod Clients
+pub mod Kept
+pub mod Known
+pub mod Laws
+pub mod Numbered
+pub mod Numbers
+pub mod Subsurfaces
+pub mod Whole

@@ -1,0 +1,5 @@
+-- Which toplevels stand and which surfaces show a buffer wherever nobody points, with popups and whatever is left out.
+pub mod Demands
+pub mod Fitting
+pub mod Laws
+pub mod Without

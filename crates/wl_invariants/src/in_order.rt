@@ -1,0 +1,66 @@
+//! What each client owns is in order wherever nobody points, with subsurfaces and with popups: one invariant, which each step
+//! keeps, and each message by itself, whatever is left out. Each law is a function that does nothing and promises it.
+
+ghost use Rattle.wl_invariants.specs.InOrderLaws.{ClientsAreInOrder, DemandsKeepInOrder, EmptyIsInOrder, EndsKeepInOrder};
+ghost use Rattle.wl_invariants.specs.InOrderLaws.{FramesKeepInOrder, InOrderStays, MessagesKeepInOrder, OrderlyIsInOrder};
+ghost use Rattle.wl_invariants.specs.InOrderLaws.{OwnsOrderlyIsInOrder, PeersKeepInOrder, PiecesKeepInOrder, PopupsAreNumbered};
+
+/// A desktop without clients is in order.
+pub fn empty_is_in_order()
+    ensures { EmptyIsInOrder }
+{}
+
+/// On a desktop in order a client that lives owns what it owns in order.
+pub fn clients_are_in_order()
+    ensures { ClientsAreInOrder }
+{}
+
+/// No two popups of such a client have one number, and none has one past that of the client's last request.
+pub fn popups_are_numbered()
+    ensures { PopupsAreNumbered }
+{}
+
+/// Whatever happens that leaves the pointer alone leaves a desktop in order, whatever is left out.
+pub fn in_order_stays()
+    ensures { InOrderStays }
+{}
+
+/// So does one message of a client.
+pub fn messages_keep_in_order()
+    ensures { MessagesKeepInOrder }
+{}
+
+/// So does what is kept of a client's stream before its messages are taken.
+pub fn pieces_keep_in_order()
+    ensures { PiecesKeepInOrder }
+{}
+
+/// So does the end of a client.
+pub fn ends_keep_in_order()
+    ensures { EndsKeepInOrder }
+{}
+
+/// So does the frame that a client is told of.
+pub fn frames_keep_in_order()
+    ensures { FramesKeepInOrder }
+{}
+
+/// A client owns what it owns in order whatever else of its peer changes than its objects and buffers, and with more requests.
+pub fn peers_keep_in_order()
+    ensures { PeersKeepInOrder }
+{}
+
+/// What an accepted message demands leaves a client what it owns in order, whatever is left out.
+pub fn demands_keep_in_order()
+    ensures { DemandsKeepInOrder }
+{}
+
+/// A client owns what it owns in order without a popup where it owns it in order and its role objects are toplevels.
+pub fn owns_orderly_is_in_order()
+    ensures { OwnsOrderlyIsInOrder }
+{}
+
+/// A desktop is orderly without popups where it is in order and no client has a popup.
+pub fn orderly_is_in_order()
+    ensures { OrderlyIsInOrder }
+{}
