@@ -1,5 +1,5 @@
 //! Tests of what knows no clients: regions, stores, painting, surfaces by themselves and linked, the windows of their trees, xdg_surfaces and the
-//! stack of toplevels, positioners; with allocations that are refused.
+//! stack of toplevels, the pointer, positioners; with allocations that are refused.
 #![tactic(auto)]
 
 #[cfg(test)]
@@ -20,6 +20,8 @@ mod images;
 mod linked;
 #[cfg(test)]
 mod painting;
+#[cfg(test)]
+mod pointer;
 #[cfg(test)]
 mod positioners;
 #[cfg(test)]

@@ -7,3 +7,4 @@ pub mod Stood
 pub mod Lent
 pub mod Standing
 pub mod Hits
+pub mod Numbered

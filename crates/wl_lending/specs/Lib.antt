@@ -1,3 +1,4 @@
+pub mod ByNumbers
 pub mod Hit
 pub mod Lent
 pub mod Painting

@@ -13,6 +13,7 @@ ghost use Rattle.wl_stacking.specs.Pointer.{is_stacked};
 ghost use Rattle.wl_stacking.specs.Windows.{Window, hit as hit_of, is_hit, takes_input as input_at};
 ghost use Rattle.wl_plain.specs.Desktop.{Desktop};
 ghost use Rattle.wl_plain.specs.Stacked.{all_windows};
+ghost use Rattle.wl_lending.specs.ByNumbers.{HitsByNumbers, SettlesByNumbers};
 ghost use Rattle.wl_lending.specs.Hit.{AreKept, IsStackedOrNone, ShowsSurface, is_window_of};
 ghost use Rattle.wl_lending.specs.Lent.{slots_or_none};
 ghost use Rattle.wl_lending.specs.Painting.{IsStoodFor};
@@ -146,3 +147,13 @@ pub fn is_among(windows: &[Stacked], client: u32, surface: SurfaceNo) -> bool
 {
     has_window(windows, client, surface)
 }
+
+/// By the numbers of surfaces a point hits the window that stands for the one that it hits.
+pub fn hits_by_numbers()
+    ensures { HitsByNumbers }
+{}
+
+/// Settled by the numbers of surfaces, the focus is the same surface as settled by their ids, and it moves where that does.
+pub fn settles_by_numbers()
+    ensures { SettlesByNumbers }
+{}

@@ -7,7 +7,7 @@ mod painting;
 mod stacking;
 mod windows;
 
-pub use hitting::{Surfaced, hit, is_among, takes_input};
+pub use hitting::{Surfaced, hit, hits_by_numbers, is_among, settles_by_numbers, takes_input};
 pub use painting::{lends_opaque_as_said, paints_the_desktop};
 pub use stacking::{
     both_are_stacked, first_are_stacked, stacked_are_told, stacked_client_gone, stacked_pushed,
