@@ -3,7 +3,9 @@ pub mod Away
 pub mod Change
 pub mod Commits
 pub mod Kept
+pub mod Links
 pub mod One
+pub mod Painted
 pub mod Popped
 pub mod Same
 pub mod Shells

@@ -60,11 +60,11 @@ module _ {X : Type 0} (root : ℕ) (a b : X → StackedPopup) where
 
 -- ---- the geometry of an xdg_surface is read from what counts of its surface
 
-abbrev geometry_by : ℕ → Option (List Request) → Option Rect
+abbrev pub geometry_by : ℕ → Option (List Request) → Option Rect
 geometry_by since None = None
 geometry_by since (Some rs) = fold geometry_asked None (drop since rs)
 
-geometry-reads : (x : XdgSurface) (o : Option History) → option_and_then (λ h. geometry_since h x) o ≡ geometry_by x.since (option_map counting o)
+pub geometry-reads : (x : XdgSurface) (o : Option History) → option_and_then (λ h. geometry_since h x) o ≡ geometry_by x.since (option_map counting o)
 geometry-reads x None = refl
 geometry-reads x (Some h) = refl
 
@@ -72,12 +72,12 @@ pub geometry-counted : (own new : Owned) (x : XdgSurface) → counted_in x.surfa
 geometry-counted own new x same =
     geometry-reads x (history_in x.surface new.surfaces) ∙ (ap (geometry_by x.since) same ∙ sym (geometry-reads x (history_in x.surface own.surfaces)))
 
-abbrev geometry_with : Option XdgSurface → Option (List Request) → Option Rect
+abbrev pub geometry_with : Option XdgSurface → Option (List Request) → Option Rect
 geometry_with o None = None
 geometry_with None (Some rs) = None
 geometry_with (Some x) (Some rs) = fold geometry_asked None (drop x.since rs)
 
-in-reads : (o : Option XdgSurface) (h : Option History) → option_and_then (λ h. option_and_then (geometry_since h) o) h ≡ geometry_with o (option_map counting h)
+pub in-reads : (o : Option XdgSurface) (h : Option History) → option_and_then (λ h. option_and_then (geometry_since h) o) h ≡ geometry_with o (option_map counting h)
 in-reads o None = refl
 in-reads None (Some h) = refl
 in-reads (Some x) (Some h) = refl
