@@ -7,6 +7,7 @@ pub mod Links
 pub mod One
 pub mod Painted
 pub mod Popped
+pub mod Requests
 pub mod Same
 pub mod Shells
 pub mod Stacked
