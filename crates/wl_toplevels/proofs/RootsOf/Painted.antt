@@ -24,7 +24,7 @@ use Rattle.wl_toplevels.specs.StackedWith.{stacked_roots}
 use Rattle.wl_toplevels.proofs.RootsOf.Away.{IsOnRoot, each-in, root-or-popup}
 use Rattle.wl_toplevels.proofs.RootsOf.Change.{all-painted}
 use Rattle.wl_toplevels.proofs.RootsOf.Kept.{RootIsKept, ToplevelIsKept, foreign-kept, popups_in, surfaces_in}
-use Rattle.wl_toplevels.proofs.RootsOf.Popped.{IsPopped, IsThrough, KeepsPopups, all-through, first_or, popups-through, surface-through, through, xdg-through}
+use Rattle.wl_toplevels.proofs.RootsOf.Popped.{IsPopped, IsThrough, KeepsPopups, all-through, first_or, numbered, parent-through, popups-through, surface-through, through, xdg-through}
 use Rattle.wl_toplevels.proofs.RootsOf.Shells.{all-popped-of, geometry-reads, geometry_by, geometry_with, in-reads}
 use Rattle.wl_toplevels.proofs.RootsOf.Stacked.{all-found, found-any}
 use Rattle.wl_toplevels.proofs.RootsOf.Staying.{all-each}
@@ -112,12 +112,12 @@ module _ (c : ℕ) (d e : Desktop) (had : HasTrees d) (f : XdgSurface → XdgSur
 
   parent-same : (o : Option ℕ) → option_and_then (λ xdg. surface_at_xdg xdg now.shell) o ≡ option_and_then (λ xdg. surface_at_xdg xdg own.shell) o
   parent-same None = refl
-  parent-same (Some id) = ap (surface_at_xdg id) shell ∙ surface-through f keeps id own.shell
+  parent-same (Some id) = ap (surface_at_xdg id) shell ∙ surface-through f own.shell (numbered f keeps own.shell) id
 
   one : (p : Popped) → IsPopped own.shell p → IsThrough f p → stacked_popup now (through f p) ≡ stacked_popup own p
   one p popped goes = stacked-by now own (through f p) p
       (ap (λ (x : XdgSurface). x.surface) goes.xdg ∙ keeps.surfaces p.xdg)
-      (ap (λ o. option_and_then (λ xdg. surface_at_xdg xdg now.shell) o) goes.parent ∙ parent-same p.popup.parent)
+      (ap (λ o. option_and_then (λ xdg. surface_at_xdg xdg now.shell) o) (parent-through f keeps p popped.its) ∙ parent-same p.popup.parent)
       known.0 geometry known.1
     where
       stacked-by : (a b : Owned) (q p : Popped) → q.xdg.surface ≡ p.xdg.surface
@@ -148,9 +148,9 @@ module _ (c : ℕ) (d e : Desktop) (had : HasTrees d) (f : XdgSurface → XdgSur
   pub same-popups : popups_in e c ≡ popups_in d c
   same-popups =
       ap (λ (s : Shell). map (stacked_popup now) (popups_of s)) shell
-      ∙ (ap (map (stacked_popup now)) (popups-through f keeps own.shell)
+      ∙ (ap (map (stacked_popup now)) (popups-through f own.shell (numbered f keeps own.shell))
       ∙ all (popups_of own.shell)
-      (each-both (IsPopped own.shell) (IsThrough f) (λ p. stacked_popup now (through f p) ≡ stacked_popup own p) one (popups_of own.shell) (all-popped-of c d had) (all-through f keeps own.shell)))
+      (each-both (IsPopped own.shell) (IsThrough f) (λ p. stacked_popup now (through f p) ≡ stacked_popup own p) one (popups_of own.shell) (all-popped-of c d had) (all-through f own.shell (numbered f keeps own.shell))))
     where
       all : (ps : List Popped) → Each (λ p. stacked_popup now (through f p) ≡ stacked_popup own p) ps → map (stacked_popup now) (map (through f) ps) ≡ map (stacked_popup own) ps
       all [] each = refl
@@ -160,7 +160,7 @@ module _ (c : ℕ) (d e : Desktop) (had : HasTrees d) (f : XdgSurface → XdgSur
   same-geometry surface =
       in-reads (xdg_of surface now.shell) (history_in surface now.surfaces)
       ∙ (ap (λ (s : Shell). geometry_with (xdg_of surface s) (counted_in surface now.surfaces)) shell
-      ∙ (ap (λ o. geometry_with o (counted_in surface now.surfaces)) (xdg-through f keeps surface own.shell)
+      ∙ (ap (λ o. geometry_with o (counted_in surface now.surfaces)) (xdg-through f own.shell (numbered f keeps own.shell) surface)
       ∙ (since (xdg_of surface own.shell) (counted_in surface now.surfaces)
       ∙ (ap (geometry_with (xdg_of surface own.shell)) (counts surface) ∙ sym (in-reads (xdg_of surface own.shell) (history_in surface own.surfaces))))))
     where

@@ -19,7 +19,7 @@ use Rattle.wl_laws.proofs.Marks.Stacks.{Each, each-both, each-map, equal-numbers
 use Rattle.wl_invariants.specs.TreeStepsLaws.{counted_in}
 use Rattle.wl_toplevels.specs.Changes.{HasTrees}
 use Rattle.wl_toplevels.proofs.RootsOf.Kept.{RootIsKept, popups_in, surfaces_in}
-use Rattle.wl_toplevels.proofs.RootsOf.Popped.{IsPopped, IsThere, IsThrough, KeepsPopups, all-popped, all-through, first_or, popups-through, surface-through, through, xdg-through}
+use Rattle.wl_toplevels.proofs.RootsOf.Popped.{IsPopped, IsThere, IsThrough, KeepsPopups, all-popped, all-through, first_or, numbered, parent-through, popups-through, surface-through, through, xdg-through}
 use Rattle.wl_toplevels.proofs.RootsOf.Touched.{HadParent, Touches, is_other}
 use Rattle.wl_toplevels.proofs.RootsOf.Turns.{AreFrom, all-from, popup_surfaces}
 
@@ -123,7 +123,7 @@ module _ (c : ℕ) (d : Desktop) (had : HasTrees d) where
     became p = stacked_popup now (through f p)
 
     became-all : popups_in e c ≡ map became (popups_of own.shell)
-    became-all = ap (λ (s : Shell). map (stacked_popup now) (popups_of s)) shell ∙ (ap (map (stacked_popup now)) (popups-through f keeps own.shell) ∙ twice (popups_of own.shell))
+    became-all = ap (λ (s : Shell). map (stacked_popup now) (popups_of s)) shell ∙ (ap (map (stacked_popup now)) (popups-through f own.shell (numbered f keeps own.shell)) ∙ twice (popups_of own.shell))
       where
         twice : (ps : List Popped) → map (stacked_popup now) (map (through f) ps) ≡ map became ps
         twice [] = refl
@@ -131,12 +131,12 @@ module _ (c : ℕ) (d : Desktop) (had : HasTrees d) where
 
     parent-same : (o : Option ℕ) → option_and_then (λ xdg. surface_at_xdg xdg now.shell) o ≡ option_and_then (λ xdg. surface_at_xdg xdg own.shell) o
     parent-same None = refl
-    parent-same (Some id) = ap (surface_at_xdg id) shell ∙ surface-through f keeps id own.shell
+    parent-same (Some id) = ap (surface_at_xdg id) shell ∙ surface-through f own.shell (numbered f keeps own.shell) id
 
     one : (p : Popped) → IsPopped own.shell p → IsThrough f p → IsSameBut root (stacked_popup own p) (became p)
     one p popped goes = record {
       surface = ap (λ (x : XdgSurface). x.surface) goes.xdg ∙ keeps.surfaces p.xdg;
-      parent = ap (λ o. option_and_then (λ xdg. surface_at_xdg xdg now.shell) o) goes.parent ∙ parent-same p.popup.parent;
+      parent = ap (λ o. option_and_then (λ xdg. surface_at_xdg xdg now.shell) o) (parent-through f keeps p popped.its) ∙ parent-same p.popup.parent;
       same = λ out.
           ap (stacked_popup now) (ap (λ x. first_or p (popped_of x)) (fixed p.xdg popped.there out) ∙ ap (first_or p) popped.its)
           ∙ ap₂ (at p) (parent-same p.popup.parent) (geometry-counted own now p.xdg (trees p.xdg.surface (there-top p.xdg popped.there) out).counts);
@@ -154,10 +154,10 @@ module _ (c : ℕ) (d : Desktop) (had : HasTrees d) where
     each : Each (λ p. IsSameBut root (stacked_popup own p) (became p)) (popups_of own.shell)
     each =
         each-both (IsPopped own.shell) (IsThrough f) (λ p. IsSameBut root (stacked_popup own p) (became p)) one (popups_of own.shell) all-popped-of
-        (all-through f keeps own.shell)
+        (all-through f own.shell (numbered f keeps own.shell))
 
     xdg-same : (surface : ℕ) → (surface == root) ≡ false → xdg_of surface now.shell ≡ xdg_of surface own.shell
-    xdg-same surface out = ap (xdg_of surface) shell ∙ (xdg-through f keeps surface own.shell ∙ at (xdg_of surface own.shell) refl)
+    xdg-same surface out = ap (xdg_of surface) shell ∙ (xdg-through f own.shell (numbered f keeps own.shell) surface ∙ at (xdg_of surface own.shell) refl)
       where
         at : (o : Option XdgSurface) → xdg_of surface own.shell ≡ o → option_map f o ≡ o
         at None found = refl
