@@ -2,6 +2,7 @@ pub mod Alike
 pub mod Away
 pub mod Change
 pub mod Commits
+pub mod Demands
 pub mod Kept
 pub mod Left
 pub mod Links
