@@ -2,9 +2,14 @@ pub mod Alike
 pub mod Away
 pub mod Change
 pub mod Commits
+pub mod Demands
 pub mod Kept
+pub mod Left
+pub mod Links
 pub mod One
+pub mod Painted
 pub mod Popped
+pub mod Requests
 pub mod Same
 pub mod Shells
 pub mod Stacked

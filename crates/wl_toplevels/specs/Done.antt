@@ -1,14 +1,19 @@
 -- What is done for a client that demands something, and whose tree it touches (wayland.xml, wl_surface, wl_subcompositor and wl_subsurface;
 -- xdg-shell.xml, xdg_surface, xdg_toplevel and xdg_popup).
-use Rattle.std.specs.Prelude.{ℕ, ◌≡◌, ◌≢◌, false, Option, Some, None}
+use Rattle.std.specs.Prelude.{ℕ, ◌≡◌, ◌≢◌, true, false, Option, Some, None}
 use Rattle.std.specs.Option.{option_map}
 use Rattle.wl_surface.specs.Surfaces.{Link, link_at}
-use Rattle.wl_xdg_state.specs.Shell.{XdgSurface, xdg_at}
+use Rattle.wl_xdg_state.specs.Popups.{Popped, is_popup_mapped, is_toplevel, popup_at}
+use Rattle.wl_xdg_state.specs.Shell.{Shell, XdgSurface, xdg_at}
 use Rattle.wl_plain.specs.Changing.{changed_for, stacked_for}
-use Rattle.wl_plain.specs.Demand.{Demand, CommitTree, EndPopup, EndSubsurface, EndSurface, EndToplevel, SetMode}
-use Rattle.wl_plain.specs.Desktop.{Desktop, Resident, owned_in}
+use Rattle.wl_plain.specs.Demand.{Demand, CommitTree, EndPopup, EndSubsurface, EndSurface, EndToplevel, Grab, SetMode}
+use Rattle.wl_plain.specs.Desktop.{Desktop, Resident, client_at, owned_in}
 use Rattle.wl_plain.specs.Stacked.{all_windows}
+use Rattle.wl_plain.specs.Step.{with_peer}
 use Rattle.wl_plain.specs.WlSubsurface.{link_of_subsurface}
+use Rattle.wl_peer.specs.Peer.{Peer}
+use Rattle.wl_toplevels.specs.Changes.{HasTrees}
+use Rattle.wl_toplevels.specs.StackedWith.{ChangesAt}
 
 -- What is demanded was done for client c, which was so: it owns what is left of what it owned, the others own what they did, and those
 -- toplevels stand that are left.
@@ -27,3 +32,24 @@ touched_by (SetMode link false) r = option_map (λ (l : Link). l.child) (link_at
 touched_by (EndToplevel id xdg surface) r = Some surface
 touched_by (EndPopup id xdg) r = option_map (λ (x : XdgSurface). x.surface) (xdg_at xdg r.owned.shell)
 touched_by demand r = None
+
+-- the xdg_surface of this id is that of the surface, and has a toplevel
+pub record HasToplevel (xdg surface : ℕ) (shell : Shell) : Type 0 where
+  pub it : XdgSurface
+  pub here : xdg_at xdg shell ≡ Some it
+  pub own : it.surface ≡ surface
+  pub role : is_toplevel (Some it) ≡ true
+
+-- A demand is made as the protocol has it: a toplevel that goes is that of its xdg_surface and of its surface, and a popup that asks for a
+-- grab isn't mapped (xdg-shell.xml, xdg_popup.grab).
+abbrev pub IsMeant : Demand → Resident → Type 0
+IsMeant (EndToplevel id xdg surface) r = HasToplevel xdg surface r.owned.shell
+IsMeant (Grab xdg serial) r = (p : Popped) → popup_at xdg r.owned.shell ≡ Some p → is_popup_mapped p ≡ false
+IsMeant demand r = Unit {0}
+
+-- A demand that is done changes the windows stacked with the toplevel of the tree that it touches, and else none, whatever was taken of its
+-- client's bytes, counted and told to it.
+abbrev pub DemandChanges : Demand → Type 0
+DemandChanges demand =
+    (c : ℕ) (r : Resident) (p : Peer) (d e : Desktop) → HasTrees d → HasTrees e → client_at c d ≡ Some r → IsMeant demand r
+    → IsDone c demand (with_peer p r) d e → ChangesAt (touched_by demand r) c d e

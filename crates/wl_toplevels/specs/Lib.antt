@@ -1,4 +1,5 @@
 pub mod Changes
+pub mod DemandLaws
 pub mod Done
 pub mod Roots
 pub mod StackedWith

@@ -3,6 +3,11 @@
 //! Each law is a function that promises it.
 #![tactic(auto)]
 
+mod demands;
 mod roots;
 
+pub use demands::{
+    commits_change_one_toplevel, modes_change_one_toplevel, requests_change_no_window,
+    states_change_no_window, subsurface_ends_change_one_toplevel, surface_ends_change_one_toplevel,
+};
 pub use roots::roots_stay;

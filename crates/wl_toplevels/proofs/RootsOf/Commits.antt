@@ -44,7 +44,7 @@ no-popped x is = at x.role is
     at None e = refl
     at (Some object) e = kind object object.kind e
 
-some-is : {X : Type 0} (x y : X) → Some x ≡ Some y → x ≡ y
+pub some-is : {X : Type 0} (x y : X) → Some x ≡ Some y → x ≡ y
 some-is {X = X} x y e = ap (λ (o : Option X). at o) e
   where
     at : Option X → X

@@ -87,11 +87,43 @@ AreAlike (p ∷ ps) [] = ⊥
 AreAlike (p ∷ ps) (q ∷ []) = (q.popup.number ≡ p.popup.number) × (q.popup.parent ≡ p.popup.parent) × (ps ≡ [])
 AreAlike (p ∷ ps) (q ∷ r ∷ qs) = ⊥
 
+-- so it is, whatever becomes of the parent
+abbrev pub AreNumberedAlike : List Popped → List Popped → Type 0
+AreNumberedAlike [] [] = Unit {0}
+AreNumberedAlike [] (q ∷ qs) = ⊥
+AreNumberedAlike (p ∷ ps) [] = ⊥
+AreNumberedAlike (p ∷ ps) (q ∷ []) = (q.popup.number ≡ p.popup.number) × (ps ≡ [])
+AreNumberedAlike (p ∷ ps) (q ∷ r ∷ qs) = ⊥
+
 -- the change keeps ids, surfaces, and which popups there are, with their parents
 pub record KeepsPopups (f : XdgSurface → XdgSurface) : Type 0 where
   pub ids : (x : XdgSurface) → (f x).id ≡ x.id
   pub surfaces : (x : XdgSurface) → (f x).surface ≡ x.surface
   pub alike : (x : XdgSurface) → AreAlike (popped_of x) (popped_of (f x))
+
+-- of these xdg_surfaces, whatever becomes of the parents
+pub record KeepsNumbers (f : XdgSurface → XdgSurface) (shell : Shell) : Type 0 where
+  pub ids : (x : XdgSurface) → (f x).id ≡ x.id
+  pub surfaces : (x : XdgSurface) → (f x).surface ≡ x.surface
+  pub alike : Each (λ x. AreNumberedAlike (popped_of x) (popped_of (f x))) shell
+
+alike-numbered : (ps qs : List Popped) → AreAlike ps qs → AreNumberedAlike ps qs
+alike-numbered [] [] e = tt
+alike-numbered [] (q ∷ qs) e = e
+alike-numbered (p ∷ ps) [] e = e
+alike-numbered (p ∷ ps) (q ∷ []) e = (e.0, e.2)
+alike-numbered (p ∷ ps) (q ∷ r ∷ qs) e = e
+
+pub numbered : (f : XdgSurface → XdgSurface) → KeepsPopups f → (shell : Shell) → KeepsNumbers f shell
+numbered f keeps shell = record {
+  ids = keeps.ids;
+  surfaces = keeps.surfaces;
+  alike = each shell;
+}
+  where
+    each : (xs : Shell) → Each (λ x. AreNumberedAlike (popped_of x) (popped_of (f x))) xs
+    each [] = tt
+    each (x ∷ xs) = (alike-numbered (popped_of x) (popped_of (f x)) (keeps.alike x), each xs)
 
 abbrev pub first_or : Popped → List Popped → Popped
 first_or p [] = p
@@ -104,34 +136,41 @@ through f p = first_or p (popped_of (f p.xdg))
 pub record IsThrough (f : XdgSurface → XdgSurface) (p : Popped) : Type 0 where
   pub xdg : (through f p).xdg ≡ f p.xdg
   pub number : (through f p).popup.number ≡ p.popup.number
-  pub parent : (through f p).popup.parent ≡ p.popup.parent
   pub all : popped_of (f p.xdg) ≡ through f p ∷ []
 
-module _ (f : XdgSurface → XdgSurface) (keeps : KeepsPopups f) where
-  goes-through : (p : Popped) → popped_of p.xdg ≡ p ∷ [] → IsThrough f p
-  goes-through p its = at (popped_of (f p.xdg)) refl (subst (λ (ps : List Popped). AreAlike ps (popped_of (f p.xdg))) its (keeps.alike p.xdg)) (popped-its (f p.xdg))
+-- the parent stays
+pub parent-through : (f : XdgSurface → XdgSurface) → KeepsPopups f → (p : Popped) → popped_of p.xdg ≡ p ∷ [] → (through f p).popup.parent ≡ p.popup.parent
+parent-through f keeps p its = at (popped_of (f p.xdg)) (subst (λ (ps : List Popped). AreAlike ps (popped_of (f p.xdg))) its (keeps.alike p.xdg))
+  where
+    at : (qs : List Popped) → AreAlike (p ∷ []) qs → (first_or p qs).popup.parent ≡ p.popup.parent
+    at [] e = absurd e
+    at (q ∷ []) e = e.1
+    at (q ∷ r ∷ qs) e = absurd e
+
+module _ (f : XdgSurface → XdgSurface) where
+  goes-through : (p : Popped) → popped_of p.xdg ≡ p ∷ [] → AreNumberedAlike (popped_of p.xdg) (popped_of (f p.xdg)) → IsThrough f p
+  goes-through p its alike = at (popped_of (f p.xdg)) refl (subst (λ (ps : List Popped). AreNumberedAlike ps (popped_of (f p.xdg))) its alike) (popped-its (f p.xdg))
     where
-      at : (qs : List Popped) → popped_of (f p.xdg) ≡ qs → AreAlike (p ∷ []) qs → Each (λ q. (q.xdg ≡ f p.xdg) × (popped_of q.xdg ≡ q ∷ [])) qs → IsThrough f p
+      at : (qs : List Popped) → popped_of (f p.xdg) ≡ qs → AreNumberedAlike (p ∷ []) qs → Each (λ q. (q.xdg ≡ f p.xdg) × (popped_of q.xdg ≡ q ∷ [])) qs → IsThrough f p
       at [] e a b = absurd a
       at (q ∷ []) e a b =
           let is : through f p ≡ q = ap (first_or p) e in
           record {
             xdg = ap (λ (r : Popped). r.xdg) is ∙ b.0.0;
             number = ap (λ (r : Popped). r.popup.number) is ∙ a.0;
-            parent = ap (λ (r : Popped). r.popup.parent) is ∙ a.1;
             all = e ∙ ap (λ (r : Popped). r ∷ []) (sym is);
           }
       at (q ∷ r ∷ qs) e a b = absurd a
 
-  popped-through : (x : XdgSurface) → popped_of (f x) ≡ map (through f) (popped_of x)
-  popped-through x = at (popped_of x) refl (popped_of (f x)) refl (keeps.alike x) (popped-its x)
+  popped-through : (x : XdgSurface) → AreNumberedAlike (popped_of x) (popped_of (f x)) → popped_of (f x) ≡ map (through f) (popped_of x)
+  popped-through x alike = at (popped_of x) refl (popped_of (f x)) refl alike (popped-its x)
     where
-      at : (ps : List Popped) → popped_of x ≡ ps → (qs : List Popped) → popped_of (f x) ≡ qs → AreAlike ps qs → Each (λ p. (p.xdg ≡ x) × (popped_of p.xdg ≡ p ∷ [])) ps → qs ≡ map (through f) ps
+      at : (ps : List Popped) → popped_of x ≡ ps → (qs : List Popped) → popped_of (f x) ≡ qs → AreNumberedAlike ps qs → Each (λ p. (p.xdg ≡ x) × (popped_of p.xdg ≡ p ∷ [])) ps → qs ≡ map (through f) ps
       at [] e [] g a b = refl
       at [] e (q ∷ qs) g a b = absurd a
       at (p ∷ ps) e [] g a b = absurd a
       at (p ∷ ps) e (q ∷ []) g a b =
-          ap₂ (λ (r : Popped) (rs : List Popped). r ∷ rs) (ap (first_or p) (sym g ∙ ap (λ y. popped_of (f y)) (sym b.0.0))) (ap (map (through f)) (sym a.2))
+          ap₂ (λ (r : Popped) (rs : List Popped). r ∷ rs) (ap (first_or p) (sym g ∙ ap (λ y. popped_of (f y)) (sym b.0.0))) (ap (map (through f)) (sym a.1))
       at (p ∷ ps) e (q ∷ r ∷ qs) g a b = absurd a
 
   by-number-through : (p : Popped) (ps : List Popped) → IsThrough f p → Each (IsThrough f) ps → by_number (through f p) (map (through f) ps) ≡ map (through f) (by_number p ps)
@@ -151,38 +190,43 @@ module _ (f : XdgSurface → XdgSurface) (keeps : KeepsPopups f) where
       ap (λ qs. fold (λ ps p. by_number p ps) qs (map (through f) ps)) (by-number-through p acc g.0 e)
       ∙ ordered-through (by_number p acc) ps (each-by-number (IsThrough f) p acc g.0 e) g.1
 
-  flat-through : (shell : Shell) → flat_map popped_of (map f shell) ≡ map (through f) (flat_map popped_of shell)
-  flat-through [] = refl
-  flat-through (x ∷ xs) =
-      ap₂ (λ (ps qs : List Popped). ps ++ qs) (popped-through x) (flat-through xs) ∙ sym (map-append (popped_of x) (flat_map popped_of xs))
+  abbrev AreKept : Shell → Type 0
+  AreKept shell = Each (λ x. AreNumberedAlike (popped_of x) (popped_of (f x))) shell
+
+  flat-through : (shell : Shell) → AreKept shell → flat_map popped_of (map f shell) ≡ map (through f) (flat_map popped_of shell)
+  flat-through [] kept = refl
+  flat-through (x ∷ xs) kept =
+      ap₂ (λ (ps qs : List Popped). ps ++ qs) (popped-through x kept.0) (flat-through xs kept.1) ∙ sym (map-append (popped_of x) (flat_map popped_of xs))
     where
       map-append : (ps qs : List Popped) → map (through f) (ps ++ qs) ≡ map (through f) ps ++ map (through f) qs
       map-append [] qs = refl
       map-append (p ∷ ps) qs = ap (λ rs. through f p ∷ rs) (map-append ps qs)
 
-  all-flat : (shell : Shell) → Each (IsThrough f) (flat_map popped_of shell)
-  all-flat shell =
-      each-flat (IsThrough f) popped_of shell (each shell)
-    where
-      each : (shell : Shell) → Each (λ x. Each (IsThrough f) (popped_of x)) shell
-      each [] = tt
-      each (x ∷ xs) = (each-map (λ p. (p.xdg ≡ x) × (popped_of p.xdg ≡ p ∷ [])) (IsThrough f) (λ p its. goes-through p its.1) (popped_of x) (popped-its x), each xs)
+  all-flat : (shell : Shell) → AreKept shell → Each (IsThrough f) (flat_map popped_of shell)
+  all-flat shell kept =
+      each-flat (IsThrough f) popped_of shell
+      (each-map (λ x. AreNumberedAlike (popped_of x) (popped_of (f x))) (λ x. Each (IsThrough f) (popped_of x))
+      (λ x alike.
+      each-map (λ p. (p.xdg ≡ x) × (popped_of p.xdg ≡ p ∷ [])) (IsThrough f)
+      (λ p its. goes-through p its.1 (subst (λ y. AreNumberedAlike (popped_of y) (popped_of (f y))) (sym its.0) alike)) (popped_of x) (popped-its x)) shell kept)
 
-  -- the popups are those before, each through the change
-  pub popups-through : (shell : Shell) → popups_of (map f shell) ≡ map (through f) (popups_of shell)
-  popups-through shell = ap (fold (λ ps p. by_number p ps) []) (flat-through shell) ∙ ordered-through [] (flat_map popped_of shell) tt (all-flat shell)
+  module _ (shell : Shell) (keeps : KeepsNumbers f shell) where
+    -- the popups are those before, each through the change
+    pub popups-through : popups_of (map f shell) ≡ map (through f) (popups_of shell)
+    popups-through =
+        ap (fold (λ ps p. by_number p ps) []) (flat-through shell keeps.alike) ∙ ordered-through [] (flat_map popped_of shell) tt (all-flat shell keeps.alike)
 
-  pub all-through : (shell : Shell) → Each (IsThrough f) (popups_of shell)
-  all-through shell = each-ordered (IsThrough f) [] (flat_map popped_of shell) tt (all-flat shell)
+    pub all-through : Each (IsThrough f) (popups_of shell)
+    all-through = each-ordered (IsThrough f) [] (flat_map popped_of shell) tt (all-flat shell keeps.alike)
 
-  -- an id names the xdg_surface of the same surface
-  pub surface-through : (id : ℕ) (shell : Shell) → surface_at_xdg id (map f shell) ≡ surface_at_xdg id shell
-  surface-through id shell =
-      ap (option_map (λ (x : XdgSurface). x.surface)) (found-map (λ x. x.id == id) f shell (λ x. ap (λ n. n == id) (keeps.ids x))) ∙ same (xdg_at id shell)
-    where
-      same : (o : Option XdgSurface) → option_map (λ (x : XdgSurface). x.surface) (option_map f o) ≡ option_map (λ (x : XdgSurface). x.surface) o
-      same None = refl
-      same (Some x) = ap (λ n. Some n) (keeps.surfaces x)
+    -- an id names the xdg_surface of the same surface
+    pub surface-through : (id : ℕ) → surface_at_xdg id (map f shell) ≡ surface_at_xdg id shell
+    surface-through id =
+        ap (option_map (λ (x : XdgSurface). x.surface)) (found-map (λ x. x.id == id) f shell (λ x. ap (λ n. n == id) (keeps.ids x))) ∙ same (xdg_at id shell)
+      where
+        same : (o : Option XdgSurface) → option_map (λ (x : XdgSurface). x.surface) (option_map f o) ≡ option_map (λ (x : XdgSurface). x.surface) o
+        same None = refl
+        same (Some x) = ap (λ n. Some n) (keeps.surfaces x)
 
-  pub xdg-through : (surface : ℕ) (shell : Shell) → xdg_of surface (map f shell) ≡ option_map f (xdg_of surface shell)
-  xdg-through surface shell = found-map (λ x. x.surface == surface) f shell (λ x. ap (λ n. n == surface) (keeps.surfaces x))
+    pub xdg-through : (surface : ℕ) → xdg_of surface (map f shell) ≡ option_map f (xdg_of surface shell)
+    xdg-through surface = found-map (λ x. x.surface == surface) f shell (λ x. ap (λ n. n == surface) (keeps.surfaces x))

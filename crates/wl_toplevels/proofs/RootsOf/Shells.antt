@@ -19,7 +19,7 @@ use Rattle.wl_laws.proofs.Marks.Stacks.{Each, each-both, each-map, equal-numbers
 use Rattle.wl_invariants.specs.TreeStepsLaws.{counted_in}
 use Rattle.wl_toplevels.specs.Changes.{HasTrees}
 use Rattle.wl_toplevels.proofs.RootsOf.Kept.{RootIsKept, popups_in, surfaces_in}
-use Rattle.wl_toplevels.proofs.RootsOf.Popped.{IsPopped, IsThere, IsThrough, KeepsPopups, all-popped, all-through, first_or, popups-through, surface-through, through, xdg-through}
+use Rattle.wl_toplevels.proofs.RootsOf.Popped.{IsPopped, IsThere, IsThrough, KeepsPopups, all-popped, all-through, first_or, numbered, parent-through, popups-through, surface-through, through, xdg-through}
 use Rattle.wl_toplevels.proofs.RootsOf.Touched.{HadParent, Touches, is_other}
 use Rattle.wl_toplevels.proofs.RootsOf.Turns.{AreFrom, all-from, popup_surfaces}
 
@@ -60,11 +60,11 @@ module _ {X : Type 0} (root : ℕ) (a b : X → StackedPopup) where
 
 -- ---- the geometry of an xdg_surface is read from what counts of its surface
 
-abbrev geometry_by : ℕ → Option (List Request) → Option Rect
+abbrev pub geometry_by : ℕ → Option (List Request) → Option Rect
 geometry_by since None = None
 geometry_by since (Some rs) = fold geometry_asked None (drop since rs)
 
-geometry-reads : (x : XdgSurface) (o : Option History) → option_and_then (λ h. geometry_since h x) o ≡ geometry_by x.since (option_map counting o)
+pub geometry-reads : (x : XdgSurface) (o : Option History) → option_and_then (λ h. geometry_since h x) o ≡ geometry_by x.since (option_map counting o)
 geometry-reads x None = refl
 geometry-reads x (Some h) = refl
 
@@ -72,12 +72,12 @@ pub geometry-counted : (own new : Owned) (x : XdgSurface) → counted_in x.surfa
 geometry-counted own new x same =
     geometry-reads x (history_in x.surface new.surfaces) ∙ (ap (geometry_by x.since) same ∙ sym (geometry-reads x (history_in x.surface own.surfaces)))
 
-abbrev geometry_with : Option XdgSurface → Option (List Request) → Option Rect
+abbrev pub geometry_with : Option XdgSurface → Option (List Request) → Option Rect
 geometry_with o None = None
 geometry_with None (Some rs) = None
 geometry_with (Some x) (Some rs) = fold geometry_asked None (drop x.since rs)
 
-in-reads : (o : Option XdgSurface) (h : Option History) → option_and_then (λ h. option_and_then (geometry_since h) o) h ≡ geometry_with o (option_map counting h)
+pub in-reads : (o : Option XdgSurface) (h : Option History) → option_and_then (λ h. option_and_then (geometry_since h) o) h ≡ geometry_with o (option_map counting h)
 in-reads o None = refl
 in-reads None (Some h) = refl
 in-reads (Some x) (Some h) = refl
@@ -123,7 +123,7 @@ module _ (c : ℕ) (d : Desktop) (had : HasTrees d) where
     became p = stacked_popup now (through f p)
 
     became-all : popups_in e c ≡ map became (popups_of own.shell)
-    became-all = ap (λ (s : Shell). map (stacked_popup now) (popups_of s)) shell ∙ (ap (map (stacked_popup now)) (popups-through f keeps own.shell) ∙ twice (popups_of own.shell))
+    became-all = ap (λ (s : Shell). map (stacked_popup now) (popups_of s)) shell ∙ (ap (map (stacked_popup now)) (popups-through f own.shell (numbered f keeps own.shell)) ∙ twice (popups_of own.shell))
       where
         twice : (ps : List Popped) → map (stacked_popup now) (map (through f) ps) ≡ map became ps
         twice [] = refl
@@ -131,12 +131,12 @@ module _ (c : ℕ) (d : Desktop) (had : HasTrees d) where
 
     parent-same : (o : Option ℕ) → option_and_then (λ xdg. surface_at_xdg xdg now.shell) o ≡ option_and_then (λ xdg. surface_at_xdg xdg own.shell) o
     parent-same None = refl
-    parent-same (Some id) = ap (surface_at_xdg id) shell ∙ surface-through f keeps id own.shell
+    parent-same (Some id) = ap (surface_at_xdg id) shell ∙ surface-through f own.shell (numbered f keeps own.shell) id
 
     one : (p : Popped) → IsPopped own.shell p → IsThrough f p → IsSameBut root (stacked_popup own p) (became p)
     one p popped goes = record {
       surface = ap (λ (x : XdgSurface). x.surface) goes.xdg ∙ keeps.surfaces p.xdg;
-      parent = ap (λ o. option_and_then (λ xdg. surface_at_xdg xdg now.shell) o) goes.parent ∙ parent-same p.popup.parent;
+      parent = ap (λ o. option_and_then (λ xdg. surface_at_xdg xdg now.shell) o) (parent-through f keeps p popped.its) ∙ parent-same p.popup.parent;
       same = λ out.
           ap (stacked_popup now) (ap (λ x. first_or p (popped_of x)) (fixed p.xdg popped.there out) ∙ ap (first_or p) popped.its)
           ∙ ap₂ (at p) (parent-same p.popup.parent) (geometry-counted own now p.xdg (trees p.xdg.surface (there-top p.xdg popped.there) out).counts);
@@ -154,10 +154,10 @@ module _ (c : ℕ) (d : Desktop) (had : HasTrees d) where
     each : Each (λ p. IsSameBut root (stacked_popup own p) (became p)) (popups_of own.shell)
     each =
         each-both (IsPopped own.shell) (IsThrough f) (λ p. IsSameBut root (stacked_popup own p) (became p)) one (popups_of own.shell) all-popped-of
-        (all-through f keeps own.shell)
+        (all-through f own.shell (numbered f keeps own.shell))
 
     xdg-same : (surface : ℕ) → (surface == root) ≡ false → xdg_of surface now.shell ≡ xdg_of surface own.shell
-    xdg-same surface out = ap (xdg_of surface) shell ∙ (xdg-through f keeps surface own.shell ∙ at (xdg_of surface own.shell) refl)
+    xdg-same surface out = ap (xdg_of surface) shell ∙ (xdg-through f own.shell (numbered f keeps own.shell) surface ∙ at (xdg_of surface own.shell) refl)
       where
         at : (o : Option XdgSurface) → xdg_of surface own.shell ≡ o → option_map f o ≡ o
         at None found = refl

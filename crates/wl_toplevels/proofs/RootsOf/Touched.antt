@@ -97,7 +97,7 @@ pub record IsApart (root : ℕ) (d : Desktop) (s : Standing) : Type 0 where
   pub outside : In root (stacked_roots d s) ≡ false
   pub parent : Each (λ p. p.surface ≡ root → has_parent_in (stacked_roots d s) p ≡ false) (popups_in d s.client)
 
-not-on : (a b : Bool) → b ≡ false → (a && b) ≡ false
+pub not-on : (a b : Bool) → b ≡ false → (a && b) ≡ false
 not-on true b e = e
 not-on false b e = refl
 

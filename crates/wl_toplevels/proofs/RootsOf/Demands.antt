@@ -1,0 +1,128 @@
+-- What each demand changes of the windows.
+use Rattle.std.specs.Prelude.{◌==◌}
+use Rattle.std.proofs.Common.{◌≡◌, ℕ, Bool, true, false, cond, Some, map, refl, ap, sym, subst, ◌∙◌}
+use Rattle.wl_peer.specs.Peer.{Peer}
+use Rattle.wl_state.specs.Request.{Frame}
+use Rattle.wl_state.specs.declared.role.Role.TheVariants.{Cursor as AsCursor}
+use Rattle.wl_surface.specs.Surfaces.{Surfaces, link_at}
+use Rattle.wl_xdg_state.specs.Shell.{XdgSurface, acknowledging, configuring}
+use Rattle.wl_stacking.specs.Stacking.{Owned}
+use Rattle.wl_plain.specs.Ask.{Acknowledge, AskSurface, ConfigureAgain, EndObject, Ignore, Own}
+use Rattle.wl_plain.specs.Changing.{drawing, has_focus}
+use Rattle.wl_plain.specs.Demand.{AskFrame, Asks, Demand, EndSubsurface, EndSurface, GetPointer, GetSubsurface, MakeCursor, Move, SetMode}
+use Rattle.wl_plain.specs.Desktop.{Desktop, Resident, client_at, owned_in, owned_of}
+use Rattle.wl_plain.specs.Step.{with_peer}
+use Rattle.wl_plain.specs.WlSubsurface.{subsurface_at}
+use Rattle.wl_tree_laws.specs.Hanging.{AreNumbered, AreTied}
+use Rattle.wl_tree_laws.specs.Laws.{AreOnceLinked}
+use Rattle.wl_invariants.specs.TreeStepsLaws.{KeepsAll, KeepsOthers}
+use Rattle.wl_invariants.proofs.TreeSteps.Commits.{request-keeps-all, role-keeps-all}
+use Rattle.wl_invariants.proofs.TreeSteps.Ends.{destruction-keeps-others}
+use Rattle.wl_invariants.proofs.TreeSteps.Modes.{mode-keeps-all}
+use Rattle.wl_toplevels.specs.Changes.{HasTrees, StaysPainted}
+use Rattle.wl_toplevels.specs.Done.{IsDone}
+use Rattle.wl_toplevels.specs.DemandLaws.{CommitsChangeOneToplevel, ModesChangeOneToplevel, RequestsChangeNoWindow, StatesChangeNoWindow, SubsurfaceEndsChangeOneToplevel, SurfaceEndsChangeOneToplevel}
+use Rattle.wl_toplevels.specs.StackedWith.{ChangesAt}
+use Rattle.wl_toplevels.proofs.RootsOf.Alike.{changed-keeps}
+use Rattle.wl_toplevels.proofs.RootsOf.Commits.{commit-changes}
+use Rattle.wl_toplevels.proofs.RootsOf.Painted.{KeepsStacked}
+use Rattle.wl_toplevels.proofs.RootsOf.Popped.{KeepsPopups}
+use Rattle.wl_toplevels.proofs.RootsOf.Requests.{acknowledging-keeps, acknowledging-stacked, changed-stacked, configuring-keeps, configuring-stacked, desynchronised, ended, given, kept, kept-by, same-keeps, tree-kept}
+
+module _ (c : ℕ) (r : Resident) (p : Peer) (d e : Desktop) (had : HasTrees d) (has : HasTrees e) (here : client_at c d ≡ Some r) where
+  abbrev all : Surfaces
+  all = r.owned.surfaces
+
+  pub was-owned : owned_in d c ≡ r.owned
+  was-owned = ap owned_of here
+
+  was : (owned_in d c).surfaces ≡ all
+  was = ap (λ (o : Owned). o.surfaces) was-owned
+
+  once : AreOnceLinked all.links
+  once = subst (λ (x : Surfaces). AreOnceLinked x.links) was (had.once c)
+
+  numbered : AreNumbered all.links
+  numbered = subst (λ (x : Surfaces). AreNumbered x.links) was (had.numbered c)
+
+  tied : AreTied all
+  tied = subst (λ (x : Surfaces). AreTied x) was (had.tied c)
+
+  module _ (demand : Demand) (done : IsDone c demand (with_peer p r) d e) (stack : e.standing ≡ d.standing) where
+    -- nothing that counts changes, and nothing of the shell
+    still : (o : Owned) → owned_in e c ≡ o → o.shell ≡ r.owned.shell → KeepsAll all o.surfaces → StaysPainted d e
+    still o own shell keeps =
+        kept c d e had has done.others stack all was o.surfaces (ap (λ (o : Owned). o.surfaces) own) keeps
+        (ap (λ (o : Owned). o.shell) own ∙ (shell ∙ ap (λ (o : Owned). o.shell) (sym was-owned)))
+
+    -- or one xdg_surface
+    still-by : (o : Owned) → owned_in e c ≡ o → o.surfaces ≡ all → (f : XdgSurface → XdgSurface) → KeepsPopups f → KeepsStacked f → o.shell ≡ map f r.owned.shell → StaysPainted d e
+    still-by o own surfaces f keeps stacks shell =
+        kept-by c d e had has done.others stack all was all (ap (λ (o : Owned). o.surfaces) own ∙ surfaces) (same-keeps all) f keeps stacks
+        (ap (λ (o : Owned). o.shell) own ∙ (shell ∙ ap (λ (o : Owned). map f o.shell) (sym was-owned)))
+
+    one-tree : (id : ℕ) (o : Owned) → owned_in e c ≡ o → o.shell ≡ r.owned.shell → KeepsOthers id all o.surfaces → ChangesAt (Some id) c d e
+    one-tree id o own shell keeps =
+        tree-kept c d e had has done.others stack all was id o.surfaces (ap (λ (o : Owned). o.surfaces) own) keeps
+        (ap (λ (o : Owned). o.shell) own ∙ (shell ∙ ap (λ (o : Owned). o.shell) (sym was-owned)))
+
+    same-shell : (o : Owned) → owned_in e c ≡ o → o.shell ≡ r.owned.shell → (owned_in e c).shell ≡ (owned_in d c).shell
+    same-shell o own shell = ap (λ (o : Owned). o.shell) own ∙ (shell ∙ ap (λ (o : Owned). o.shell) (sym was-owned))
+
+pub commits-change : CommitsChangeOneToplevel
+commits-change surface c r p d e had has here meant done = commit-changes c surface (with_peer p r) d e had has (was-owned c r p d e had has here) done
+
+pub surface-ends-change : SurfaceEndsChangeOneToplevel
+surface-ends-change id c r p d e had has here meant done =
+    one-tree c r p d e had has here (EndSurface id) done done.stack id _ done.own refl
+    (destruction-keeps-others r.owned.surfaces (once c r p d e had has here) (numbered c r p d e had has here) id)
+
+pub subsurface-ends-change : SubsurfaceEndsChangeOneToplevel
+subsurface-ends-change id c r p d e had has here meant done =
+    ended c d e had has done.others done.stack r.owned.surfaces (was c r p d e had has here)
+    (same-shell c r p d e had has here (EndSubsurface id) done done.stack _ done.own refl) (subsurface_at id r) (ap (λ (o : Owned). o.surfaces) done.own)
+
+pub modes-change : ModesChangeOneToplevel
+modes-change link true c r p d e had has here meant done =
+    still c r p d e had has here (SetMode link true) done done.stack _ done.own refl (mode-keeps-all r.owned.surfaces link true)
+modes-change link false c r p d e had has here meant done =
+    desynchronised c d e had has done.others done.stack r.owned.surfaces (was c r p d e had has here)
+    (same-shell c r p d e had has here (SetMode link false) done done.stack _ done.own refl) link (link_at link r.owned.surfaces) refl (ap (λ (o : Owned). o.surfaces) done.own)
+
+drawn : (b : Bool) (r : Resident) → (drawing b r).owned ≡ r.owned
+drawn true r = refl
+drawn false r = refl
+
+pub requests-change : RequestsChangeNoWindow
+requests-change = record {
+  ask_surface = λ id request c r p d e had has here meant done.
+      still c r p d e had has here (Asks (AskSurface id request)) done done.stack _ done.own refl (request-keeps-all r.owned.surfaces (tied c r p d e had has here) id request);
+  ask_frame = λ id version surface c r p d e had has here meant done.
+      still c r p d e had has here (AskFrame id version surface) done done.stack _ done.own refl
+      (request-keeps-all r.owned.surfaces (tied c r p d e had has here) surface (Frame p.requests));
+  get_subsurface = λ id version child parent c r p d e had has here meant done.
+      given c d e had has done.others done.stack r.owned.surfaces (was c r p d e had has here)
+      (same-shell c r p d e had has here (GetSubsurface id version child parent) done done.stack _ done.own refl) p.requests child parent (ap (λ (o : Owned). o.surfaces) done.own);
+  get_pointer = λ id version c r p d e had has here meant done.
+      still c r p d e had has here (GetPointer id version) done done.stack r.owned (done.own ∙ drawn (has_focus c d.pointer.focus) _) refl (same-keeps r.owned.surfaces);
+  make_cursor = λ surface c r p d e had has here meant done.
+      still c r p d e had has here (MakeCursor surface) done done.stack _ done.own refl (role-keeps-all r.owned.surfaces surface AsCursor).1;
+  move = λ surface serial c r p d e had has here meant done.
+      still c r p d e had has here (Move surface serial) done done.stack _ done.own refl (same-keeps r.owned.surfaces);
+}
+
+pub states-change : StatesChangeNoWindow
+states-change = record {
+  own = λ action c r p d e had has here meant done.
+      still c r p d e had has here (Asks (Own action)) done done.stack _ done.own refl (same-keeps r.owned.surfaces);
+  end_object = λ id c r p d e had has here meant done.
+      still c r p d e had has here (Asks (EndObject id)) done done.stack _ done.own refl (same-keeps r.owned.surfaces);
+  acknowledge = λ xdg serial c r p d e had has here meant done.
+      still-by c r p d e had has here (Asks (Acknowledge xdg serial)) done done.stack _ done.own refl (λ x. cond (x.id == xdg) (acknowledging serial x) x)
+      (changed-keeps xdg (acknowledging serial) (acknowledging-keeps serial)) (changed-stacked xdg (acknowledging serial) (acknowledging-stacked serial)) refl;
+  configure_again = λ xdg c r p d e had has here meant done.
+      still-by c r p d e had has here (Asks (ConfigureAgain xdg)) done done.stack _ done.own refl (λ x. cond (x.id == xdg) (configuring p.serial x) x)
+      (changed-keeps xdg (configuring p.serial) (configuring-keeps p.serial)) (changed-stacked xdg (configuring p.serial) (configuring-stacked p.serial)) refl;
+  ignore = λ c r p d e had has here meant done.
+      still c r p d e had has here (Asks Ignore) done done.stack _ done.own refl (same-keeps r.owned.surfaces);
+}

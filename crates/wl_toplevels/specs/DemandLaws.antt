@@ -1,0 +1,40 @@
+-- Laws of what each demand changes of the windows (wayland.xml, wl_surface, wl_subcompositor and wl_subsurface; xdg-shell.xml).
+use Rattle.std.specs.Prelude.{ℕ, Bool}
+use Rattle.wl_state.specs.Request.{Request}
+use Rattle.wl_peer.specs.declared.actions.Action.{Action}
+use Rattle.wl_plain.specs.Ask.{Acknowledge, AskSurface, ConfigureAgain, EndObject, Ignore, Own}
+use Rattle.wl_plain.specs.Demand.{AskFrame, Asks, CommitTree, EndSubsurface, EndSurface, GetPointer, GetSubsurface, MakeCursor, Move, SetMode}
+use Rattle.wl_toplevels.specs.Done.{DemandChanges}
+
+-- wl_surface.commit
+abbrev pub CommitsChangeOneToplevel : Type 0
+CommitsChangeOneToplevel = (surface : ℕ) → DemandChanges (CommitTree surface)
+
+-- wl_surface.destroy
+abbrev pub SurfaceEndsChangeOneToplevel : Type 0
+SurfaceEndsChangeOneToplevel = (id : ℕ) → DemandChanges (EndSurface id)
+
+-- wl_subsurface.destroy
+abbrev pub SubsurfaceEndsChangeOneToplevel : Type 0
+SubsurfaceEndsChangeOneToplevel = (id : ℕ) → DemandChanges (EndSubsurface id)
+
+-- wl_subsurface.set_sync and wl_subsurface.set_desync
+abbrev pub ModesChangeOneToplevel : Type 0
+ModesChangeOneToplevel = (link : ℕ) (synchronised : Bool) → DemandChanges (SetMode link synchronised)
+
+-- what is asked of surfaces until they are committed, frame callbacks, new wl_subsurfaces and wl_pointers, cursors and moves
+pub record RequestsChangeNoWindow : Type 0 where
+  pub ask_surface : (id : ℕ) (request : Request) → DemandChanges (Asks (AskSurface id request))
+  pub ask_frame : (id version surface : ℕ) → DemandChanges (AskFrame id version surface)
+  pub get_subsurface : (id version child parent : ℕ) → DemandChanges (GetSubsurface id version child parent)
+  pub get_pointer : (id version : ℕ) → DemandChanges (GetPointer id version)
+  pub make_cursor : (surface : ℕ) → DemandChanges (MakeCursor surface)
+  pub move : (surface serial : ℕ) → DemandChanges (Move surface serial)
+
+-- the client's own interfaces, objects that go and stand for nothing, and configures, acknowledged or asked for again
+pub record StatesChangeNoWindow : Type 0 where
+  pub own : (action : Action) → DemandChanges (Asks (Own action))
+  pub end_object : (id : ℕ) → DemandChanges (Asks (EndObject id))
+  pub acknowledge : (xdg serial : ℕ) → DemandChanges (Asks (Acknowledge xdg serial))
+  pub configure_again : (xdg : ℕ) → DemandChanges (Asks (ConfigureAgain xdg))
+  pub ignore : DemandChanges (Asks Ignore)

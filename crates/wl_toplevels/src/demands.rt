@@ -1,0 +1,36 @@
+//! The laws of what each demand of a client changes of the windows: those that are stacked with one toplevel, or none (wayland.xml,
+//! wl_surface, wl_subcompositor and wl_subsurface; xdg-shell.xml, xdg_surface, xdg_toplevel and xdg_popup). Each law is a function that
+//! promises it.
+
+ghost use Rattle.wl_toplevels.specs.DemandLaws.{CommitsChangeOneToplevel, ModesChangeOneToplevel, RequestsChangeNoWindow};
+ghost use Rattle.wl_toplevels.specs.DemandLaws.{StatesChangeNoWindow, SubsurfaceEndsChangeOneToplevel, SurfaceEndsChangeOneToplevel};
+
+/// A commit changes the windows that are stacked with the toplevel of its tree, or none.
+pub fn commits_change_one_toplevel()
+    ensures { CommitsChangeOneToplevel }
+{}
+
+/// The end of a surface changes the windows that are stacked with the toplevel of the tree that it was in, or none.
+pub fn surface_ends_change_one_toplevel()
+    ensures { SurfaceEndsChangeOneToplevel }
+{}
+
+/// The end of a subsurface changes the windows that are stacked with the toplevel of the tree that it was in, or none.
+pub fn subsurface_ends_change_one_toplevel()
+    ensures { SubsurfaceEndsChangeOneToplevel }
+{}
+
+/// A mode of a subsurface changes the windows that are stacked with the toplevel of the tree that it is in, or none.
+pub fn modes_change_one_toplevel()
+    ensures { ModesChangeOneToplevel }
+{}
+
+/// What is asked of surfaces changes no window until it is committed; nor do frame callbacks, new subsurfaces and pointers, cursors and moves.
+pub fn requests_change_no_window()
+    ensures { RequestsChangeNoWindow }
+{}
+
+/// A client's own interfaces, objects that stand for nothing, and configures change no window.
+pub fn states_change_no_window()
+    ensures { StatesChangeNoWindow }
+{}
