@@ -7,6 +7,7 @@ use Rattle.wl_plain.specs.Moments.{marks_at_least_of, marks_at_least_through, ma
 use Rattle.wl_plain.specs.Settling.{Midstep, Settles, Strike, ended_by}
 use Rattle.wl_plain.specs.Stacked.{all_windows}
 use Rattle.wl_pointed.specs.Pointed.{pointed}
+use Rattle.wl_pointed.specs.Rounds.{AreRounds, IsRound}
 
 -- the last of these desktops
 abbrev pub last_of : Desktop → List Desktop → Desktop
@@ -48,3 +49,22 @@ RoundsMarkEnds =
     ≡ marks_at_least_of all_windows settled.desktop (ended_by s settled.desktop) x y)
     × (marks_at_most_through all_windows None old.desktop (settled.desktop ∷ ended_by s settled.desktop ∷ []) x y
     ≡ marks_at_most_of all_windows settled.desktop (ended_by s settled.desktop) None x y)
+
+-- So one round more marks what its end marks, and a settling more nothing.
+abbrev pub RoundsMarkInTurn : Type 0
+RoundsMarkInTurn =
+    (n : ℕ) (old mid new : Midstep) (path later : List Desktop) (x y : ℤ) → AreDistinct (all_windows mid.desktop)
+    → AreRounds n old path mid → (round : IsRound mid later new)
+    → (marks_at_least_through all_windows old.desktop (path ++ later) x y
+    ≡ (marks_at_least_through all_windows old.desktop path x y || marks_at_least_of all_windows round.0.desktop new.desktop x y))
+    × (marks_at_most_through all_windows None old.desktop (path ++ later) x y
+    ≡ (marks_at_most_through all_windows None old.desktop path x y || marks_at_most_of all_windows round.0.desktop new.desktop None x y))
+
+abbrev pub LastMarksNothing : Type 0
+LastMarksNothing =
+    (n : ℕ) (old mid last : Midstep) (path : List Desktop) (x y : ℤ) → AreDistinct (all_windows mid.desktop)
+    → AreRounds n old path mid → Settles mid last
+    → (marks_at_least_through all_windows old.desktop (path ++ last.desktop ∷ []) x y
+    ≡ marks_at_least_through all_windows old.desktop path x y)
+    × (marks_at_most_through all_windows None old.desktop (path ++ last.desktop ∷ []) x y
+    ≡ marks_at_most_through all_windows None old.desktop path x y)

@@ -49,6 +49,13 @@ StruckLive =
     (input : PointerInput) (old new : Midstep) → AreToEnd old.struck old.desktop → PointerActs input old new
     → AreToEnd new.struck new.desktop
 
+-- The focus may always be settled so, and where there are fewer clients than settlings it is settled at last.
+abbrev pub SettlesAtLast : Type 0
+SettlesAtLast =
+    (old : Midstep) → length old.desktop.clients ≤ 32 → AreToEnd old.struck old.desktop
+    → ((path : List Desktop) × (new : Desktop) × SettlesAllThrough 33 old path new)
+    × ((path : List Desktop) (new : Desktop) → SettlesAllThrough 33 old path new → IsSettled new)
+
 -- ---- what comes after a motion and a button
 
 -- To settle a focus that is settled does nothing.

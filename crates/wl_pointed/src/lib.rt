@@ -4,10 +4,10 @@
 
 ghost use Rattle.wl_pointed.specs.Apart.{PointerApart, PointerApartThrough};
 ghost use Rattle.wl_pointed.specs.Entering.{NewPointerApart, NewPointerApartThrough};
-ghost use Rattle.wl_pointed.specs.Happenings.{EndsApart, FramesApart, QuietApart};
-ghost use Rattle.wl_pointed.specs.Marking.{MarksApart, MarksInParts, RoundsMarkEnds, SettlingMarksNothing};
+ghost use Rattle.wl_pointed.specs.Happenings.{EndApart, EndsApart, FramesApart, QuietApart, QuietIsSettled, SettlesOnHappens, TellsApart};
+ghost use Rattle.wl_pointed.specs.Marking.{LastMarksNothing, MarksApart, MarksInParts, RoundsMarkEnds, RoundsMarkInTurn, SettlingMarksNothing};
 ghost use Rattle.wl_pointed.specs.Moved.{MovedStandsOn};
-ghost use Rattle.wl_pointed.specs.Rounds.{ButtonsEnd, MotionsEnd, RoundsAreFew, RoundsSettle, SettlesIdly, StruckLive};
+ghost use Rattle.wl_pointed.specs.Rounds.{ButtonsEnd, MotionsEnd, RoundsAreFew, RoundsSettle, SettlesAtLast, SettlesIdly, StruckLive};
 
 /// A message is served with the pointer put aside; then the pointer is put back, and its focus is settled. So it is with all messages but
 /// wl_seat.get_pointer of the client that has the focus.
@@ -99,4 +99,39 @@ pub fn rounds_mark_ends()
 /// A toplevel that is moved with the pointer stands, whatever happens.
 pub fn moved_stands_on()
     ensures { MovedStandsOn }
+{}
+
+/// One round more marks what its end marks.
+pub fn rounds_mark_in_turn()
+    ensures { RoundsMarkInTurn }
+{}
+
+/// A settling after rounds marks nothing.
+pub fn last_marks_nothing()
+    ensures { LastMarksNothing }
+{}
+
+/// What is led to through desktops happens.
+pub fn settles_on_happens()
+    ensures { SettlesOnHappens }
+{}
+
+/// Where nobody is told and nobody ends, a focus that was settled is.
+pub fn quiet_is_settled()
+    ensures { QuietIsSettled }
+{}
+
+/// A client ends with the pointer put aside, and then the pointer leaves it.
+pub fn end_apart()
+    ensures { EndApart }
+{}
+
+/// A client is told something with the pointer put aside as with it.
+pub fn tells_apart()
+    ensures { TellsApart }
+{}
+
+/// The focus may always be settled with the ends that follow, and of 32 clients it is settled at last.
+pub fn settles_at_last()
+    ensures { SettlesAtLast }
 {}
