@@ -16,9 +16,9 @@ use Rattle.wl_stacking.specs.Pointer.{settled}
 use Rattle.wl_laws.specs.Focus.{IsSettled}
 use Rattle.wl_laws.proofs.Lists.Keys.{differ}
 use Rattle.wl_laws.proofs.Runs.Settled.{focus-is-settled, put-shows, same-windows}
-use Rattle.wl_laws.proofs.Runs.Through.{happens_leads_through, settling-with}
+use Rattle.wl_laws.proofs.Runs.Through.{happens_leads_through, settling-with, settling-without}
 use Rattle.wl_pointed.specs.Apart.{SettlesOn}
-use Rattle.wl_pointed.specs.Happenings.{EndsApart, QuietApart, QuietIsSettled, SettlesOnHappens}
+use Rattle.wl_pointed.specs.Happenings.{EndedApart, EndsApart, QuietApart, QuietIsSettled, SettlesOnHappens}
 use Rattle.wl_pointed.specs.Pointed.{pointed}
 use Rattle.wl_pointed.proofs.Pointers.{settles-on}
 
@@ -110,6 +110,17 @@ module _ (c : ℕ) (d : Desktop) (path : List Desktop) (e : Desktop) where
   unfolding lived
   leaves None h = absurd (differ (ap (lived d path e) h.0))
   leaves (Some r) h = left_so r.peer.status r h
+
+pub ended-apart : EndedApart
+ended-apart c why r d e = (
+  λ path h. ends c d path e why r h,
+  λ new h settles.
+      let way = settling-with e (unstruck (becomes c r (ended why r.peer) (unpointed d))) h in
+      let on = ends c d way.0 e why r way.1 in
+      let rest = settling-with new (unstruck (pointed (pointer_without c d.pointer) e)) settles in
+      let back : Desktop → Desktop = pointed (pointer_without c d.pointer) in
+      settling-without (map back on.0 ++ back e ∷ rest.1.0) new (unstruck (becomes c r (ended why r.peer) d)) (on.2 rest.1.0 new rest.1.2),
+)
 
 pub ends-apart : EndsApart
 ends-apart left c h d path e (inl is) leads =

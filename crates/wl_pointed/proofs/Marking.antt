@@ -1,11 +1,14 @@
 -- What is marked where the windows stay, and through the desktops of a step where the pointer is put aside.
 use Rattle.std.proofs.Common.{◌≡◌, ℕ, zero, suc, List, [], ◌∷◌, ◌++◌, map, filter, Bool, true, false, Option, None, refl, ap, ap₂, sym, ◌∙◌}
+use Rattle.std.proofs.Math.Path.{fun_ext}
 use Rattle.std.specs.List.{list_any}
 use Rattle.std.specs.Option.{option_map}
 use Rattle.std.specs.Prelude.{ℤ, ◌&&◌, ◌||◌, int_le, not, pos, unsigned_abs}
 use Rattle.wl_state.specs.State.{History}
 use Rattle.wl_stacking.specs.Pointer.{Pointer}
-use Rattle.wl_stacking.specs.Windows.{Window, contains}
+use Rattle.wl_stacking.specs.Stacking.{Owned, Standing, root_of}
+use Rattle.wl_stacking.specs.Popups.{stacked_popups}
+use Rattle.wl_stacking.specs.Windows.{Window, contains, windows}
 use Rattle.wl_surface.specs.Surfaces.{history_in}
 use Rattle.wl_plain.specs.Desktop.{Desktop, unpointed}
 use Rattle.wl_plain.specs.Marks.{Applied, AreDistinct, at_least, at_most, has_changed_tree, in_output, is_allowed_at, is_of_tree, same_records}
@@ -18,7 +21,7 @@ use Rattle.wl_invariants.proofs.TreeMarks.Damage.{marks-damage-alone}
 use Rattle.wl_invariants.proofs.TreeMarks.Lists.{any-none, each-of}
 use Rattle.wl_invariants.proofs.TreeMarks.Records.{record-self}
 use Rattle.wl_invariants.proofs.TreeSteps.Damage.{applies-nothing}
-use Rattle.wl_pointed.specs.Marking.{LastMarksNothing, MarksApart, MarksInParts, RoundsMarkEnds, RoundsMarkInTurn, SettlingMarksNothing, last_of}
+use Rattle.wl_pointed.specs.Marking.{LastMarksNothing, MarksApart, MarksInParts, RoundsMarkEnds, RoundsMarkInTurn, SettlingMarksNothing, last_of, MarksOwnThenRounds}
 use Rattle.wl_pointed.specs.Pointed.{pointed}
 use Rattle.wl_pointed.specs.Rounds.{AreRounds}
 
@@ -159,6 +162,36 @@ last-marks-nothing n old mid last path x y apart rounds settles =
           ∙ none-more (marks_at_least_through all_windows old.desktop path x y),
       parts.1 ∙ ap (λ (b : Bool). marks_at_most_through all_windows None old.desktop path x y || (b || false)) none.1
           ∙ none-more (marks_at_most_through all_windows None old.desktop path x y),
+    )
+
+-- ---- a step's own change, and the settling after it
+
+windows_by : (ℕ → Owned) → List Standing → List Window
+windows_by owned standing = windows (λ c. (owned c).surfaces) (λ c. stacked_popups (owned c)) (map (root_of owned) standing)
+
+applied_by : Desktop → (ℕ → Owned) → Applied
+applied_by d owned client surface x y =
+    (int_le (pos 0) x && int_le (pos 0) y)
+    && is_applied_by (history_of d client surface) (history_in surface (owned client).surfaces) (unsigned_abs x) (unsigned_abs y)
+
+-- what is marked goes by what stands and by what the clients own
+same-marks : (raised : Option (ℕ × ℕ)) (d told settled : Desktop) (x y : ℤ) → ShowsSame told settled
+    → (marks_at_least_of all_windows d settled x y ≡ marks_at_least_of all_windows d told x y)
+    × (marks_at_most_of all_windows d settled raised x y ≡ marks_at_most_of all_windows d told raised x y)
+unfolding windows_by applied_by
+same-marks raised d told settled x y same = (
+  ap₂ (λ (owned : ℕ → Owned) (standing : List Standing). at_least d.output.width d.output.height (applied_by d owned) (all_windows d) (windows_by owned standing) x y)
+      (fun_ext same.owned) same.standing,
+  ap₂ (λ (owned : ℕ → Owned) (standing : List Standing). at_most d.output.width d.output.height (applied_by d owned) raised (all_windows d) (windows_by owned standing) x y)
+      (fun_ext same.owned) same.standing,
+)
+
+pub marks-own-then-rounds : MarksOwnThenRounds
+marks-own-then-rounds raised d told settled later x y apart h =
+    let same = same-marks raised d told.desktop settled.desktop x y (has-settled told settled h).shows in
+    let none = settling-marks-nothing told settled x y apart h in (
+      ap₂ (λ (a b : Bool). a || (b || marks_at_least_through all_windows settled.desktop later x y)) same.0 (sym none.0),
+      ap₂ (λ (a b : Bool). a || (b || marks_at_most_through all_windows None settled.desktop later x y)) same.1 (sym none.1),
     )
 
 -- ---- with the pointer put back

@@ -12,7 +12,7 @@ use Rattle.wl_stacking.specs.Windows.{Window}
 use Rattle.wl_plain.specs.Desktop.{Desktop, Resident, client_at, with_client}
 use Rattle.wl_plain.specs.Pointing.{motion_told, entered_surface, left_surface}
 use Rattle.wl_plain.specs.Replies.{focus_window}
-use Rattle.wl_plain.specs.Settling.{AppliesAll, Midstep, PointerActs, Settles, Strike, TellsAt, TellsUnless, ended_by, is_struck, Applies}
+use Rattle.wl_plain.specs.Settling.{AppliesAll, Midstep, PointerActs, Settles, Strike, TellsAt, TellsUnless, ended_by, is_struck, Applies, unstruck}
 use Rattle.wl_plain.specs.Settling.{QueuesFirst, QueuesTo, Tells, leave_drawn, struck_by, told_drawn, with_focus}
 use Rattle.wl_plain.specs.Stacked.{all_windows}
 use Rattle.wl_plain.specs.Through.{EndsFirstThrough, SettlesAllThrough, ending_through}
@@ -21,7 +21,7 @@ use Rattle.wl_laws.proofs.Marks.Stacks.{and-both, and-left, and-right, differ, s
 use Rattle.wl_laws.proofs.Runs.Ends.{acts-lead, ended-after, ended-one}
 use Rattle.wl_laws.proofs.Runs.Fates.{AreStruck, lasting, lasting-within}
 use Rattle.wl_laws.proofs.Runs.Settled.{HasFocus, ShowsSame, has-settled, put-shows, same-windows, shows-itself}
-use Rattle.wl_pointed.specs.Rounds.{AreRounds, AreToEnd, ButtonsEnd, IsRound, MotionsEnd, RoundsAreFew, RoundsSettle, SettlesIdly, StruckLive, SettlesAtLast}
+use Rattle.wl_pointed.specs.Rounds.{AreRounds, AreToEnd, ButtonsEnd, IsRound, MotionsEnd, RoundsAreFew, RoundsSettle, SettlesIdly, StruckLive, SettlesAtLast, SettledAtOnce}
 
 -- ---- rounds and what comes then
 
@@ -149,6 +149,12 @@ idles old is =
 
 pub settles-idly : SettlesIdly
 settles-idly old is = (idles old is, λ new h. idle-acts old new is h)
+
+pub settled-at-once : SettledAtOnce
+settled-at-once d is = (rounds-settle 0 33 (unstruck d) (unstruck d) (unstruck d) [] few (refl, refl) (idles (unstruck d) is) refl).0
+  where
+    few : 0 < 33
+    few = omega arith
 
 -- ---- a motion
 

@@ -1,6 +1,8 @@
 -- Whatever happens but a message, a motion and a button may happen with the pointer put aside too.
 use Rattle.std.specs.Prelude.{ℕ, ◌≡◌, ◌≤◌, ◌⊎◌, ◌&&◌, not, is_none, is_some, if◌then◌else◌, Bool, true, false, Option, Some, None}
 use Rattle.std.specs.Prelude.{List, [], ◌∷◌, length}
+use Rattle.wl_peer.specs.declared.cause.Cause.{Cause}
+use Rattle.wl_peer.specs.Peer.{ended}
 use Rattle.wl_peer.specs.Told.{Said}
 use Rattle.wl_stacking.specs.Pointer.{Pointer, Target}
 use Rattle.wl_plain.specs.declared.answers.Done.{Done}
@@ -10,7 +12,8 @@ use Rattle.wl_plain.specs.Desktop.{Desktop, Resident, client_at, status_in, unpo
 use Rattle.wl_plain.specs.Happenings.{Happening, Leads, Message, Receive, Single, Starve}
 use Rattle.wl_plain.specs.Happens.{Happens}
 use Rattle.wl_plain.specs.LeftOut.{LeftOut}
-use Rattle.wl_plain.specs.Settling.{Midstep, SettlesAll, Strike, Tells, ended_by, pointer_without, unstruck}
+use Rattle.wl_plain.specs.Settling.{EndsAndSettles, Midstep, SettlesAll, Strike, Tells, becomes, ended_by, pointer_without, unstruck}
+use Rattle.wl_plain.specs.Through.{settling_through}
 use Rattle.wl_laws.specs.Focus.{EndedAreBare, IsSettled}
 use Rattle.wl_pointed.specs.Apart.{SettlesOn}
 use Rattle.wl_pointed.specs.Pointed.{pointed}
@@ -64,6 +67,17 @@ EndsApart =
     (left : LeftOut) (c : ℕ) (h : Happening) (d : Desktop) (path : List Desktop) (e : Desktop)
     → IsEndOf c h → Leads left h (unpointed d) path e
     → SettlesOn (pointed (pointer_without c d.pointer)) (Leads left h d) path e
+
+-- The same of the end of a client for whatever cause, with the desktops on the way and without.
+abbrev pub EndedApart : Type 0
+EndedApart =
+    (c : ℕ) (why : Cause) (r : Resident) (d : Desktop) (e : Desktop)
+    → ((path : List Desktop) → settling_through path e (unstruck (becomes c r (ended why r.peer) (unpointed d)))
+    → SettlesOn (pointed (pointer_without c d.pointer))
+    (λ later new. settling_through later new (unstruck (becomes c r (ended why r.peer) d))) path e)
+    × ((new : Desktop) → EndsAndSettles (unstruck (becomes c r (ended why r.peer) (unpointed d))) e
+    → SettlesAll 33 (unstruck (pointed (pointer_without c d.pointer) e)) new
+    → EndsAndSettles (unstruck (becomes c r (ended why r.peer) d)) new)
 
 -- ---- a frame is shown
 

@@ -68,3 +68,15 @@ LastMarksNothing =
     ≡ marks_at_least_through all_windows old.desktop path x y)
     × (marks_at_most_through all_windows None old.desktop (path ++ last.desktop ∷ []) x y
     ≡ marks_at_most_through all_windows None old.desktop path x y)
+
+-- What a step's own change marks, where the focus is settled after it, and then what is marked from there on: after a motion or a button.
+abbrev pub MarksOwnThenRounds : Type 0
+MarksOwnThenRounds =
+    (raised : Option (ℕ × ℕ)) (d : Desktop) (told settled : Midstep) (later : List Desktop) (x y : ℤ)
+    → AreDistinct (all_windows told.desktop) → Settles told settled
+    → (marks_at_least_through all_windows d (settled.desktop ∷ later) x y
+    ≡ (marks_at_least_of all_windows d told.desktop x y
+    || marks_at_least_through all_windows told.desktop (settled.desktop ∷ later) x y))
+    × (marks_at_most_through all_windows raised d (settled.desktop ∷ later) x y
+    ≡ (marks_at_most_of all_windows d told.desktop raised x y
+    || marks_at_most_through all_windows None told.desktop (settled.desktop ∷ later) x y))
