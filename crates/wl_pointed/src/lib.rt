@@ -10,6 +10,7 @@ ghost use Rattle.wl_pointed.specs.Marking.{LastMarksNothing, MarksApart, MarksIn
 ghost use Rattle.wl_pointed.specs.Marking.{RoundsMarkInTurn, SettlingMarksNothing};
 ghost use Rattle.wl_pointed.specs.Moved.{MovedStandsOn};
 ghost use Rattle.wl_pointed.specs.Rounds.{ButtonsEnd, MotionsEnd, RoundsAreFew, RoundsSettle, SettledAtOnce, SettlesAtLast, SettlesIdly, StruckLive};
+ghost use Rattle.wl_pointed.specs.Whole.{StepsByRounds};
 
 // ---- messages
 
@@ -161,4 +162,11 @@ pub fn last_marks_nothing()
 /// After a motion or a button a step marks what its own change marks, and then what is marked from there on.
 pub fn marks_own_then_rounds()
     ensures { MarksOwnThenRounds }
+{}
+
+// ---- a step as a whole
+
+/// A step with the pointer put aside, and then the rounds that follow with the pointer put back, are the step; and it marks what those mark.
+pub fn steps_by_rounds()
+    ensures { StepsByRounds }
 {}
