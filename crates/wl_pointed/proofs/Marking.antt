@@ -10,10 +10,11 @@ use Rattle.wl_stacking.specs.Stacking.{Owned, Standing, root_of}
 use Rattle.wl_stacking.specs.Popups.{stacked_popups}
 use Rattle.wl_stacking.specs.Windows.{Window, contains, windows}
 use Rattle.wl_surface.specs.Surfaces.{history_in}
+use Rattle.wl_plain.specs.Changing.{drawing}
 use Rattle.wl_plain.specs.Desktop.{Desktop, unpointed}
 use Rattle.wl_plain.specs.Marks.{Applied, AreDistinct, at_least, at_most, has_changed_tree, in_output, is_allowed_at, is_of_tree, same_records}
 use Rattle.wl_plain.specs.Moments.{applied_between, history_of, is_applied_by, marks_at_least_of, marks_at_least_through, marks_at_most_of, marks_at_most_through}
-use Rattle.wl_plain.specs.Settling.{Midstep, ended_by}
+use Rattle.wl_plain.specs.Settling.{Midstep, ended_by, unstruck}
 use Rattle.wl_plain.specs.Stacked.{all_windows}
 use Rattle.wl_laws.proofs.Runs.Settled.{ShowsSame, has-settled, same-windows}
 use Rattle.wl_invariants.specs.TreeMarksLaws.{AreUndamaged}
@@ -21,7 +22,9 @@ use Rattle.wl_invariants.proofs.TreeMarks.Damage.{marks-damage-alone}
 use Rattle.wl_invariants.proofs.TreeMarks.Lists.{any-none, each-of}
 use Rattle.wl_invariants.proofs.TreeMarks.Records.{record-self}
 use Rattle.wl_invariants.proofs.TreeSteps.Damage.{applies-nothing}
-use Rattle.wl_pointed.specs.Marking.{LastMarksNothing, MarksApart, MarksInParts, RoundsMarkEnds, RoundsMarkInTurn, SettlingMarksNothing, last_of, MarksOwnThenRounds}
+use Rattle.wl_pointed.proofs.Rounds.{told-shows}
+use Rattle.wl_pointed.specs.Entering.{new_entered}
+use Rattle.wl_pointed.specs.Marking.{LastMarksNothing, MarksApart, MarksInParts, RoundsMarkEnds, RoundsMarkInTurn, SettlingMarksNothing, last_of, MarksOwnThenRounds, NewPointerMarks}
 use Rattle.wl_pointed.specs.Pointed.{pointed}
 use Rattle.wl_pointed.specs.Rounds.{AreRounds}
 
@@ -192,6 +195,14 @@ marks-own-then-rounds raised d told settled later x y apart h =
     let none = settling-marks-nothing told settled x y apart h in (
       ap₂ (λ (a b : Bool). a || (b || marks_at_least_through all_windows settled.desktop later x y)) same.0 (sym none.0),
       ap₂ (λ (a b : Bool). a || (b || marks_at_most_through all_windows None settled.desktop later x y)) same.1 (sym none.1),
+    )
+
+pub new-pointer-marks : NewPointerMarks
+new-pointer-marks id c d e told later x y h =
+    let shows : ShowsSame e told.desktop = (told-shows (drawing true) (new_entered id e) (λ r. refl) c (unstruck e) told h).1 in
+    let same = same-marks None d e told.desktop x y shows in (
+      ap (λ (b : Bool). b || marks_at_least_through all_windows told.desktop later x y) same.0,
+      ap (λ (b : Bool). b || marks_at_most_through all_windows None told.desktop later x y) same.1,
     )
 
 -- ---- with the pointer put back

@@ -158,23 +158,23 @@ settled-at-once d is = (rounds-settle 0 33 (unstruck d) (unstruck d) (unstruck d
 
 -- ---- a motion
 
--- a client is told of a motion, and nothing else changes
-told-shows : (c : ℕ) (events : Resident → List Said) (old new : Midstep) → TellsAt (λ r. r) events c (client_at c old.desktop) old new
+-- a client is told something that leaves it what it owns, and nothing else changes
+pub told-shows : (change : Resident → Resident) (events : Resident → List Said) → ((r : Resident) → (change r).owned ≡ r.owned) → (c : ℕ) (old new : Midstep) → Tells change events c old new
     → (new.desktop.pointer ≡ old.desktop.pointer) × ShowsSame old.desktop new.desktop
-told-shows c events old new h = at (client_at c old.desktop) refl h
+told-shows change events keeps c old new h = at (client_at c old.desktop) refl h
   where
     stays : new ≡ old → (new.desktop.pointer ≡ old.desktop.pointer) × ShowsSame old.desktop new.desktop
     stays e = (ap (λ (m : Midstep). m.desktop.pointer) e, shows-itself old.desktop new.desktop (ap (λ (m : Midstep). m.desktop) e))
 
-    unless : (b : Bool) (r : Resident) → client_at c old.desktop ≡ Some r → TellsUnless b (λ r. r) events c r old new
+    unless : (b : Bool) (r : Resident) → client_at c old.desktop ≡ Some r → TellsUnless b change events c r old new
         → (new.desktop.pointer ≡ old.desktop.pointer) × ShowsSame old.desktop new.desktop
     unless true r there h = stays h
     unless false r there h = (
       ap (λ (m : Midstep). m.desktop.pointer) h.3,
-      subst (λ (m : Midstep). ShowsSame old.desktop m.desktop) (sym h.3) (put-shows c r (Some (record r { peer = h.0 })) old.desktop there refl),
+      subst (λ (m : Midstep). ShowsSame old.desktop m.desktop) (sym h.3) (put-shows c r (Some (record (change r) { peer = h.0 })) old.desktop there (keeps r)),
     )
 
-    at : (o : Option Resident) → client_at c old.desktop ≡ o → TellsAt (λ r. r) events c o old new → (new.desktop.pointer ≡ old.desktop.pointer) × ShowsSame old.desktop new.desktop
+    at : (o : Option Resident) → client_at c old.desktop ≡ o → TellsAt change events c o old new → (new.desktop.pointer ≡ old.desktop.pointer) × ShowsSame old.desktop new.desktop
     at None there h = stays h
     at (Some r) there h = unless (is_some r.peer.status || is_struck c old.struck) r there h
 
@@ -204,7 +204,8 @@ went-settled time old new h = at (is_same p.focus to) refl h
         told-same : new ≡ old → (new.desktop.pointer ≡ p) × ShowsSame old.desktop new.desktop
         told-same e = (ap (λ (m : Midstep). m.desktop.pointer) e, shows-itself old.desktop new.desktop (ap (λ (m : Midstep). m.desktop) e))
     kept None (Some t) h =
-        subst (λ (m : Midstep). (m.desktop.pointer ≡ p) × ShowsSame old.desktop m.desktop) (sym h.2) (told-shows t.client (motion_told time p.place (focus_window (Some t) ws)) old h.0 h.1)
+        subst (λ (m : Midstep). (m.desktop.pointer ≡ p) × ShowsSame old.desktop m.desktop) (sym h.2)
+        (told-shows (λ r. r) (motion_told time p.place (focus_window (Some t) ws)) (λ r. refl) t.client old h.0 h.1)
     kept (Some moved) (Some t) h = (ap (λ (m : Midstep). m.desktop.pointer) h, shows-itself old.desktop new.desktop (ap (λ (m : Midstep). m.desktop) h))
 
     at : (b : Bool) → is_same p.focus to ≡ b → AppliesAll ws (if b then motion_of time p.move p.focus else leave_of p.focus ++ enter_of to) old new → IsSettled new.desktop

@@ -6,6 +6,7 @@ use Rattle.wl_plain.specs.Marks.{AreDistinct}
 use Rattle.wl_plain.specs.Moments.{marks_at_least_of, marks_at_least_through, marks_at_most_of, marks_at_most_through}
 use Rattle.wl_plain.specs.Settling.{Midstep, Settles, Strike, ended_by}
 use Rattle.wl_plain.specs.Stacked.{all_windows}
+use Rattle.wl_pointed.specs.Entering.{TellsNew}
 use Rattle.wl_pointed.specs.Pointed.{pointed}
 use Rattle.wl_pointed.specs.Rounds.{AreRounds, IsRound}
 
@@ -80,3 +81,12 @@ MarksOwnThenRounds =
     × (marks_at_most_through all_windows raised d (settled.desktop ∷ later) x y
     ≡ (marks_at_most_of all_windows d told.desktop raised x y
     || marks_at_most_through all_windows None told.desktop (settled.desktop ∷ later) x y))
+
+-- That a new wl_pointer is told of the focus marks nothing.
+abbrev pub NewPointerMarks : Type 0
+NewPointerMarks =
+    (id c : ℕ) (d e : Desktop) (told : Midstep) (later : List Desktop) (x y : ℤ) → TellsNew id c e told
+    → (marks_at_least_through all_windows d (told.desktop ∷ later) x y
+    ≡ (marks_at_least_of all_windows d e x y || marks_at_least_through all_windows told.desktop later x y))
+    × (marks_at_most_through all_windows None d (told.desktop ∷ later) x y
+    ≡ (marks_at_most_of all_windows d e None x y || marks_at_most_through all_windows None told.desktop later x y))

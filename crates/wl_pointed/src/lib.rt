@@ -6,7 +6,7 @@ ghost use Rattle.wl_pointed.specs.Apart.{PointerApart, PointerApartThrough};
 ghost use Rattle.wl_pointed.specs.Entering.{NewPointerApart, NewPointerApartThrough};
 ghost use Rattle.wl_pointed.specs.Happenings.{EndApart, EndedApart, EndsApart, FramesApart, QuietApart, QuietIsSettled};
 ghost use Rattle.wl_pointed.specs.Happenings.{SettlesOnHappens, TellsApart};
-ghost use Rattle.wl_pointed.specs.Marking.{LastMarksNothing, MarksApart, MarksInParts, MarksOwnThenRounds, RoundsMarkEnds};
+ghost use Rattle.wl_pointed.specs.Marking.{LastMarksNothing, MarksApart, MarksInParts, MarksOwnThenRounds, NewPointerMarks, RoundsMarkEnds};
 ghost use Rattle.wl_pointed.specs.Marking.{RoundsMarkInTurn, SettlingMarksNothing};
 ghost use Rattle.wl_pointed.specs.Moved.{MovedStandsOn};
 ghost use Rattle.wl_pointed.specs.Rounds.{ButtonsEnd, MotionsEnd, RoundsAreFew, RoundsSettle, SettledAtOnce, SettlesAtLast, SettlesIdly, StruckLive};
@@ -162,6 +162,11 @@ pub fn last_marks_nothing()
 /// After a motion or a button a step marks what its own change marks, and then what is marked from there on.
 pub fn marks_own_then_rounds()
     ensures { MarksOwnThenRounds }
+{}
+
+/// That a new wl_pointer is told of the focus marks nothing.
+pub fn new_pointer_marks()
+    ensures { NewPointerMarks }
 {}
 
 // ---- a step as a whole
