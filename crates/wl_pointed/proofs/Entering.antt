@@ -110,28 +110,35 @@ module _ (left : LeftOut) (c id version : ℕ) (d : Desktop) (path : List Deskto
   from : pointer_asked (asked left c d) c d ≡ d.pointer
   from = ap (λ (o : Option Demand). pointer_asked o c d) asks
 
+  -- its own change leads to the last desktop, and where what is told leads it leads with the pointer put back
+  abbrev Both : (List Desktop → Desktop → Type 0) → Type 0
+  Both Step = (path ≡ e ∷ e ∷ []) × ((later : List Desktop) (new : Desktop) → settling_through later new told → Step later new)
+
   -- one that ended for want of memory isn't told
   lacked : (r : Resident) → BecomesThen (LacksMemory r.peer) c r (unpointed d) (settling_through path e)
-      → (later : List Desktop) (new : Desktop) → settling_through later new told → BecomesThen (LacksMemory r.peer) c r d (settling_through later new)
-  lacked r h later new k =
+      → Both (λ later new. BecomesThen (LacksMemory r.peer) c r d (settling_through later new))
+  lacked r h =
       let q : Peer = h.0 in
       let over : Desktop = after_status (Some Memory) c (become_by (Some Memory) c r q d) in
       let ended : q.status ≡ Some Memory = lacking r.peer q h.1 in
       let is-over : becomes c r q d ≡ over = ap (λ (s : Option Cause). after_status s c (become_by s c r q d)) ended in
+      let ends = settled-nowhere 32 (becomes c r q (unpointed d)) e h.2.0 (becomes-still q.status c r q d) h.2.2 in
       let here : put_back left c d e ≡ over =
-      ap (put_back left c d) (settled-nowhere 32 (becomes c r q (unpointed d)) e h.2.0 (becomes-still q.status c r q d) h.2.2).0
+      ap (put_back left c d) ends.0
       ∙ sym (becomes-put left c r there q d is moved from) ∙ is-over in
       let told-so : TellsAt (drawing true) (new_entered id over) c (Some (resident_of q)) (unstruck over) told =
       subst (λ (o : Option Resident). TellsAt (drawing true) (new_entered id over) c o (unstruck over) told) (number-same d.clients c (Some (resident_of q)) there is)
       (subst (λ (x : Desktop). TellsNew id c x told) here tells) in
       let same : told ≡ unstruck over =
-      subst (λ (s : Option Cause). TellsUnless (is_some s || is_struck c []) (drawing true) (new_entered id over) c (resident_of q) (unstruck over) told) ended told-so in
-      (q, h.1, subst (λ (m : Midstep). settling_through later new m) (same ∙ ap unstruck (sym is-over)) k)
+      subst (λ (s : Option Cause). TellsUnless (is_some s || is_struck c []) (drawing true) (new_entered id over) c (resident_of q) (unstruck over) told) ended told-so in (
+        h.2.1 ∙ ap₂ (λ (a : Desktop) (rest : List Desktop). a ∷ rest) (sym ends.0) ends.1,
+        λ later new k. (q, h.1, settles-as later new told (unstruck (becomes c r q d)) (same ∙ ap unstruck (sym is-over)) k),
+      )
 
   did : (r : Resident) → r.peer.status ≡ None → r.owned ≡ there.owned → DoesThen left c demand r (unpointed d) (settling_through path e)
-      → (later : List Desktop) (new : Desktop) → settling_through later new told → DoesThen left c demand r d (settling_through later new)
+      → Both (λ later new. DoesThen left c demand r d (settling_through later new))
   unfolding demand
-  did r alive owns h later new k =
+  did r alive owns h =
       let with_pointer : Resident = record r { pointers = in_rising_order id r.pointers } in
       let made : Resident = making WlPointer id version with_pointer in
       let drawn : Resident = changed_for c demand r d in
@@ -142,8 +149,9 @@ module _ (left : LeftOut) (c id version : ℕ) (d : Desktop) (path : List Deskto
       let start : Desktop = with_client c (Some made) (done_for c demand r (unpointed d)) in
       let x : Desktop = with_client c (Some made) (done_for c demand r d) in
       let found : client_at c x ≡ Some made = number-same d.clients c (Some made) there is in
+      let ends = settled-nowhere 32 start e first.0 refl first.2 in
       let here : put_back left c d e ≡ x =
-      ap (put_back left c d) (settled-nowhere 32 start e first.0 refl first.2).0
+      ap (put_back left c d) ends.0
       ∙ put-is left c d None d.pointer start (ap status_of found ∙ alive) from in
       let told-so : TellsAt (drawing true) (new_entered id x) c (Some made) (unstruck x) told =
       subst (λ (o : Option Resident). TellsAt (drawing true) (new_entered id x) c o (unstruck x) told) found (subst (λ (y : Desktop). TellsNew id c y told) here tells) in
@@ -159,47 +167,46 @@ module _ (left : LeftOut) (c id version : ℕ) (d : Desktop) (path : List Deskto
       subst (λ (m : Resident). QueuesTo (replies left c demand r drawn (all_windows d) d) m.peer t.0 t.1) (sym same)
       (subst (λ (told : List Said). QueuesTo told (drawing true made).peer t.0 t.1) (sym events) t.2) in
       let last : told ≡ changed_so c demand r d t.0 t.1 =
-      put-twice c t.0 (drawing true made) drawn made (done_for c demand r d) (struck_by c t.1 []) told (sym same) t.3 in
-      (t.0, t.1, queued, settles-as later new told (changed_so c demand r d t.0 t.1) last k)
+      put-twice c t.0 (drawing true made) drawn made (done_for c demand r d) (struck_by c t.1 []) told (sym same) t.3 in (
+        first.1 ∙ ap₂ (λ (a : Desktop) (rest : List Desktop). a ∷ rest) (sym ends.0) ends.1,
+        λ later new k. (t.0, t.1, queued, settles-as later new told (changed_so c demand r d t.0 t.1) last k),
+      )
 
   answered : (judged : Result Demand Refusal) (r : Resident) → asked_of judged ≡ Some demand → r.peer.status ≡ None → r.owned ≡ there.owned
-      → AnswersThen left judged c r (unpointed d) (settling_through path e)
-      → (later : List Desktop) (new : Desktop) → settling_through later new told → AnswersThen left judged c r d (settling_through later new)
+      → AnswersThen left judged c r (unpointed d) (settling_through path e) → Both (λ later new. AnswersThen left judged c r d (settling_through later new))
   unfolding demand
-  answered (Err refusal) r asked-is alive owns h later new k = absurd (none-some demand asked-is)
-  answered (Ok other) r asked-is alive owns h later new k =
-      let now : Resident = with_peer (counted r.peer) r in
+  answered (Err refusal) r asked-is alive owns h = absurd (none-some demand asked-is)
+  answered (Ok other) r asked-is alive owns h =
       let same : other ≡ GetPointer id version = some-same other demand asked-is in
-      subst (λ (x : Demand). AnswersThen left (Ok x) c r d (settling_through later new)) (sym same)
-      (by now alive owns (subst (λ (x : Demand). AnswersThen left (Ok x) c r (unpointed d) (settling_through path e)) same h))
+      subst (λ (x : Demand). Both (λ later new. AnswersThen left (Ok x) c r d (settling_through later new))) (sym same)
+      (by (with_peer (counted r.peer) r) alive owns (subst (λ (x : Demand). AnswersThen left (Ok x) c r (unpointed d) (settling_through path e)) same h))
     where
       by : (now : Resident) → now.peer.status ≡ None → now.owned ≡ there.owned
           → BecomesThen (LacksMemory now.peer) c now (unpointed d) (settling_through path e) ⊎ DoesThen left c demand now (unpointed d) (settling_through path e)
-          → BecomesThen (LacksMemory now.peer) c now d (settling_through later new) ⊎ DoesThen left c demand now d (settling_through later new)
-      by now alive owns (inl h) = inl (lacked now h later new k)
-      by now alive owns (inr h) = inr (did now alive owns h later new k)
+          → Both (λ later new. BecomesThen (LacksMemory now.peer) c now d (settling_through later new) ⊎ DoesThen left c demand now d (settling_through later new))
+      by now alive owns (inl h) = let both = lacked now h in (both.0, λ later new k. inl (both.1 later new k))
+      by now alive owns (inr h) = let both = did now alive owns h in (both.0, λ later new k. inr (both.1 later new k))
 
   took : (split : Split) (r : Resident) → asked_first left split r ≡ Some demand → r.peer.status ≡ None → r.owned ≡ there.owned
-      → TakesThen left split c r (unpointed d) (settling_through path e)
-      → (later : List Desktop) (new : Desktop) → settling_through later new told → TakesThen left split c r d (settling_through later new)
-  took (Whole object opcode size) r asked-is alive owns h later new k =
-      answered (judge_all left r object opcode (take (size - 8) (drop 8 r.peer.rest))) (with_peer (with_rest (drop size r.peer.rest) r.peer) r) asked-is alive owns h later new k
-  took Bad r asked-is alive owns h later new k = absurd (none-some demand asked-is)
-  took More r asked-is alive owns h later new k = absurd (none-some demand asked-is)
+      → TakesThen left split c r (unpointed d) (settling_through path e) → Both (λ later new. TakesThen left split c r d (settling_through later new))
+  took (Whole object opcode size) r asked-is alive owns h =
+      answered (judge_all left r object opcode (take (size - 8) (drop 8 r.peer.rest))) (with_peer (with_rest (drop size r.peer.rest) r.peer) r) asked-is alive owns h
+  took Bad r asked-is alive owns h = absurd (none-some demand asked-is)
+  took More r asked-is alive owns h = absurd (none-some demand asked-is)
 
 pub new-pointer-apart-through : NewPointerApartThrough
 unfolding demand
-new-pointer-apart-through left c id version d path e told moved asks has h tells later new k = at (client_at c d) refl h
+new-pointer-apart-through left c id version d path e told moved asks has h tells = at (client_at c d) refl h
   where
-    at : (o : Option Resident) → client_at c d ≡ o → ServesThen left c o (unpointed d) (settling_through path e) → ServesThen left c o d (settling_through later new)
+    at : (o : Option Resident) → client_at c d ≡ o → ServesThen left c o (unpointed d) (settling_through path e)
+        → (path ≡ e ∷ e ∷ []) × ((later : List Desktop) (new : Desktop) → settling_through later new told → ServesThen left c o d (settling_through later new))
     at None is h = absurd h
-    at (Some r) is h = (
-      h.0,
-      took left c id version d path e told moved asks has r is tells (split_of r.peer.rest) r (sym (ap (asked_by left) is) ∙ asks) h.0 refl h.1 later new k,
-    )
+    at (Some r) is h =
+        let both = took left c id version d path e told moved asks has r is tells (split_of r.peer.rest) r (sym (ap (asked_by left) is) ∙ asks) h.0 refl h.1 in
+        (both.0, λ later new k. (h.0, both.1 later new k))
 
 pub new-pointer-apart : NewPointerApart
 new-pointer-apart left c id version d e new told moved asks has h tells settles =
     let way = (messages_lead_through left c (unpointed d) e).1 h in
     let rest = settling-with new told settles in
-    (messages_lead_through left c d new).0 rest.0 (new-pointer-apart-through left c id version d way.0 e told moved asks has way.1 tells rest.0 new rest.1)
+    (messages_lead_through left c d new).0 rest.0 ((new-pointer-apart-through left c id version d way.0 e told moved asks has way.1 tells).1 rest.0 new rest.1)

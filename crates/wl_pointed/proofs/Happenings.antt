@@ -1,8 +1,8 @@
 -- What happens beside messages, motions and buttons, with the pointer put aside, and put back.
-use Rattle.std.proofs.Common.{ℕ, ◌+◌, List, [], ◌∷◌, Bool, true, false, Option, Some, None, refl, ap, subst, sym, inl, inr}
+use Rattle.std.proofs.Common.{ℕ, ◌+◌, List, [], ◌∷◌, ◌++◌, Bool, true, false, Option, Some, None, refl, ap, subst, sym, inl, inr, ◌≡◌, map, ◌∙◌}
 use Rattle.wl_peer.specs.declared.cause.Cause.{Cause}
 use Rattle.wl_peer.specs.declared.cause.Cause.TheVariants as cause
-use Rattle.wl_peer.specs.Peer.{Peer, ended}
+use Rattle.wl_peer.specs.Peer.{Peer, ended, with_rest}
 use Rattle.wl_plain.specs.declared.answers.Done.{Done}
 use Rattle.wl_plain.specs.declared.answers.Done.TheVariants as gave
 use Rattle.wl_plain.specs.Act.{Connect, Feed, Store, Leave, Tick, Send, Close, Motion, Button, IsClosed, IsSent, IsStored, lowest}
@@ -12,9 +12,13 @@ use Rattle.wl_plain.specs.Happens.{ChangesThen, ConnectsThen, LeavesThen}
 use Rattle.wl_plain.specs.Settling.{Midstep, becomes, pointer_without, unstruck}
 use Rattle.wl_plain.specs.Step.{with_peer}
 use Rattle.wl_plain.specs.Through.{ending_through, settling_through}
+use Rattle.wl_stacking.specs.Pointer.{settled}
+use Rattle.wl_laws.specs.Focus.{IsSettled}
 use Rattle.wl_laws.proofs.Lists.Keys.{differ}
+use Rattle.wl_laws.proofs.Runs.Settled.{focus-is-settled, put-shows, same-windows}
+use Rattle.wl_laws.proofs.Runs.Through.{happens_leads_through, settling-with, settling-without}
 use Rattle.wl_pointed.specs.Apart.{SettlesOn}
-use Rattle.wl_pointed.specs.Happenings.{EndsApart, QuietApart}
+use Rattle.wl_pointed.specs.Happenings.{EndedApart, EndsApart, QuietApart, QuietIsSettled, SettlesOnHappens}
 use Rattle.wl_pointed.specs.Pointed.{pointed}
 use Rattle.wl_pointed.proofs.Pointers.{settles-on}
 
@@ -107,8 +111,40 @@ module _ (c : ℕ) (d : Desktop) (path : List Desktop) (e : Desktop) where
   leaves None h = absurd (differ (ap (lived d path e) h.0))
   leaves (Some r) h = left_so r.peer.status r h
 
+pub ended-apart : EndedApart
+ended-apart c why r d e = (
+  λ path h. ends c d path e why r h,
+  λ new h settles.
+      let way = settling-with e (unstruck (becomes c r (ended why r.peer) (unpointed d))) h in
+      let on = ends c d way.0 e why r way.1 in
+      let rest = settling-with new (unstruck (pointed (pointer_without c d.pointer) e)) settles in
+      let back : Desktop → Desktop = pointed (pointer_without c d.pointer) in
+      settling-without (map back on.0 ++ back e ∷ rest.1.0) new (unstruck (becomes c r (ended why r.peer) d)) (on.2 rest.1.0 new rest.1.2),
+)
+
 pub ends-apart : EndsApart
 ends-apart left c h d path e (inl is) leads =
     subst (λ (x : Happening). Leads left x (unpointed d) path e → SettlesOn (pointed (pointer_without c d.pointer)) (Leads left x d) path e) (sym is) (starved c d path e (client_at c d)) leads
 ends-apart left c h d path e (inr is) leads =
     subst (λ (x : Happening). Leads left x (unpointed d) path e → SettlesOn (pointed (pointer_without c d.pointer)) (Leads left x d) path e) (sym is) (leaves c d path e (client_at c d)) leads
+
+-- ---- without the desktops on the way
+
+pub settles-on-happens : SettlesOnHappens
+settles-on-happens left act done back d path e new on h =
+    let rest = settling-with new (unstruck (back e)) h in
+    (happens_leads_through left act done d new).0 (map back on.0 ++ back e ∷ rest.1.0) (on.2 rest.1.0 new rest.1.2)
+
+pub quiet-is-settled : QuietIsSettled
+quiet-is-settled left (Receive c piece) d path new quiet short bare is h = at (client_at c d) refl h
+  where
+    at : (o : Option Resident) → client_at c d ≡ o → ReceivesAt c piece o d path new → IsSettled new
+    at None there h = absurd h
+    at (Some r) there h =
+        let come : Resident = with_peer (with_rest (r.peer.rest ++ piece) r.peer) r in
+        subst IsSettled (sym h.1)
+        (is ∙ sym (ap (settled d.pointer) (same-windows d (with_client c (Some come) d) (put-shows c r (Some come) d there refl))))
+quiet-is-settled left (Message c) d path new quiet short bare is h = absurd (differ (sym quiet))
+quiet-is-settled left (Starve c) d path new quiet short bare is h = absurd (differ (sym quiet))
+quiet-is-settled left (Single act done) d path new quiet short bare is h =
+    focus-is-settled left act done d new short bare is ((happens_leads_through left act done d new).0 path h)

@@ -6,3 +6,4 @@ pub mod Messages
 pub mod Moved
 pub mod Pointers
 pub mod Rounds
+pub mod Whole

@@ -1,16 +1,20 @@
 -- What is marked where the windows stay, and through the desktops of a step where the pointer is put aside.
-use Rattle.std.proofs.Common.{◌≡◌, ℕ, List, [], ◌∷◌, ◌++◌, map, filter, Bool, true, false, Option, None, refl, ap, ap₂, sym, ◌∙◌}
+use Rattle.std.proofs.Common.{◌≡◌, ℕ, zero, suc, List, [], ◌∷◌, ◌++◌, map, filter, Bool, true, false, Option, None, refl, ap, ap₂, sym, ◌∙◌}
+use Rattle.std.proofs.Math.Path.{fun_ext}
 use Rattle.std.specs.List.{list_any}
 use Rattle.std.specs.Option.{option_map}
 use Rattle.std.specs.Prelude.{ℤ, ◌&&◌, ◌||◌, int_le, not, pos, unsigned_abs}
 use Rattle.wl_state.specs.State.{History}
 use Rattle.wl_stacking.specs.Pointer.{Pointer}
-use Rattle.wl_stacking.specs.Windows.{Window, contains}
+use Rattle.wl_stacking.specs.Stacking.{Owned, Standing, root_of}
+use Rattle.wl_stacking.specs.Popups.{stacked_popups}
+use Rattle.wl_stacking.specs.Windows.{Window, contains, windows}
 use Rattle.wl_surface.specs.Surfaces.{history_in}
+use Rattle.wl_plain.specs.Changing.{drawing}
 use Rattle.wl_plain.specs.Desktop.{Desktop, unpointed}
 use Rattle.wl_plain.specs.Marks.{Applied, AreDistinct, at_least, at_most, has_changed_tree, in_output, is_allowed_at, is_of_tree, same_records}
 use Rattle.wl_plain.specs.Moments.{applied_between, history_of, is_applied_by, marks_at_least_of, marks_at_least_through, marks_at_most_of, marks_at_most_through}
-use Rattle.wl_plain.specs.Settling.{ended_by}
+use Rattle.wl_plain.specs.Settling.{Midstep, ended_by, unstruck}
 use Rattle.wl_plain.specs.Stacked.{all_windows}
 use Rattle.wl_laws.proofs.Runs.Settled.{ShowsSame, has-settled, same-windows}
 use Rattle.wl_invariants.specs.TreeMarksLaws.{AreUndamaged}
@@ -18,8 +22,11 @@ use Rattle.wl_invariants.proofs.TreeMarks.Damage.{marks-damage-alone}
 use Rattle.wl_invariants.proofs.TreeMarks.Lists.{any-none, each-of}
 use Rattle.wl_invariants.proofs.TreeMarks.Records.{record-self}
 use Rattle.wl_invariants.proofs.TreeSteps.Damage.{applies-nothing}
-use Rattle.wl_pointed.specs.Marking.{MarksApart, MarksInParts, RoundsMarkEnds, SettlingMarksNothing, last_of}
+use Rattle.wl_pointed.proofs.Rounds.{told-shows}
+use Rattle.wl_pointed.specs.Entering.{new_entered}
+use Rattle.wl_pointed.specs.Marking.{LastMarksNothing, MarksApart, MarksInParts, RoundsMarkEnds, RoundsMarkInTurn, SettlingMarksNothing, last_of, MarksOwnThenRounds, NewPointerMarks}
 use Rattle.wl_pointed.specs.Pointed.{pointed}
+use Rattle.wl_pointed.specs.Rounds.{AreRounds}
 
 -- ---- where the windows stay
 
@@ -109,6 +116,93 @@ rounds-mark-ends old settled s x y apart h =
           ∙ none-more (marks_at_least_of all_windows settled.desktop (ended_by s settled.desktop) x y),
       ap (λ (b : Bool). b || (marks_at_most_of all_windows settled.desktop (ended_by s settled.desktop) None x y || false)) none.1
           ∙ none-more (marks_at_most_of all_windows settled.desktop (ended_by s settled.desktop) None x y),
+    )
+
+last-joined : (d : Desktop) (xs ys : List Desktop) → last_of d (xs ++ ys) ≡ last_of (last_of d xs) ys
+last-joined d [] ys = refl
+last-joined d (x ∷ xs) ys = last-joined x xs ys
+
+-- rounds lead to the last of their desktops
+rounds-last : (n : ℕ) (old new : Midstep) (path : List Desktop) → AreRounds n old path new → last_of old.desktop path ≡ new.desktop
+rounds-last zero old new path h = ap (last_of old.desktop) h.0 ∙ ap (λ (m : Midstep). m.desktop) (sym h.1)
+rounds-last (suc n) old new path h =
+    ap (last_of old.desktop) h.5 ∙ last-joined old.desktop h.0 h.2 ∙ ap (last_of (last_of old.desktop h.0)) h.4.5 ∙ ap (λ (m : Midstep). m.desktop) (sym h.4.6)
+
+-- what is marked through rounds, and then through these
+rounds-then : (n : ℕ) (old mid : Midstep) (path later : List Desktop) (x y : ℤ) → AreRounds n old path mid
+    → (marks_at_least_through all_windows old.desktop (path ++ later) x y
+    ≡ (marks_at_least_through all_windows old.desktop path x y || marks_at_least_through all_windows mid.desktop later x y))
+    × (marks_at_most_through all_windows None old.desktop (path ++ later) x y
+    ≡ (marks_at_most_through all_windows None old.desktop path x y || marks_at_most_through all_windows None mid.desktop later x y))
+rounds-then n old mid path later x y rounds =
+    let there : last_of old.desktop path ≡ mid.desktop = rounds-last n old mid path rounds in (
+      least-parts old.desktop path later x y
+          ∙ ap (λ (d : Desktop). marks_at_least_through all_windows old.desktop path x y || marks_at_least_through all_windows d later x y) there,
+      most-parts old.desktop path later x y
+          ∙ ap (λ (d : Desktop). marks_at_most_through all_windows None old.desktop path x y || marks_at_most_through all_windows None d later x y) there,
+    )
+
+pub rounds-mark-in-turn : RoundsMarkInTurn
+rounds-mark-in-turn n old mid new path later x y apart rounds round =
+    let now : Desktop = round.0.desktop in
+    let parts = rounds-then n old mid path later x y rounds in
+    let ends = rounds-mark-ends mid round.0 round.1 x y apart round.3 in
+    let least : marks_at_least_through all_windows mid.desktop later x y ≡ marks_at_least_of all_windows now new.desktop x y =
+    ap (λ (p : List Desktop). marks_at_least_through all_windows mid.desktop p x y) round.5 ∙ ends.0
+    ∙ ap (λ (m : Midstep). marks_at_least_of all_windows now m.desktop x y) (sym round.6) in
+    let most : marks_at_most_through all_windows None mid.desktop later x y ≡ marks_at_most_of all_windows now new.desktop None x y =
+    ap (λ (p : List Desktop). marks_at_most_through all_windows None mid.desktop p x y) round.5 ∙ ends.1
+    ∙ ap (λ (m : Midstep). marks_at_most_of all_windows now m.desktop None x y) (sym round.6) in (
+      parts.0 ∙ ap (λ (b : Bool). marks_at_least_through all_windows old.desktop path x y || b) least,
+      parts.1 ∙ ap (λ (b : Bool). marks_at_most_through all_windows None old.desktop path x y || b) most,
+    )
+
+pub last-marks-nothing : LastMarksNothing
+last-marks-nothing n old mid last path x y apart rounds settles =
+    let parts = rounds-then n old mid path (last.desktop ∷ []) x y rounds in
+    let none = settling-marks-nothing mid last x y apart settles in (
+      parts.0 ∙ ap (λ (b : Bool). marks_at_least_through all_windows old.desktop path x y || (b || false)) none.0
+          ∙ none-more (marks_at_least_through all_windows old.desktop path x y),
+      parts.1 ∙ ap (λ (b : Bool). marks_at_most_through all_windows None old.desktop path x y || (b || false)) none.1
+          ∙ none-more (marks_at_most_through all_windows None old.desktop path x y),
+    )
+
+-- ---- a step's own change, and the settling after it
+
+windows_by : (ℕ → Owned) → List Standing → List Window
+windows_by owned standing = windows (λ c. (owned c).surfaces) (λ c. stacked_popups (owned c)) (map (root_of owned) standing)
+
+applied_by : Desktop → (ℕ → Owned) → Applied
+applied_by d owned client surface x y =
+    (int_le (pos 0) x && int_le (pos 0) y)
+    && is_applied_by (history_of d client surface) (history_in surface (owned client).surfaces) (unsigned_abs x) (unsigned_abs y)
+
+-- what is marked goes by what stands and by what the clients own
+same-marks : (raised : Option (ℕ × ℕ)) (d told settled : Desktop) (x y : ℤ) → ShowsSame told settled
+    → (marks_at_least_of all_windows d settled x y ≡ marks_at_least_of all_windows d told x y)
+    × (marks_at_most_of all_windows d settled raised x y ≡ marks_at_most_of all_windows d told raised x y)
+unfolding windows_by applied_by
+same-marks raised d told settled x y same = (
+  ap₂ (λ (owned : ℕ → Owned) (standing : List Standing). at_least d.output.width d.output.height (applied_by d owned) (all_windows d) (windows_by owned standing) x y)
+      (fun_ext same.owned) same.standing,
+  ap₂ (λ (owned : ℕ → Owned) (standing : List Standing). at_most d.output.width d.output.height (applied_by d owned) raised (all_windows d) (windows_by owned standing) x y)
+      (fun_ext same.owned) same.standing,
+)
+
+pub marks-own-then-rounds : MarksOwnThenRounds
+marks-own-then-rounds raised d told settled later x y apart h =
+    let same = same-marks raised d told.desktop settled.desktop x y (has-settled told settled h).shows in
+    let none = settling-marks-nothing told settled x y apart h in (
+      ap₂ (λ (a b : Bool). a || (b || marks_at_least_through all_windows settled.desktop later x y)) same.0 (sym none.0),
+      ap₂ (λ (a b : Bool). a || (b || marks_at_most_through all_windows None settled.desktop later x y)) same.1 (sym none.1),
+    )
+
+pub new-pointer-marks : NewPointerMarks
+new-pointer-marks id c d e told later x y h =
+    let shows : ShowsSame e told.desktop = (told-shows (drawing true) (new_entered id e) (λ r. refl) c (unstruck e) told h).1 in
+    let same = same-marks None d e told.desktop x y shows in (
+      ap (λ (b : Bool). b || marks_at_least_through all_windows told.desktop later x y) same.0,
+      ap (λ (b : Bool). b || marks_at_most_through all_windows None told.desktop later x y) same.1,
     )
 
 -- ---- with the pointer put back

@@ -1,15 +1,19 @@
 -- The ends of a step as a loop of rounds.
-use Rattle.std.proofs.Common.{◌≡◌, ℕ, zero, suc, ◌+◌, ◌≤◌, List, [], ◌∷◌, ◌++◌, Bool, true, false, Option, Some, None, refl, ap, ap₂, subst, sym, ◌∙◌, append_assoc, arith}
+use Rattle.std.proofs.Common.{◌≡◌, ℕ, zero, suc, ◌+◌, ◌≤◌, ◌<◌, List, [], ◌∷◌, ◌++◌, Bool, true, false, Option, Some, None, refl, ap, ap₂, subst, sym, ◌∙◌, append_assoc, arith, inr}
 use Rattle.std.proofs.lemmas.Bool.{eqb-true}
 use Rattle.std.specs.Prelude.{◌-◌, ◌==◌, ◌||◌, is_some, if◌then◌else◌}
 use Rattle.wl_peer.specs.Told.{Said}
+use Rattle.wl_peer.specs.declared.cause.Cause.{Cause}
+use Rattle.wl_peer.specs.declared.cause.Cause.TheVariants.{Slow}
+use Rattle.wl_peer.specs.Peer.{Peer, has_room, queued}
 use Rattle.wl_stacking.specs.Pointer.{Pointer, Target, is_same, is_stacked, kept_focus, settled, settled_focus}
-use Rattle.wl_stacking.specs.PointerActions.{Settle, Went, enter_of, leave_of, motion_of}
+use Rattle.wl_stacking.specs.PointerActions.{Settle, Went, enter_of, leave_of, motion_of, Leave, Enter}
 use Rattle.wl_stacking.specs.Windows.{Window}
-use Rattle.wl_plain.specs.Desktop.{Desktop, Resident, client_at}
-use Rattle.wl_plain.specs.Pointing.{motion_told}
+use Rattle.wl_plain.specs.Desktop.{Desktop, Resident, client_at, with_client}
+use Rattle.wl_plain.specs.Pointing.{motion_told, entered_surface, left_surface}
 use Rattle.wl_plain.specs.Replies.{focus_window}
-use Rattle.wl_plain.specs.Settling.{AppliesAll, Midstep, PointerActs, Settles, Strike, TellsAt, TellsUnless, ended_by, is_struck}
+use Rattle.wl_plain.specs.Settling.{AppliesAll, Midstep, PointerActs, Settles, Strike, TellsAt, TellsUnless, ended_by, is_struck, Applies, unstruck}
+use Rattle.wl_plain.specs.Settling.{QueuesFirst, QueuesTo, Tells, leave_drawn, struck_by, told_drawn, with_focus}
 use Rattle.wl_plain.specs.Stacked.{all_windows}
 use Rattle.wl_plain.specs.Through.{EndsFirstThrough, SettlesAllThrough, ending_through}
 use Rattle.wl_laws.specs.Focus.{IsSettled}
@@ -17,7 +21,7 @@ use Rattle.wl_laws.proofs.Marks.Stacks.{and-both, and-left, and-right, differ, s
 use Rattle.wl_laws.proofs.Runs.Ends.{acts-lead, ended-after, ended-one}
 use Rattle.wl_laws.proofs.Runs.Fates.{AreStruck, lasting, lasting-within}
 use Rattle.wl_laws.proofs.Runs.Settled.{HasFocus, ShowsSame, has-settled, put-shows, same-windows, shows-itself}
-use Rattle.wl_pointed.specs.Rounds.{AreRounds, AreToEnd, ButtonsEnd, IsRound, MotionsEnd, RoundsAreFew, RoundsSettle, SettlesIdly, StruckLive}
+use Rattle.wl_pointed.specs.Rounds.{AreRounds, AreToEnd, ButtonsEnd, IsRound, MotionsEnd, RoundsAreFew, RoundsSettle, SettlesIdly, StruckLive, SettlesAtLast, SettledAtOnce}
 
 -- ---- rounds and what comes then
 
@@ -146,25 +150,31 @@ idles old is =
 pub settles-idly : SettlesIdly
 settles-idly old is = (idles old is, λ new h. idle-acts old new is h)
 
+pub settled-at-once : SettledAtOnce
+settled-at-once d is = (rounds-settle 0 33 (unstruck d) (unstruck d) (unstruck d) [] few (refl, refl) (idles (unstruck d) is) refl).0
+  where
+    few : 0 < 33
+    few = omega arith
+
 -- ---- a motion
 
--- a client is told of a motion, and nothing else changes
-told-shows : (c : ℕ) (events : Resident → List Said) (old new : Midstep) → TellsAt (λ r. r) events c (client_at c old.desktop) old new
+-- a client is told something that leaves it what it owns, and nothing else changes
+pub told-shows : (change : Resident → Resident) (events : Resident → List Said) → ((r : Resident) → (change r).owned ≡ r.owned) → (c : ℕ) (old new : Midstep) → Tells change events c old new
     → (new.desktop.pointer ≡ old.desktop.pointer) × ShowsSame old.desktop new.desktop
-told-shows c events old new h = at (client_at c old.desktop) refl h
+told-shows change events keeps c old new h = at (client_at c old.desktop) refl h
   where
     stays : new ≡ old → (new.desktop.pointer ≡ old.desktop.pointer) × ShowsSame old.desktop new.desktop
     stays e = (ap (λ (m : Midstep). m.desktop.pointer) e, shows-itself old.desktop new.desktop (ap (λ (m : Midstep). m.desktop) e))
 
-    unless : (b : Bool) (r : Resident) → client_at c old.desktop ≡ Some r → TellsUnless b (λ r. r) events c r old new
+    unless : (b : Bool) (r : Resident) → client_at c old.desktop ≡ Some r → TellsUnless b change events c r old new
         → (new.desktop.pointer ≡ old.desktop.pointer) × ShowsSame old.desktop new.desktop
     unless true r there h = stays h
     unless false r there h = (
       ap (λ (m : Midstep). m.desktop.pointer) h.3,
-      subst (λ (m : Midstep). ShowsSame old.desktop m.desktop) (sym h.3) (put-shows c r (Some (record r { peer = h.0 })) old.desktop there refl),
+      subst (λ (m : Midstep). ShowsSame old.desktop m.desktop) (sym h.3) (put-shows c r (Some (record (change r) { peer = h.0 })) old.desktop there (keeps r)),
     )
 
-    at : (o : Option Resident) → client_at c old.desktop ≡ o → TellsAt (λ r. r) events c o old new → (new.desktop.pointer ≡ old.desktop.pointer) × ShowsSame old.desktop new.desktop
+    at : (o : Option Resident) → client_at c old.desktop ≡ o → TellsAt change events c o old new → (new.desktop.pointer ≡ old.desktop.pointer) × ShowsSame old.desktop new.desktop
     at None there h = stays h
     at (Some r) there h = unless (is_some r.peer.status || is_struck c old.struck) r there h
 
@@ -194,7 +204,8 @@ went-settled time old new h = at (is_same p.focus to) refl h
         told-same : new ≡ old → (new.desktop.pointer ≡ p) × ShowsSame old.desktop new.desktop
         told-same e = (ap (λ (m : Midstep). m.desktop.pointer) e, shows-itself old.desktop new.desktop (ap (λ (m : Midstep). m.desktop) e))
     kept None (Some t) h =
-        subst (λ (m : Midstep). (m.desktop.pointer ≡ p) × ShowsSame old.desktop m.desktop) (sym h.2) (told-shows t.client (motion_told time p.place (focus_window (Some t) ws)) old h.0 h.1)
+        subst (λ (m : Midstep). (m.desktop.pointer ≡ p) × ShowsSame old.desktop m.desktop) (sym h.2)
+        (told-shows (λ r. r) (motion_told time p.place (focus_window (Some t) ws)) (λ r. refl) t.client old h.0 h.1)
     kept (Some moved) (Some t) h = (ap (λ (m : Midstep). m.desktop.pointer) h, shows-itself old.desktop new.desktop (ap (λ (m : Midstep). m.desktop) h))
 
     at : (b : Bool) → is_same p.focus to ≡ b → AppliesAll ws (if b then motion_of time p.move p.focus else leave_of p.focus ++ enter_of to) old new → IsSettled new.desktop
@@ -212,3 +223,93 @@ motions-end time old told path new went h =
 
 pub buttons-end : ButtonsEnd
 buttons-end told path new h = (h.0, h.1, (h.2, h.3, h.4))
+
+-- ---- the focus may be settled
+
+-- events are queued, or one of them isn't for want of room
+queues-some : (events : List Said) (p : Peer) → (q : Peer) × (why : Option Cause) × QueuesTo events p q why
+queues-some [] p = (p, None, (refl, refl))
+queues-some (event ∷ events) p = at (has_room p.unsent event) (queues-some events (queued event p))
+  where
+    at : (b : Bool) → ((q : Peer) × (why : Option Cause) × QueuesTo events (queued event p) q why)
+        → (q : Peer) × (why : Option Cause) × QueuesFirst b (QueuesTo events (queued event p) q why) p q why
+    at true later = (later.0, later.1, inr later.2)
+    at false later = (p, Some Slow, (refl, refl))
+
+tells-some : (change : Resident → Resident) (events : Resident → List Said) (c : ℕ) (old : Midstep) → (new : Midstep) × Tells change events c old new
+tells-some change events c old = at (client_at c old.desktop)
+  where
+    unless : (b : Bool) (r : Resident) → (new : Midstep) × TellsUnless b change events c r old new
+    unless true r = (old, refl)
+    unless false r =
+        let told = queues-some (events r) (change r).peer in
+        (record { desktop = with_client c (Some (record (change r) { peer = told.0 })) old.desktop; struck = struck_by c told.1 old.struck }, (told.0, told.1, told.2, refl))
+
+    at : (o : Option Resident) → (new : Midstep) × TellsAt change events c o old new
+    at None = (old, refl)
+    at (Some r) = unless (is_some r.peer.status || is_struck c old.struck) r
+
+left-some : (windows : List Window) (t : Target) (old : Midstep) → (new : Midstep) × Applies windows (Leave t) old new
+left-some windows t old =
+    let told = tells-some (leave_drawn t.surface) (left_surface t.surface) t.client old in (with_focus None told.0, (told.0, told.1, refl))
+
+entered-some : (windows : List Window) (t : Target) (old : Midstep) → (new : Midstep) × Applies windows (Enter t) old new
+entered-some windows t old =
+    let told = tells-some told_drawn (entered_surface old.desktop.pointer.place (focus_window (Some t) windows)) t.client old in (with_focus (Some t) told.0, (told.0, told.1, refl))
+
+turns-some : (windows : List Window) (s t : Option Target) (old : Midstep) → (new : Midstep) × AppliesAll windows (leave_of s ++ enter_of t) old new
+turns-some windows None None old = (old, refl)
+turns-some windows None (Some t) old = let entered = entered-some windows t old in (entered.0, (entered.0, entered.1, refl))
+turns-some windows (Some s) None old = let left = left-some windows s old in (left.0, (left.0, left.1, refl))
+turns-some windows (Some s) (Some t) old =
+    let left = left-some windows s old in
+    let entered = entered-some windows t left.0 in (entered.0, (left.0, left.1, (entered.0, entered.1, refl)))
+
+settles-some : (old : Midstep) → (new : Midstep) × Settles old new
+settles-some old = at (is_same p.focus to)
+  where
+    ws : List Window
+    ws = all_windows old.desktop
+
+    p : Pointer
+    p = old.desktop.pointer
+
+    to : Option Target
+    to = settled p ws
+
+    at : (b : Bool) → (new : Midstep) × AppliesAll ws (if b then [] else leave_of p.focus ++ enter_of to) old new
+    at true = (old, refl)
+    at false = turns-some ws p.focus to old
+
+first-some : (n : ℕ) → ((m : Midstep) → (path : List Desktop) × (new : Desktop) × SettlesAllThrough n m path new) → (ss : List Strike) (d : Desktop)
+    → (path : List Desktop) × (new : Desktop) × EndsFirstThrough (SettlesAllThrough n) ss d path new
+first-some n next [] d = ([], d, (refl, refl))
+first-some n next (s ∷ ss) d =
+    let k = next (record { desktop = ended_by s d; struck = ss }) in (ended_by s d ∷ k.0, k.1, (k.0, refl, k.2))
+
+all-some : (n : ℕ) (old : Midstep) → (path : List Desktop) × (new : Desktop) × SettlesAllThrough n old path new
+all-some zero old = ([], old.desktop, (refl, refl))
+all-some (suc n) old =
+    let now = settles-some old in
+    let k = first-some n (all-some n) now.0.struck now.0.desktop in
+    (now.0.desktop ∷ k.0, k.1, (now.0, now.1, k.0, refl, k.2))
+
+first-last : (n : ℕ) → ((m : Midstep) → AreStruck m.struck m.desktop.clients → lasting m.desktop.clients < n → (path : List Desktop) (new : Desktop) → SettlesAllThrough n m path new → IsSettled new)
+    → (ss : List Strike) (d : Desktop) → AreStruck ss d.clients → lasting d.clients ≤ n → IsSettled d → (path : List Desktop) (new : Desktop) → EndsFirstThrough (SettlesAllThrough n) ss d path new
+    → IsSettled new
+first-last n next [] d struck few is path new h = subst IsSettled (sym h.1) is
+first-last n next (s ∷ ss) d struck few is path new h =
+    next (record { desktop = ended_by s d; struck = ss }) (ended-after s ss d struck).sound (omega (arith, ended-one s ss d struck, few)) h.0 new h.2
+
+all-last : (n : ℕ) (old : Midstep) → AreStruck old.struck old.desktop.clients → lasting old.desktop.clients < n → (path : List Desktop) (new : Desktop) → SettlesAllThrough n old path new
+    → IsSettled new
+all-last zero old struck few path new h = let never : ⊥ = omega (arith, few) in absurd never
+all-last (suc n) old struck few path new h =
+    let after = (acts-lead Settle old struck).follows h.0 h.1 in
+    first-last n (all-last n) h.0.struck h.0.desktop after.sound (omega (arith, after.fewer, few)) (settles-settled old h.0 h.1) h.2 new h.4
+
+pub settles-at-last : SettlesAtLast
+settles-at-last old short struck = (
+  all-some 33 old,
+  λ path new h. all-last 33 old (of-end old.struck old.desktop struck) (omega (arith, lasting-within old.desktop.clients, short)) path new h,
+)

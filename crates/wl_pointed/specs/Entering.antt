@@ -1,5 +1,5 @@
 -- wl_seat.get_pointer of the client that has the focus: the new wl_pointer, and it alone, is told of the focus.
-use Rattle.std.specs.Prelude.{ℕ, ◌≡◌, true, Some, List}
+use Rattle.std.specs.Prelude.{ℕ, ◌≡◌, true, Some, List, [], ◌∷◌}
 use Rattle.wl_peer.specs.Told.{Said}
 use Rattle.wl_plain.specs.Changing.{drawing, has_focus}
 use Rattle.wl_plain.specs.Demand.{GetPointer}
@@ -28,10 +28,11 @@ NewPointerApart =
     → has_focus c d.pointer.focus ≡ true → Serves left c (unpointed d) e → TellsNew id c (put_back left c d e) told
     → EndsAndSettles told new → Serves left c d new
 
--- So it is with the desktops on the way.
+-- So it is with the desktops on the way: its own change is all that it leads through with the pointer put aside.
 abbrev pub NewPointerApartThrough : Type 0
 NewPointerApartThrough =
     (left : LeftOut) (c id version : ℕ) (d : Desktop) (path : List Desktop) (e : Desktop) (told : Midstep) → MovedStands d
     → asked left c d ≡ Some (GetPointer id version) → has_focus c d.pointer.focus ≡ true → ServesThrough left c (unpointed d) path e
     → TellsNew id c (put_back left c d e) told
-    → (later : List Desktop) (new : Desktop) → settling_through later new told → ServesThrough left c d later new
+    → (path ≡ e ∷ e ∷ [])
+    × ((later : List Desktop) (new : Desktop) → settling_through later new told → ServesThrough left c d later new)

@@ -1,15 +1,26 @@
 -- Whatever happens but a message, a motion and a button may happen with the pointer put aside too.
-use Rattle.std.specs.Prelude.{ℕ, ◌≡◌, ◌⊎◌, ◌&&◌, not, is_none, is_some, if◌then◌else◌, Bool, true, false, Option, Some, None, List, [], ◌∷◌}
+use Rattle.std.specs.Prelude.{ℕ, ◌≡◌, ◌≤◌, ◌⊎◌, ◌&&◌, not, is_none, is_some, if◌then◌else◌, Bool, true, false, Option, Some, None}
+use Rattle.std.specs.Prelude.{List, [], ◌∷◌, length}
+use Rattle.wl_peer.specs.declared.cause.Cause.{Cause}
+use Rattle.wl_peer.specs.Peer.{ended}
+use Rattle.wl_peer.specs.Told.{Said}
 use Rattle.wl_stacking.specs.Pointer.{Pointer, Target}
 use Rattle.wl_plain.specs.declared.answers.Done.{Done}
 use Rattle.wl_plain.specs.declared.answers.Done.TheVariants as gave
 use Rattle.wl_plain.specs.Act.{Act, Connect, Feed, Store, Leave, Tick, Send, Close, Motion, Button}
-use Rattle.wl_plain.specs.Desktop.{Desktop, status_in, unpointed}
+use Rattle.wl_plain.specs.Desktop.{Desktop, Resident, client_at, status_in, unpointed}
 use Rattle.wl_plain.specs.Happenings.{Happening, Leads, Message, Receive, Single, Starve}
+use Rattle.wl_plain.specs.Happens.{Happens}
 use Rattle.wl_plain.specs.LeftOut.{LeftOut}
-use Rattle.wl_plain.specs.Settling.{pointer_without}
+use Rattle.wl_plain.specs.Settling.{EndsAndSettles, Midstep, SettlesAll, Strike, Tells, becomes, ended_by, pointer_without, unstruck}
+use Rattle.wl_plain.specs.Through.{settling_through}
+use Rattle.wl_laws.specs.Focus.{EndedAreBare, IsSettled}
 use Rattle.wl_pointed.specs.Apart.{SettlesOn}
 use Rattle.wl_pointed.specs.Pointed.{pointed}
+
+-- the middle of a step, with this pointer
+abbrev pub with_pointer : Pointer → Midstep → Midstep
+with_pointer p m = record m { desktop = pointed p m.desktop }
 
 -- ---- where nobody is told and nobody ends
 
@@ -57,6 +68,17 @@ EndsApart =
     → IsEndOf c h → Leads left h (unpointed d) path e
     → SettlesOn (pointed (pointer_without c d.pointer)) (Leads left h d) path e
 
+-- The same of the end of a client for whatever cause, with the desktops on the way and without.
+abbrev pub EndedApart : Type 0
+EndedApart =
+    (c : ℕ) (why : Cause) (r : Resident) (d : Desktop) (e : Desktop)
+    → ((path : List Desktop) → settling_through path e (unstruck (becomes c r (ended why r.peer) (unpointed d)))
+    → SettlesOn (pointed (pointer_without c d.pointer))
+    (λ later new. settling_through later new (unstruck (becomes c r (ended why r.peer) d))) path e)
+    × ((new : Desktop) → EndsAndSettles (unstruck (becomes c r (ended why r.peer) (unpointed d))) e
+    → SettlesAll 33 (unstruck (pointed (pointer_without c d.pointer) e)) new
+    → EndsAndSettles (unstruck (becomes c r (ended why r.peer) d)) new)
+
 -- ---- a frame is shown
 
 -- a client ended from one desktop to the other
@@ -77,3 +99,31 @@ FramesApart =
     (left : LeftOut) (time : ℕ) (done : Done) (d : Desktop) (path : List Desktop) (e : Desktop)
     → Leads left (Single (Tick time) done) (unpointed d) path e
     → SettlesOn (λ x. pointed (pointer_left d x) x) (Leads left (Single (Tick time) done) d) path e
+
+-- ---- without the desktops on the way
+
+-- What leads so leads where the focus is settled.
+abbrev pub SettlesOnHappens : Type 0
+SettlesOnHappens =
+    (left : LeftOut) (act : Act) (done : Done) (put : Desktop → Desktop) (d : Desktop) (path : List Desktop) (e new : Desktop)
+    → SettlesOn put (Leads left (Single act done) d) path e → SettlesAll 33 (unstruck (put e)) new → Happens left act done d new
+
+-- Where nobody is told and nobody ends, a focus that was settled is.
+abbrev pub QuietIsSettled : Type 0
+QuietIsSettled =
+    (left : LeftOut) (h : Happening) (d : Desktop) (path : List Desktop) (new : Desktop)
+    → is_quiet h ≡ true → length d.clients ≤ 32 → EndedAreBare d → IsSettled d → Leads left h d path new → IsSettled new
+
+-- ---- one client ends
+
+-- A client that is there ends with the pointer put aside, and then the pointer leaves it.
+abbrev pub EndApart : Type 0
+EndApart =
+    (s : Strike) (d : Desktop) (r : Resident) → client_at s.client d ≡ Some r
+    → ended_by s d ≡ pointed (pointer_without s.client d.pointer) (ended_by s (unpointed d))
+
+-- A client is told something with the pointer put aside as with it.
+abbrev pub TellsApart : Type 0
+TellsApart =
+    (change : Resident → Resident) (events : Resident → List Said) (c : ℕ) (p : Pointer) (old new : Midstep) → Tells change events c old new
+    → Tells change events c (with_pointer p old) (with_pointer p new)

@@ -5,3 +5,4 @@ pub mod Marking
 pub mod Moved
 pub mod Pointed
 pub mod Rounds
+pub mod Whole

@@ -6,7 +6,9 @@ use Rattle.wl_plain.specs.Marks.{AreDistinct}
 use Rattle.wl_plain.specs.Moments.{marks_at_least_of, marks_at_least_through, marks_at_most_of, marks_at_most_through}
 use Rattle.wl_plain.specs.Settling.{Midstep, Settles, Strike, ended_by}
 use Rattle.wl_plain.specs.Stacked.{all_windows}
+use Rattle.wl_pointed.specs.Entering.{TellsNew}
 use Rattle.wl_pointed.specs.Pointed.{pointed}
+use Rattle.wl_pointed.specs.Rounds.{AreRounds, IsRound}
 
 -- the last of these desktops
 abbrev pub last_of : Desktop → List Desktop → Desktop
@@ -48,3 +50,43 @@ RoundsMarkEnds =
     ≡ marks_at_least_of all_windows settled.desktop (ended_by s settled.desktop) x y)
     × (marks_at_most_through all_windows None old.desktop (settled.desktop ∷ ended_by s settled.desktop ∷ []) x y
     ≡ marks_at_most_of all_windows settled.desktop (ended_by s settled.desktop) None x y)
+
+-- So one round more marks what its end marks, and a settling more nothing.
+abbrev pub RoundsMarkInTurn : Type 0
+RoundsMarkInTurn =
+    (n : ℕ) (old mid new : Midstep) (path later : List Desktop) (x y : ℤ) → AreDistinct (all_windows mid.desktop)
+    → AreRounds n old path mid → (round : IsRound mid later new)
+    → (marks_at_least_through all_windows old.desktop (path ++ later) x y
+    ≡ (marks_at_least_through all_windows old.desktop path x y || marks_at_least_of all_windows round.0.desktop new.desktop x y))
+    × (marks_at_most_through all_windows None old.desktop (path ++ later) x y
+    ≡ (marks_at_most_through all_windows None old.desktop path x y || marks_at_most_of all_windows round.0.desktop new.desktop None x y))
+
+abbrev pub LastMarksNothing : Type 0
+LastMarksNothing =
+    (n : ℕ) (old mid last : Midstep) (path : List Desktop) (x y : ℤ) → AreDistinct (all_windows mid.desktop)
+    → AreRounds n old path mid → Settles mid last
+    → (marks_at_least_through all_windows old.desktop (path ++ last.desktop ∷ []) x y
+    ≡ marks_at_least_through all_windows old.desktop path x y)
+    × (marks_at_most_through all_windows None old.desktop (path ++ last.desktop ∷ []) x y
+    ≡ marks_at_most_through all_windows None old.desktop path x y)
+
+-- What a step's own change marks, where the focus is settled after it, and then what is marked from there on: after a motion or a button.
+abbrev pub MarksOwnThenRounds : Type 0
+MarksOwnThenRounds =
+    (raised : Option (ℕ × ℕ)) (d : Desktop) (told settled : Midstep) (later : List Desktop) (x y : ℤ)
+    → AreDistinct (all_windows told.desktop) → Settles told settled
+    → (marks_at_least_through all_windows d (settled.desktop ∷ later) x y
+    ≡ (marks_at_least_of all_windows d told.desktop x y
+    || marks_at_least_through all_windows told.desktop (settled.desktop ∷ later) x y))
+    × (marks_at_most_through all_windows raised d (settled.desktop ∷ later) x y
+    ≡ (marks_at_most_of all_windows d told.desktop raised x y
+    || marks_at_most_through all_windows None told.desktop (settled.desktop ∷ later) x y))
+
+-- That a new wl_pointer is told of the focus marks nothing.
+abbrev pub NewPointerMarks : Type 0
+NewPointerMarks =
+    (id c : ℕ) (d e : Desktop) (told : Midstep) (later : List Desktop) (x y : ℤ) → TellsNew id c e told
+    → (marks_at_least_through all_windows d (told.desktop ∷ later) x y
+    ≡ (marks_at_least_of all_windows d e x y || marks_at_least_through all_windows told.desktop later x y))
+    × (marks_at_most_through all_windows None d (told.desktop ∷ later) x y
+    ≡ (marks_at_most_of all_windows d e None x y || marks_at_most_through all_windows None told.desktop later x y))

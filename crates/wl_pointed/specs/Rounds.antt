@@ -2,7 +2,7 @@
 use Rattle.std.specs.Prelude.{ℕ, zero, suc, ◌≡◌, ◌≤◌, ◌<◌, false, Some, None, List, [], ◌∷◌, ◌++◌, length}
 use Rattle.wl_stacking.specs.PointerActions.{PointerInput, Went}
 use Rattle.wl_plain.specs.Desktop.{Desktop, Resident, client_at}
-use Rattle.wl_plain.specs.Settling.{Midstep, PointerActs, Settles, Strike, ended_by, is_struck}
+use Rattle.wl_plain.specs.Settling.{Midstep, PointerActs, Settles, Strike, ended_by, is_struck, unstruck}
 use Rattle.wl_plain.specs.Through.{SettlesAllThrough, ending_through}
 use Rattle.wl_laws.specs.Focus.{IsSettled}
 
@@ -49,11 +49,22 @@ StruckLive =
     (input : PointerInput) (old new : Midstep) → AreToEnd old.struck old.desktop → PointerActs input old new
     → AreToEnd new.struck new.desktop
 
+-- The focus may always be settled so, and where there are fewer clients than settlings it is settled at last.
+abbrev pub SettlesAtLast : Type 0
+SettlesAtLast =
+    (old : Midstep) → length old.desktop.clients ≤ 32 → AreToEnd old.struck old.desktop
+    → ((path : List Desktop) × (new : Desktop) × SettlesAllThrough 33 old path new)
+    × ((path : List Desktop) (new : Desktop) → SettlesAllThrough 33 old path new → IsSettled new)
+
 -- ---- what comes after a motion and a button
 
 -- To settle a focus that is settled does nothing.
 abbrev pub SettlesIdly : Type 0
 SettlesIdly = (old : Midstep) → IsSettled old.desktop → Settles old old × ((new : Midstep) → Settles old new → new ≡ old)
+
+-- Where it is settled and nobody is to end, that is the whole of it.
+abbrev pub SettledAtOnce : Type 0
+SettledAtOnce = (d : Desktop) → IsSettled d → SettlesAllThrough 33 (unstruck d) (d ∷ []) d
 
 -- After a motion the focus is settled, so ends may follow at once, as by rounds from there.
 abbrev pub MotionsEnd : Type 0

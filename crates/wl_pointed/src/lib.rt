@@ -1,13 +1,18 @@
-//! The pointer apart: a step of the desktop is what it is where nobody has pointed yet, and then the pointer is put back and its focus settled. Each
-//! function does nothing and promises one law.
+//! The pointer apart: a step of the desktop is what it is where nobody has pointed yet, and then the pointer is put back and its focus settled; and
+//! the ends that follow, round by round. Each function does nothing and promises one law.
 #![tactic(auto)]
 
 ghost use Rattle.wl_pointed.specs.Apart.{PointerApart, PointerApartThrough};
 ghost use Rattle.wl_pointed.specs.Entering.{NewPointerApart, NewPointerApartThrough};
-ghost use Rattle.wl_pointed.specs.Happenings.{EndsApart, FramesApart, QuietApart};
-ghost use Rattle.wl_pointed.specs.Marking.{MarksApart, MarksInParts, RoundsMarkEnds, SettlingMarksNothing};
+ghost use Rattle.wl_pointed.specs.Happenings.{EndApart, EndedApart, EndsApart, FramesApart, QuietApart, QuietIsSettled};
+ghost use Rattle.wl_pointed.specs.Happenings.{SettlesOnHappens, TellsApart};
+ghost use Rattle.wl_pointed.specs.Marking.{LastMarksNothing, MarksApart, MarksInParts, MarksOwnThenRounds, NewPointerMarks, RoundsMarkEnds};
+ghost use Rattle.wl_pointed.specs.Marking.{RoundsMarkInTurn, SettlingMarksNothing};
 ghost use Rattle.wl_pointed.specs.Moved.{MovedStandsOn};
-ghost use Rattle.wl_pointed.specs.Rounds.{ButtonsEnd, MotionsEnd, RoundsAreFew, RoundsSettle, SettlesIdly, StruckLive};
+ghost use Rattle.wl_pointed.specs.Rounds.{ButtonsEnd, MotionsEnd, RoundsAreFew, RoundsSettle, SettledAtOnce, SettlesAtLast, SettlesIdly, StruckLive};
+ghost use Rattle.wl_pointed.specs.Whole.{StepsByRounds};
+
+// ---- messages
 
 /// A message is served with the pointer put aside; then the pointer is put back, and its focus is settled. So it is with all messages but
 /// wl_seat.get_pointer of the client that has the focus.
@@ -31,9 +36,16 @@ pub fn new_pointer_apart_through()
     ensures { NewPointerApartThrough }
 {}
 
+// ---- whatever else happens
+
 /// Where a client connects, is written to, sent to or closed, or its bytes come, the pointer stays as it is.
 pub fn quiet_apart()
     ensures { QuietApart }
+{}
+
+/// Then a focus that was settled is.
+pub fn quiet_is_settled()
+    ensures { QuietIsSettled }
 {}
 
 /// Where memory is wanting, or a client goes, the pointer leaves it, and then its focus is settled.
@@ -41,10 +53,39 @@ pub fn ends_apart()
     ensures { EndsApart }
 {}
 
+/// So it is with a client's end for whatever cause.
+pub fn ended_apart()
+    ensures { EndedApart }
+{}
+
 /// Where a frame is shown, the pointer leaves each client that ended, and then its focus is settled.
 pub fn frames_apart()
     ensures { FramesApart }
 {}
+
+/// What is led to so through desktops happens.
+pub fn settles_on_happens()
+    ensures { SettlesOnHappens }
+{}
+
+/// A toplevel that is moved with the pointer stands, whatever happens.
+pub fn moved_stands_on()
+    ensures { MovedStandsOn }
+{}
+
+// ---- the parts of a settling
+
+/// A client ends with the pointer put aside, and then the pointer leaves it.
+pub fn end_apart()
+    ensures { EndApart }
+{}
+
+/// A client is told something with the pointer put aside as with it.
+pub fn tells_apart()
+    ensures { TellsApart }
+{}
+
+// ---- the ends that follow
 
 /// The ends of a step are rounds: the focus is settled, and the first client that is to end then does; where none is, the step is over.
 pub fn rounds_settle()
@@ -61,9 +102,19 @@ pub fn struck_live()
     ensures { StruckLive }
 {}
 
+/// The focus may always be settled with the ends that follow, and of 32 clients it is settled at last.
+pub fn settles_at_last()
+    ensures { SettlesAtLast }
+{}
+
 /// To settle a focus that is settled does nothing.
 pub fn settles_idly()
     ensures { SettlesIdly }
+{}
+
+/// Where it is settled and nobody is to end, nothing follows.
+pub fn settled_at_once()
+    ensures { SettledAtOnce }
 {}
 
 /// After a motion the focus is settled, and ends may follow at once.
@@ -75,6 +126,8 @@ pub fn motions_end()
 pub fn buttons_end()
     ensures { ButtonsEnd }
 {}
+
+// ---- what is marked
 
 /// What is marked through desktops is what is marked through the first of them, and then through the others.
 pub fn marks_in_parts()
@@ -96,7 +149,29 @@ pub fn rounds_mark_ends()
     ensures { RoundsMarkEnds }
 {}
 
-/// A toplevel that is moved with the pointer stands, whatever happens.
-pub fn moved_stands_on()
-    ensures { MovedStandsOn }
+/// One round more marks what its end marks.
+pub fn rounds_mark_in_turn()
+    ensures { RoundsMarkInTurn }
+{}
+
+/// A settling after rounds marks nothing.
+pub fn last_marks_nothing()
+    ensures { LastMarksNothing }
+{}
+
+/// After a motion or a button a step marks what its own change marks, and then what is marked from there on.
+pub fn marks_own_then_rounds()
+    ensures { MarksOwnThenRounds }
+{}
+
+/// That a new wl_pointer is told of the focus marks nothing.
+pub fn new_pointer_marks()
+    ensures { NewPointerMarks }
+{}
+
+// ---- a step as a whole
+
+/// A step with the pointer put aside, and then the rounds that follow with the pointer put back, are the step; and it marks what those mark.
+pub fn steps_by_rounds()
+    ensures { StepsByRounds }
 {}
