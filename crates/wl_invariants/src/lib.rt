@@ -1,5 +1,6 @@
-//! The laws of the desktop as far as it is served, with subsurfaces and without popups and the pointer: what holds of every
-//! desktop that comes about, and what a step marks and leaves that changes one tree of surfaces. Each law is a function that promises it.
+//! The laws of the desktop where nobody points: what holds of every desktop that comes about, with subsurfaces and with popups
+//! and whatever is left out; what that comes to where no client has a popup, as none has by what is served now; and what a step
+//! marks and leaves that changes one tree of surfaces. Each law is a function that promises it.
 #![tactic(auto)]
 
 mod in_order;
