@@ -15,6 +15,7 @@ use Rattle.wl_xdg_state.specs.Popups.{is_toplevel_kind}
 use Rattle.wl_xdg_state.specs.Shell.{IsPopup, Kind, RoleObject, Toplevel, xdg_of}
 use Rattle.wl_stacking.specs.Pointer.{first_pointer}
 use Rattle.wl_stacking.specs.Stacking.{Standing}
+use Rattle.wl_plain.specs.Demand.{Demand, EndToplevel, Grab}
 use Rattle.wl_plain.specs.Desktop.{Desktop, Resident, client_at, owned_in, resident_of, toplevels_of}
 use Rattle.wl_plain.specs.WlSubsurface.{has_subsurface, is_of_child}
 use Rattle.wl_plain.specs.XdgShell.{role_of}
@@ -45,6 +46,14 @@ is_kind_numbered number (IsPopup popup) = popup.number == number
 abbrev pub is_popup_numbered : ℕ → Option RoleObject → Bool
 is_popup_numbered number None = false
 is_popup_numbered number (Some object) = is_kind_numbered number object.kind
+
+-- ---- what dismisses popups
+
+-- a grab, where it is refused, and the end of a toplevel (xdg-shell.xml, xdg_popup.grab, xdg_popup.popup_done)
+abbrev pub may_dismiss : Demand → Bool
+may_dismiss (Grab xdg serial) = true
+may_dismiss (EndToplevel id xdg surface) = true
+may_dismiss demand = false
 
 -- ---- a client that lives
 

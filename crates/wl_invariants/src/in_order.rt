@@ -2,8 +2,8 @@
 //! keeps, and each message by itself, whatever is left out. Each law is a function that does nothing and promises it.
 
 ghost use Rattle.wl_invariants.specs.InOrderLaws.{ClientsAreInOrder, DemandsKeepInOrder, EmptyIsInOrder, EndsKeepInOrder};
-ghost use Rattle.wl_invariants.specs.InOrderLaws.{FramesKeepInOrder, InOrderStays, MessagesKeepInOrder, OrderlyIsInOrder};
-ghost use Rattle.wl_invariants.specs.InOrderLaws.{OwnsOrderlyIsInOrder, PeersKeepInOrder, PiecesKeepInOrder, PopupsAreNumbered};
+ghost use Rattle.wl_invariants.specs.InOrderLaws.{FramesKeepInOrder, InOrderIsSound, InOrderStays, MessagesKeepInOrder, OthersDismissNone};
+ghost use Rattle.wl_invariants.specs.InOrderLaws.{OrderlyIsInOrder, OwnsOrderlyIsInOrder, PeersKeepInOrder, PiecesKeepInOrder, PopupsAreNumbered};
 
 /// A desktop without clients is in order.
 pub fn empty_is_in_order()
@@ -13,6 +13,11 @@ pub fn empty_is_in_order()
 /// On a desktop in order a client that lives owns what it owns in order.
 pub fn clients_are_in_order()
     ensures { ClientsAreInOrder }
+{}
+
+/// It is sound, so that no surface has two windows.
+pub fn in_order_is_sound()
+    ensures { InOrderIsSound }
 {}
 
 /// No two popups of such a client have one number, and none has one past that of the client's last request.
@@ -53,6 +58,11 @@ pub fn peers_keep_in_order()
 /// What an accepted message demands leaves a client what it owns in order, whatever is left out.
 pub fn demands_keep_in_order()
     ensures { DemandsKeepInOrder }
+{}
+
+/// A client is told of a popup that is done by a grab and by the end of a toplevel, and by nothing else that is demanded.
+pub fn others_dismiss_none()
+    ensures { OthersDismissNone }
 {}
 
 /// A client owns what it owns in order without a popup where it owns it in order and its role objects are toplevels.
