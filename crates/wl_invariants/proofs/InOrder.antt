@@ -6,6 +6,7 @@ pub mod Known
 pub mod Laws
 pub mod Numbered
 pub mod Numbers
+pub mod Rising
 pub mod Sound
 pub mod Subsurfaces
 pub mod Whole

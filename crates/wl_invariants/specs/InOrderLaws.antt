@@ -21,7 +21,7 @@ use Rattle.wl_plain.specs.Step.{with_peer}
 use Rattle.wl_laws.specs.Apart.{AreApartBy}
 use Rattle.wl_laws.specs.Soundness.{IsSound}
 use Rattle.wl_invariants.specs.Acts.{LeavesPointer}
-use Rattle.wl_invariants.specs.InOrder.{HaveNoPopups, InOrder, OwnsInOrder, may_dismiss}
+use Rattle.wl_invariants.specs.InOrder.{AreRising, HaveNoPopups, InOrder, OwnsInOrder, may_dismiss}
 use Rattle.wl_invariants.specs.Orderly.{Orderly, OwnsOrderly}
 use Rattle.wl_invariants.specs.Toplevels.{AreToplevels}
 
@@ -41,6 +41,10 @@ PopupsAreNumbered =
     (r : Resident) → OwnsInOrder r
     → AreApartBy (λ number p. p.popup.number == number) (popups_of r.owned.shell)
     × ((number : ℕ) → list_any (λ p. p.popup.number == number) (popups_of r.owned.shell) ≡ true → number ≤ r.peer.requests)
+
+-- In order of creation their numbers rise.
+abbrev pub PopupsRise : Type 0
+PopupsRise = (r : Resident) → OwnsInOrder r → AreRising (popups_of r.owned.shell)
 
 -- ---- what keeps a desktop in order, whatever is left out
 

@@ -3,7 +3,7 @@
 
 ghost use Rattle.wl_invariants.specs.InOrderLaws.{ClientsAreInOrder, DemandsKeepInOrder, EmptyIsInOrder, EndsKeepInOrder};
 ghost use Rattle.wl_invariants.specs.InOrderLaws.{FramesKeepInOrder, InOrderIsSound, InOrderStays, MessagesKeepInOrder, OthersDismissNone};
-ghost use Rattle.wl_invariants.specs.InOrderLaws.{OrderlyIsInOrder, OwnsOrderlyIsInOrder, PeersKeepInOrder, PiecesKeepInOrder, PopupsAreNumbered};
+ghost use Rattle.wl_invariants.specs.InOrderLaws.{OrderlyIsInOrder, OwnsOrderlyIsInOrder, PeersKeepInOrder, PiecesKeepInOrder, PopupsAreNumbered, PopupsRise};
 
 /// A desktop without clients is in order.
 pub fn empty_is_in_order()
@@ -23,6 +23,11 @@ pub fn in_order_is_sound()
 /// No two popups of such a client have one number, and none has one past that of the client's last request.
 pub fn popups_are_numbered()
     ensures { PopupsAreNumbered }
+{}
+
+/// In order of creation their numbers rise.
+pub fn popups_rise()
+    ensures { PopupsRise }
 {}
 
 /// Whatever happens that leaves the pointer alone leaves a desktop in order, whatever is left out.

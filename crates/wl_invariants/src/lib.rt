@@ -30,6 +30,7 @@ pub use in_order::owns_orderly_is_in_order;
 pub use in_order::peers_keep_in_order;
 pub use in_order::pieces_keep_in_order;
 pub use in_order::popups_are_numbered;
+pub use in_order::popups_rise;
 pub use mapped::empty_is_mapped;
 pub use mapped::ends_keep_mapped;
 pub use mapped::frames_keep_mapped;
