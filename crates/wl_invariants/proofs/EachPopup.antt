@@ -14,43 +14,43 @@ use Rattle.wl_plain.specs.Demand.{Demand, Asks, EndSurface, AskFrame, CommitTree
 use Rattle.wl_plain.specs.Demand.{GetPopup, Grab, EndPopup, EndToplevel, Move}
 use Rattle.wl_plain.specs.Demanding.{effect_of_commit}
 use Rattle.wl_plain.specs.Desktop.{Desktop, Resident}
+use Rattle.wl_invariants.specs.InOrder.{may_dismiss}
 use Rattle.wl_plain.specs.Step.{asked_so_far, changed_by, toplevel_given, xdg_changed}
 
-abbrev pub OfKind : (Popup → Type 0) → Kind → Type 0
-OfKind P Toplevel = Unit {0}
-OfKind P (IsPopup popup) = P popup
+abbrev pub OfKind : (ℕ → Popup → Type 0) → ℕ → Kind → Type 0
+OfKind P id Toplevel = Unit {0}
+OfKind P id (IsPopup popup) = P id popup
 
-abbrev pub OfRole : (Popup → Type 0) → Option RoleObject → Type 0
+abbrev pub OfRole : (ℕ → Popup → Type 0) → Option RoleObject → Type 0
 OfRole P None = Unit {0}
-OfRole P (Some object) = OfKind P object.kind
+OfRole P (Some object) = OfKind P object.id object.kind
 
--- it is said of each popup of these
-abbrev pub OfEach : (Popup → Type 0) → Shell → Type 0
+-- it is said of each popup of these, by the id of its role object
+abbrev pub OfEach : (ℕ → Popup → Type 0) → Shell → Type 0
 OfEach P [] = Unit {0}
 OfEach P (x ∷ xs) = OfRole P x.role × OfEach P xs
 
--- it goes by nothing that changes of a popup, but for a grab that it is given
-pub record IsSteadyOf (P : Popup → Type 0) : Type 0 where
-  pub placed : (where_to : Popup → Option Placed) (p : Popup) → P p → P (placing where_to p)
-  pub ungrabbed : (p : Popup) → P p → P (without_grab p)
-  pub dismissed : (p : Popup) → P p → P (dismiss p)
-  pub orphaned : (xdg : ℕ) (p : Popup) → P p → P (orphan xdg p)
+-- it goes by nothing that changes of a popup, but for a grab that it is given, and that it is dismissed
+pub record IsSteadyOf (P : ℕ → Popup → Type 0) : Type 0 where
+  pub placed : (where_to : Popup → Option Placed) (id : ℕ) (p : Popup) → P id p → P id (placing where_to p)
+  pub ungrabbed : (id : ℕ) (p : Popup) → P id p → P id (without_grab p)
+  pub orphaned : (xdg id : ℕ) (p : Popup) → P id p → P id (orphan xdg p)
 
 -- the popup that is made
 abbrev pub popup_of : ℕ → Positioner → ℕ → Popup
 popup_of parent positioner number =
     record { parent = Some parent; positioner = positioner; placement = None; is_dismissed = false; has_grab = false; number = number }
 
-module _ (P : Popup → Type 0) where
+module _ (P : ℕ → Popup → Type 0) where
   -- ---- one xdg_surface
 
-  role-popup : (change : Popup → Popup) → ((p : Popup) → P p → P (change p)) → (o : Option RoleObject) → OfRole P o → OfRole P (option_map (with_popup_role change) o)
+  role-popup : (change : Popup → Popup) → ((id : ℕ) (p : Popup) → P id p → P id (change p)) → (o : Option RoleObject) → OfRole P o → OfRole P (option_map (with_popup_role change) o)
   role-popup change keeps None of = tt
   role-popup change keeps (Some object) of = at object.kind of
     where
-      at : (k : Kind) → OfKind P k → OfKind P (with_popup change k)
+      at : (k : Kind) → OfKind P object.id k → OfKind P object.id (with_popup change k)
       at Toplevel of = tt
-      at (IsPopup popup) of = keeps popup of
+      at (IsPopup popup) of = keeps object.id popup of
 
   role-stage : (stage : Stage) (o : Option RoleObject) → OfRole P o → OfRole P (option_map (at_stage stage) o)
   role-stage stage None of = tt
@@ -98,11 +98,14 @@ module _ (P : Popup → Type 0) where
     effect-keeps serial since where_to Maps x of = role-stage Mapped x.role of
     effect-keeps serial since where_to Unmaps x of = role-popup without_grab steady.ungrabbed (unmapping since x).role (role-stage Fresh x.role of)
 
-    dismissed-keeps : (ids : List ℕ) → Keeps (dismissed_among ids)
-    dismissed-keeps ids x of = cond-keeps (is_among x.id ids) (popup_changed dismiss) (λ y k. role-popup dismiss steady.dismissed y.role k) x of
+    abbrev KeptDismissed : Type 0
+    KeptDismissed = (id : ℕ) (p : Popup) → P id p → P id (dismiss p)
 
-    of-dismissing : (is : Popped → Bool) (xs : Shell) → OfEach P xs → OfEach P (dismissing is xs)
-    of-dismissing is xs of = of-map (dismissed_among (dismissed_with is xs)) (dismissed-keeps (dismissed_with is xs)) xs of
+    dismissed-keeps : KeptDismissed → (ids : List ℕ) → Keeps (dismissed_among ids)
+    dismissed-keeps keeps ids x of = cond-keeps (is_among x.id ids) (popup_changed dismiss) (λ y k. role-popup dismiss keeps y.role k) x of
+
+    of-dismissing : KeptDismissed → (is : Popped → Bool) (xs : Shell) → OfEach P xs → OfEach P (dismissing is xs)
+    of-dismissing keeps is xs of = of-map (dismissed_among (dismissed_with is xs)) (dismissed-keeps keeps (dismissed_with is xs)) xs of
 
     of-orphaning : (xdg : ℕ) (xs : Shell) → OfEach P xs → OfEach P (orphaning xdg xs)
     of-orphaning xdg xs of = of-map (popup_changed (orphan xdg)) (λ x k. role-popup (orphan xdg) (steady.orphaned xdg) x.role k) xs of
@@ -137,35 +140,36 @@ module _ (P : Popup → Type 0) where
     of-mode link true r of = of
     of-mode link false r of = of
 
-    of-popup : (id xdg parent : ℕ) (positioner : Positioner) (o : Option Xdg) (r : Resident) → P (popup_of parent positioner r.peer.requests) → OfEach P r.owned.shell
+    of-popup : (id xdg parent : ℕ) (positioner : Positioner) (o : Option Xdg) (r : Resident) → P id (popup_of parent positioner r.peer.requests) → OfEach P r.owned.shell
         → OfEach P (popup_given_to id xdg parent positioner o r).owned.shell
     of-popup id xdg parent positioner None r new of = of
     of-popup id xdg parent positioner (Some x) r new of = of-change xdg _ (λ y k. new) r.owned.shell of
 
-    of-grabbed : (b : Bool) (xdg : ℕ) (r : Resident) → (b ≡ true → (p : Popup) → P p → P (with_grab p)) → OfEach P r.owned.shell → OfEach P (grabbed b xdg r).owned.shell
-    of-grabbed true xdg r grabs of = of-change xdg (popup_changed with_grab) (λ x k. role-popup with_grab (grabs refl) x.role k) r.owned.shell of
-    of-grabbed false xdg r grabs of = of-dismissing (λ p. p.xdg.id == xdg) r.owned.shell of
+    of-grabbed : KeptDismissed → (b : Bool) (xdg : ℕ) (r : Resident) → (b ≡ true → (id : ℕ) (p : Popup) → P id p → P id (with_grab p)) → OfEach P r.owned.shell
+        → OfEach P (grabbed b xdg r).owned.shell
+    of-grabbed keeps true xdg r grabs of = of-change xdg (popup_changed with_grab) (λ x k. role-popup with_grab (grabs refl) x.role k) r.owned.shell of
+    of-grabbed keeps false xdg r grabs of = of-dismissing keeps (λ p. p.xdg.id == xdg) r.owned.shell of
 
-    -- whatever is demanded, where it is said of a new popup, and of one that is given a grab
+    -- whatever is demanded, where it is said of a new popup, of one that is given a grab, and of one that is dismissed, if any may be
     pub each-stays :
-        (c : ℕ) (demand : Demand) (r : Resident) (d : Desktop) → ((parent : ℕ) (positioner : Positioner) → P (popup_of parent positioner r.peer.requests))
-        → ((xdg serial : ℕ) → grab_allowed c xdg serial r d ≡ true → (p : Popup) → P p → P (with_grab p)) → OfEach P r.owned.shell
-        → OfEach P (changed_for c demand r d).owned.shell
-    each-stays c (Asks ask) r d new grabs of = of-asked ask r of
-    each-stays c (EndSurface id) r d new grabs of = of
-    each-stays c (AskFrame id version surface) r d new grabs of = of
-    each-stays c (CommitTree surface) r d new grabs of =
+        (c : ℕ) (demand : Demand) (r : Resident) (d : Desktop) → ((id parent : ℕ) (positioner : Positioner) → P id (popup_of parent positioner r.peer.requests))
+        → ((xdg serial : ℕ) → grab_allowed c xdg serial r d ≡ true → (id : ℕ) (p : Popup) → P id p → P id (with_grab p))
+        → (may_dismiss demand ≡ true → KeptDismissed) → OfEach P r.owned.shell → OfEach P (changed_for c demand r d).owned.shell
+    each-stays c (Asks ask) r d new grabs gone of = of-asked ask r of
+    each-stays c (EndSurface id) r d new grabs gone of = of
+    each-stays c (AskFrame id version surface) r d new grabs gone of = of
+    each-stays c (CommitTree surface) r d new grabs gone of =
         of-effect (placement_now c r d) surface (effect_of_commit r surface) (xdg_of surface r.owned.shell) (tree_committed surface r) of
-    each-stays c (GetSubsurface id version child parent) r d new grabs of = of
-    each-stays c (EndSubsurface id) r d new grabs of = of
-    each-stays c (SetMode link synchronised) r d new grabs of = of-mode link synchronised r of
-    each-stays c (GetPointer id version) r d new grabs of =
+    each-stays c (GetSubsurface id version child parent) r d new grabs gone of = of
+    each-stays c (EndSubsurface id) r d new grabs gone of = of
+    each-stays c (SetMode link synchronised) r d new grabs gone of = of-mode link synchronised r of
+    each-stays c (GetPointer id version) r d new grabs gone of =
         of-drawn (has_focus c d.pointer.focus) (record r { pointers = in_rising_order id r.pointers }) of
-    each-stays c (MakeCursor surface) r d new grabs of = of
-    each-stays c (GetPopup id version xdg parent p) r d new grabs of = of-popup id xdg parent p (xdg_at xdg r.owned.shell) r (new parent p) of
-    each-stays c (Grab xdg serial) r d new grabs of = of-grabbed (grab_allowed c xdg serial r d) xdg r (grabs xdg serial) of
-    each-stays c (EndPopup id xdg) r d new grabs of = of-change xdg without_role (λ x k. tt) r.owned.shell of
-    each-stays c (EndToplevel id xdg top) r d new grabs of =
+    each-stays c (MakeCursor surface) r d new grabs gone of = of
+    each-stays c (GetPopup id version xdg parent p) r d new grabs gone of = of-popup id xdg parent p (xdg_at xdg r.owned.shell) r (new id parent p) of
+    each-stays c (Grab xdg serial) r d new grabs gone of = of-grabbed (gone refl) (grab_allowed c xdg serial r d) xdg r (grabs xdg serial) of
+    each-stays c (EndPopup id xdg) r d new grabs gone of = of-change xdg without_role (λ x k. tt) r.owned.shell of
+    each-stays c (EndToplevel id xdg top) r d new grabs gone of =
         of-change xdg without_role (λ x k. tt) (orphaning xdg (dismissing (λ p. is_parent_of xdg p.popup) r.owned.shell))
-        (of-orphaning xdg (dismissing (λ p. is_parent_of xdg p.popup) r.owned.shell) (of-dismissing (λ p. is_parent_of xdg p.popup) r.owned.shell of))
-    each-stays c (Move surface serial) r d new grabs of = of
+        (of-orphaning xdg (dismissing (λ p. is_parent_of xdg p.popup) r.owned.shell) (of-dismissing (gone refl) (λ p. is_parent_of xdg p.popup) r.owned.shell of))
+    each-stays c (Move surface serial) r d new grabs gone of = of

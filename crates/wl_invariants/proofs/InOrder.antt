@@ -1,9 +1,12 @@
 -- What each client owns is in order wherever nobody points, with popups and whatever is left out.
 pub mod Clients
+pub mod Dismissed
 pub mod Kept
 pub mod Known
 pub mod Laws
 pub mod Numbered
 pub mod Numbers
+pub mod Rising
+pub mod Sound
 pub mod Subsurfaces
 pub mod Whole

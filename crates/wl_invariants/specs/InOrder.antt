@@ -1,6 +1,6 @@
 -- What holds of every client wherever nobody points, with subsurfaces and with popups, whatever is left out. Each step keeps it, and each
 -- message by itself.
-use Rattle.std.specs.Prelude.{ℕ, ◌≡◌, ◌≤◌, ◌==◌, ◌&&◌, Bool, true, false, is_some, not, Option, Some, None, List, [], take}
+use Rattle.std.specs.Prelude.{ℕ, ◌≡◌, ◌≤◌, ◌<◌, ◌==◌, ◌&&◌, Bool, true, false, is_some, not, Option, Some, None, List, [], ◌∷◌, take}
 use Rattle.std.specs.List.{list_any}
 use Rattle.wl_interface.specs.declared.interface.Interface.TheVariants.{WlCallback, WlSubsurface, WlSurface, XdgPopup, XdgSurface, XdgToplevel}
 use Rattle.wl_peer.specs.declared.cause.Cause.{Cause}
@@ -11,10 +11,11 @@ use Rattle.wl_state.specs.State.{History, is_member, order}
 use Rattle.wl_surface.specs.Surfaces.{Link, history_in, link_at, surface_at}
 use Rattle.wl_tree_laws.specs.Hanging.{AreNumbered, AreTied}
 use Rattle.wl_tree_laws.specs.Laws.{AreOnceLinked}
-use Rattle.wl_xdg_state.specs.Popups.{is_toplevel_kind}
+use Rattle.wl_xdg_state.specs.Popups.{Popped, is_toplevel_kind}
 use Rattle.wl_xdg_state.specs.Shell.{IsPopup, Kind, RoleObject, Toplevel, xdg_of}
 use Rattle.wl_stacking.specs.Pointer.{first_pointer}
 use Rattle.wl_stacking.specs.Stacking.{Standing}
+use Rattle.wl_plain.specs.Demand.{Demand, EndToplevel, Grab}
 use Rattle.wl_plain.specs.Desktop.{Desktop, Resident, client_at, owned_in, resident_of, toplevels_of}
 use Rattle.wl_plain.specs.WlSubsurface.{has_subsurface, is_of_child}
 use Rattle.wl_plain.specs.XdgShell.{role_of}
@@ -45,6 +46,20 @@ is_kind_numbered number (IsPopup popup) = popup.number == number
 abbrev pub is_popup_numbered : ℕ → Option RoleObject → Bool
 is_popup_numbered number None = false
 is_popup_numbered number (Some object) = is_kind_numbered number object.kind
+
+-- each popup of these has a lower number than those after it
+abbrev pub AreRising : List Popped → Type 0
+AreRising [] = Unit {0}
+AreRising (p ∷ ps) =
+    ((number : ℕ) → list_any (λ q. q.popup.number == number) ps ≡ true → p.popup.number < number) × AreRising ps
+
+-- ---- what dismisses popups
+
+-- a grab, where it is refused, and the end of a toplevel (xdg-shell.xml, xdg_popup.grab, xdg_popup.popup_done)
+abbrev pub may_dismiss : Demand → Bool
+may_dismiss (Grab xdg serial) = true
+may_dismiss (EndToplevel id xdg surface) = true
+may_dismiss demand = false
 
 -- ---- a client that lives
 

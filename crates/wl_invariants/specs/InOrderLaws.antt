@@ -1,6 +1,6 @@
 -- What each client owns is in order wherever nobody points, with popups and whatever is left out: each step keeps it. Where no client has
 -- a popup that comes to what is known of clients without popups.
-use Rattle.std.specs.Prelude.{ℕ, ◌≡◌, ◌≤◌, ◌↔◌, ◌==◌, true, Ok, Some, None, List}
+use Rattle.std.specs.Prelude.{ℕ, ◌≡◌, ◌≤◌, ◌↔◌, ◌==◌, true, false, Ok, Some, None, List, []}
 use Rattle.std.specs.List.{list_any}
 use Rattle.wl_peer.specs.declared.cause.Cause.{Cause}
 use Rattle.wl_peer.specs.Peer.{Peer, counted, ended, with_rest}
@@ -15,11 +15,13 @@ use Rattle.wl_plain.specs.Desktop.{Desktop, Resident, client_at, empty, with_cli
 use Rattle.wl_plain.specs.Framing.{FramesToldAt}
 use Rattle.wl_plain.specs.Happens.{Happens, Serves}
 use Rattle.wl_plain.specs.LeftOut.{LeftOut}
+use Rattle.wl_plain.specs.Replies.{popups_done}
 use Rattle.wl_plain.specs.Settling.{EndsAndSettles, becomes, unstruck}
 use Rattle.wl_plain.specs.Step.{with_peer}
 use Rattle.wl_laws.specs.Apart.{AreApartBy}
+use Rattle.wl_laws.specs.Soundness.{IsSound}
 use Rattle.wl_invariants.specs.Acts.{LeavesPointer}
-use Rattle.wl_invariants.specs.InOrder.{HaveNoPopups, InOrder, OwnsInOrder}
+use Rattle.wl_invariants.specs.InOrder.{AreRising, HaveNoPopups, InOrder, OwnsInOrder, may_dismiss}
 use Rattle.wl_invariants.specs.Orderly.{Orderly, OwnsOrderly}
 use Rattle.wl_invariants.specs.Toplevels.{AreToplevels}
 
@@ -29,12 +31,20 @@ use Rattle.wl_invariants.specs.Toplevels.{AreToplevels}
 abbrev pub ClientsAreInOrder : Type 0
 ClientsAreInOrder = (d : Desktop) (c : ℕ) (r : Resident) → InOrder d → client_at c d ≡ Some r → r.peer.status ≡ None → OwnsInOrder r
 
+-- It is sound, so that no surface has two windows.
+abbrev pub InOrderIsSound : Type 0
+InOrderIsSound = (d : Desktop) → InOrder d → IsSound d
+
 -- No two popups of a client have one number, and none has one past that of the client's last request.
 abbrev pub PopupsAreNumbered : Type 0
 PopupsAreNumbered =
     (r : Resident) → OwnsInOrder r
     → AreApartBy (λ number p. p.popup.number == number) (popups_of r.owned.shell)
     × ((number : ℕ) → list_any (λ p. p.popup.number == number) (popups_of r.owned.shell) ≡ true → number ≤ r.peer.requests)
+
+-- In order of creation their numbers rise.
+abbrev pub PopupsRise : Type 0
+PopupsRise = (r : Resident) → OwnsInOrder r → AreRising (popups_of r.owned.shell)
 
 -- ---- what keeps a desktop in order, whatever is left out
 
@@ -81,6 +91,13 @@ DemandsKeepInOrder =
     (left : LeftOut) (c : ℕ) (r : Resident) (rest : List ℕ) (object opcode : ℕ) (body : List ℕ) (demand : Demand) (d : Desktop)
     → OwnsInOrder r → judge_all left r object opcode body ≡ Ok demand
     → OwnsInOrder (changed_for c demand (with_peer (counted (with_rest rest r.peer)) r) d)
+
+-- ---- popups that are dismissed
+
+-- But for these demands a client is told of no popup that is done.
+abbrev pub OthersDismissNone : Type 0
+OthersDismissNone =
+    (c : ℕ) (demand : Demand) (r : Resident) (d : Desktop) → may_dismiss demand ≡ false → popups_done r (changed_for c demand r d) ≡ []
 
 -- ---- where no client has a popup
 

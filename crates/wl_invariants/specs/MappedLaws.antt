@@ -1,4 +1,4 @@
--- Which toplevels stand wherever subsurfaces are served, and popups and the pointer are not: just those that are mapped, each
+-- Which toplevels stand wherever nobody points and popups are left out: just those that are mapped, each
 -- of which shows a buffer (xdg-shell.xml, xdg_surface: the initial commit, and mapping). Each step keeps it, and each message by itself.
 use Rattle.std.specs.Prelude.{ℕ, ◌≡◌, Some, None, List}
 use Rattle.wl_peer.specs.declared.cause.Cause.{Cause}

@@ -1,5 +1,4 @@
--- What holds of every client wherever subsurfaces are served, and popups and the pointer are not. Each step keeps it, and each
--- message by itself.
+-- What holds of every client wherever nobody points and popups are left out. Each step keeps it, and each message by itself.
 use Rattle.std.specs.Prelude.{ℕ, ◌≡◌, ◌≤◌, ◌==◌, true, is_some, Option, Some, None, List, [], take}
 use Rattle.std.specs.List.{list_any}
 use Rattle.wl_interface.specs.declared.interface.Interface.TheVariants.{WlSurface, XdgSurface, XdgToplevel}
@@ -36,7 +35,7 @@ LeavesOut less more = (request : Request) → less.requests request ≡ true →
 
 -- What a client that lives owns is in order.
 pub record OwnsOrderly (r : Resident) : Type 0 where
-  -- it has no popup and no wl_pointers, and its surfaces, wl_subsurfaces and frame callbacks are known by their ids
+  -- it has no popup, and its surfaces, wl_subsurfaces and frame callbacks are known by their ids
   pub no_popups : OwnsNoPopups r
   -- the number of a wl_buffer determines it
   pub buffers : HasOneBuffer r

@@ -1,4 +1,4 @@
--- What each client owns is in order wherever subsurfaces are served, and popups and the pointer are not: each step keeps it.
+-- What each client owns is in order wherever nobody points and popups are left out: each step keeps it.
 use Rattle.std.specs.Prelude.{ℕ, ◌≡◌, ◌≤◌, true, Ok, Some, None, List, []}
 use Rattle.std.specs.List.{list_any}
 use Rattle.wl_peer.specs.declared.cause.Cause.{Cause}

@@ -2,8 +2,8 @@
 //! keeps, and each message by itself, whatever is left out. Each law is a function that does nothing and promises it.
 
 ghost use Rattle.wl_invariants.specs.InOrderLaws.{ClientsAreInOrder, DemandsKeepInOrder, EmptyIsInOrder, EndsKeepInOrder};
-ghost use Rattle.wl_invariants.specs.InOrderLaws.{FramesKeepInOrder, InOrderStays, MessagesKeepInOrder, OrderlyIsInOrder};
-ghost use Rattle.wl_invariants.specs.InOrderLaws.{OwnsOrderlyIsInOrder, PeersKeepInOrder, PiecesKeepInOrder, PopupsAreNumbered};
+ghost use Rattle.wl_invariants.specs.InOrderLaws.{FramesKeepInOrder, InOrderIsSound, InOrderStays, MessagesKeepInOrder, OthersDismissNone};
+ghost use Rattle.wl_invariants.specs.InOrderLaws.{OrderlyIsInOrder, OwnsOrderlyIsInOrder, PeersKeepInOrder, PiecesKeepInOrder, PopupsAreNumbered, PopupsRise};
 
 /// A desktop without clients is in order.
 pub fn empty_is_in_order()
@@ -15,9 +15,19 @@ pub fn clients_are_in_order()
     ensures { ClientsAreInOrder }
 {}
 
+/// It is sound, so that no surface has two windows.
+pub fn in_order_is_sound()
+    ensures { InOrderIsSound }
+{}
+
 /// No two popups of such a client have one number, and none has one past that of the client's last request.
 pub fn popups_are_numbered()
     ensures { PopupsAreNumbered }
+{}
+
+/// In order of creation their numbers rise.
+pub fn popups_rise()
+    ensures { PopupsRise }
 {}
 
 /// Whatever happens that leaves the pointer alone leaves a desktop in order, whatever is left out.
@@ -53,6 +63,11 @@ pub fn peers_keep_in_order()
 /// What an accepted message demands leaves a client what it owns in order, whatever is left out.
 pub fn demands_keep_in_order()
     ensures { DemandsKeepInOrder }
+{}
+
+/// A client is told of a popup that is done by a grab and by the end of a toplevel, and by nothing else that is demanded.
+pub fn others_dismiss_none()
+    ensures { OthersDismissNone }
 {}
 
 /// A client owns what it owns in order without a popup where it owns it in order and its role objects are toplevels.

@@ -1,5 +1,6 @@
-//! The laws of the desktop as far as it is served, with subsurfaces and without popups and the pointer: what holds of every
-//! desktop that comes about, and what a step marks and leaves that changes one tree of surfaces. Each law is a function that promises it.
+//! The laws of the desktop where nobody points: what holds of every desktop that comes about, with subsurfaces and with popups
+//! and whatever is left out; what that comes to where no client has a popup, as none has by what is served now; and what a step
+//! marks and leaves that changes one tree of surfaces. Each law is a function that promises it.
 #![tactic(auto)]
 
 mod in_order;
@@ -20,13 +21,16 @@ pub use in_order::demands_keep_in_order;
 pub use in_order::empty_is_in_order;
 pub use in_order::ends_keep_in_order;
 pub use in_order::frames_keep_in_order;
+pub use in_order::in_order_is_sound;
 pub use in_order::in_order_stays;
 pub use in_order::messages_keep_in_order;
 pub use in_order::orderly_is_in_order;
+pub use in_order::others_dismiss_none;
 pub use in_order::owns_orderly_is_in_order;
 pub use in_order::peers_keep_in_order;
 pub use in_order::pieces_keep_in_order;
 pub use in_order::popups_are_numbered;
+pub use in_order::popups_rise;
 pub use mapped::empty_is_mapped;
 pub use mapped::ends_keep_mapped;
 pub use mapped::frames_keep_mapped;

@@ -1,5 +1,5 @@
-//! Which toplevels stand wherever subsurfaces are served, and popups and the pointer are not: just those that are mapped, and
-//! each shows a buffer. Each step keeps it, and each message by itself. Each law is a function that does nothing and promises it.
+//! Which toplevels stand wherever nobody points and popups are left out: just those that are mapped, and each shows a buffer.
+//! Each step keeps it, and each message by itself. Each law is a function that does nothing and promises it.
 
 ghost use Rattle.wl_invariants.specs.MappedLaws.{EmptyIsMapped, EndsKeepMapped, FramesKeepMapped, MappedStays, MessagesKeepMapped};
 ghost use Rattle.wl_invariants.specs.MappedLaws.{PiecesKeepMapped};
@@ -9,8 +9,8 @@ pub fn empty_is_mapped()
     ensures { EmptyIsMapped }
 {}
 
-/// Whatever happens that leaves the pointer alone leaves just those toplevels standing that are mapped, where popups and
-/// pointers are left out.
+/// Whatever happens that leaves the pointer alone leaves just those toplevels standing that are mapped, where popups
+/// are left out.
 pub fn mapped_stays()
     ensures { MappedStays }
 {}

@@ -1,5 +1,5 @@
-//! What each client owns is in order wherever subsurfaces are served, and popups and the pointer are not: one invariant, which
-//! each step keeps, and each message by itself. Each law is a function that does nothing and promises it.
+//! What each client owns is in order wherever nobody points and popups are left out: one invariant, which each step keeps, and
+//! each message by itself. Each law is a function that does nothing and promises it.
 
 ghost use Rattle.wl_invariants.specs.OrderlyLaws.{ChildrenAreSubsurfaces, ClientsAreOrderly, DemandsKeepOrder, EmptyIsOrderly};
 ghost use Rattle.wl_invariants.specs.OrderlyLaws.{EndedOwnNothing, EndsKeepOrder, FramesKeepOrder, MessagesKeepOrder};
@@ -52,7 +52,7 @@ pub fn subsurfaces_name_children()
     ensures { SubsurfacesNameChildren }
 {}
 
-/// Whatever happens that leaves the pointer alone leaves an orderly desktop orderly, where popups and pointers are left out.
+/// Whatever happens that leaves the pointer alone leaves an orderly desktop orderly, where popups are left out.
 pub fn orderly_stays_where()
     ensures { OrderlyStaysWhere }
 {}
@@ -62,7 +62,7 @@ pub fn orderly_stays()
     ensures { OrderlyStays }
 {}
 
-/// One message of a client leaves an orderly desktop orderly, where popups and pointers are left out.
+/// One message of a client leaves an orderly desktop orderly, where popups are left out.
 pub fn messages_keep_order_where()
     ensures { MessagesKeepOrderWhere }
 {}

@@ -129,7 +129,7 @@ numbers-apart shell apart = apart-ordered [] (flat_map popped_of shell) tt (apar
 
 -- ---- a number that one of them has
 
-found-none : {X : Type 0} (test : X → Bool) (xs : List X) → find test xs ≡ None → list_any test xs ≡ false
+pub found-none : {X : Type 0} (test : X → Bool) (xs : List X) → find test xs ≡ None → list_any test xs ≡ false
 found-none test [] none = refl
 found-none test (x ∷ xs) none = at (test x) none (found-none test xs)
   where

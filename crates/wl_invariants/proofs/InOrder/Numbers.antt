@@ -163,15 +163,14 @@ demanded-numbers c (Move surface serial) r d ids none apart = apart
 -- ---- none is past the last request
 
 -- a number up to this one
-abbrev IsUpTo : ℕ → Popup → Type 0
-IsUpTo n popup = popup.number ≤ n
+abbrev IsUpTo : ℕ → ℕ → Popup → Type 0
+IsUpTo n id popup = popup.number ≤ n
 
 up-to-steady : (n : ℕ) → IsSteadyOf (IsUpTo n)
 up-to-steady n = record {
-  placed = λ where_to p low. low;
-  ungrabbed = λ p low. low;
-  dismissed = λ p low. low;
-  orphaned = λ xdg p low. subst (λ (k : ℕ). k ≤ n) (sym (orphan-number xdg p)) low;
+  placed = λ where_to id p low. low;
+  ungrabbed = λ id p low. low;
+  orphaned = λ xdg id p low. subst (λ (k : ℕ). k ≤ n) (sym (orphan-number xdg p)) low;
 }
 
 -- the same as the definition says it
@@ -189,13 +188,13 @@ each-early : (n : ℕ) (shell : Shell) → OfEach (IsUpTo n) shell → AreEarly 
 each-early n [] all number any = absurd (differ (sym any))
 each-early n (x ∷ xs) all number any = at (has_number number x) refl any (each-early n xs all.1 number)
   where
-    kind : (k : Kind) → OfKind (IsUpTo n) k → is_kind_numbered number k ≡ true → number ≤ n
-    kind Toplevel low is = absurd (differ (sym is))
-    kind (IsPopup popup) low is = subst (λ (m : ℕ). m ≤ n) (eqb-true popup.number number is) low
+    kind : (id : ℕ) (k : Kind) → OfKind (IsUpTo n) id k → is_kind_numbered number k ≡ true → number ≤ n
+    kind id Toplevel low is = absurd (differ (sym is))
+    kind id (IsPopup popup) low is = subst (λ (m : ℕ). m ≤ n) (eqb-true popup.number number is) low
 
     role : (o : Option RoleObject) → OfRole (IsUpTo n) o → is_popup_numbered number o ≡ true → number ≤ n
     role None low is = absurd (differ (sym is))
-    role (Some object) low is = kind object.kind low is
+    role (Some object) low is = kind object.id object.kind low is
 
     at : (b : Bool) → has_number number x ≡ b → (b || list_any (has_number number) xs) ≡ true → (list_any (has_number number) xs ≡ true → number ≤ n) → number ≤ n
     at true is any later = role x.role all.0 is
@@ -211,13 +210,13 @@ early-each n (x ∷ xs) early = (
     same : (k : ℕ) → (k == k) ≡ true
     same k = equal-numbers k k refl
 
-    kind : (k : Kind) → ((number : ℕ) → is_kind_numbered number k ≡ true → number ≤ n) → OfKind (IsUpTo n) k
-    kind Toplevel low = tt
-    kind (IsPopup popup) low = low popup.number (same popup.number)
+    kind : (id : ℕ) (k : Kind) → ((number : ℕ) → is_kind_numbered number k ≡ true → number ≤ n) → OfKind (IsUpTo n) id k
+    kind id Toplevel low = tt
+    kind id (IsPopup popup) low = low popup.number (same popup.number)
 
     role : (o : Option RoleObject) → ((number : ℕ) → is_popup_numbered number o ≡ true → number ≤ n) → OfRole (IsUpTo n) o
     role None low = tt
-    role (Some object) low = kind object.kind low
+    role (Some object) low = kind object.id object.kind low
 
 none-any : (b : Bool) → (b ≡ true → ⊥) → b ≡ false
 none-any true never = absurd (never refl)
@@ -241,5 +240,5 @@ pub demanded-early : (c k : ℕ) (demand : Demand) (r : Resident) (d : Desktop) 
     → AreEarly (k + 1) (changed_for c demand r d).owned.shell
 demanded-early c k demand r d next early =
     each-early (k + 1) (changed_for c demand r d).owned.shell
-    (each-stays (IsUpTo (k + 1)) (up-to-steady (k + 1)) c demand r d (λ parent positioner. le-same (k + 1) r.peer.requests (sym next)) (λ xdg serial allowed p low. low)
+    (each-stays (IsUpTo (k + 1)) (up-to-steady (k + 1)) c demand r d (λ id parent positioner. le-same (k + 1) r.peer.requests (sym next)) (λ xdg serial allowed id p low. low) (λ may id p low. low)
     (early-each (k + 1) r.owned.shell (λ number any. le-next number (k + 1) k refl (early number any))))

@@ -11,18 +11,17 @@ use Rattle.wl_laws.proofs.Lists.Keys.{differ, none-some}
 use Rattle.wl_invariants.proofs.EachPopup.{IsSteadyOf, OfEach, OfKind, OfRole, each-stays}
 
 -- a popup without a grab
-abbrev pub HasNone : Popup → Type 0
-HasNone popup = popup.has_grab ≡ false
+abbrev pub HasNone : ℕ → Popup → Type 0
+HasNone id popup = popup.has_grab ≡ false
 
 none-steady : IsSteadyOf HasNone
 none-steady = record {
-  placed = λ where_to p none. none;
-  ungrabbed = λ p none. refl;
-  dismissed = λ p none. refl;
-  orphaned = λ xdg p none. at (is_parent_of xdg p) p none;
+  placed = λ where_to id p none. none;
+  ungrabbed = λ id p none. refl;
+  orphaned = λ xdg id p none. at (is_parent_of xdg p) p none;
 }
   where
-    at : (b : Bool) (p : Popup) → HasNone p → HasNone (if b then record p { parent = None } else p)
+    at : (b : Bool) (p : Popup) → p.has_grab ≡ false → (if b then record p { parent = None } else p).has_grab ≡ false
     at true p none = none
     at false p none = none
 
@@ -78,7 +77,7 @@ ordered-none acc (p ∷ ps) none =
 none-before : (x : Xdg) (ps : List Popped) → OfRole HasNone x.role → list_any grab ps ≡ false → list_any grab (popped_of x ++ ps) ≡ false
 none-before x ps none all = at x.role none
   where
-    kind : (object : RoleObject) (k : Kind) → OfKind HasNone k → list_any grab (popped_kind x object k ++ ps) ≡ false
+    kind : (object : RoleObject) (k : Kind) → OfKind HasNone object.id k → list_any grab (popped_kind x object k ++ ps) ≡ false
     kind object Toplevel none = all
     kind object (IsPopup popup) none = or-none popup.has_grab (list_any grab ps) none all
 
@@ -89,7 +88,7 @@ none-before x ps none all = at x.role none
 before-none : (x : Xdg) (ps : List Popped) → list_any grab (popped_of x ++ ps) ≡ false → OfRole HasNone x.role × (list_any grab ps ≡ false)
 before-none x ps none = at x.role none
   where
-    kind : (object : RoleObject) (k : Kind) → list_any grab (popped_kind x object k ++ ps) ≡ false → OfKind HasNone k × (list_any grab ps ≡ false)
+    kind : (object : RoleObject) (k : Kind) → list_any grab (popped_kind x object k ++ ps) ≡ false → OfKind HasNone object.id k × (list_any grab ps ≡ false)
     kind object Toplevel none = (tt, none)
     kind object (IsPopup popup) none = (or-left popup.has_grab (list_any grab ps) none, or-right popup.has_grab (list_any grab ps) none)
 
@@ -157,5 +156,5 @@ none-allowed c xdg serial r d press release = at (is_latest serial r)
 pub none-gained : (c : ℕ) (demand : Demand) (r : Resident) (d : Desktop) → r.press ≡ None → r.release ≡ None → OfEach HasNone r.owned.shell
     → OfEach HasNone (changed_for c demand r d).owned.shell
 none-gained c demand r d press release none =
-    each-stays HasNone none-steady c demand r d (λ parent positioner. refl)
-    (λ xdg serial allowed. absurd (differ (sym allowed ∙ none-allowed c xdg serial r d press release))) none
+    each-stays HasNone none-steady c demand r d (λ id parent positioner. refl)
+    (λ xdg serial allowed. absurd (differ (sym allowed ∙ none-allowed c xdg serial r d press release))) (λ may id p any. refl) none
