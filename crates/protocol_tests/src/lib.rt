@@ -1,4 +1,4 @@
-//! Tests of the crates between bytes and objects: messages, requests and events, and the objects of a client; with allocations that are refused.
+//! Tests of the crates between bytes and objects: messages, requests and events, the objects of a client, and what its wl_pointers are told; with allocations that are refused.
 #![tactic(auto)]
 
 #[cfg(test)]
@@ -9,6 +9,8 @@ mod memory;
 mod messages;
 #[cfg(test)]
 mod objects;
+#[cfg(test)]
+mod pointers;
 #[cfg(test)]
 mod requests;
 #[cfg(test)]

@@ -127,3 +127,28 @@ fn holds_8192_objects(rt: HostRuntime) {
     assert!(rt; inserts_8192(&mut objects));
     assert!(rt; refuses(&mut objects, 9000, TableError::TooMany) && objects.len() == 8192);
 }
+
+// Two surfaces with one target, and a third one.
+fn inserts_three<A: Allocator + Copy>(objects: &mut Objects<A>) -> bool {
+    objects.insert(9000, entry(Interface::WlSurface, 4)) == Ok(())
+        && objects.insert(8193, entry(Interface::WlSurface, 4)) == Ok(())
+        && objects.insert(2, entry(Interface::WlSurface, 0)) == Ok(())
+}
+
+fn finds_the_least<A: Allocator + Copy>(objects: &mut Objects<A>) -> bool {
+    objects.find(Interface::WlSurface, 4) == Some(8193)
+        && objects.find(Interface::WlSurface, 0) == Some(2)
+        && objects.find(Interface::WlRegion, 4).is_none()
+        && objects.insert(8192, entry(Interface::WlSurface, 4)) == Ok(())
+        && objects.find(Interface::WlSurface, 4) == Some(8192)
+        && objects.insert(1, entry(Interface::WlRegion, 4)) == Ok(())
+        && objects.find(Interface::WlRegion, 4) == Some(1)
+        && objects.find(Interface::WlSurface, 4) == Some(8192)
+        && objects.find(Interface::WlSurface, 5).is_none()
+}
+
+#[test]
+fn finds_objects_by_their_targets(rt: HostRuntime) {
+    let mut objects = Objects::new(rt.alloc());
+    assert!(rt; inserts_three(&mut objects) && finds_the_least(&mut objects));
+}

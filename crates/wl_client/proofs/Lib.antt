@@ -4,3 +4,4 @@ pub mod Peers
 pub mod Queueing
 pub mod Tables
 pub mod Taking
+pub mod Telling

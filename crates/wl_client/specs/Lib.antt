@@ -1,5 +1,6 @@
 pub mod Agreement
 pub mod First
+pub mod Pointers
 pub mod Said
 pub mod Serving
 pub mod View

@@ -40,3 +40,7 @@ cleared cause v =
       positioners = [];
       stores = record { held = []; made = 0 };
     }
+
+-- the same, as if no event had been refused
+abbrev pub opened : ClientView → ClientView
+opened v = record v { refused = None }

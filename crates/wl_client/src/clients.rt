@@ -61,7 +61,7 @@ impl<A: Allocator + Copy> Client<A> {
     ghost use Rattle.wl_client.specs.Serving.{ChangesTable, EndsBy, HoldsWithout};
     ghost use Rattle.wl_client.specs.View.{cleared};
     ghost use Rattle.wl_peer.specs.Stored.{stored};
-    ghost use Rattle.wl_table.specs.Objects.{HoldsAt, entry_of};
+    ghost use Rattle.wl_table.specs.Objects.{Finds, HoldsAt, entry_of};
     ghost use Rattle.wl_store.specs.Stores.{next_after, picture_turned, store_at, write_refusal};
     ghost use Rattle.wl_client.specs.Agreement.{IsPeer};
 
@@ -339,6 +339,13 @@ impl<A: Allocator + Copy> Client<A> {
         self.objects.get(id)
     }
 
+    /// The least id of an object of this interface that stands for this place among those of its interface, if there is one.
+    pub fn find(&self, interface: Interface, target: usize) -> Option<u32>
+        ensures { Finds self.now.objects interface target result }
+    {
+        self.objects.find(interface, target)
+    }
+
     /// The region of the wl_region with this id, if there is one.
     pub fn region(&self, id: u32) -> Option<&Region<A>>
         ensures { option_copied result ≡ held_at self.now.regions id }
@@ -385,6 +392,13 @@ impl<A: Allocator + Copy> Client<A> {
         ensures { result ≡ is_some self.now.ended }
     {
         self.ended.is_some()
+    }
+
+    /// Why the client is to end, if it is: an event wasn't queued for this cause, and the client hasn't ended since.
+    pub fn to_end_for(&self) -> Option<Cause>
+        ensures { result ≡ self.now.refused }
+    {
+        self.refused
     }
 
     /// The bytes that wait to be sent to the client.

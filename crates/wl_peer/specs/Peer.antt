@@ -132,6 +132,16 @@ abbrev pub Queues : List Said → Peer → Peer → Type 0
 Queues [] old new = new ≡ old
 Queues (event ∷ events) old new = QueuesOr (has_room old.unsent event) (Queues events (queued event old) new) old new
 
+-- An event is queued, or it isn't, and ends nobody by that: past the limit, or for want of memory. `Later` is what comes where it was.
+abbrev pub QueuesFirst : Bool → Type 0 → Peer → Peer → Option Cause → Type 0
+QueuesFirst false Later p q why = (q ≡ p) × (why ≡ Some Slow)
+QueuesFirst true Later p q why = ((q ≡ p) × (why ≡ Some Memory)) ⊎ Later
+
+-- these are queued in turn, until one isn't, and why
+abbrev pub QueuesTo : List Said → Peer → Peer → Option Cause → Type 0
+QueuesTo [] p q why = (q ≡ p) × (why ≡ None)
+QueuesTo (event ∷ events) p q why = QueuesFirst (has_room p.unsent event) (QueuesTo events (queued event p) q why) p q why
+
 -- The client ends with an error, of which it is told. Where the event isn't queued, the cause is why.
 abbrev pub Errs : Refusal → Peer → Peer → Type 0
 Errs refusal old new =

@@ -1,10 +1,10 @@
 -- How events are queued, how clients end, what the pointer does, and how its focus is settled, where every request is served.
 use Rattle.std.specs.Prelude.{ℕ, zero, suc, ◌≡◌, ◌==◌, ◌&&◌, ◌||◌, nat_lt, Bool, true, false, if◌then◌else◌, is_some, Option, Some, None}
-use Rattle.std.specs.Prelude.{List, [], ◌∷◌, fold, ◌⊎◌}
+use Rattle.std.specs.Prelude.{List, [], ◌∷◌, fold}
 use Rattle.std.specs.List.{list_any}
 use Rattle.wl_peer.specs.declared.cause.Cause.{Cause}
-use Rattle.wl_peer.specs.declared.cause.Cause.TheVariants.{Memory, Slow}
-use Rattle.wl_peer.specs.Peer.{Peer, ended, has_room, queued}
+use Rattle.wl_peer.specs.Peer.{Peer, ended}
+pub use Rattle.wl_peer.specs.Peer.{QueuesFirst, QueuesTo}
 use Rattle.wl_peer.specs.Told.{Said}
 use Rattle.wl_surface.specs.Surfaces.{history_in}
 use Rattle.wl_xdg_state.specs.Popups.{dismissing}
@@ -34,16 +34,6 @@ abbrev pub unstruck : Desktop → Midstep
 unstruck d = record { desktop = d; struck = [] }
 
 -- ---- events
-
--- One event is queued, or it isn't: past the limit, or for want of memory. `Later` is what comes where it was.
-abbrev pub QueuesFirst : Bool → Type 0 → Peer → Peer → Option Cause → Type 0
-QueuesFirst false Later p q why = (q ≡ p) × (why ≡ Some Slow)
-QueuesFirst true Later p q why = ((q ≡ p) × (why ≡ Some Memory)) ⊎ Later
-
--- these are queued in turn, until one isn't, and why
-abbrev pub QueuesTo : List Said → Peer → Peer → Option Cause → Type 0
-QueuesTo [] p q why = (q ≡ p) × (why ≡ None)
-QueuesTo (event ∷ events) p q why = QueuesFirst (has_room p.unsent event) (QueuesTo events (queued event p) q why) p q why
 
 abbrev pub in_order : Strike → List Strike → List Strike
 in_order s [] = s ∷ []

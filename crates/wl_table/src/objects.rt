@@ -1,14 +1,15 @@
 //! A map from ids to objects.
 
-ghost use Rattle.std.specs.Prelude.{◌≡◌, ◌≢◌, ℕ, ◌+◌, ◌-◌, ◌++◌, replicate, ◌<◌, ◌≤◌, ◌⊎◌, [], if◌then◌else◌, length, is_some, IsSome, IfSome, IfNone, None, Some, MatchOption, slice_index_or, OnOk, OnErr, IsOkUnless, Err};
+ghost use Rattle.std.specs.Prelude.{◌≡◌, ◌≢◌, ℕ, ◌+◌, ◌-◌, ◌++◌, replicate, ◌<◌, ◌≤◌, ◌⊎◌, [], if◌then◌else◌, length, is_some, IsSome, IfSome, IfNone, None, Some, MatchOption, slice_index_or, OnOk, OnErr, IsOkUnless, Err, IsTrue, ◌↔◌};
 ghost use Rattle.std.specs.Option.{option_map};
-ghost use Rattle.wl_table.specs.Objects.{Held, entry_of, refusal, with_target, HoldsAt};
+ghost use Rattle.wl_table.specs.Objects.{Held, entry_of, refusal, with_target, HoldsAt, StandsFor, Finds};
 
 use crate::{Entry, TableError};
 use std::alloc::{AllocError, Allocator};
 use std::collections::BTreeMap;
 use std::marker::Model;
 use std::ops::Bound;
+use wl_interface::Interface;
 
 const LAST_ID: u32 = 0xfeffffff;
 
@@ -115,6 +116,23 @@ impl<A: Allocator> Objects<A> {
         };
         Some(*next)
     }
+
+    /// The least id under which an object of this interface has this target, if there is one.
+    pub fn find(&self, interface: Interface, target: usize) -> Option<u32>
+        ensures { Finds self.now interface target result }
+    {
+        for (place, entry) in self.row.iter().enumerate() {
+            if stands_for(*entry, interface, target) {
+                return Some(place as u32 + 1);
+            }
+        }
+        for (id, entry) in &self.others {
+            if stands_for(Some(*entry), interface, target) {
+                return Some(*id);
+            }
+        }
+        None
+    }
 }
 
 impl<A: Allocator + Copy> Objects<A> {
@@ -208,4 +226,14 @@ fn first_held(row: &[Option<Entry>], from: usize) -> Option<usize>
         }
     }
     None
+}
+
+/// Whether an object is there that is of this interface and has this target.
+fn stands_for(entry: Option<Entry>, interface: Interface, target: usize) -> bool
+    ensures { IsTrue result ↔ StandsFor entry interface target }
+{
+    match entry {
+        Some(entry) => entry.interface == interface && entry.target == target,
+        None => false,
+    }
 }

@@ -1,0 +1,136 @@
+//! What clients are told of the pointer.
+
+ghost use Rattle.std.specs.Prelude.{◌≡◌, MatchResult, Some};
+ghost use Rattle.wl_peer.specs.Peer.{Peer, QueuesTo};
+ghost use Rattle.wl_peer.specs.Told.{said};
+ghost use Rattle.wl_client.specs.Said.{said_of};
+ghost use Rattle.wl_client.specs.Pointers.{has_serial, pointer_message, pointers_told, serial_after, TellsPointers};
+
+use crate::clients::Client;
+use std::alloc::Allocator;
+use wl_peer::Cause;
+use wl_proto::{Event, EventBody, WlPointerEvent};
+use wl_wire::Fixed;
+
+/// What the wl_pointers of a client are told, less the serial (wayland.xml, wl_pointer, version 1). A surface is named by its id, and a
+/// point is relative to the corner of the surface, in 24.8 fixed numbers: 256 a pixel.
+#[derive(Clone, Copy, Debug, PartialEq, Eq)]
+pub enum PointerEvent {
+    /// The pointer comes to a surface, at this point.
+    Enter {
+        surface: u32,
+        x: i32,
+        y: i32,
+    },
+    /// It leaves a surface.
+    Leave {
+        surface: u32,
+    },
+    /// It goes to this point of the surface that it is at; the time is in milliseconds.
+    Motion {
+        time: u32,
+        x: i32,
+        y: i32,
+    },
+    /// A button, named by its code, is pressed or released; the time is in milliseconds.
+    Button {
+        time: u32,
+        button: u32,
+        pressed: bool,
+    },
+}
+
+impl PointerEvent {
+    fn has_serial(self) -> bool
+        ensures { result ≡ has_serial self }
+    {
+        match self {
+            PointerEvent::Motion { .. } => false,
+            PointerEvent::Enter { .. } | PointerEvent::Leave { .. } | PointerEvent::Button { .. } =>
+                true,
+        }
+    }
+
+    /// The event of a wl_pointer, with this serial if it has one.
+    fn of(self, pointer: u32, serial: u32) -> Event<'static>
+        ensures { said_of result ≡ said pointer (pointer_message self serial) }
+    {
+        let event = match self {
+            PointerEvent::Enter { surface, x, y } => WlPointerEvent::Enter {
+                serial,
+                surface,
+                surface_x: Fixed(x),
+                surface_y: Fixed(y),
+            },
+            PointerEvent::Leave { surface } => WlPointerEvent::Leave { serial, surface },
+            PointerEvent::Motion { time, x, y } => WlPointerEvent::Motion {
+                time,
+                surface_x: Fixed(x),
+                surface_y: Fixed(y),
+            },
+            PointerEvent::Button {
+                time,
+                button,
+                pressed,
+            } => WlPointerEvent::Button {
+                serial,
+                time,
+                button,
+                state: u32::from(pressed),
+            },
+        };
+        Event {
+            object: pointer,
+            body: EventBody::WlPointer(event),
+        }
+    }
+}
+
+impl<A: Allocator + Copy> Client<A> {
+    ghost use Rattle.wl_client.specs.Agreement.{IsPeer};
+    ghost use Rattle.wl_client.specs.View.{opened};
+
+    /// Tells each of these wl_pointers an event, in this order. All are told one serial, which is drawn for them; where there is no wl_pointer,
+    /// or the event has no serial, none is drawn. It stops at the first event that isn't queued: the client is to end then, for this
+    /// cause, and is told nothing more until that (see `queue`).
+    ///
+    /// # Errors
+    ///
+    /// Why an event wasn't queued: `Slow` where too many bytes would wait then, or `Memory`.
+    pub fn tell_pointers(&mut self, pointers: &[u32], event: PointerEvent) -> Result<(), Cause>
+        ensures tells { (p : Peer) → IsPeer self.old p → (q : Peer) × TellsPointers event pointers.now p q self.new.refused × IsPeer (opened self.new) q }
+        ensures only { self.new ≡ record self.old { unsent = self.new.unsent; refused = self.new.refused; serial = self.new.serial } }
+        ensures drawn { self.new.serial ≡ serial_after event pointers.now self.old.serial }
+        ensures answer { MatchResult result (λ _. self.new.refused ≡ self.old.refused) (λ cause. self.new.refused ≡ Some cause) }
+    {
+        let serial = self.serial();
+        self.draw_for(pointers, event);
+        self.queue_for_each(pointers, event, serial)
+    }
+
+    /// Draws the serial for an event that these wl_pointers are told, if it has one and there are any.
+    fn draw_for(&mut self, pointers: &[u32], event: PointerEvent)
+        ensures { self.new ≡ record self.old { serial = serial_after event pointers.now self.old.serial } }
+    {
+        if event.has_serial() && !pointers.is_empty() {
+            self.draw_serial();
+        }
+    }
+
+    /// Queues an event of each of these wl_pointers, in this order, until one isn't queued.
+    fn queue_for_each(
+        &mut self,
+        pointers: &[u32],
+        event: PointerEvent,
+        serial: u32,
+    ) -> Result<(), Cause>
+        ensures tells { (p : Peer) → IsPeer self.old p → (q : Peer) × QueuesTo (pointers_told event serial pointers.now) p q self.new.refused × IsPeer (opened self.new) q }
+        ensures only { self.new ≡ record self.old { unsent = self.new.unsent; refused = self.new.refused } }
+        ensures answer { MatchResult result (λ _. self.new.refused ≡ self.old.refused) (λ cause. self.new.refused ≡ Some cause) }
+    {
+        for pointer in pointers {
+            self.queue(&event.of(*pointer, serial))?;
+        }
+        Ok(())
+    }
+}
