@@ -1,0 +1,4 @@
+mod MarkedLists
+mod MarkedOrder
+mod MarkedStack
+mod MarkedTrees

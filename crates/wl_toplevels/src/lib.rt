@@ -2,3 +2,7 @@
 //! a message of a client that lives on changes no others, and what of the output has to be marked and may be where they changed, tree by tree.
 //! Each law is a function that promises it.
 #![tactic(auto)]
+
+mod marked;
+
+pub use marked::marks_by_trees_between;
