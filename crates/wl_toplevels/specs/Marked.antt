@@ -10,8 +10,8 @@ use Rattle.wl_plain.specs.Stacked.{all_windows}
 use Rattle.wl_invariants.specs.TreeMarksLaws.{is_in_any, is_struck_at}
 use Rattle.wl_toplevels.specs.Toplevel.{ChangesToplevel, of_root}
 
--- Of one tree, by its windows before and after: where they keep their records, the damage that was applied, each at its window's corner; else
--- all points of the windows, before and after.
+-- Of one tree, by its windows before and after: where they keep their records, the damage that was applied, each at its window's corner;
+-- else all points of the windows, before and after.
 abbrev pub marks_of_tree : Applied → List Window → List Window → ℤ → ℤ → Bool
 marks_of_tree applied was is x y =
     if same_records was is then list_any (is_struck_at applied x y) is else is_in_any x y was || is_in_any x y is
