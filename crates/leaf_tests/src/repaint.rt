@@ -9,6 +9,7 @@ use wl_windows::TreeWindow;
 fn window(surface: SurfaceNo, at: (i32, i32), side: u32) -> TreeWindow {
     TreeWindow {
         surface,
+        root: 0,
         x: at.0,
         y: at.1,
         w: side,

@@ -8,6 +8,7 @@ use wl_windows::TreeWindow;
 fn window(surface: SurfaceNo) -> TreeWindow {
     TreeWindow {
         surface,
+        root: surface,
         x: 4,
         y: 5,
         w: 6,

@@ -50,6 +50,7 @@ fn has_family<A: Allocator + Copy>(linked: &mut Linked<A>) -> bool {
 fn window(surface: SurfaceNo, x: i32, y: i32) -> TreeWindow {
     TreeWindow {
         surface,
+        root: 0,
         x,
         y,
         w: 4,
@@ -108,6 +109,7 @@ fn a_window_is_turned_and_moved(rt: HostRuntime) {
     assert!(rt; made(&mut linked, 1) && shows_turned(&mut linked, 16_777_216));
     let window = TreeWindow {
         surface: 0,
+        root: 0,
         x: 16_777_216,
         y: 20,
         w: 8,

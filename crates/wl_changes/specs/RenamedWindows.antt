@@ -17,9 +17,9 @@ renamed_owner f owner = record owner { root = f owner.root; toplevel = f owner.t
 abbrev pub renamed_window : (ℕ → ℕ) → Window → Window
 renamed_window f w = record w { owner = renamed_owner f w.owner; surface = f w.surface }
 
--- what is told of a window under the other name of its surface
+-- what is told of a window under the other names of its surface and of the root of its tree
 abbrev pub told_by : (ℕ → ℕ) → Window → TreeWindow
-told_by f w = record (told_of w) { surface = f w.surface }
+told_by f w = record (told_of w) { surface = f w.surface; root = f w.owner.root }
 
 -- None of the surfaces that are there gets the name of this one, but itself. It may be there or not.
 abbrev pub IsNamedAlone : (ℕ → ℕ) → Surfaces → ℕ → Type 0
@@ -35,11 +35,11 @@ TreesHeedNoNames =
     → (levels : ℕ) (place : Place) → tree levels (renamed_owner f owner) (renamed f all) (f surface) place
     ≡ map (renamed_window f) (tree levels owner all surface place)
 
--- What is told of them is the same, but for the names of the surfaces, and whoever owns them.
+-- What is told of them is the same, but for the names of the surfaces, and whoever owns them, if the root of their tree goes by its name.
 abbrev pub TellsTreesByName : Type 0
 TellsTreesByName =
     (f : ℕ → ℕ) (all : Surfaces) → IsRenaming f all → (owner other : Owner) (surface : ℕ) → IsNamedAlone f all surface
-    → (levels : ℕ) (place : Place) → told_tree levels other (renamed f all) (f surface) place
+    → other.root ≡ f owner.root → (levels : ℕ) (place : Place) → told_tree levels other (renamed f all) (f surface) place
     ≡ map (told_by f) (tree levels owner all surface place)
 
 -- ---- whose windows they are

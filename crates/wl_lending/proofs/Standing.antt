@@ -10,7 +10,7 @@ use Rattle.wl_stacked.specs.declared.stacked.Stacked.{Stacked}
 use Rattle.wl_stacked.specs.Stacked.{in_place, is_of, replaced, stacked, without_tree}
 use Rattle.wl_stacked.proofs.Places.{placed-run}
 use Rattle.wl_windows.specs.declared.window.TreeWindow.{TreeWindow}
-use Rattle.wl_lending.specs.Stacked.{AreNumberedOnce, AreStacked, IsStacked, has_root, told_as, told_by}
+use Rattle.wl_lending.specs.Stacked.{AreNumberedOnce, AreStacked, IsNumberedBy, IsStacked, has_root, told_as, told_by}
 use Rattle.wl_lending.specs.StackedLaws.{BothAreStacked, FirstAreStacked, StackedAreTold, StackedClientGone, StackedPushed, StackedRemoved}
 use Rattle.wl_lending.specs.StackedLaws.{StackedRenumbered, StackedReplaced, StackedTreeGone, TreeIsStacked, TreeIsThere}
 use Rattle.wl_lending.proofs.Truth.{and-left, and-right, differ, or-left, or-right, same-equal, some-same}
@@ -115,16 +115,19 @@ stacked-client-gone numbers ss ws client are =
 -- ---- the windows that are told
 
 pub stacked-are-told : StackedAreTold
-stacked-are-told numbers ss ws client f are own named = all-told ss ws are own (recursion_from_All (λ w. numbers client w.surface ≡ Some (f w.surface)) ws named)
+stacked-are-told numbers ss ws client f are own named = all-told ss ws are own (recursion_from_All (IsNumberedBy (numbers client) f) ws named)
   where
-    one : (s : Stacked) (w : Window) → (client == w.owner.client) ≡ true → numbers client w.surface ≡ Some (f w.surface) → IsStacked numbers s w → s.window ≡ told_by f w
+    one : (s : Stacked) (w : Window) → (client == w.owner.client) ≡ true → IsNumberedBy (numbers client) f w → IsStacked numbers s w → s.window ≡ told_by f w
     one s w here named is =
+        let mine : s.client ≡ client = is.client ∙ sym (eqb-true client w.owner.client here) in
         is.told
-        ∙ ap (λ (n : ℕ). told_as n w)
-        (some-same s.window.surface (f w.surface) (sym is.surface ∙ ap (λ (n : ℕ). numbers n w.surface) (is.client ∙ sym (eqb-true client w.owner.client here)) ∙ named))
+        ∙ ap (λ (n : ℕ). told_as n s.root w)
+        (some-same s.window.surface (f w.surface) (sym is.surface ∙ ap (λ (n : ℕ). numbers n w.surface) mine ∙ named.0))
+        ∙ ap (λ (n : ℕ). told_as (f w.surface) n w)
+        (some-same s.root (f w.owner.root) (sym is.root ∙ ap (λ (n : ℕ). numbers n w.owner.root) mine ∙ named.1))
 
     all-told : (ss : List Stacked) (ws : List Window) → AreStacked numbers ss ws → list_all (λ w. client == w.owner.client) ws ≡ true
-        → Each (λ w. numbers client w.surface ≡ Some (f w.surface)) ws → map (λ s. s.window) ss ≡ map (told_by f) ws
+        → Each (IsNumberedBy (numbers client) f) ws → map (λ s. s.window) ss ≡ map (told_by f) ws
     all-told [] [] are own named = refl
     all-told [] (w ∷ ws) are own named = absurd are
     all-told (s ∷ ss) [] are own named = absurd are
@@ -134,16 +137,18 @@ stacked-are-told numbers ss ws client f are own named = all-told ss ws are own (
 
 -- the windows of a tree, told by the numbers of their surfaces, stand for it
 module _ (numbers : ℕ → ById ℕ) (client root k : ℕ) (f : ℕ → ℕ) (known : numbers client root ≡ Some k) where
-  tree-told : (is : List Window) → list_all (has_root client root) is ≡ true → Each (λ w. numbers client w.surface ≡ Some (f w.surface)) is
+  tree-told : (is : List Window) → list_all (has_root client root) is ≡ true → Each (IsNumberedBy (numbers client) f) is
       → AreStacked numbers (map (stacked client k) (map (told_by f) is)) is
   tree-told [] rooted named = tt
   tree-told (w ∷ ws) rooted named =
-      let here = and-left (has_root client root w) (list_all (has_root client root) ws) rooted in (
+      let here = and-left (has_root client root w) (list_all (has_root client root) ws) rooted in
+      let own : numbers client w.owner.root ≡ Some k =
+      ap (numbers client) (sym (eqb-true root w.owner.root (and-right (client == w.owner.client) (root == w.owner.root) here))) ∙ known in (
         record {
           client = eqb-true client w.owner.client (and-left (client == w.owner.client) (root == w.owner.root) here);
-          root = ap (numbers client) (sym (eqb-true root w.owner.root (and-right (client == w.owner.client) (root == w.owner.root) here))) ∙ known;
-          surface = named.0;
-          told = refl;
+          root = own;
+          surface = named.0.0;
+          told = ap (λ (n : ℕ). told_as (f w.surface) n w) (some-same (f w.owner.root) k (sym named.0.1 ∙ own));
         },
         tree-told ws (and-right (has_root client root w) (list_all (has_root client root) ws) rooted) named.1,
       )
@@ -151,7 +156,7 @@ module _ (numbers : ℕ → ById ℕ) (client root k : ℕ) (f : ℕ → ℕ) (k
 pub stacked-pushed : StackedPushed
 stacked-pushed numbers ss ws client root k f is are known rooted named =
     both-are-stacked numbers ss (map (stacked client k) (map (told_by f) is)) ws is are
-    (tree-told numbers client root k f known is rooted (recursion_from_All (λ w. numbers client w.surface ≡ Some (f w.surface)) is named))
+    (tree-told numbers client root k f known is rooted (recursion_from_All (IsNumberedBy (numbers client) f) is named))
 
 -- ---- one tree among others
 
@@ -209,4 +214,4 @@ stacked-replaced numbers ss client root k f below above was is are every some no
     subst (λ (xs : List Stacked). AreStacked numbers xs (below ++ (is ++ above))) (sym is_new)
     (both-are-stacked numbers lower.0 (new ++ upper.1) below (is ++ above) lower.3
     (both-are-stacked numbers new upper.1 is above
-    (tree-told numbers client root k f known is rooted (recursion_from_All (λ w. numbers client w.surface ≡ Some (f w.surface)) is named)) upper.4))
+    (tree-told numbers client root k f known is rooted (recursion_from_All (IsNumberedBy (numbers client) f) is named)) upper.4))

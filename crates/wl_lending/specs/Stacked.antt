@@ -9,21 +9,25 @@ use Rattle.wl_stacked.specs.declared.stacked.Stacked.{Stacked}
 
 -- ---- names
 
--- what is told of a window whose surface goes by this number
-abbrev pub told_as : ℕ → Window → TreeWindow
-told_as number w = record (told_of w) { surface = number }
+-- what is told of a window whose surface, and the root of its tree, go by these numbers
+abbrev pub told_as : ℕ → ℕ → Window → TreeWindow
+told_as surface root w = record (told_of w) { surface = surface; root = root }
 
 -- the same by the numbers of the surfaces
 abbrev pub told_by : (ℕ → ℕ) → Window → TreeWindow
-told_by f w = told_as (f w.surface) w
+told_by f w = told_as (f w.surface) (f w.owner.root) w
 
 -- no number is that of two surfaces
 abbrev pub AreNumberedOnce : ById ℕ → Type 0
 AreNumberedOnce numbers = (a b number : ℕ) → numbers a ≡ Some number → numbers b ≡ Some number → a ≡ b
 
--- the surface of each window has this number
+-- the surface of the window has this number, and so has the root of its tree
+abbrev pub IsNumberedBy : ById ℕ → (ℕ → ℕ) → Window → Type 0
+IsNumberedBy numbers f w = (numbers w.surface ≡ Some (f w.surface)) × (numbers w.owner.root ≡ Some (f w.owner.root))
+
+-- so it is with each window
 abbrev pub AreNumberedBy : ById ℕ → (ℕ → ℕ) → List Window → Type 0
-AreNumberedBy numbers f ws = All (λ w. numbers w.surface ≡ Some (f w.surface)) ws
+AreNumberedBy numbers f ws = All (IsNumberedBy numbers f) ws
 
 -- ---- windows
 
@@ -37,7 +41,7 @@ pub record IsStacked (numbers : ℕ → ById ℕ) (s : Stacked) (w : Window) : T
   pub client : s.client ≡ w.owner.client
   pub root : numbers s.client w.owner.root ≡ Some s.root
   pub surface : numbers s.client w.surface ≡ Some s.window.surface
-  pub told : s.window ≡ told_as s.window.surface w
+  pub told : s.window ≡ told_as s.window.surface s.root w
 
 -- so do all of them, one by one from the bottom
 abbrev pub AreStacked : (ℕ → ById ℕ) → List Stacked → List Window → Type 0

@@ -33,8 +33,8 @@ counted (suc (suc (suc (suc (suc (suc zero)))))) e = refl
 counted (suc (suc (suc (suc (suc (suc (suc zero))))))) e = refl
 counted (suc (suc (suc (suc (suc (suc (suc (suc n)))))))) e = absurd (grind (arith, nat_tests))
 
-one-client : (client a b : ℕ) → (client == a) ≡ true → (client == b) ≡ true → (a == b) ≡ true
-one-client client a b e f = eq-eqb a b (sym (eqb-true client a e) ∙ eqb-true client b f)
+one-same : (n a b : ℕ) → (n == a) ≡ true → (n == b) ≡ true → (a == b) ≡ true
+one-same n a b e f = eq-eqb a b (sym (eqb-true n a e) ∙ eqb-true n b f)
 
 with-true : (a b : Bool) → b ≡ true → a ≡ (a && b)
 with-true true b e = sym e
@@ -43,11 +43,13 @@ with-true false b e = refl
 both-one : (a b : ℕ) → (a == 1) ≡ true → (b == 1) ≡ true → (a == b) ≡ true
 both-one a b e f = eq-eqb a b (eqb-true a 1 e ∙ sym (eqb-true b 1 f))
 
--- windows of one client
-same-window : (w v : Window) → (w.owner.client == v.owner.client) ≡ true → nat_lt w.transform 8 ≡ true → nat_lt v.transform 8 ≡ true
+-- windows of one client and tree
+same-window : (w v : Window) → (w.owner.client == v.owner.client) ≡ true → (w.owner.root == v.owner.root) ≡ true → nat_lt w.transform 8 ≡ true → nat_lt v.transform 8 ≡ true
     → (w.scale == 1) ≡ true → (v.scale == 1) ≡ true → is_same_window (told_of w) (told_of v) ≡ has_same_record w v
-same-window w v client first second here there =
-    ap (λ n. fields (w.surface == v.surface) (n == number_of (transform_of v.transform))) (counted w.transform first)
+same-window w v client root first second here there =
+    ap (λ b. fields b (number_of (transform_of w.transform) == number_of (transform_of v.transform)))
+    (sym (with-true (w.surface == v.surface) (w.owner.root == v.owner.root) root))
+    ∙ ap (λ n. fields (w.surface == v.surface) (n == number_of (transform_of v.transform))) (counted w.transform first)
     ∙ ap (λ n. fields (w.surface == v.surface) (w.transform == n)) (counted v.transform second)
     ∙ ap (fields (w.surface == v.surface)) (with-true (w.transform == v.transform) (w.scale == v.scale) (both-one w.scale v.scale here there))
     ∙ sym (ap (λ b. fields (b && (w.surface == v.surface)) (w.transform == v.transform && w.scale == v.scale)) client)
@@ -69,9 +71,10 @@ module _ (client root : ℕ) where
       let second = and_parts (nat_lt v.transform 8) (list_all (λ w. nat_lt w.transform 8) vs) d in
       let here = and_parts (w.scale == 1) (list_all (λ w. w.scale == 1) ws) e in
       let there = and_parts (v.scale == 1) (list_all (λ w. w.scale == 1) vs) f in
-      let same = one-client client w.owner.client v.owner.client (and_parts (client == w.owner.client) (root == w.owner.root) rooted.0).0
-      (and_parts (client == v.owner.client) (root == v.owner.root) other.0).0 in
-      ap (λ b. b && pointwise is_same_window (map told_of ws) (map told_of vs)) (same-window w v same first.0 second.0 here.0 there.0)
+      let own = and_parts (client == w.owner.client) (root == w.owner.root) rooted.0 in
+      let its = and_parts (client == v.owner.client) (root == v.owner.root) other.0 in
+      ap (λ b. b && pointwise is_same_window (map told_of ws) (map told_of vs))
+      (same-window w v (one-same client w.owner.client v.owner.client own.0 its.0) (one-same root w.owner.root v.owner.root own.1 its.1) first.0 second.0 here.0 there.0)
       ∙ ap (λ b. has_same_record w v && b) (records ws vs rooted.1 other.1 first.1 second.1 here.1 there.1)
 
 pub same-as-records : SameAsRecords

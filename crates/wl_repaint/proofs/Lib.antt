@@ -4,3 +4,6 @@ pub mod Lists
 pub mod Marked
 mod Rows
 pub mod Same
+pub mod Together
+pub mod ToldTrees
+pub mod MarkedTrees

@@ -1,6 +1,6 @@
 -- Lists of which some or all elements pass a test.
-use Rattle.std.proofs.Common.{◌≡◌, Bool, true, false, List, [], ◌∷◌, ◌++◌, map, refl, ap, ◌∙◌}
-use Rattle.std.specs.Prelude.{◌&&◌, ◌||◌}
+use Rattle.std.proofs.Common.{◌≡◌, Bool, true, false, List, [], ◌∷◌, ◌++◌, cond, map, refl, ap, ◌∙◌}
+use Rattle.std.specs.Prelude.{◌&&◌, ◌||◌, filter}
 use Rattle.std.specs.List.{AllByRecursion, list_all, list_any}
 use Rattle.std.proofs.lemmas.Bool.{and_from, and_parts}
 
@@ -55,3 +55,24 @@ pub any-turned : {X Y : Type 0} (p : X → Y → Bool) (xs : List X) (ys : List 
     → list_any (λ x. list_any (p x) ys) xs ≡ list_any (λ y. list_any (λ x. p x y) xs) ys
 any-turned p [] ys = none-of ys
 any-turned p (x ∷ xs) ys = ap (λ b. list_any (p x) ys || b) (any-turned p xs ys) ∙ any-or (p x) (λ y. list_any (λ x. p x y) xs) ys
+
+-- ---- what is left of a list
+
+-- all that are left pass, where all that pass two tests do
+pub all-left : {X : Type 0} (p f q : X → Bool) → ((x : X) → p x ≡ true → f x ≡ true → q x ≡ true) → (xs : List X) → list_all p xs ≡ true
+    → list_all q (filter f xs) ≡ true
+all-left p f q g [] every = refl
+all-left p f q g (x ∷ xs) every =
+    let parts = and_parts (p x) (list_all p xs) every in at (f x) refl (g x parts.0) (all-left p f q g xs parts.1)
+  where
+    at : (b : Bool) → f x ≡ b → (f x ≡ true → q x ≡ true) → list_all q (filter f xs) ≡ true → list_all q (cond b (x ∷ filter f xs) (filter f xs)) ≡ true
+    at true here own more = and_from (q x) (list_all q (filter f xs)) (own here) more
+    at false here own more = more
+
+pub each-left : {X : Type 0} (P : X → Type 0) (f : X → Bool) (xs : List X) → AllByRecursion P xs → AllByRecursion P (filter f xs)
+each-left P f [] each = tt
+each-left P f (x ∷ xs) each = at (f x) (each-left P f xs each.1)
+  where
+    at : (b : Bool) → AllByRecursion P (filter f xs) → AllByRecursion P (cond b (x ∷ filter f xs) (filter f xs))
+    at true more = (each.0, more)
+    at false more = more

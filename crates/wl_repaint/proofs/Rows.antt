@@ -4,10 +4,10 @@ use Rattle.std.specs.Prelude.{pos}
 use Rattle.wl_store.specs.declared.transform.Transform.TheVariants.{Normal}
 use Rattle.wl_surface.specs.declared.applied.Change.{Change}
 use Rattle.wl_windows.specs.declared.window.TreeWindow.{TreeWindow}
-use Rattle.wl_repaint.specs.Repaint.{marks}
+use Rattle.wl_repaint.specs.Repaint.{marks, marks_trees}
 
 abbrev window : ℕ → ℕ → ℕ → TreeWindow
-window surface at side = record { surface = surface; x = pos at; y = pos 2; w = side; h = side; transform = Normal }
+window surface at side = record { surface = surface; root = 6; x = pos at; y = pos 2; w = side; h = side; transform = Normal }
 
 -- the parent and its child, whose corner stands in this column
 abbrev tree : ℕ → List TreeWindow
@@ -40,3 +40,27 @@ module _ (A : Type 0) where
 
     damaged-below : marks (tree 3) (tree 3) (c ∷ []) (pos 4) (pos 4) ≡ false
     damaged-below = rw (surface, rects) refl
+
+-- A toplevel with a popup of 4 by 4 on it that moves by one pixel: the toplevel's tree isn't marked where the popup never was.
+abbrev popup : ℕ → TreeWindow
+popup at = record (window 9 at 4) { root = 9 }
+
+abbrev both : ℕ → List TreeWindow
+both at = window 6 0 8 ∷ popup at ∷ []
+
+module _ (A : Type 0) where
+  popup-place : marks_trees {A = A} (both 3) (both 4) [] (pos 3) (pos 2) ≡ true
+  popup-place = refl
+
+  toplevel-not : marks_trees {A = A} (both 3) (both 4) [] (pos 0) (pos 2) ≡ false
+  toplevel-not = refl
+
+  -- a popup that comes, and one that goes
+  popup-comes : marks_trees {A = A} (window 6 0 8 ∷ []) (both 4) [] (pos 7) (pos 5) ≡ true
+  popup-comes = refl
+
+  popup-goes : marks_trees {A = A} (both 4) (window 6 0 8 ∷ []) [] (pos 7) (pos 5) ≡ true
+  popup-goes = refl
+
+  toplevel-stays : marks_trees {A = A} (both 4) (window 6 0 8 ∷ []) [] (pos 3) (pos 2) ≡ false
+  toplevel-stays = refl

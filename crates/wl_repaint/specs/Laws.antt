@@ -1,13 +1,18 @@
 -- What is marked where one tree of surfaces changed, by the plain windows of the tree.
 use Rattle.std.specs.Prelude.{ℕ, ℤ, ◌≡◌, pos, ◌==◌, nat_lt, ◌&&◌, ◌||◌, true, false, if◌then◌else◌, Option, List, ◌++◌, map}
 use Rattle.std.specs.List.{All, list_all, list_any}
+use Rattle.wl_plain.specs.Desktop.{Desktop}
 use Rattle.wl_plain.specs.Marks.{Applied, AreDistinct, at_least, at_most, in_output, same_records}
+use Rattle.wl_plain.specs.Moments.{applied_between}
+use Rattle.wl_plain.specs.Stacked.{all_windows}
 use Rattle.wl_stacking.specs.Windows.{AreUnscaled, Window}
 use Rattle.wl_state.specs.State.{is_damaged}
 use Rattle.wl_surface.specs.declared.applied.Change.{Change}
 use Rattle.wl_invariants.specs.TreeMarksLaws.{AreUndamaged, among, has_root, is_in_any, is_struck_at}
+use Rattle.wl_toplevels.specs.Marked.{marks_by_trees}
+use Rattle.wl_toplevels.specs.Toplevel.{AreInTurn, ChangesToplevel}
 use Rattle.wl_windows.specs.Windows.{told_of}
-use Rattle.wl_repaint.specs.Repaint.{marks, same_windows}
+use Rattle.wl_repaint.specs.Repaint.{AreTogether, marks, marks_trees, same_windows}
 
 -- The windows `was` and `is` are of the tree with this root of this client, each transform is a number of wl_output.transform, and none of
 -- their buffers is scaled.
@@ -56,3 +61,33 @@ MarksBetween A =
     → marks (map told_of was) (map told_of is) changes x y ≡ true)
     × ((in_output width height x y && marks (map told_of was) (map told_of is) changes x y) ≡ true
     → at_most width height applied raised (among below above was) (among below above is) x y ≡ true)
+
+-- ---- several trees
+
+-- The windows `was` and `is` are of this client, each transform is a number of wl_output.transform, and none of their buffers is scaled.
+pub record AreOfClient (client : ℕ) (was is : List Window) : Type 0 where
+  pub owned : list_all (λ w. client == w.owner.client) (was ++ is) ≡ true
+  pub numbered : list_all (λ w. nat_lt w.transform 8) (was ++ is) ≡ true
+  pub unscaled : AreUnscaled (was ++ is)
+
+-- Windows whose trees stand one after another are told so that those of each tree stand together.
+abbrev pub ToldTogether : Type 0
+ToldTogether = (roots : List ℕ) (ws : List Window) → AreInTurn roots ws → AreTogether (map told_of ws)
+
+-- What is marked of the told windows of several trees is what is marked of the plain ones tree by tree.
+abbrev pub MarksTreesAsApplied : Type 0 → Type 0
+MarksTreesAsApplied A =
+    (client : ℕ) (was is : List Window) → AreOfClient client was is → (changes : List (Change A)) (applied : Applied)
+    → All (IsAppliedBy changes applied) is → (x y : ℤ)
+    → marks_trees (map told_of was) (map told_of is) changes x y ≡ marks_by_trees applied was is x y
+
+-- What is marked of the told windows that are stacked with the one toplevel that a step changes is all that the step has to mark, and in
+-- the output nothing that it may not mark.
+abbrev pub MarksTreesBetween : Type 0 → Type 0
+MarksTreesBetween A =
+    (c toplevel : ℕ) (d e : Desktop) (step : ChangesToplevel c toplevel d e) → AreOfClient c step.was step.is → (changes : List (Change A))
+    → All (IsAppliedBy changes (applied_between d e)) step.is → (raised : Option (ℕ × ℕ)) (width height : ℕ) (x y : ℤ)
+    → (at_least width height (applied_between d e) (all_windows d) (all_windows e) x y ≡ true
+    → marks_trees (map told_of step.was) (map told_of step.is) changes x y ≡ true)
+    × ((in_output width height x y && marks_trees (map told_of step.was) (map told_of step.is) changes x y) ≡ true
+    → at_most width height (applied_between d e) raised (all_windows d) (all_windows e) x y ≡ true)

@@ -1,5 +1,5 @@
--- What of an output is marked where one tree of surfaces changed.
-use Rattle.std.specs.Prelude.{ℕ, ℤ, ◌==◌, ◌&&◌, ◌||◌, Bool, if◌then◌else◌, List}
+-- What of an output is marked where trees of surfaces changed.
+use Rattle.std.specs.Prelude.{ℕ, ℤ, ◌≡◌, ◌==◌, ◌&&◌, ◌||◌, Bool, if◌then◌else◌, List, ◌++◌, filter, not}
 use Rattle.std.specs.Cmp.Lexicographic.{pointwise}
 use Rattle.std.specs.List.{list_any}
 use Rattle.wl_marking.specs.Marking.{is_record_damaged, record_has}
@@ -22,10 +22,10 @@ number_of Flipped90 = 5
 number_of Flipped180 = 6
 number_of Flipped270 = 7
 
--- two windows are of one surface, and have the same corner, size and transform
+-- two windows are of one surface of one tree, and have the same corner, size and transform
 abbrev pub is_same_window : TreeWindow → TreeWindow → Bool
 is_same_window w v =
-    (w.surface == v.surface)
+    ((w.surface == v.surface) && (w.root == v.root))
     && ((int_eq w.x v.x && int_eq w.y v.y)
     && (((w.w == v.w) && (w.h == v.h)) && (number_of w.transform == number_of v.transform)))
 
@@ -56,3 +56,22 @@ marks was is changes x y =
     if same_windows was is
     then list_any (is_damaged_by is x y) changes
     else list_any (window_has x y) was || list_any (window_has x y) is
+
+-- ---- several trees
+
+-- of these windows, those of the tree with this root
+abbrev pub tree_of : ℕ → List TreeWindow → List TreeWindow
+tree_of root ws = filter (λ w. root == w.root) ws
+
+-- the windows of each tree stand one behind another
+abbrev pub AreTogether : List TreeWindow → Type 0
+AreTogether ws =
+    (root : ℕ) → (below : List TreeWindow) × (above : List TreeWindow) × (ws ≡ below ++ (tree_of root ws ++ above))
+
+-- none of these windows is of the tree with this root
+abbrev pub is_new : ℕ → List TreeWindow → Bool
+is_new root ws = not (list_any (λ w. root == w.root) ws)
+
+-- The points to be painted again of several trees, by their windows before and after: those of the tree of each window.
+abbrev pub marks_trees : {A : Type 0} → List TreeWindow → List TreeWindow → List (Change A) → ℤ → ℤ → Bool
+marks_trees was is changes x y = list_any (λ w. marks (tree_of w.root was) (tree_of w.root is) changes x y) (was ++ is)

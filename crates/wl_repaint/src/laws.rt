@@ -1,9 +1,10 @@
-//! The laws of what is marked where one tree changed, by the plain windows of the tree. Each law is a function that promises it.
+//! The laws of what is marked where trees changed, by the plain windows of the trees. Each law is a function that promises it.
 
-ghost use Rattle.wl_repaint.specs.Laws.{MarksAsApplied, MarksBetween, SameAsRecords};
+ghost use Rattle.wl_repaint.specs.Laws.{MarksAsApplied, MarksBetween, MarksTreesAsApplied, MarksTreesBetween, SameAsRecords, ToldTogether};
 
 use std::alloc::Allocator;
 use wl_invariants::{is_tree_of_root, marks_damage_alone, marks_tree_alone, may_mark_whole_tree};
+use wl_toplevels::marks_by_trees_between;
 
 /// The windows of a tree are told to be the same where they keep their records.
 pub fn same_as_records()
@@ -25,4 +26,22 @@ pub fn marks_between<A: Allocator>()
     marks_damage_alone();
     marks_tree_alone();
     may_mark_whole_tree();
+}
+
+/// Windows whose trees stand one after another are told so that those of each tree stand together.
+pub fn told_together()
+    ensures { ToldTogether }
+{}
+
+/// What is marked of the told windows of several trees is what is marked of the plain ones, of each tree by itself.
+pub fn marks_trees_as_applied<A: Allocator>()
+    ensures { MarksTreesAsApplied A }
+{}
+
+/// Where a step changes the windows stacked with one toplevel, what is marked of their told trees is all that the step has to mark, and
+/// nothing of the output that it may not mark (wayland.xml, wl_surface.damage and wl_subsurface; xdg-shell.xml, xdg_popup).
+pub fn marks_trees_between<A: Allocator>()
+    ensures { MarksTreesBetween A }
+{
+    marks_by_trees_between();
 }

@@ -9,7 +9,7 @@ use Rattle.wl_changes.specs.RenamedWindows.{IsNamedAlone}
 use Rattle.wl_stacking.specs.Stacking.{Standing, is_of}
 use Rattle.wl_stacking.specs.Windows.{Owner, Place}
 use Rattle.wl_surface.specs.Surfaces.{Surfaces}
-use Rattle.wl_windows.specs.Windows.{told_of, told_tree}
+use Rattle.wl_windows.specs.Windows.{rooted, told_of, told_tree}
 use Rattle.wl_lending.specs.Stacked.{told_by}
 use Rattle.wl_changes.specs.Trees.{windows_if}
 use Rattle.wl_changes.proofs.TurnedWindows.Told.{told-is}
@@ -50,7 +50,7 @@ told-on numbers c root k f all owner once named same renaming alone ks ss is =
     at None None own e = refl
     at (Some t) (Some s) own e =
         let own_root : s.surface ≡ root = own s refl in
-        ap (λ (p : Place). told_tree 17 owner (renamed f all) k p) e
+        ap (λ (p : Place). told_tree 17 (rooted k owner) (renamed f all) k p) e
         ∙ told-is f all s owner k renaming (subst (λ (n : ℕ). IsNamedAlone f all n) (sym own_root) alone) (same ∙ ap f (sym own_root))
     at None (Some s) own e = absurd e
     at (Some t) None own e = absurd e

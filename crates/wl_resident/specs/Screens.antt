@@ -6,7 +6,7 @@ use Rattle.std.specs.List.{list_any}
 use Rattle.std.specs.Option.{option_map}
 use Rattle.wl_linked.specs.Linked.{Stand}
 use Rattle.wl_paint.specs.Damage.{has}
-use Rattle.wl_windows.specs.Windows.{told_of}
+use Rattle.wl_windows.specs.Windows.{rooted, told_of}
 use Rattle.wl_family.specs.Family.{links_in, parents_of, root_by}
 use Rattle.wl_proto.specs.declared.wl_subsurface.WlSubsurfaceRequest.TheVariants as subsurface
 use Rattle.wl_proto.specs.declared.wl_surface.WlSurfaceRequest.TheVariants as surface
@@ -64,7 +64,7 @@ tree_kept c (Some root) all = map (λ s. s.window) (tree_of c root all)
 -- those of the tree of a toplevel that stands, by the surfaces
 abbrev pub tree_at : Owner → Surfaces → ℕ → Option Standing → List Window
 tree_at owner all root None = []
-tree_at owner all root (Some s) = tree 17 owner all root s.place
+tree_at owner all root (Some s) = tree 17 (rooted root owner) all root s.place
 
 abbrev pub tree_on : ℕ → Owner → Surfaces → Option ℕ → List Standing → List Window
 tree_on c owner all None standing = []

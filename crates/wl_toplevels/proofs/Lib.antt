@@ -1,1 +1,5 @@
+mod MarkedLists
+mod MarkedOrder
+mod MarkedStack
+mod MarkedTrees
 pub mod RootsOf

@@ -4,10 +4,12 @@
 #![tactic(auto)]
 
 mod demands;
+mod marked;
 mod roots;
 
 pub use demands::{
     commits_change_one_toplevel, modes_change_one_toplevel, requests_change_no_window,
     states_change_no_window, subsurface_ends_change_one_toplevel, surface_ends_change_one_toplevel,
 };
+pub use marked::marks_by_trees_between;
 pub use roots::roots_stay;

@@ -45,10 +45,10 @@ abbrev shown : Bool → ℤ → List TreeWindow
 shown has_ended x = told_tree 17 owner (tied has_ended) 1 (record { x = x; y = pos 50 })
 
 abbrev root_at : ℤ → TreeWindow
-root_at x = record { surface = 1; x = x; y = pos 53; w = 40; h = 30; transform = Normal }
+root_at x = record { surface = 1; root = 1; x = x; y = pos 53; w = 40; h = 30; transform = Normal }
 
 abbrev child_at : ℤ → TreeWindow
-child_at x = record { surface = 2; x = x; y = pos 52; w = 8; h = 4; transform = Rotated90 }
+child_at x = record { surface = 2; root = 1; x = x; y = pos 52; w = 8; h = 4; transform = Rotated90 }
 
 -- the child that is below, at its position from the moved corner; nothing of the child without a buffer, nor of what stands above that
 row-shown : shown false (pos 100) ≡ child_at (pos 106) ∷ root_at (pos 102) ∷ []

@@ -20,7 +20,7 @@ use Rattle.wl_surface.specs.Surfaces.{Link, Surfaces, history_in, link_at}
 use Rattle.wl_tree_laws.specs.Hanging.{kid_of, kids_of, stacks_at}
 use Rattle.wl_tree_laws.specs.Stacks.{place_of, stack_by}
 use Rattle.wl_windows.specs.declared.window.TreeWindow.{TreeWindow}
-use Rattle.wl_windows.specs.Windows.{Continues, place_beside, placed_windows, told_of, told_tree, window_at, window_in, window_with}
+use Rattle.wl_windows.specs.Windows.{Continues, place_beside, placed_windows, rooted, told_of, told_tree, window_at, window_in, window_with}
 
 -- ---- lists
 
@@ -50,19 +50,31 @@ flat_map-kept f h g (x ∷ xs) same =
 -- ---- the members of a stack
 
 -- a surface's own window
-own-told : (owner : Owner) (surface : ℕ) (corner : Place) (v : Values) (o : Option Buffer) (window : TreeWindow) → window_with surface corner v o ≡ Some window
+own-told : (owner : Owner) (surface : ℕ) (corner : Place) (v : Values) (o : Option Buffer) (window : TreeWindow) → window_with owner.root surface corner v o ≡ Some window
     → map told_of (asked_with owner surface corner v o) ≡ window ∷ []
 own-told owner surface corner v None window e = absurd (cc)
 own-told owner surface corner v (Some b) window e = cc
 
 -- it is where the surface's corner is
-own-x : (surface : ℕ) (corner : Place) (v : Values) (o : Option Buffer) (window : TreeWindow) → window_with surface corner v o ≡ Some window → corner.x ≡ window.x
-own-x surface corner v None window e = absurd (cc)
-own-x surface corner v (Some b) window e = cc
+own-x : (owner : Owner) (surface : ℕ) (corner : Place) (v : Values) (o : Option Buffer) (window : TreeWindow) → window_with owner.root surface corner v o ≡ Some window → corner.x ≡ window.x
+own-x owner surface corner v None window e = absurd (cc)
+own-x owner surface corner v (Some b) window e = cc
 
-own-y : (surface : ℕ) (corner : Place) (v : Values) (o : Option Buffer) (window : TreeWindow) → window_with surface corner v o ≡ Some window → corner.y ≡ window.y
-own-y surface corner v None window e = absurd (cc)
-own-y surface corner v (Some b) window e = cc
+own-y : (owner : Owner) (surface : ℕ) (corner : Place) (v : Values) (o : Option Buffer) (window : TreeWindow) → window_with owner.root surface corner v o ≡ Some window → corner.y ≡ window.y
+own-y owner surface corner v None window e = absurd (cc)
+own-y owner surface corner v (Some b) window e = cc
+
+-- it is of the tree of its root
+with-root : (root surface : ℕ) (corner : Place) (v : Values) (o : Option Buffer) (window : TreeWindow) → window_with root surface corner v o ≡ Some window → window.root ≡ root
+with-root root surface corner v None window e = absurd (cc)
+with-root root surface corner v (Some b) window e = cc
+
+pub own-root : (all : Surfaces) (root surface : ℕ) (place : Place) (window : TreeWindow) → window_at all root surface place ≡ Some window → window.root ≡ root
+own-root all root surface place window e = at (history_in surface all) e
+  where
+    at : (o : Option History) → option_and_then (window_in root surface place) o ≡ Some window → window.root ≡ root
+    at None f = absurd (cc)
+    at (Some h) f = with-root root surface (corner_at place h) (applied h) (applied h).buffer window f
 
 -- the windows of a child whose link lives, or has ended
 child-told : (next : ℕ → Place → List Window) (parent : History) (corner : Place) (window : TreeWindow) (l : ℕ) (link : Option Link) → corner.x ≡ window.x → corner.y ≡ window.y
@@ -80,21 +92,21 @@ child-told next parent corner window l (Some link) ex ey = by link.has_ended
 
 -- the windows of a member
 member-told : (next : ℕ → Place → List Window) (owner : Owner) (all : Surfaces) (surface : ℕ) (h : History) (corner : Place) (window : TreeWindow)
-    → window_with surface corner (applied h) (applied h).buffer ≡ Some window → (m : Member)
+    → window_with owner.root surface corner (applied h) (applied h).buffer ≡ Some window → (m : Member)
     → map told_of (asked_windows next owner all surface h corner m)
     ≡ part (placed_windows (λ child at. map told_of (next child at)) window) (place_of (kids_of all) (counting h) m)
 unfolding part
 member-told next owner all surface h corner window e Itself = own-told owner surface corner (applied h) (applied h).buffer window e
 member-told next owner all surface h corner window e (Child l) =
     child-told next h corner window l (link_at l all)
-    (own-x surface corner (applied h) (applied h).buffer window e)
-    (own-y surface corner (applied h) (applied h).buffer window e)
+    (own-x owner surface corner (applied h) (applied h).buffer window e)
+    (own-y owner surface corner (applied h) (applied h).buffer window e)
 
 -- ---- a surface with its tree
 
 -- a surface that shows a buffer
 shown-told : (next : ℕ → Place → List Window) (owner : Owner) (all : Surfaces) (surface : ℕ) (h : History) (corner : Place) (window : TreeWindow) (o : Option Buffer)
-    → window_with surface corner (applied h) o ≡ Some window → window_with surface corner (applied h) (applied h).buffer ≡ Some window
+    → window_with owner.root surface corner (applied h) o ≡ Some window → window_with owner.root surface corner (applied h) (applied h).buffer ≡ Some window
     → map told_of (shown_windows next owner all surface h corner o)
     ≡ flat_map (placed_windows (λ child at. map told_of (next child at)) window) (stack_by (kids_of all) (counting h))
 shown-told next owner all surface h corner window None e own = absurd (cc)
@@ -104,7 +116,7 @@ shown-told next owner all surface h corner window (Some b) e own =
     (λ m. map told_of (asked_windows next owner all surface h corner m)) (order (counting h)) (member-told next owner all surface h corner window own)
 
 surface-told : (next : ℕ → Place → List Window) (owner : Owner) (all : Surfaces) (surface : ℕ) (place : Place) (window : TreeWindow) (o : Option History)
-    → option_and_then (window_in surface place) o ≡ Some window
+    → option_and_then (window_in owner.root surface place) o ≡ Some window
     → map told_of (surface_windows next owner all surface place o)
     ≡ flat_map (placed_windows (λ child at. map told_of (next child at)) window) (stacks_at (kids_of all) o).applied
 surface-told next owner all surface place window None e = absurd (cc)
@@ -112,12 +124,12 @@ surface-told next owner all surface place window (Some h) e = shown-told next ow
 
 -- one that shows none
 shown-hidden : (next : ℕ → Place → List Window) (owner : Owner) (all : Surfaces) (surface : ℕ) (h : History) (corner : Place) (o : Option Buffer)
-    → window_with surface corner (applied h) o ≡ None → map told_of (shown_windows next owner all surface h corner o) ≡ []
+    → window_with owner.root surface corner (applied h) o ≡ None → map told_of (shown_windows next owner all surface h corner o) ≡ []
 shown-hidden next owner all surface h corner None e = refl
 shown-hidden next owner all surface h corner (Some b) e = absurd (cc)
 
 surface-hidden : (next : ℕ → Place → List Window) (owner : Owner) (all : Surfaces) (surface : ℕ) (place : Place) (o : Option History)
-    → option_and_then (window_in surface place) o ≡ None → map told_of (surface_windows next owner all surface place o) ≡ []
+    → option_and_then (window_in owner.root surface place) o ≡ None → map told_of (surface_windows next owner all surface place o) ≡ []
 surface-hidden next owner all surface place None e = refl
 surface-hidden next owner all surface place (Some h) e = shown-hidden next owner all surface h (corner_at place h) (applied h).buffer e
 
@@ -127,14 +139,14 @@ told-zero : (owner : Owner) (all : Surfaces) (surface : ℕ) (place : Place) →
 unfolding tree
 told-zero owner all surface place = refl
 
-hidden-nothing : (levels : ℕ) (owner : Owner) (all : Surfaces) (surface : ℕ) (place : Place) → window_at all surface place ≡ None
+hidden-nothing : (levels : ℕ) (owner : Owner) (all : Surfaces) (surface : ℕ) (place : Place) → window_at all owner.root surface place ≡ None
     → told_tree levels owner all surface place ≡ []
 unfolding tree
 hidden-nothing zero owner all surface place e = refl
 hidden-nothing (suc levels) owner all surface place e =
     surface-hidden (λ child at. tree levels owner all child at) owner all surface place (history_in surface all) e
 
-told-next : (levels : ℕ) (owner : Owner) (all : Surfaces) (surface : ℕ) (place : Place) (window : TreeWindow) → window_at all surface place ≡ Some window
+told-next : (levels : ℕ) (owner : Owner) (all : Surfaces) (surface : ℕ) (place : Place) (window : TreeWindow) → window_at all owner.root surface place ≡ Some window
     → told_tree (suc levels) owner all surface place
     ≡ flat_map (placed_windows (told_tree levels owner all) window) (stacks_at (kids_of all) (history_in surface all)).applied
 unfolding tree
@@ -142,7 +154,7 @@ told-next levels owner all surface place window e =
     surface-told (λ child at. tree levels owner all child at) owner all surface place window (history_in surface all) e
 
 told-shown : (slots : Slots) (tied : Tied) (all : Surfaces) (levels less : ℕ) (owner : Owner) (surface : ℕ) (place : Place) (window : TreeWindow) (stack : List Placed)
-    → Stand slots tied all → levels ≡ suc less → window_at all surface place ≡ Some window → whole stack ≡ (stacks_in tied surface).applied
+    → Stand slots tied all → levels ≡ suc less → window_at all owner.root surface place ≡ Some window → whole stack ≡ (stacks_in tied surface).applied
     → told_tree levels owner all surface place ≡ flat_map (placed_windows (told_tree less owner all) window) (whole stack)
 told-shown slots tied all levels less owner surface place window stack stand e shown kept =
     ap (λ n. told_tree n owner all surface place) e
@@ -165,14 +177,14 @@ told-nothing levels owner all surface place was e =
 
 -- nothing of a surface that is hidden
 pub told-hidden : (levels : ℕ) (owner : Owner) (all : Surfaces) (surface : ℕ) (place : Place) (shown : Option TreeWindow) (was : List TreeWindow)
-    → shown ≡ window_at all surface place → shown ≡ None → was ≡ was ++ told_tree levels owner all surface place
+    → shown ≡ window_at all owner.root surface place → shown ≡ None → was ≡ was ++ told_tree levels owner all surface place
 told-hidden levels owner all surface place shown was is none =
     none-behind was (told_tree levels owner all surface place) (hidden-nothing levels owner all surface place (sym is ∙ none))
 
 -- a surface without children
 pub told-alone : (slots : Slots) (tied : Tied) (all : Surfaces) (levels less : ℕ) (owner : Owner) (surface : ℕ) (place : Place) (shown : Option TreeWindow)
     (window : TreeWindow) (stack : List Placed) (is_empty : Bool) (was now : List TreeWindow) → Stand slots tied all → levels ≡ suc less
-    → shown ≡ window_at all surface place → shown ≡ Some window → whole stack ≡ (stacks_in tied surface).applied → is_empty ≡ (length stack == 0)
+    → shown ≡ window_at all owner.root surface place → shown ≡ Some window → whole stack ≡ (stacks_in tied surface).applied → is_empty ≡ (length stack == 0)
     → is_empty ≡ true → now ≡ was ++ window ∷ [] → now ≡ was ++ told_tree levels owner all surface place
 told-alone slots tied all levels less owner surface place shown window [] is_empty was now stand e is some kept empty test added =
     same-behind was (window ∷ []) (told_tree levels owner all surface place) now added
@@ -183,11 +195,15 @@ told-alone slots tied all levels less owner surface place shown window (p ∷ ps
 -- one with children
 pub told-stack : (slots : Slots) (tied : Tied) (all : Surfaces) (levels less : ℕ) (owner : Owner) (surface : ℕ) (place : Place) (shown : Option TreeWindow)
     (window : TreeWindow) (stack : List Placed) (is_empty : Bool) (was now : List TreeWindow) → Stand slots tied all → levels ≡ suc less
-    → shown ≡ window_at all surface place → shown ≡ Some window → whole stack ≡ (stacks_in tied surface).applied → is_empty ≡ (length stack == 0)
-    → is_empty ≡ false → now ≡ was ++ flat_map (placed_windows (told_tree less owner all) window) stack → now ≡ was ++ told_tree levels owner all surface place
+    → shown ≡ window_at all owner.root surface place → shown ≡ Some window → whole stack ≡ (stacks_in tied surface).applied → is_empty ≡ (length stack == 0)
+    → is_empty ≡ false → now ≡ was ++ flat_map (placed_windows (told_tree less (rooted window.root owner) all) window) stack
+    → now ≡ was ++ told_tree levels owner all surface place
 told-stack slots tied all levels less owner surface place shown window [] is_empty was now stand e is some kept empty test added = absurd (cc)
 told-stack slots tied all levels less owner surface place shown window (p ∷ ps) is_empty was now stand e is some kept empty test added =
-    same-behind was (flat_map (placed_windows (told_tree less owner all) window) (p ∷ ps)) (told_tree levels owner all surface place) now added
+    same-behind was (flat_map (placed_windows (told_tree less owner all) window) (p ∷ ps)) (told_tree levels owner all surface place) now
+    (added
+    ∙ ap (λ n. was ++ flat_map (placed_windows (told_tree less (rooted n owner) all) window) (p ∷ ps))
+    (own-root all owner.root surface place window (sym is ∙ some)))
     (told-shown slots tied all levels less owner surface place window (p ∷ ps) stand e (sym is ∙ some) kept)
 
 -- one place of the stack more
@@ -221,15 +237,16 @@ pub same-fits : (was more told : List TreeWindow) (room : ℕ) → was ++ more �
 same-fits was more told room e fits = omega (arith, sym (length-append was more) ∙ (ap length e ∙ length-append was told))
 
 -- no position from a corner
-pub place-there : (x y a b : ℤ) → a ≡ x → b ≡ y → place_beside (record { corner = record { x = a; y = b }; position = record { x = pos 0; y = pos 0 } }) ≡ record { x = x; y = y }
-place-there x y a b ex ey =
+pub place-there : (root : ℕ) (x y a b : ℤ) → a ≡ x → b ≡ y
+    → place_beside (record { root = root; corner = record { x = a; y = b }; position = record { x = pos 0; y = pos 0 } }) ≡ record { x = x; y = y }
+place-there root x y a b ex ey =
     let first : a +ℤ pos 0 ≡ a = omega (arith, ints) in
     let second : b +ℤ pos 0 ≡ b = omega (arith, ints) in
     ap₂ (λ (i j : ℤ). record { x = i; y = j }) (first ∙ ex) (second ∙ ey)
 
 -- the windows of a tree at the place of its root
 pub root-told : (all : Surfaces) (owner : Owner) (root : ℕ) (x y a b : ℤ) (was now : List TreeWindow) → a ≡ x → b ≡ y
-    → now ≡ was ++ told_tree 17 owner all root (place_beside (record { corner = record { x = a; y = b }; position = record { x = pos 0; y = pos 0 } }))
+    → now ≡ was ++ told_tree 17 owner all root (place_beside (record { root = root; corner = record { x = a; y = b }; position = record { x = pos 0; y = pos 0 } }))
     → now ≡ was ++ told_tree 17 owner all root (record { x = x; y = y })
 root-told all owner root x y a b was now ex ey e =
-    e ∙ ap (λ (place : Place). was ++ told_tree 17 owner all root place) (place-there x y a b ex ey)
+    e ∙ ap (λ (place : Place). was ++ told_tree 17 owner all root place) (place-there root x y a b ex ey)

@@ -16,6 +16,7 @@ abbrev pub told_of : Window → TreeWindow
 told_of w =
     record {
       surface = w.surface;
+      root = w.owner.root;
       x = w.corner.x;
       y = w.corner.y;
       w = w.width;
@@ -23,17 +24,22 @@ told_of w =
       transform = transform_of w.transform;
     }
 
+-- whose the windows of the tree with this root are
+abbrev pub rooted : ℕ → Owner → Owner
+rooted root owner = record owner { root = root }
+
 -- the windows of a tree, down to so many levels
 abbrev pub told_tree : ℕ → Owner → Surfaces → ℕ → Place → List TreeWindow
 told_tree levels owner all surface place = map told_of (tree levels owner all surface place)
 
--- the window of a surface with its corner there, if it shows a buffer
-abbrev pub window_with : ℕ → Place → Values → Option Buffer → Option TreeWindow
-window_with surface corner v None = None
-window_with surface corner v (Some buffer) =
+-- the window of a surface of the tree with this root, with its corner there, if it shows a buffer
+abbrev pub window_with : ℕ → ℕ → Place → Values → Option Buffer → Option TreeWindow
+window_with root surface corner v None = None
+window_with root surface corner v (Some buffer) =
     Some
     (record {
       surface = surface;
+      root = root;
       x = corner.x;
       y = corner.y;
       w = width_of (Some buffer) v.transform;
@@ -41,12 +47,12 @@ window_with surface corner v (Some buffer) =
       transform = transform_of v.transform;
     })
 
-abbrev pub window_in : ℕ → Place → History → Option TreeWindow
-window_in surface place h = window_with surface (corner_at place h) (applied h) (applied h).buffer
+abbrev pub window_in : ℕ → ℕ → Place → History → Option TreeWindow
+window_in root surface place h = window_with root surface (corner_at place h) (applied h) (applied h).buffer
 
 -- the window of a surface that is placed there, if it is there and shows a buffer
-abbrev pub window_at : Surfaces → ℕ → Place → Option TreeWindow
-window_at all surface place = option_and_then (window_in surface place) (history_in surface all)
+abbrev pub window_at : Surfaces → ℕ → ℕ → Place → Option TreeWindow
+window_at all root surface place = option_and_then (window_in root surface place) (history_in surface all)
 
 -- a position from a corner
 abbrev pub place_beside : Spot → Place

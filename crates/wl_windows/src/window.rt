@@ -13,11 +13,12 @@ use wl_store::Transform;
 /// The coordinates of a surface are held within -16,777,216 to 16,777,216 pixels.
 const BOUND: i64 = 16_777_216;
 
-/// A window of a tree: its surface, where its upper left corner is on the output and its size, in pixels, and how its buffer is turned
-/// (wayland.xml, wl_surface.set_buffer_transform).
+/// A window of a tree: its surface, the surface at the root of the tree, where its upper left corner is on the output and its size, in
+/// pixels, and how its buffer is turned (wayland.xml, wl_subcompositor and wl_surface.set_buffer_transform).
 #[derive(Clone, Copy, Debug, PartialEq, Eq)]
 pub struct TreeWindow {
     pub surface: SurfaceNo,
+    pub root: SurfaceNo,
     pub x: i32,
     pub y: i32,
     pub w: u32,
@@ -32,9 +33,10 @@ pub(crate) struct Point {
     pub y: i32,
 }
 
-/// A place on the output: so far from a corner there. The sum isn't held within the bounds.
+/// A place on the output for a surface of the tree with this root: so far from a corner there. The sum isn't held within the bounds.
 #[derive(Clone, Copy, Debug)]
 pub(crate) struct Spot {
+    pub root: SurfaceNo,
     pub corner: Point,
     pub position: Point,
 }
@@ -67,7 +69,7 @@ pub(crate) fn window_of<A: Allocator + Copy>(
     spot: &Spot,
 ) -> Option<TreeWindow>
     ensures { (all : Asked) → Stand linked.now.surfaces linked.now.family all
-        → result ≡ window_at all surface (place_beside spot.now) }
+        → result ≡ window_at all spot.now.root surface (place_beside spot.now) }
 {
     let current = linked.surfaces.current(surface)?;
     match current.buffer {
@@ -77,6 +79,7 @@ pub(crate) fn window_of<A: Allocator + Copy>(
             let y = held_sum(spot.corner.y, spot.position.y, current.offset.y);
             Some(TreeWindow {
                 surface,
+                root: spot.root,
                 x,
                 y,
                 w: current.w,

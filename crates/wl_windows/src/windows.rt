@@ -4,7 +4,7 @@ ghost use Rattle.std.specs.Prelude.{◌≡◌, ◌≤◌, ◌+◌, ◌++◌, IsO
 ghost use Rattle.wl_linked.specs.Linked.{Stand};
 ghost use Rattle.wl_stacking.specs.Windows.{Owner, tree};
 ghost use Rattle.wl_surface.specs.Surfaces.{Surfaces as Asked};
-ghost use Rattle.wl_windows.specs.Windows.{Continues, place_beside, placed_windows, told_of, told_tree};
+ghost use Rattle.wl_windows.specs.Windows.{Continues, place_beside, placed_windows, rooted, told_of, told_tree};
 
 use crate::window::{Point, Spot, TreeWindow, window_of};
 use std::alloc::{AllocError, Allocator};
@@ -25,16 +25,19 @@ fn add_placed<A: Allocator + Copy>(
     windows: &mut Vec<TreeWindow, A>,
 ) -> Result<(), AllocError>
     ensures ok { OnOk result ((all : Asked) (owner : Owner) → Stand linked.now.surfaces linked.now.family all
-        → windows.new.items ≡ windows.old.items ++ placed_windows (told_tree levels owner all) window.now placed.now) }
+        → windows.new.items
+        ≡ windows.old.items ++ placed_windows (told_tree levels (rooted window.now.root owner) all) window.now placed.now) }
     ensures more { Continues windows.old.items windows.new.items }
     ensures succeeds { (all : Asked) (owner : Owner) → Stand linked.now.surfaces linked.now.family all
-        → vec_len windows.old + length (placed_windows (told_tree levels owner all) window.now placed.now) ≤ vec_capacity windows.old → IsOk result }
+        → vec_len windows.old + length (placed_windows (told_tree levels (rooted window.now.root owner) all) window.now placed.now)
+        ≤ vec_capacity windows.old → IsOk result }
     ensures capacity { vec_capacity windows.old ≤ vec_capacity windows.new }
 {
     match placed.member {
         Member::Itself => windows.push(*window)?,
         Member::Child(child) => {
             let spot = Spot {
+                root: window.root,
                 corner: Point {
                     x: window.x,
                     y: window.y,
@@ -60,11 +63,13 @@ fn add_stack<A: Allocator + Copy>(
     windows: &mut Vec<TreeWindow, A>,
 ) -> Result<(), AllocError>
     ensures ok { OnOk result ((all : Asked) (owner : Owner) → Stand linked.now.surfaces linked.now.family all
-        → windows.new.items ≡ windows.old.items ++ flat_map (placed_windows (told_tree levels owner all) window.now) stack.now) }
+        → windows.new.items
+        ≡ windows.old.items ++ flat_map (placed_windows (told_tree levels (rooted window.now.root owner) all) window.now) stack.now) }
     ensures more { Continues windows.old.items windows.new.items }
     ensures succeeds { (all : Asked) (owner : Owner) → Stand linked.now.surfaces linked.now.family all
-        → vec_len windows.old + length (flat_map (placed_windows (told_tree levels owner all) window.now) stack.now) ≤ vec_capacity windows.old
-        → IsOk result }
+        → vec_len windows.old
+        + length (flat_map (placed_windows (told_tree levels (rooted window.now.root owner) all) window.now) stack.now)
+        ≤ vec_capacity windows.old → IsOk result }
     ensures capacity { vec_capacity windows.old ≤ vec_capacity windows.new }
 {
     for placed in stack {
@@ -83,10 +88,11 @@ fn add_tree<A: Allocator + Copy>(
     windows: &mut Vec<TreeWindow, A>,
 ) -> Result<(), AllocError>
     ensures ok { OnOk result ((all : Asked) (owner : Owner) → Stand linked.now.surfaces linked.now.family all
-        → windows.new.items ≡ windows.old.items ++ told_tree levels owner all surface (place_beside spot.now)) }
+        → windows.new.items ≡ windows.old.items ++ told_tree levels (rooted spot.now.root owner) all surface (place_beside spot.now)) }
     ensures more { Continues windows.old.items windows.new.items }
     ensures succeeds { (all : Asked) (owner : Owner) → Stand linked.now.surfaces linked.now.family all
-        → vec_len windows.old + length (told_tree levels owner all surface (place_beside spot.now)) ≤ vec_capacity windows.old → IsOk result }
+        → vec_len windows.old + length (told_tree levels (rooted spot.now.root owner) all surface (place_beside spot.now))
+        ≤ vec_capacity windows.old → IsOk result }
     ensures capacity { vec_capacity windows.old ≤ vec_capacity windows.new }
 {
     if levels == 0 {
@@ -118,14 +124,16 @@ pub fn add_windows<A: Allocator + Copy>(
     windows: &mut Vec<TreeWindow, A>,
 ) -> Result<(), AllocError>
     ensures ok { OnOk result ((all : Asked) (owner : Owner) → Stand linked.now.surfaces linked.now.family all
-        → windows.new.items ≡ windows.old.items ++ map told_of (tree 17 owner all root (record { x = x; y = y }))) }
+        → windows.new.items ≡ windows.old.items ++ map told_of (tree 17 (rooted root owner) all root (record { x = x; y = y }))) }
     ensures err { OnErr result (windows.new.items ≡ windows.old.items) }
     ensures succeeds { (all : Asked) (owner : Owner) → Stand linked.now.surfaces linked.now.family all
-        → vec_len windows.old + length (tree 17 owner all root (record { x = x; y = y })) ≤ vec_capacity windows.old → IsOk result }
+        → vec_len windows.old + length (tree 17 (rooted root owner) all root (record { x = x; y = y }))
+        ≤ vec_capacity windows.old → IsOk result }
     ensures capacity { vec_capacity windows.old ≤ vec_capacity windows.new }
 {
     let before = windows.len();
     let spot = Spot {
+        root,
         corner: Point { x, y },
         position: Point { x: 0, y: 0 },
     };

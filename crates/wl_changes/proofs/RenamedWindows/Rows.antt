@@ -45,7 +45,7 @@ abbrev one_name : ℕ → ℕ
 one_name id = 7
 
 abbrev at : ℕ → ℕ → ℕ → TreeWindow
-at name x y = record { surface = name; x = pos x; y = pos y; w = 8; h = 8; transform = Normal }
+at name x y = record { surface = name; root = 11; x = pos x; y = pos y; w = 8; h = 8; transform = Normal }
 
 -- ---- trees
 
@@ -62,7 +62,7 @@ unfolding tree
 row-ended = refl
 
 -- where an id that isn't there has the name of a surface that is, it would show that one
-row-taken : told_tree 17 owner (renamed one_name (tied true)) 7 corner ≡ at 7 20 30 ∷ []
+row-taken : told_tree 17 (record owner { root = 11 }) (renamed one_name (tied true)) 7 corner ≡ at 7 20 30 ∷ []
 unfolding tree
 row-taken = refl
 

@@ -1,5 +1,5 @@
 -- What is marked of windows that are told under other names of their surfaces.
-use Rattle.std.proofs.Common.{◌≡◌, ℕ, ℤ, pos, Bool, true, false, List, [], ◌∷◌, ◌++◌, map, refl, ap, ap₂, sym, ◌∙◌, eq-eqb, arith}
+use Rattle.std.proofs.Common.{◌≡◌, ℕ, ℤ, pos, Bool, true, false, List, [], ◌∷◌, ◌++◌, map, refl, ap, ap₂, sym, ◌∙◌, eq-eqb, eqb-true, arith}
 use Rattle.std.specs.Prelude.{◌==◌, ◌-ℤ◌, nat_lt, unsigned_abs, ◌&&◌, ◌||◌, if◌then◌else◌}
 use Rattle.std.specs.List.{AllByRecursion as Each, list_all, list_any}
 use Rattle.std.proofs.lemmas.Bool.{and_parts, or_left, or_right}
@@ -26,9 +26,9 @@ use Rattle.wl_changes.proofs.RenamedWindows.Names.{same-name}
 -- ---- records
 
 module _ (f : ℕ → ℕ) where
-  -- a window whose surface goes by its other name
+  -- a window whose surface, and the root of its tree, go by their other names
   abbrev called : Window → Window
-  called w = record w { surface = f w.surface }
+  called w = record w { owner = record w.owner { root = f w.owner.root }; surface = f w.surface }
 
   told-called : (ws : List Window) → map told_of (map called ws) ≡ map (told_by f) ws
   told-called [] = refl
@@ -37,9 +37,18 @@ module _ (f : ℕ → ℕ) where
   called-all : (p : Window → Bool) (was is : List Window) → list_all p (map called was ++ map called is) ≡ list_all (λ w. p (called w)) (was ++ is)
   called-all p was is = ap (list_all p) (sym (map-append called was is)) ∙ list_all-map p called (was ++ is)
 
-  called-tree : (client root : ℕ) (was is : List Window) → AreOfTree client root was is → AreOfTree client root (map called was) (map called is)
+  called-rooted : (client root : ℕ) (ws : List Window) → list_all (has_root client root) ws ≡ true → list_all (λ w. has_root client (f root) (called w)) ws ≡ true
+  called-rooted client root [] rooted = refl
+  called-rooted client root (w ∷ ws) rooted =
+      let parts = and_parts (has_root client root w) (list_all (has_root client root) ws) rooted in
+      let own = and_parts (client == w.owner.client) (root == w.owner.root) parts.0 in
+      ap₂ (λ b c. (b && c) && list_all (λ w. has_root client (f root) (called w)) ws) own.0
+      (eq-eqb (f root) (f w.owner.root) (ap f (eqb-true root w.owner.root own.1)))
+      ∙ called-rooted client root ws parts.1
+
+  called-tree : (client root : ℕ) (was is : List Window) → AreOfTree client root was is → AreOfTree client (f root) (map called was) (map called is)
   called-tree client root was is of-tree = record {
-    rooted = called-all (has_root client root) was is ∙ of-tree.rooted;
+    rooted = called-all (has_root client (f root)) was is ∙ called-rooted client root (was ++ is) of-tree.rooted;
     numbered = called-all (λ w. nat_lt w.transform 8) was is ∙ of-tree.numbered;
     unscaled = called-all (λ w. w.scale == 1) was is ∙ of-tree.unscaled;
   }
@@ -63,7 +72,7 @@ module _ (f : ℕ → ℕ) where
 pub same-by-name : SameAsRecords → SameByName
 same-by-name as-records f client root was is of-tree apart =
     ap₂ (λ (ts us : List TreeWindow). same_windows ts us) (sym (told-called f was)) (sym (told-called f is))
-    ∙ as-records client root (map (called f) was) (map (called f) is) (called-tree f client root was is of-tree)
+    ∙ as-records client (f root) (map (called f) was) (map (called f) is) (called-tree f client root was is of-tree)
     ∙ records f was is apart
 
 -- ---- damage

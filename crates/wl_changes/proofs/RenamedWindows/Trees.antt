@@ -102,13 +102,15 @@ trees-heed-no-names f all is owner surface alone levels place =
 
 module _ (f : ℕ → ℕ) (other : Owner) where
   abbrev given : Window → Window
-  given w = record w { owner = other; surface = f w.surface }
+  given w = record w { owner = record other { root = f w.owner.root }; surface = f w.surface }
 
   told-given : (ws : List Window) → map told_of (map given ws) ≡ map (told_by f) ws
   told-given [] = refl
   told-given (w ∷ ws) = ap (λ ts. told_by f w ∷ ts) (told-given ws)
 
 pub tells-trees-by-name : TellsTreesByName
-tells-trees-by-name f all is owner other surface alone levels place =
-    ap (map told_of) (tree-mapped f all is owner other (given f other) (λ surface corner v b. refl) levels surface alone place)
+tells-trees-by-name f all is owner other surface alone same levels place =
+    ap (map told_of)
+    (tree-mapped f all is owner other (given f other) (λ surface corner v b. ap (λ (n : ℕ). window_showing (record other { root = n }) (f surface) corner v b) same)
+    levels surface alone place)
     ∙ told-given f other (tree levels owner all surface place)

@@ -1,28 +1,31 @@
 -- The windows of a tree that changes, as they are told by the numbers of their surfaces (wayland.xml, wl_subsurface).
-use Rattle.std.proofs.Common.{◌≡◌, ℕ, ◌==◌, Bool, true, false, cond, Option, Some, None, List, [], ◌∷◌, ◌++◌, map, refl, ap, sym, subst, ◌∙◌}
+use Rattle.std.proofs.Common.{◌≡◌, ℕ, suc, is_some, ◌==◌, Bool, true, false, cond, Option, Some, None, List, [], ◌∷◌, ◌++◌, map, refl, ap, sym, subst, ◌∙◌}
 use Rattle.std.specs.Prelude.{◌&&◌, filter, find}
 use Rattle.std.specs.List.{AllByRecursion as Each, list_all, list_any}
+use Rattle.std.specs.Option.{option_map}
 use Rattle.std.proofs.lemmas.List.Elements.{All-from_recursion}
 use Rattle.std.proofs.lemmas.List.Folds.{list_any-append}
-use Rattle.wl_lending.proofs.Truth.{and-left, and-right, or-left, or-right}
+use Rattle.wl_lending.proofs.Truth.{and-left, and-right, differ, or-left, or-right}
 use Rattle.wl_laws.proofs.Marks.Stacks.{same-number}
 use Rattle.std.proofs.lemmas.Bool.{or_left, or_right}
 use Rattle.wl_peer.specs.Objects.{ById}
-use Rattle.wl_surface.specs.Surfaces.{Surfaces}
+use Rattle.wl_state.specs.Surface.{Surface}
+use Rattle.wl_surface.specs.Surfaces.{Surfaces, surface_at}
 use Rattle.wl_stacking.specs.Stacking.{Standing, is_of as is_standing}
-use Rattle.wl_stacking.specs.Windows.{Owner, Window}
+use Rattle.wl_stacking.specs.Windows.{Owner, Place, Window, surface_windows, tree}
 use Rattle.wl_plain.specs.Desktop.{Desktop, owned_in}
 use Rattle.wl_plain.specs.Stacked.{all_windows}
 use Rattle.wl_stacked.specs.declared.stacked.Stacked.{Stacked}
 use Rattle.wl_stacked.specs.Stacked.{tree_of}
-use Rattle.wl_lending.specs.Stacked.{AreNumberedBy, AreNumberedOnce, AreStacked, has_root, told_by}
+use Rattle.wl_lending.specs.Stacked.{AreNumberedBy, AreNumberedOnce, AreStacked, IsNumberedBy, has_root, told_by}
 use Rattle.wl_lending.proofs.Standing.{stacked-are-told, tree-is-stacked}
 use Rattle.wl_named.specs.Renaming.{IsRenaming, has_surface, renamed}
 use Rattle.wl_changes.specs.RenamedWindows.{IsNamedAlone, has_window}
 use Rattle.wl_changes.proofs.RenamedWindows.Shown.{shows-those-there}
 use Rattle.wl_changes.proofs.RenamedWindows.Trees.{tells-trees-by-name}
 use Rattle.wl_invariants.specs.TreeStanding.{standing_owner, windows_in}
-use Rattle.wl_windows.specs.Windows.{told_tree}
+use Rattle.wl_invariants.proofs.TreeSteps.Owners.{tree-owned}
+use Rattle.wl_windows.specs.Windows.{rooted, told_tree}
 use Rattle.wl_changes.specs.Changes.{ChangesTree}
 use Rattle.wl_changes.specs.Trees.{windows_at, windows_if}
 
@@ -85,12 +88,47 @@ there-if : (all : Surfaces) (o : Option Standing) (id : ℕ) → has_window id (
 there-if all None id has = absurd (cc)
 there-if all (Some s) id has = shows-those-there all 17 (standing_owner s) s.surface s.place id has
 
+-- a surface that isn't there has no tree
+hidden-none : (levels : ℕ) (owner : Owner) (all : Surfaces) (surface : ℕ) (place : Place) → surface_at surface all ≡ None → tree (suc levels) owner all surface place ≡ []
+unfolding tree
+hidden-none levels owner all surface place e =
+    ap (λ (o : Option Surface). surface_windows (λ child at. tree levels owner all child at) owner all surface place (option_map (λ (s : Surface). s.history) o)) e
+
+-- where a toplevel has a window, its surface is there
+rooted-there : (all : Surfaces) (owner : Owner) (surface : ℕ) (place : Place) → list_any (λ w. true) (tree 17 owner all surface place) ≡ true → has_surface surface all ≡ true
+rooted-there all owner surface place some = at (surface_at surface all) refl
+  where
+    at : (o : Option Surface) → surface_at surface all ≡ o → has_surface surface all ≡ true
+    at (Some s) e = ap is_some e
+    at None e = absurd (differ (sym (ap (list_any (λ w. true)) (hidden-none 16 owner all surface place e)) ∙ some))
+
+root-if : (all : Surfaces) (o : Option Standing) → Each (λ w. has_surface w.owner.root all ≡ true) (windows_if all o)
+root-if all None = tt
+root-if all (Some s) = each-owned (windows_in all s) (λ some. rooted-there all (standing_owner s) s.surface s.place some) (tree-owned 17 (standing_owner s) all s.surface s.place)
+  where
+    each-owned : (ws : List Window) → (list_any (λ w. true) ws ≡ true → has_surface s.surface all ≡ true) → Each (λ w. w.owner ≡ standing_owner s) ws
+        → Each (λ w. has_surface w.owner.root all ≡ true) ws
+    each-owned [] there owned = tt
+    each-owned (w ∷ ws) there owned =
+        (ap (λ (o : Owner). has_surface o.root all) owned.0 ∙ there refl, each-owned ws (λ some. there refl) owned.1)
+
+each-both : {X : Type 0} (P Q : X → Type 0) (xs : List X) → Each P xs → Each Q xs → Each (λ x. P x × Q x) xs
+each-both P Q [] p q = tt
+each-both P Q (x ∷ xs) p q = ((p.0, q.0), each-both P Q xs p.1 q.1)
+
+each-so : {X : Type 0} (P Q : X → Type 0) → ((x : X) → P x → Q x) → (xs : List X) → Each P xs → Each Q xs
+each-so P Q so [] each = tt
+each-so P Q so (x ∷ xs) each = (so x each.0, each-so P Q so xs each.1)
+
 pub numbered-at : (numbers : ById ℕ) (f : ℕ → ℕ) (c root : ℕ) (d : Desktop) → ((id : ℕ) → has_surface id (owned_in d c).surfaces ≡ true → numbers id ≡ Some (f id))
     → AreNumberedBy numbers f (windows_at c root d)
 numbered-at numbers f c root d named =
-    All-from_recursion (λ w. numbers w.surface ≡ Some (f w.surface)) (windows_at c root d)
+    All-from_recursion (IsNumberedBy numbers f) (windows_at c root d)
+    (each-both (λ w. numbers w.surface ≡ Some (f w.surface)) (λ w. numbers w.owner.root ≡ Some (f w.owner.root)) (windows_at c root d)
     (each-surface (λ id. numbers id ≡ Some (f id)) (windows_at c root d)
     (λ id has. named id (there-if (owned_in d c).surfaces (find (is_standing c root) d.standing) id has)))
+    (each-so (λ w. has_surface w.owner.root (owned_in d c).surfaces ≡ true) (λ w. numbers w.owner.root ≡ Some (f w.owner.root))
+    (λ w there. named w.owner.root there) (windows_at c root d) (root-if (owned_in d c).surfaces (find (is_standing c root) d.standing))))
 
 all-client : (c root : ℕ) (ws : List Window) → list_all (has_root c root) ws ≡ true → list_all (λ w. c == w.owner.client) ws ≡ true
 all-client c root [] all = refl
@@ -124,6 +162,7 @@ told-was numbers all c root k f d e t are named once by =
 
 -- What is told of the tree of a toplevel's surface tells its windows, by the numbers of their surfaces.
 pub told-is : (f : ℕ → ℕ) (all : Surfaces) (s : Standing) (owner : Owner) (k : ℕ) → IsRenaming f all → IsNamedAlone f all s.surface → k ≡ f s.surface
-    → told_tree 17 owner (renamed f all) k s.place ≡ map (told_by f) (windows_in all s)
+    → told_tree 17 (rooted k owner) (renamed f all) k s.place ≡ map (told_by f) (windows_in all s)
 told-is f all s owner k is alone same =
-    ap (λ (n : ℕ). told_tree 17 owner (renamed f all) n s.place) same ∙ tells-trees-by-name f all is (standing_owner s) owner s.surface alone 17 s.place
+    ap (λ (n : ℕ). told_tree 17 (rooted k owner) (renamed f all) n s.place) same
+    ∙ tells-trees-by-name f all is (standing_owner s) (rooted k owner) s.surface alone same 17 s.place

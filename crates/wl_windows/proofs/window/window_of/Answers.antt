@@ -19,7 +19,7 @@ returns-in-Some g c = λ all stand.
     let offset_y : to_z w32 (of_z w32 offset.y) ≡ offset.y = search rules in
     let left : to_z w32 (of_z w32 c.held_sum-x.result) ≡ c.held_sum-x.result = search rules in
     let top : to_z w32 (of_z w32 c.held_sum-y.result) ≡ c.held_sum-y.result = search rules in
-    window-shown c.in_ok-current.current c.current.result c.in-Some.field-0 c.args.surface (place_beside c.args.spot.now)
+    window-shown c.in_ok-current.current c.current.result c.in-Some.field-0 c.args.spot.now.root c.args.surface (place_beside c.args.spot.now)
     (to_z w32 (of_z w32 c.held_sum-x.result)) (to_z w32 (of_z w32 c.held_sum-y.result)) (surface_at c.args.surface all)
     (c.current.ensures.stands (numbered all) stand.surfaces) c.in_ok-current.was c.in-Some.is
     (left ∙ (c.held_sum-x.ensures ∙ ap₂ (λ z o. within_bounds (z +ℤ o)) (ap₂ (λ a b. a +ℤ b) corner_x position_x) offset_x))

@@ -3,7 +3,7 @@ use Rattle.std.specs.Prelude.{vec_capacity}
 use Rattle.wl_linked.specs.Linked.{Stand}
 use Rattle.wl_stacking.specs.Windows.{Owner}
 use Rattle.wl_surface.specs.Surfaces.{Surfaces as Asked}
-use Rattle.wl_windows.specs.Windows.{Continues, placed_windows, told_tree}
+use Rattle.wl_windows.specs.Windows.{Continues, placed_windows, rooted, told_tree}
 use Rattle.wl_windows.proofs.windows.+tree.Given as goal
 
 abbrev pub decreases-add_tree : goal.decreases-add_tree
@@ -18,7 +18,7 @@ decreases-add_placed g l = l.levels * 3 + 1
 abbrev pub invariant-add_stack-loop-placed : goal.invariant-add_stack-loop-placed
 invariant-add_stack-loop-placed g l = record {
   told : (all : Asked) (owner : Owner) → Stand l.linked.surfaces l.linked.family all
-      → l.windows.items ≡ l.initial.windows.items ++ flat_map (placed_windows (told_tree l.levels owner all) l.window) (take l.placed-index l.stack);
+      → l.windows.items ≡ l.initial.windows.items ++ flat_map (placed_windows (told_tree l.levels (rooted l.window.root owner) all) l.window) (take l.placed-index l.stack);
   more : Continues l.initial.windows.items l.windows.items;
   capacity : vec_capacity l.initial.windows ≤ vec_capacity l.windows;
 }

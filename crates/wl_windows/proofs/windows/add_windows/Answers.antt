@@ -4,7 +4,7 @@ use Rattle.std.proofs.lemmas.Result.{on_ok_weaker}
 use Rattle.wl_linked.specs.Linked.{Stand}
 use Rattle.wl_stacking.specs.Windows.{Owner, tree}
 use Rattle.wl_surface.specs.Surfaces.{Surfaces as Asked}
-use Rattle.wl_windows.specs.Windows.{told_of}
+use Rattle.wl_windows.specs.Windows.{rooted, told_of}
 use Rattle.wl_windows.proofs.Trees.{root-told}
 use Rattle.wl_windows.proofs.windows.add_windows.Goals as goal
 
@@ -14,9 +14,9 @@ returns-else-is_err-clause-ok g c =
     let y : to_z w32 (of_z w32 c.args.y) ≡ c.args.y = omega (arith, ints) in
     on_ok_weaker
     {Q = (all : Asked) (owner : Owner) → Stand c.args.linked.now.surfaces c.args.linked.now.family all
-    → c.add_tree-added.new.windows.items ≡ c.args.windows.now.items ++ map told_of (tree 17 owner all c.args.root (record { x = c.args.x; y = c.args.y }))}
+    → c.add_tree-added.new.windows.items ≡ c.args.windows.now.items ++ map told_of (tree 17 (rooted c.args.root owner) all c.args.root (record { x = c.args.x; y = c.args.y }))}
     c.add_tree-added.result
     (λ told all owner stand.
-    root-told all owner c.args.root c.args.x c.args.y (to_z w32 (of_z w32 c.args.x)) (to_z w32 (of_z w32 c.args.y)) c.args.windows.now.items
+    root-told all (rooted c.args.root owner) c.args.root c.args.x c.args.y (to_z w32 (of_z w32 c.args.x)) (to_z w32 (of_z w32 c.args.y)) c.args.windows.now.items
     c.add_tree-added.new.windows.items x y (told all owner stand))
     c.add_tree-added.ensures.ok
