@@ -102,8 +102,8 @@ impl<A: Allocator> Shell<A> {
 
     /// The surface is committed, and its state then has a buffer, or none (wayland.xml, wl_surface.commit; xdg-shell.xml, xdg_surface). The
     /// window geometry that was asked counts from then on. Where a configure is to be sent it has this serial, which waits to be acknowledged.
-    /// A popup is placed within the bounds, given in pixels of the output, its parent's window geometry standing at `parent_at`; neither
-    /// is of use to a toplevel. It takes no memory. Of a surface without an xdg_surface nothing changes, and `Nothing` is answered.
+    /// A popup is placed then, within the bounds, given in pixels of the output, its parent's window geometry standing at `parent_at`; neither
+    /// is of use to a toplevel. Of a dismissed popup nothing else changes. It takes no memory. Of a surface without an xdg_surface nothing changes, and `Nothing` is answered.
     ///
     /// # Errors
     ///
@@ -113,18 +113,18 @@ impl<A: Allocator> Shell<A> {
         &mut self,
         surface: SurfaceNo,
         has_buffer: bool,
-        _bounds: Rect,
-        _parent_at: (i32, i32),
+        bounds: Rect,
+        parent_at: (i32, i32),
         serial: u32,
     ) -> Result<ShellAct, ShellError>
-        ensures answer { result ≡ commit_answer has_buffer (kept_of self.old surface) }
+        ensures answer { result ≡ commit_answer has_buffer bounds parent_at (kept_of self.old surface) }
         ensures ok { IfOk result (λ act. kept_of self.new ≡ changing surface (kept_after serial act) (kept_of self.old)) }
         ensures err { OnErr result (self.new ≡ self.old) }
     {
         let Some(xdg_surface) = self.surfaces.get_mut(&surface) else {
             return Ok(ShellAct::Nothing);
         };
-        xdg_surface.commit(has_buffer, serial)
+        xdg_surface.commit(has_buffer, bounds, parent_at, serial)
     }
 
     /// A request for another state of the toplevel, as xdg_toplevel.set_maximized. True where a configure is to be sent: it has this serial,
@@ -151,7 +151,7 @@ impl<A: Allocator> Shell<A> {
         let Some(xdg_surface) = self.surfaces.get_mut(&surface) else {
             return;
         };
-        xdg_surface.destroy_toplevel();
+        xdg_surface.destroy_role();
     }
 
     /// xdg_surface.destroy: the surface has no xdg_surface any more.
