@@ -1,5 +1,5 @@
 -- What an acknowledgement leaves of the configures that wait.
-use Rattle.std.proofs.Common.{◌≡◌, ℕ, suc, ◌<◌, List, [], ◌∷◌, Bool, true, false, length, arith, refl}
+use Rattle.std.proofs.Common.{◌≡◌, suc, ◌<◌, List, [], ◌∷◌, Bool, true, false, length, arith, refl}
 use Rattle.std.specs.Prelude.{◌==◌, ◌||◌, if◌then◌else◌}
 use Rattle.wl_xdg_state.specs.Shell.{Configure, is_waiting, later_than}
 use Rattle.wl_xdg_state.specs.Laws.{AcknowledgementForgets}

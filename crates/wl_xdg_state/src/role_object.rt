@@ -57,6 +57,12 @@ impl RoleObject {
         }
     }
 
+    pub(crate) fn id(&self) -> u32
+        ensures { result ≡ self.now.id }
+    {
+        self.id
+    }
+
     pub(crate) fn stage(&self) -> Stage
         ensures { result ≡ self.now.stage }
     {

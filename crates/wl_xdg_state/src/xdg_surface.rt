@@ -92,6 +92,14 @@ impl XdgSurface {
         self.base
     }
 
+    /// The id of its role object, if it has one.
+    pub fn role_id(&self) -> Option<u32>
+        ensures { result ≡ option_map (λ object. object.id) self.now.role }
+    {
+        let role = self.role.as_ref()?;
+        Some(role.id())
+    }
+
     /// Its toplevel, if that is its role object.
     pub fn toplevel(&self) -> Option<Toplevel>
         ensures { result ≡ toplevel_in self.now.role }
