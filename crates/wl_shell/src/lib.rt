@@ -3,9 +3,10 @@
 
 ghost use Rattle.wl_shell.specs.Laws.{ShellsStand};
 
+mod popups;
 mod shell;
 
-pub use shell::Shell;
+pub use shell::{NewPopup, Shell};
 pub use wl_xdg_state::{
     Placed, Popup, Positioner, ShellAct, ShellError, Stage, Toplevel, XdgSurface,
 };
