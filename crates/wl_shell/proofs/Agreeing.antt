@@ -63,7 +63,7 @@ one-surface a b shell x y apart first second same =
     sym (found-surface a shell x first) ∙ ap (λ (z : XdgSurface). z.surface) (some-same x y both) ∙ found-surface b shell y second
 
 -- a change that keeps what is tested
-found-map : (p : XdgSurface → Bool) (f : XdgSurface → XdgSurface) → ((x : XdgSurface) → p (f x) ≡ p x) → (xs : Shell) → find p (map f xs) ≡ option_map f (find p xs)
+pub found-map : (p : XdgSurface → Bool) (f : XdgSurface → XdgSurface) → ((x : XdgSurface) → p (f x) ≡ p x) → (xs : Shell) → find p (map f xs) ≡ option_map f (find p xs)
 found-map p f keeps [] = refl
 found-map p f keeps (x ∷ xs) = ap (λ b. if b then Some (f x) else find p (map f xs)) (keeps x) ∙ at (p x) (found-map p f keeps xs)
   where

@@ -1,6 +1,6 @@
 -- What a change of one xdg_surface makes of all.
-use Rattle.std.proofs.Common.{◌≡◌, ◌≢◌, ℕ, suc, ◌∷◌, Bool, true, false, Option, Some, Result, refl, ap, subst, sym, ◌∙◌, arith, []}
-use Rattle.std.specs.Prelude.{All, IsSomeAnd, IfSome, OnErr, IfOk, Ok, Err, is_some, cond, if◌then◌else◌, ◌==◌, ◌||◌}
+use Rattle.std.proofs.Common.{◌≡◌, ◌≢◌, ℕ, suc, ◌∷◌, Bool, true, false, Option, Some, None, Result, refl, ap, subst, sym, ◌∙◌, arith, []}
+use Rattle.std.specs.Prelude.{All, IsSomeAnd, IfSome, OnErr, OnOk, IfOk, Ok, Err, is_some, cond, if◌then◌else◌, ◌==◌, ◌||◌}
 use Rattle.std.specs.List.{list_any}
 use Rattle.std.specs.Option.{option_map}
 use Rattle.std.specs.Map.{lookup, set_value}
@@ -51,6 +51,15 @@ module _ (old new : BTreeMap ℕ Kept) (book : Book) (surface : ℕ) (k w : Kept
         at : (r : Result X E) → IfOk r (λ x. w ≡ change x k) → IfOk r (λ x. kept_of new.entries ≡ changing surface (change x) (kept_of book))
         at (Ok x) is = changed (change x) is
         at (Err e) is = tt
+
+    pub changed-if : (change : ℕ → Kept → Kept) (o p : Option ℕ) → o ≡ p → OnOk result (IfSome o (λ x. w ≡ change x k))
+        → OnOk result (IfSome p (λ x. kept_of new.entries ≡ changing surface (change x) (kept_of book)))
+    changed-if change o p same is = at result p (subst (λ (o : Option ℕ). OnOk result (IfSome o (λ x. w ≡ change x k))) same is)
+      where
+        at : (r : Result X E) (o : Option ℕ) → OnOk r (IfSome o (λ x. w ≡ change x k)) → OnOk r (IfSome o (λ x. kept_of new.entries ≡ changing surface (change x) (kept_of book)))
+        at (Ok x) None is = tt
+        at (Ok x) (Some id) is = changed (change id) is
+        at (Err e) o is = tt
 
     pub stayed-err : OnErr result (w ≡ k) → OnErr result (new.entries ≡ book)
     stayed-err is = at result is

@@ -1,5 +1,5 @@
 -- What is kept of all xdg_surfaces goes on standing for them.
-use Rattle.std.proofs.Common.{◌≡◌, ◌≢◌, ℕ, [], ◌∷◌, Bool, true, false, Option, Some, None, refl, ap, subst, sym, ◌∙◌, arith}
+use Rattle.std.proofs.Common.{◌≡◌, ◌≢◌, ℕ, List, [], ◌∷◌, map, Bool, true, false, Option, Some, None, refl, ap, subst, sym, ◌∙◌, arith}
 use Rattle.std.specs.Prelude.{◌==◌, ◌||◌, IfSome, IsSomeAnd, if◌then◌else◌}
 use Rattle.std.specs.List.{list_any}
 use Rattle.std.specs.Option.{option_map}
@@ -7,10 +7,12 @@ use Rattle.std.proofs.lemmas.Bool.{eqb-true}
 use Rattle.std.proofs.lemmas.Bool.Decides.{nat_tests}
 use Rattle.wl_state.specs.State.{History}
 use Rattle.wl_shell.specs.Agreement.{AreApart, IsKept}
-use Rattle.wl_xdg_state.specs.Kept.{Kept, first_kept}
-use Rattle.wl_shell.specs.Laws.{BaseRead, GoneShell, ChangedShell, NewShell, OtherHistory, ShellsStand}
-use Rattle.wl_xdg_state.specs.Shell.{Shell, XdgSurface, with_change, with_new, without_xdg, xdg_of}
-use Rattle.wl_shell.proofs.Agreeing.{changed-apart, changed-elsewhere, changed-here, differ, new-apart, new-elsewhere, new-here, newest, removed-apart, removed-elsewhere, removed-here}
+use Rattle.wl_xdg_state.specs.Kept.{Kept, Stands, first_kept, kept_changed}
+use Rattle.wl_xdg_state.specs.Popups.{dismiss, dismissed_among, is_among, orphan, popup_changed}
+use Rattle.wl_xdg_state.proofs.Standing.{changes_stand}
+use Rattle.wl_shell.specs.Laws.{BaseRead, ChangedShell, DismissalStands, GoneShell, ManyChanged, NewShell, OrphaningStands, OtherHistory, ShellsStand, kept_dismissed}
+use Rattle.wl_xdg_state.specs.Shell.{Shell, XdgSurface, with_change, with_new, without_xdg, xdg_at, xdg_of}
+use Rattle.wl_shell.proofs.Agreeing.{changed-apart, changed-elsewhere, changed-here, differ, found-map, new-apart, new-elsewhere, new-here, newest, removed-apart, removed-elsewhere, removed-here}
 use Rattle.wl_xdg_state.proofs.Standing.{new_stands}
 
 pub absent : (o : Option XdgSurface) (h : Option History) → IsKept None o h → o ≡ None
@@ -132,6 +134,61 @@ base_read base kept histories shell is = (
       (none x.surface)),
 )
 
+-- ---- many at once
+
+module _ (step : XdgSurface → XdgSurface) (keeps_id : (y : XdgSurface) → (step y).id ≡ y.id) (keeps_surface : (y : XdgSurface) → (step y).surface ≡ y.surface) where
+  stepped-of : (surface : ℕ) (shell : Shell) → xdg_of surface (map step shell) ≡ option_map step (xdg_of surface shell)
+  stepped-of surface shell = found-map (λ x. x.surface == surface) step (λ x. ap (λ s. s == surface) (keeps_surface x)) shell
+
+  stepped-at : (id : ℕ) (shell : Shell) → xdg_at id (map step shell) ≡ option_map step (xdg_at id shell)
+  stepped-at id shell = found-map (λ x. x.id == id) step (λ x. ap (λ i. i == id) (keeps_id x)) shell
+
+  stepped-apart : (shell : Shell) → AreApart shell → AreApart (map step shell)
+  stepped-apart [] apart = tt
+  stepped-apart (x ∷ xs) apart = (
+    ap (λ i. xdg_at i (map step xs)) (keeps_id x) ∙ stepped-at x.id xs ∙ ap (option_map step) apart.0,
+    ap (λ s. xdg_of s (map step xs)) (keeps_surface x) ∙ stepped-of x.surface xs ∙ ap (option_map step) apart.1,
+    stepped-apart xs apart.2,
+  )
+
+each-kept : (change : Kept → Kept) (step : XdgSurface → XdgSurface) → ((k : Kept) (x : XdgSurface) (h : History) → Stands k x h → Stands (change k) (step x) h)
+    → (k : Option Kept) (x : Option XdgSurface) (h : Option History) → IsKept k x h → IsKept (option_map change k) (option_map step x) h
+each-kept change step stands None None h is = tt
+each-kept change step stands None (Some x) h is = is
+each-kept change step stands (Some k) None h is = is
+each-kept change step stands (Some k) (Some x) None is = is
+each-kept change step stands (Some k) (Some x) (Some h) is = stands k x h is
+
+many_changed : ManyChanged
+many_changed change step kept histories shell keeps_id keeps_surface stands is = record {
+  each = λ surface. subst (λ (o : Option XdgSurface). IsKept (option_map change (kept surface)) o (histories surface)) (sym (stepped-of step keeps_id keeps_surface surface shell))
+      (each-kept change step stands (kept surface) (xdg_of surface shell) (histories surface) (is.each surface));
+  apart = stepped-apart step keeps_id keeps_surface shell is.apart;
+}
+
+dismissal_stands : DismissalStands
+dismissal_stands ids kept histories shell is =
+    many_changed (kept_dismissed ids) (dismissed_among ids) kept histories shell (λ y. at-id y (is_among y.id ids)) (λ y. at-surface y (is_among y.id ids)) stands is
+  where
+    at-id : (y : XdgSurface) (b : Bool) → (if b then popup_changed dismiss y else y).id ≡ y.id
+    at-id y true = refl
+    at-id y false = refl
+
+    at-surface : (y : XdgSurface) (b : Bool) → (if b then popup_changed dismiss y else y).surface ≡ y.surface
+    at-surface y true = refl
+    at-surface y false = refl
+
+    at : (k : Kept) (x : XdgSurface) (h : History) (b : Bool) → Stands k x h → Stands (if b then kept_changed dismiss k else k) (if b then popup_changed dismiss x else x) h
+    at k x h true s = changes_stand.changed dismiss k x h s
+    at k x h false s = s
+
+    stands : (k : Kept) (x : XdgSurface) (h : History) → Stands k x h → Stands (kept_dismissed ids k) (dismissed_among ids x) h
+    stands k x h s = subst (λ i. Stands (if is_among i ids then kept_changed dismiss k else k) (dismissed_among ids x) h) (sym s.id) (at k x h (is_among x.id ids) s)
+
+orphaning_stands : OrphaningStands
+orphaning_stands xdg kept histories shell is =
+    many_changed (kept_changed (orphan xdg)) (popup_changed (orphan xdg)) kept histories shell (λ y. refl) (λ y. refl) (λ k x h s. changes_stand.changed (orphan xdg) k x h s) is
+
 pub shells_stand : ShellsStand
 shells_stand = record {
   made = new_shell;
@@ -139,4 +196,7 @@ shells_stand = record {
   gone = gone_shell;
   other = other_history;
   base = base_read;
+  many = many_changed;
+  dismissal = dismissal_stands;
+  orphaning = orphaning_stands;
 }

@@ -1,11 +1,12 @@
 -- Laws of the xdg_surfaces of a client: what is kept of all of them stands for them, after each change too.
-use Rattle.std.specs.Prelude.{ℕ, ◌≡◌, ◌≤◌, ◌==◌, ◌≢◌, length, true, false, None, Some, Option}
+use Rattle.std.specs.Prelude.{ℕ, ◌≡◌, ◌≤◌, ◌==◌, ◌≢◌, List, length, map, true, false, if◌then◌else◌, None, Some, Option}
+use Rattle.std.specs.Option.{option_map}
 use Rattle.std.specs.Prelude.{IfSome, IsSomeAnd}
 use Rattle.std.specs.List.{list_any}
 use Rattle.wl_state.specs.State.{History}
 use Rattle.wl_shell.specs.Agreement.{IsShell, with_history}
-use Rattle.wl_xdg_state.specs.Kept.{Kept, Stands, changing, first_kept}
-use Rattle.wl_xdg_state.specs.Kept.{with_kept}
+use Rattle.wl_xdg_state.specs.Kept.{Kept, Stands, changing, first_kept, kept_changed, with_kept}
+use Rattle.wl_xdg_state.specs.Popups.{dismiss, dismissed_among, is_among, orphan, orphaning}
 use Rattle.wl_xdg_state.specs.Shell.{Shell, XdgSurface}
 use Rattle.wl_xdg_state.specs.Shell.{with_change, with_new, without_xdg, xdg_at, xdg_of}
 
@@ -57,9 +58,42 @@ BaseRead =
     → ((surface : ℕ) → IsSomeAnd (kept surface) (λ k. k.base ≡ base) → list_any (λ x. x.base == base) shell ≡ true)
     × (((surface : ℕ) → IfSome (kept surface) (λ k. k.base ≢ base)) → list_any (λ x. x.base == base) shell ≡ false)
 
+-- Many change at once, as popups that are dismissed or whose parent goes, and what is kept of each stands for it then.
+abbrev pub each_changed : (Kept → Kept) → (ℕ → Option Kept) → ℕ → Option Kept
+each_changed change kept = λ surface. option_map change (kept surface)
+
+abbrev pub ManyChanged : Type 0
+ManyChanged =
+    (change : Kept → Kept) (step : XdgSurface → XdgSurface) (kept : ℕ → Option Kept) (histories : ℕ → Option History) (shell : Shell)
+    → ((y : XdgSurface) → (step y).id ≡ y.id)
+    → ((y : XdgSurface) → (step y).surface ≡ y.surface)
+    → ((k : Kept) (x : XdgSurface) (h : History) → Stands k x h → Stands (change k) (step x) h)
+    → IsShell kept histories shell
+    → IsShell (each_changed change kept) histories (map step shell)
+
+-- popups are dismissed
+abbrev pub kept_dismissed : List ℕ → Kept → Kept
+kept_dismissed ids k = if is_among k.id ids then kept_changed dismiss k else k
+
+abbrev pub DismissalStands : Type 0
+DismissalStands =
+    (ids : List ℕ) (kept : ℕ → Option Kept) (histories : ℕ → Option History) (shell : Shell)
+    → IsShell kept histories shell
+    → IsShell (each_changed (kept_dismissed ids) kept) histories (map (dismissed_among ids) shell)
+
+-- a toplevel goes: its popups have no parent any more
+abbrev pub OrphaningStands : Type 0
+OrphaningStands =
+    (xdg : ℕ) (kept : ℕ → Option Kept) (histories : ℕ → Option History) (shell : Shell)
+    → IsShell kept histories shell
+    → IsShell (each_changed (kept_changed (orphan xdg)) kept) histories (orphaning xdg shell)
+
 pub record ShellsStand : Type 0 where
   pub made : NewShell
   pub changed : ChangedShell
   pub gone : GoneShell
   pub other : OtherHistory
   pub base : BaseRead
+  pub many : ManyChanged
+  pub dismissal : DismissalStands
+  pub orphaning : OrphaningStands

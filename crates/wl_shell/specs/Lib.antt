@@ -1,2 +1,4 @@
 pub mod Agreement
 pub mod Laws
+pub mod Picking
+pub mod Popups

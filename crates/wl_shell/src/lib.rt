@@ -3,10 +3,13 @@
 
 ghost use Rattle.wl_shell.specs.Laws.{ShellsStand};
 
+mod popups;
 mod shell;
 
-pub use shell::Shell;
-pub use wl_xdg_state::{Placed, Positioner, ShellAct, ShellError, Stage, Toplevel, XdgSurface};
+pub use shell::{NewPopup, Shell};
+pub use wl_xdg_state::{
+    Placed, Popup, Positioner, ShellAct, ShellError, Stage, Toplevel, XdgSurface,
+};
 
 /// What is kept of all xdg_surfaces of a client stands for them, and does so after each change of one.
 pub fn shells_stand()

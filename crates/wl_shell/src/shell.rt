@@ -1,16 +1,30 @@
 //! The xdg_surfaces of a client.
 
-ghost use Rattle.std.specs.Prelude.{◌≡◌, ◌≢◌, [], ℕ, All, MatchOption, None, Some, OnOk, OnErr, IfErr, IfOk, IfSome, IsOkUnless, IsSomeAnd, Err};
+ghost use Rattle.std.specs.Prelude.{◌≡◌, ◌≢◌, ◌&&◌, [], ℕ, All, MatchOption, None, Some, OnOk, OnErr, IfErr, IfOk, IfNone, IfSome, IsOkUnless, IsSomeAnd, Err, is_some, nat_lt};
 ghost use Rattle.std.specs.List.{list_any};
-ghost use Rattle.std.specs.Option.{option_copied};
-ghost use Rattle.wl_xdg_state.specs.Kept.{acknowledgement_answer, changing, commit_answer, configure_answer, destruction_answer, first_kept, geometry_answer, is_of_base, kept_acknowledging, kept_after, kept_asking, kept_configured, kept_of, kept_toplevel, kept_without_role, making_refused, toplevel_answer, with_kept};
+ghost use Rattle.std.specs.Option.{option_and_then, option_copied};
+ghost use Rattle.wl_xdg_state.specs.Kept.{acknowledgement_answer, changing, commit_answer, configure_answer, destruction_answer, first_kept, geometry_answer, grab_answer, is_of_base, kept_acknowledging, kept_after, kept_asking, kept_changed, kept_configured, kept_grabbing, kept_of, kept_popup, kept_toplevel, kept_without_role, making_refused, popup_answer, toplevel_answer, with_kept};
+ghost use Rattle.wl_xdg_state.specs.Popups.{dismiss};
+ghost use Rattle.wl_shell.specs.Popups.{IsNewest, IsOldest, dismissible_under, has_child, has_popup, parent_allows, parent_id, parent_of, popup_destruction};
 
+use crate::popups::{self, Wanted};
 use std::alloc::Allocator;
 use std::collections::BTreeMap;
 use std::marker::Model;
 use wl_geom::Rect;
 use wl_surface::SurfaceNo;
-use wl_xdg_state::{ShellAct, ShellError, XdgSurface};
+use wl_xdg_state::{Positioner, ShellAct, ShellError, XdgSurface};
+
+/// A popup that is asked for.
+#[derive(Clone, Copy, Debug, PartialEq, Eq)]
+pub struct NewPopup {
+    /// The id of its xdg_popup.
+    pub id: u32,
+    /// The surface of its parent, if it has one.
+    pub parent: Option<SurfaceNo>,
+    /// Its number among the popups of its client, in order of creation.
+    pub number: u64,
+}
 
 /// The xdg_surfaces of a client, by the numbers of their surfaces (xdg-shell.xml). It is seen as what is kept of each.
 #[derive(Drop)]
@@ -66,6 +80,45 @@ impl<A: Allocator> Shell<A> {
         xdg_surface.get_toplevel(id, has_other_role)
     }
 
+    /// The id of the xdg_surface of a popup's parent, if that has one with a role object.
+    fn parent_id(&self, parent: Option<SurfaceNo>) -> Option<u32>
+        ensures { result ≡ parent_id (kept_of self.now) parent }
+    {
+        let xdg_surface = self.get(parent?)?;
+        if xdg_surface.has_role() {
+            Some(xdg_surface.id())
+        } else {
+            None
+        }
+    }
+
+    /// xdg_surface.get_popup: the xdg_surface of the surface has a popup as its role object, which is new; the positioner is copied. What was
+    /// asked of it before is forgotten.
+    ///
+    /// # Errors
+    ///
+    /// The first of these; each changes nothing. `NotConstructed` where the surface has no xdg_surface, `AlreadyConstructed` where it has a
+    /// role object, `Role` where the surface has another role, `InvalidPopupParent` where there is no parent, or its surface has no role
+    /// object, `InvalidPositioner` where the positioner isn't complete.
+    pub fn get_popup(
+        &mut self,
+        surface: SurfaceNo,
+        popup: &NewPopup,
+        positioner: &Positioner,
+        has_other_role: bool,
+    ) -> Result<(), ShellError>
+        ensures answer { result ≡ popup_answer has_other_role (is_some (parent_id (kept_of self.old) popup.now.parent)) positioner.now (kept_of self.old surface) }
+        ensures ok { OnOk result (IfSome (parent_id (kept_of self.old) popup.now.parent)
+            (λ xdg. kept_of self.new ≡ changing surface (kept_popup popup.now.id xdg positioner.now popup.now.number) (kept_of self.old))) }
+        ensures err { OnErr result (self.new ≡ self.old) }
+    {
+        let parent = self.parent_id(popup.parent);
+        let Some(xdg_surface) = self.surfaces.get_mut(&surface) else {
+            return Err(ShellError::NotConstructed);
+        };
+        xdg_surface.get_popup(popup.id, parent, positioner, popup.number, has_other_role)
+    }
+
     /// xdg_surface.set_window_geometry: the window geometry of the xdg_surface of the surface is this, from the next commit on.
     ///
     /// # Errors
@@ -102,8 +155,8 @@ impl<A: Allocator> Shell<A> {
 
     /// The surface is committed, and its state then has a buffer, or none (wayland.xml, wl_surface.commit; xdg-shell.xml, xdg_surface). The
     /// window geometry that was asked counts from then on. Where a configure is to be sent it has this serial, which waits to be acknowledged.
-    /// A popup is placed within the bounds, given in pixels of the output, its parent's window geometry standing at `parent_at`; neither
-    /// is of use to a toplevel. It takes no memory. Of a surface without an xdg_surface nothing changes, and `Nothing` is answered.
+    /// A popup is placed then, within the bounds, given in pixels of the output, its parent's window geometry standing at `parent_at`; neither
+    /// is of use to a toplevel. Of a dismissed popup nothing else changes. It takes no memory. Of a surface without an xdg_surface nothing changes, and `Nothing` is answered.
     ///
     /// # Errors
     ///
@@ -113,18 +166,18 @@ impl<A: Allocator> Shell<A> {
         &mut self,
         surface: SurfaceNo,
         has_buffer: bool,
-        _bounds: Rect,
-        _parent_at: (i32, i32),
+        bounds: Rect,
+        parent_at: (i32, i32),
         serial: u32,
     ) -> Result<ShellAct, ShellError>
-        ensures answer { result ≡ commit_answer has_buffer (kept_of self.old surface) }
+        ensures answer { result ≡ commit_answer has_buffer bounds parent_at (kept_of self.old surface) }
         ensures ok { IfOk result (λ act. kept_of self.new ≡ changing surface (kept_after serial act) (kept_of self.old)) }
         ensures err { OnErr result (self.new ≡ self.old) }
     {
         let Some(xdg_surface) = self.surfaces.get_mut(&surface) else {
             return Ok(ShellAct::Nothing);
         };
-        xdg_surface.commit(has_buffer, serial)
+        xdg_surface.commit(has_buffer, bounds, parent_at, serial)
     }
 
     /// A request for another state of the toplevel, as xdg_toplevel.set_maximized. True where a configure is to be sent: it has this serial,
@@ -144,6 +197,121 @@ impl<A: Allocator> Shell<A> {
         xdg_surface.configure(serial)
     }
 
+    /// The parent of the popup of the surface is a toplevel, or a popup with a grab.
+    fn parent_allows(&self, surface: SurfaceNo) -> bool
+        ensures { result ≡ parent_allows self.now (kept_of self.now surface) }
+    {
+        match self.parent_of(surface) {
+            Some(parent) => popups::parent_allows(&self.surfaces, parent),
+            None => false,
+        }
+    }
+
+    /// Its popup may have a grab by its parent too.
+    fn may_grab(&self, surface: SurfaceNo, is_allowed: bool) -> bool
+        ensures { result ≡ (parent_allows self.now (kept_of self.now surface) && is_allowed) }
+    {
+        self.parent_allows(surface) && is_allowed
+    }
+
+    /// The id of the parent of the popup of the surface, if it has one.
+    fn parent_of(&self, surface: SurfaceNo) -> Option<u32>
+        ensures { result ≡ option_and_then parent_of (kept_of self.now surface) }
+    {
+        popups::parent(self.get(surface)?)
+    }
+
+    /// xdg_popup.grab: the popup of the surface has a grab, where that is allowed by the serial and the other clients, and its parent is a
+    /// toplevel or a popup with a grab. True where that is so, and where nothing is done, since the popup was dismissed or the surface has none;
+    /// false, and nothing changes, where the popup is to be dismissed.
+    ///
+    /// # Errors
+    ///
+    /// `InvalidGrab` where the popup is mapped; nothing changes.
+    pub fn grab(&mut self, surface: SurfaceNo, is_allowed: bool) -> Result<bool, ShellError>
+        ensures answer { result ≡ grab_answer (parent_allows self.old (kept_of self.old surface) && is_allowed) (kept_of self.old surface) }
+        ensures ok { IfOk result (λ is_taken. kept_of self.new ≡ changing surface (kept_grabbing is_taken) (kept_of self.old)) }
+        ensures err { OnErr result (self.new ≡ self.old) }
+    {
+        let is_allowed = self.may_grab(surface, is_allowed);
+        let Some(xdg_surface) = self.surfaces.get_mut(&surface) else {
+            return Ok(true);
+        };
+        xdg_surface.grab(is_allowed)
+    }
+
+    /// The surface of the oldest popup with a greater number, of those that aren't dismissed and of those that are; none where there is none.
+    pub fn popup_after(&self, number: u64) -> Option<SurfaceNo>
+        ensures { IsOldest (has_popup (λ popup. nat_lt number popup.number)) (kept_of self.now) result }
+    {
+        popups::find_popup(&self.surfaces, Wanted::After(number))
+    }
+
+    /// The surface of the newest popup with a lesser number, of those that aren't dismissed and of those that are; none where there is none.
+    pub fn popup_before(&self, number: u64) -> Option<SurfaceNo>
+        ensures { IsNewest (has_popup (λ popup. nat_lt popup.number number)) (kept_of self.now) result }
+    {
+        popups::find_popup(&self.surfaces, Wanted::Before(number))
+    }
+
+    /// The surface of the newest popup that isn't dismissed, of the popup of the xdg_surface of the surface and those that descend from it.
+    fn newest_under(&self, surface: SurfaceNo) -> Option<SurfaceNo>
+        ensures { IsNewest (dismissible_under self.now (kept_of self.now surface)) (kept_of self.now) result }
+    {
+        let id = self.get(surface)?.id();
+        popups::find_popup(&self.surfaces, Wanted::Under(id))
+    }
+
+    /// The popup of the xdg_surface of the surface is dismissed, if it has one, with those that descend from it, the newest first, one by each
+    /// call (xdg-shell.xml, xdg_popup.popup_done). Answers the surface of the one that was, and nothing, with nothing changed, where all are.
+    /// A dismissed popup has no grab.
+    pub fn dismiss(&mut self, surface: SurfaceNo) -> Option<SurfaceNo>
+        ensures newest { IsNewest (dismissible_under self.old (kept_of self.old surface)) (kept_of self.old) result }
+        ensures some { IfSome result (λ gone. kept_of self.new ≡ changing gone (kept_changed dismiss) (kept_of self.old)) }
+        ensures none { IfNone result (self.new ≡ self.old) }
+    {
+        let newest = self.newest_under(surface)?;
+        self.dismiss_one(newest);
+        Some(newest)
+    }
+
+    /// The popup of the surface is dismissed, and no other.
+    fn dismiss_one(&mut self, surface: SurfaceNo)
+        ensures { kept_of self.new ≡ changing surface (kept_changed dismiss) (kept_of self.old) }
+    {
+        let Some(xdg_surface) = self.surfaces.get_mut(&surface) else {
+            return;
+        };
+        xdg_surface.dismiss();
+    }
+
+    /// A living popup has the xdg_surface of the surface as its parent.
+    pub fn has_child(&self, surface: SurfaceNo) -> bool
+        ensures { result ≡ has_child self.now (kept_of self.now surface) }
+    {
+        match self.get(surface) {
+            Some(xdg_surface) => popups::has_child(&self.surfaces, xdg_surface.id()),
+            None => false,
+        }
+    }
+
+    /// xdg_popup.destroy: the xdg_surface of the surface has no role object any more, and none of its configures waits.
+    ///
+    /// # Errors
+    ///
+    /// `NotTheTopmostPopup` where a living popup has it as its parent; nothing changes.
+    pub fn destroy_popup(&mut self, surface: SurfaceNo) -> Result<(), ShellError>
+        ensures answer { result ≡ popup_destruction (has_child self.old (kept_of self.old surface)) }
+        ensures ok { OnOk result (kept_of self.new ≡ changing surface kept_without_role (kept_of self.old)) }
+        ensures err { OnErr result (self.new ≡ self.old) }
+    {
+        if self.has_child(surface) {
+            return Err(ShellError::NotTheTopmostPopup);
+        }
+        self.destroy_toplevel(surface);
+        Ok(())
+    }
+
     /// xdg_toplevel.destroy: the xdg_surface of the surface has no role object any more, and none of its configures waits.
     pub fn destroy_toplevel(&mut self, surface: SurfaceNo)
         ensures { kept_of self.new ≡ changing surface kept_without_role (kept_of self.old) }
@@ -151,7 +319,7 @@ impl<A: Allocator> Shell<A> {
         let Some(xdg_surface) = self.surfaces.get_mut(&surface) else {
             return;
         };
-        xdg_surface.destroy_toplevel();
+        xdg_surface.destroy_role();
     }
 
     /// xdg_surface.destroy: the surface has no xdg_surface any more.

@@ -3,8 +3,9 @@ use Rattle.std.proofs.Common.{◌≡◌, ℕ, [], ◌∷◌, Option, Some, None,
 use Rattle.std.specs.Prelude.{ℤ, pos, negsuc}
 use Rattle.wl_geom.specs.declared.rect.Rect.{Rect}
 use Rattle.wl_xdg_state.specs.Positioner.{Placed, Positioner, first_positioner, is_complete, place, rect_set}
-use Rattle.wl_xdg_state.specs.Popups.{new_popup, with_effect}
-use Rattle.wl_xdg_state.specs.Shell.{Configure, Fresh, Waiting, Ready, Mapped, Unconfigured, Configures, Maps, Unmaps, XdgSurface, acknowledged, later_than, next_serial, on_commit}
+use Rattle.std.specs.Option.{option_map}
+use Rattle.wl_xdg_state.specs.Popups.{new_popup, popup_in, with_effect}
+use Rattle.wl_xdg_state.specs.Shell.{Configure, Fresh, Waiting, Ready, Mapped, Unconfigured, Configures, Maps, Popup, Unmaps, XdgSurface, acknowledged, later_than, next_serial, on_commit}
 
 abbrev rect : ℤ → ℤ → ℤ → ℤ → Rect
 rect x y w h = record { x = x; y = y; w = w; h = h }
@@ -86,13 +87,18 @@ unplaced serial = record { serial = serial; placement = None }
 pub row_later : later_than 2 (unplaced 1 ∷ unplaced 2 ∷ unplaced 3 ∷ []) ≡ unplaced 3 ∷ []
 row_later = refl
 
--- a configure that waits keeps where it placed its popup, and a commit that configures places it
+-- a commit that configures a popup places it at once, and its configure places it nowhere else later
 abbrev corner_popup : XdgSurface
 corner_popup = new_popup 8 5 (at_the_corner (pos 0, pos 0)) 0 0 (record { id = 7; base = 4; surface = 6; role = None; configures = []; since = 0 })
 
-pub row_placed : (with_effect 3 1 (λ popup. placed (pos 40) (pos 40) (pos 8) (pos 8)) Configures corner_popup).configures
-    ≡ record { serial = 3; placement = placed (pos 40) (pos 40) (pos 8) (pos 8) } ∷ []
+abbrev configured_popup : XdgSurface
+configured_popup = with_effect 3 1 (λ popup. placed (pos 40) (pos 40) (pos 8) (pos 8)) Configures corner_popup
+
+pub row_placed : option_map (λ (popup : Popup). popup.placement) (popup_in configured_popup.role) ≡ Some (placed (pos 40) (pos 40) (pos 8) (pos 8))
 row_placed = refl
+
+pub row_configured : configured_popup.configures ≡ unplaced 3 ∷ []
+row_configured = refl
 
 pub row_last_serial : next_serial 4294967295 ≡ 1
 row_last_serial = refl

@@ -1,22 +1,22 @@
 -- What is kept of an xdg_surface goes on standing for it.
-use Rattle.std.proofs.Common.{◌≡◌, ℕ, ◌≤◌, List, [], ◌∷◌, ◌++◌, Bool, true, false, Option, Some, None, length, take, drop, refl, ap, subst, sym, ◌∙◌, arith}
-use Rattle.std.specs.Prelude.{Ok, fold, is_some}
+use Rattle.std.proofs.Common.{◌≡◌, ℕ, ℤ, ◌≤◌, List, [], ◌∷◌, ◌++◌, Bool, true, false, Option, Some, None, length, take, drop, refl, ap, sym, ◌∙◌, arith}
+use Rattle.std.specs.Prelude.{Ok, IfSome, fold, is_some}
 use Rattle.std.specs.Option.{option_map, option_map_or}
 use Rattle.std.proofs.lemmas.List.{take_all, drop_all, length-append, length-take, take-append-le, drop-append-le}
 use Rattle.std.proofs.lemmas.List.Sums.{fold-append}
+use Rattle.wl_geom.specs.declared.rect.Rect.{Rect}
 use Rattle.wl_state.specs.Request.{Request, Commit, SetWindowGeometry}
 use Rattle.wl_state.specs.State.{History, apply, committed, geometry, geometry_asked}
 use Rattle.wl_state.proofs.Commits.{committed-last}
 use Rattle.wl_xdg_state.specs.declared.acts.ShellAct.{ShellAct}
 use Rattle.wl_xdg_state.specs.declared.acts.ShellAct.TheVariants.{Configure, Map, Unmap, Nothing}
 use Rattle.wl_xdg_state.specs.declared.stage.Stage.{Stage}
-use Rattle.wl_xdg_state.specs.Kept.{Kept, Stands, effect_answer, kept_after, serials_after, stage_in}
-use Rattle.wl_xdg_state.specs.Popups.{is_toplevel_kind, placing, popup_changed, with_effect, with_popup, with_popup_role, without_grab}
-use Rattle.wl_xdg_state.specs.Positioner.{Placed}
+use Rattle.wl_xdg_state.specs.Kept.{Kept, Stands, effect_answer, kept_after, placement_in}
+use Rattle.wl_xdg_state.specs.Popups.{effect_in, in_force, is_toplevel_kind, placing, popup_changed, popup_in, with_effect, with_popup, with_popup_role, without_grab}
+use Rattle.wl_xdg_state.specs.Positioner.{Placed, place}
 use Rattle.wl_xdg_state.specs.Shell.{Configure as Waits, Effect, Stays, Unconfigured, Configures, Maps, Unmaps, Fresh, Waiting, Mapped, Kind, Toplevel, IsPopup, Popup, RoleObject, XdgSurface}
-use Rattle.wl_xdg_state.specs.Shell.{at_stage, configuring, in_stage, is_full, on_commit, placement_of, role_acknowledged, stage_of, unmapping}
-use Rattle.wl_xdg_state.proofs.Serials.{later-so, more-so, serials_of}
-use Rattle.wl_xdg_state.specs.Laws.{AcknowledgementStands, ChangesStand, CommitStands, ConfigureStands, DestructionStands, GeometryStands, NewStands, OtherStands, ToplevelStands, one_more}
+use Rattle.wl_xdg_state.specs.Shell.{at_stage, configuring, in_stage, is_full, later_than, role_acknowledged, unmapping}
+use Rattle.wl_xdg_state.specs.Laws.{AcknowledgementStands, ChangesStand, CommitStands, ConfigureStands, DestructionStands, GeometryStands, NewStands, OtherStands, PopupChangeStands, PopupStands, ToplevelStands, one_more}
 
 -- one request more since a place
 asked-more : (since : ℕ) (rs : List Request) (request : Request) → since ≤ length rs
@@ -52,10 +52,6 @@ none-counts n h le = ap (fold geometry_asked None) (drop_all n (take h.cut h.req
 abbrev IsToplevelIf : Option RoleObject → Type 0
 IsToplevelIf o = is_some o ≡ true → option_map_or (λ (object : RoleObject). is_toplevel_kind object.kind) o false ≡ true
 
-top-still : (f : RoleObject → RoleObject) → ((object : RoleObject) → (f object).kind ≡ object.kind) → (o : Option RoleObject) → IsToplevelIf o → IsToplevelIf (option_map f o)
-top-still f keeps None top there = absurd (cc)
-top-still f keeps (Some object) top there = ap is_toplevel_kind (keeps object) ∙ top refl
-
 kind-still : (change : Popup → Popup) (kind : Kind) → is_toplevel_kind kind ≡ true → with_popup change kind ≡ kind
 kind-still change Toplevel is = refl
 kind-still change (IsPopup popup) is = absurd (cc)
@@ -73,8 +69,7 @@ new_stands id base surface h within = record {
   id = refl;
   base = refl;
   role = refl;
-  toplevel = λ there. absurd (cc);
-  serials = refl;
+  configures = refl;
   pending = λ there. absurd (cc);
   applied = λ there. absurd (cc);
   since_le = omega arith;
@@ -86,8 +81,19 @@ toplevel_stands id k x h s = record {
   id = s.id;
   base = s.base;
   role = refl;
-  toplevel = λ there. refl;
-  serials = refl;
+  configures = refl;
+  pending = λ there. sym (none-since h.requests);
+  applied = λ there. sym (none-counts (length h.requests) h (omega arith));
+  since_le = omega arith;
+  cut_le = s.cut_le;
+}
+
+popup_stands : PopupStands
+popup_stands id parent positioner number k x h s = record {
+  id = s.id;
+  base = s.base;
+  role = refl;
+  configures = refl;
   pending = λ there. sym (none-since h.requests);
   applied = λ there. sym (none-counts (length h.requests) h (omega arith));
   since_le = omega arith;
@@ -99,8 +105,7 @@ geometry_stands rect k x h s = record {
   id = s.id;
   base = s.base;
   role = s.role;
-  toplevel = s.toplevel;
-  serials = s.serials;
+  configures = s.configures;
   pending = λ there. sym (asked-more x.since h.requests (SetWindowGeometry rect) s.since_le);
   applied = λ there. s.applied there ∙ sym (counts-still x.since h (SetWindowGeometry rect) s.cut_le);
   since_le = longer x.since h.requests (SetWindowGeometry rect) s.since_le;
@@ -111,13 +116,24 @@ still-there : (f : RoleObject → RoleObject) (o : Option RoleObject) → is_som
 still-there f None = refl
 still-there f (Some object) = refl
 
+changed_stands : PopupChangeStands
+changed_stands change k x h s = record {
+  id = s.id;
+  base = s.base;
+  role = ap (option_map (with_popup_role change)) s.role;
+  configures = s.configures;
+  pending = λ there. s.pending (sym (still-there (with_popup_role change) x.role) ∙ there);
+  applied = λ there. s.applied (sym (still-there (with_popup_role change) x.role) ∙ there);
+  since_le = s.since_le;
+  cut_le = s.cut_le;
+}
+
 acknowledgement_stands : AcknowledgementStands
 acknowledgement_stands serial k x h s = record {
   id = s.id;
   base = s.base;
   role = ap (option_map role_acknowledged) s.role;
-  toplevel = top-still role_acknowledged (λ object. refl) x.role s.toplevel;
-  serials = ap (serials_after serial) s.serials ∙ later-so serial x.configures;
+  configures = ap (later_than serial) s.configures;
   pending = λ there. s.pending (sym (still-there role_acknowledged x.role) ∙ there);
   applied = λ there. s.applied (sym (still-there role_acknowledged x.role) ∙ there);
   since_le = s.since_le;
@@ -125,17 +141,15 @@ acknowledgement_stands serial k x h s = record {
 }
 
 -- one configure more waits
-one-more : (serial : ℕ) (role : Option RoleObject) (ss : List ℕ) (cs : List Waits) → ss ≡ serials_of cs
-    → ss ++ serial ∷ [] ≡ serials_of (cs ++ record { serial = serial; placement = placement_of role } ∷ [])
-one-more serial role ss cs same = ap (λ ss. ss ++ serial ∷ []) same ∙ more-so cs (record { serial = serial; placement = placement_of role })
+one-more : (serial : ℕ) (cs ds : List Waits) → cs ≡ ds → cs ++ record { serial = serial; placement = None } ∷ [] ≡ ds ++ record { serial = serial; placement = None } ∷ []
+one-more serial cs ds same = ap (λ (cs : List Waits). cs ++ record { serial = serial; placement = None } ∷ []) same
 
 configure_stands : ConfigureStands
 configure_stands serial k x h s = record {
   id = s.id;
   base = s.base;
   role = s.role;
-  toplevel = s.toplevel;
-  serials = one-more serial x.role k.serials x.configures s.serials;
+  configures = one-more serial k.configures x.configures s.configures;
   pending = s.pending;
   applied = s.applied;
   since_le = s.since_le;
@@ -147,8 +161,7 @@ destruction_stands k x h s = record {
   id = s.id;
   base = s.base;
   role = refl;
-  toplevel = λ there. absurd (cc);
-  serials = refl;
+  configures = refl;
   pending = λ there. absurd (cc);
   applied = λ there. absurd (cc);
   since_le = s.since_le;
@@ -160,8 +173,7 @@ other_stands request k x h same s = record {
   id = s.id;
   base = s.base;
   role = s.role;
-  toplevel = s.toplevel;
-  serials = s.serials;
+  configures = s.configures;
   pending = λ there. s.pending there ∙ sym (asked-more x.since h.requests request s.since_le ∙ same _);
   applied = λ there. s.applied there ∙ sym (counts-still x.since h request s.cut_le);
   since_le = longer x.since h.requests request s.since_le;
@@ -178,84 +190,101 @@ module _ (k : Kept) (x : XdgSurface) (h : History) (s : Stands k x h) where
     id = s.id;
     base = s.base;
     role = s.role;
-    toplevel = s.toplevel;
-    serials = s.serials;
+    configures = s.configures;
     pending = requested;
     applied = λ there. requested there ∙ sym (all-counts x.since h);
     since_le = longer x.since h.requests Commit s.since_le;
     cut_le = cut-within h;
   }
 
-  in-stage : (stage : Stage) → IsToplevelIf (in_stage stage x).role
-  in-stage stage = top-still (at_stage stage) (λ object. refl) x.role s.toplevel
-
   maps : (serial : ℕ) → Stands (kept_after serial Map k) (in_stage Mapped x) (apply (one_more Commit h))
   maps serial = record {
     id = s.id;
     base = s.base;
     role = ap (option_map (at_stage Mapped)) s.role;
-    toplevel = in-stage Mapped;
-    serials = s.serials;
+    configures = s.configures;
     pending = λ there. requested (sym (still-there (at_stage Mapped) x.role) ∙ there);
     applied = λ there. requested (sym (still-there (at_stage Mapped) x.role) ∙ there) ∙ sym (all-counts x.since h);
     since_le = longer x.since h.requests Commit s.since_le;
     cut_le = cut-within h;
   }
 
-  configures : (serial : ℕ) → Stands (kept_after serial (Configure None) k) (configuring serial (in_stage Waiting x)) (apply (one_more Commit h))
-  configures serial = record {
-    id = s.id;
-    base = s.base;
-    role = ap (option_map (at_stage Waiting)) s.role;
-    toplevel = in-stage Waiting;
-    serials = one-more serial (in_stage Waiting x).role k.serials x.configures s.serials;
-    pending = λ there. requested (sym (still-there (at_stage Waiting) x.role) ∙ there);
-    applied = λ there. requested (sym (still-there (at_stage Waiting) x.role) ∙ there) ∙ sym (all-counts x.since h);
-    since_le = longer x.since h.requests Commit s.since_le;
-    cut_le = cut-within h;
-  }
+  -- a popup is placed there, and nothing else changes of a role object
+  module _ (change : Popup → Popup) where
+    placed-still : (stage : Stage) (o : Option RoleObject) → is_some (option_map (with_popup_role change) (option_map (at_stage stage) o)) ≡ is_some o
+    placed-still stage o = still-there (with_popup_role change) (option_map (at_stage stage) o) ∙ still-there (at_stage stage) o
 
-  unmaps : (serial : ℕ) → Stands (kept_after serial Unmap k) (unmapping (length (one_more Commit h).requests) x) (apply (one_more Commit h))
+    configures : (serial : ℕ) (placed : Option Placed) → option_map (with_popup_role (in_force placed)) (option_map (at_stage Waiting) k.role) ≡ option_map (with_popup_role change) (option_map (at_stage Waiting) x.role)
+        → Stands (kept_after serial (Configure placed) k) (configuring serial (popup_changed change (in_stage Waiting x))) (apply (one_more Commit h))
+    configures serial placed same = record {
+      id = s.id;
+      base = s.base;
+      role = same;
+      configures = one-more serial k.configures x.configures s.configures;
+      pending = λ there. requested (sym (placed-still Waiting x.role) ∙ there);
+      applied = λ there. requested (sym (placed-still Waiting x.role) ∙ there) ∙ sym (all-counts x.since h);
+      since_le = longer x.since h.requests Commit s.since_le;
+      cut_le = cut-within h;
+    }
+
+  unmaps : (serial : ℕ) → Stands (kept_after serial Unmap k) (popup_changed without_grab (unmapping (length (one_more Commit h).requests) x)) (apply (one_more Commit h))
   unmaps serial = record {
     id = s.id;
     base = s.base;
-    role = ap (option_map (at_stage Fresh)) s.role;
-    toplevel = in-stage Fresh;
-    serials = refl;
+    role = ap (λ (o : Option RoleObject). option_map (with_popup_role without_grab) (option_map (at_stage Fresh) o)) s.role;
+    configures = refl;
     pending = λ there. sym (none-since (one_more Commit h).requests);
     applied = λ there. sym (none-counts (length (one_more Commit h).requests) (apply (one_more Commit h)) (omega arith));
     since_le = omega arith;
     cut_le = cut-within h;
   }
 
-  -- no popup is placed, and none lets go of a grab
-  module _ (where_to : Popup → Option Placed) where
-    by-effect : (effect : Effect) (serial : ℕ) (act : ShellAct) (b : Bool) → (b ≡ is_full k.serials) → effect_answer effect k.serials ≡ Ok act
-        → Stands (kept_after serial act k) (with_effect serial (length (one_more Commit h).requests) where_to effect x) (apply (one_more Commit h))
-    by-effect Stays serial act b full answer = let same : act ≡ Nothing = cc in rw same (stays serial)
-    by-effect Unconfigured serial act b full answer = absurd (cc)
-    by-effect Configures serial act true full answer = absurd (let e = rw (← full) at answer in cc)
-    by-effect Configures serial act false full answer =
-        let e = rw (← full) at answer in
-        let same : act ≡ Configure None = cc in
-        rw same (subst (λ (y : XdgSurface). Stands (kept_after serial (Configure None) k) (configuring serial y) (apply (one_more Commit h)))
-        (sym (popup-still (placing where_to) (in_stage Waiting x) (in-stage Waiting))) (configures serial))
-    by-effect Maps serial act b full answer = let same : act ≡ Map = cc in rw same (maps serial)
-    by-effect Unmaps serial act b full answer =
-        let same : act ≡ Unmap = cc in
-        rw same (subst (λ (y : XdgSurface). Stands (kept_after serial Unmap k) y (apply (one_more Commit h)))
-        (sym (popup-still without_grab (unmapping (length (one_more Commit h).requests) x) (in-stage Fresh))) (unmaps serial))
+-- the popup of a role object is placed where it is said
+placed-so : (bounds : Rect) (parent_at : ℤ × ℤ) (where_to : Popup → Option Placed) (o : Option RoleObject)
+    → IfSome (popup_in o) (λ popup. where_to popup ≡ place popup.positioner bounds parent_at)
+    → option_map (with_popup_role (in_force (placement_in bounds parent_at o))) (option_map (at_stage Waiting) o) ≡ option_map (with_popup_role (placing where_to)) (option_map (at_stage Waiting) o)
+placed-so bounds parent_at where_to None same = refl
+placed-so bounds parent_at where_to (Some object) same = at object.kind same
+  where
+    at : (kind : Kind) → IfSome (popup_in (Some (record object { kind = kind }))) (λ popup. where_to popup ≡ place popup.positioner bounds parent_at)
+        → option_map (with_popup_role (in_force (placement_in bounds parent_at (Some (record object { kind = kind }))))) (option_map (at_stage Waiting) (Some (record object { kind = kind })))
+        ≡ option_map (with_popup_role (placing where_to)) (option_map (at_stage Waiting) (Some (record object { kind = kind })))
+    at Toplevel same = refl
+    at (IsPopup popup) same = ap (λ (p : Option Placed). Some (record { id = object.id; kind = IsPopup (in_force p popup); stage = Waiting })) (sym same)
+
+module _ (k : Kept) (x : XdgSurface) (h : History) (s : Stands k x h) (bounds : Rect) (parent_at : ℤ × ℤ) (where_to : Popup → Option Placed)
+    (there : IfSome (popup_in x.role) (λ popup. where_to popup ≡ place popup.positioner bounds parent_at)) where
+  abbrev placed : Option Placed
+  placed = placement_in bounds parent_at k.role
+
+  placed-same : option_map (with_popup_role (in_force placed)) (option_map (at_stage Waiting) k.role) ≡ option_map (with_popup_role (placing where_to)) (option_map (at_stage Waiting) x.role)
+  placed-same =
+      ap (λ (o : Option RoleObject). option_map (with_popup_role (in_force (placement_in bounds parent_at o))) (option_map (at_stage Waiting) o)) s.role
+      ∙ placed-so bounds parent_at where_to x.role there
+
+  by-effect : (effect : Effect) (serial : ℕ) (act : ShellAct) (b : Bool) → (b ≡ is_full k.configures) → effect_answer placed effect k.configures ≡ Ok act
+      → Stands (kept_after serial act k) (with_effect serial (length (one_more Commit h).requests) where_to effect x) (apply (one_more Commit h))
+  by-effect Stays serial act b full answer = let same : act ≡ Nothing = cc in rw same (stays k x h s serial)
+  by-effect Unconfigured serial act b full answer = absurd (cc)
+  by-effect Configures serial act true full answer = absurd (let e = rw (← full) at answer in cc)
+  by-effect Configures serial act false full answer =
+      let e = rw (← full) at answer in
+      let same : act ≡ Configure placed = cc in
+      rw same (configures k x h s (placing where_to) serial placed placed-same)
+  by-effect Maps serial act b full answer = let same : act ≡ Map = cc in rw same (maps k x h s serial)
+  by-effect Unmaps serial act b full answer = let same : act ≡ Unmap = cc in rw same (unmaps k x h s serial)
 
 commit_stands : CommitStands
-commit_stands has_buffer serial where_to act k x h answer s =
-    let stage : stage_in k ≡ stage_of x = ap (option_map (λ object. object.stage)) s.role in
-    let effect = ap (λ (o : Option Stage). effect_answer (on_commit o has_buffer) k.serials) (sym stage) ∙ answer in
-    by-effect k x h s where_to (on_commit (stage_of x) has_buffer) serial act (is_full k.serials) refl effect
+commit_stands has_buffer bounds parent_at serial where_to act k x h answer there s =
+    let effect = ap (λ (o : Option RoleObject). effect_answer (placement_in bounds parent_at k.role) (effect_in has_buffer o) k.configures) (sym s.role) ∙ answer in
+    by-effect k x h s bounds parent_at where_to there (effect_in has_buffer x.role) serial act (is_full k.configures) refl effect
 
 pub changes_stand : ChangesStand
 changes_stand = record {
   made = new_stands;
   toplevel = toplevel_stands;
+  popup = popup_stands;
+  changed = changed_stands;
   geometry = geometry_stands;
   acknowledgement = acknowledgement_stands;
   commit = commit_stands;

@@ -2,33 +2,63 @@
 use Rattle.std.specs.Option.{option_map}
 use Rattle.std.specs.Map.{lookup}
 use Rattle.std.specs.Ordering.{nat_cmp, is_eq}
-use Rattle.std.specs.Prelude.{ℕ, pos, ◌≡◌, ◌≤◌, ◌==◌, ◌&&◌, ◌||◌, int_lt, Bool, true, false, if◌then◌else◌, is_some, Option, Some, None}
-use Rattle.std.specs.Prelude.{Result, Ok, Err, List, [], ◌∷◌, ◌++◌, length, drop, fold, map}
-use Rattle.std.specs.List.{list_any}
+use Rattle.std.specs.Prelude.{ℕ, ℤ, pos, ◌≡◌, ◌≤◌, ◌==◌, ◌&&◌, ◌||◌, int_lt, Bool, true, false, if◌then◌else◌, is_some, Option, Some, None}
+use Rattle.std.specs.Prelude.{Result, Ok, Err, List, [], ◌∷◌, ◌++◌, drop, fold, length}
 use Rattle.wl_geom.specs.declared.rect.Rect.{Rect}
 use Rattle.wl_state.specs.State.{History, geometry, geometry_asked}
 use Rattle.wl_xdg_state.specs.declared.acts.ShellAct.{ShellAct}
-use Rattle.wl_xdg_state.specs.declared.acts.ShellAct.TheVariants.{Configure, Map, Unmap, Nothing}
+use Rattle.wl_xdg_state.specs.declared.acts.ShellAct.TheVariants.{Configure as Configured, Map, Unmap, Nothing}
 use Rattle.wl_xdg_state.specs.declared.error.ShellError.{ShellError}
 use Rattle.wl_xdg_state.specs.declared.error.ShellError.TheVariants as error
+use Rattle.wl_xdg_state.specs.declared.popup.PopupChange.{PopupChange}
+use Rattle.wl_xdg_state.specs.declared.popup.PopupChange.TheVariants as change
+use Rattle.wl_xdg_state.specs.declared.role_object.Kind.{Kind as KeptKind}
+use Rattle.wl_xdg_state.specs.declared.role_object.Kind.TheVariants as kept
 use Rattle.wl_xdg_state.specs.declared.stage.Stage.{Stage}
 use Rattle.wl_xdg_state.specs.declared.xdg_surface.Toplevel.{Toplevel as KeptToplevel}
-use Rattle.wl_xdg_state.specs.Popups.{is_toplevel}
-use Rattle.wl_xdg_state.specs.Shell.{Effect, Stays, Unconfigured, Configures, Maps, Unmaps, Fresh, Waiting, Mapped, RoleObject, Toplevel}
-use Rattle.wl_xdg_state.specs.Shell.{XdgSurface, answers_states, at_stage, is_full, on_commit, role_acknowledged}
+use Rattle.wl_xdg_state.specs.Popups.{dismiss, effect_in, in_force, is_mapped_stage, orphan, popup_in, popup_object, with_grab}
+use Rattle.wl_xdg_state.specs.Popups.{with_popup_role, without_grab}
+use Rattle.wl_xdg_state.specs.Positioner.{Placed, Positioner, is_complete, place}
+use Rattle.wl_xdg_state.specs.Shell.{Configure, Effect, Stays, Unconfigured, Configures, Maps, Unmaps, Fresh, Waiting, Mapped, Kind}
+use Rattle.wl_xdg_state.specs.Shell.{Toplevel, IsPopup, Popup, RoleObject, XdgSurface, answers_states, at_stage, is_full, is_waiting}
+use Rattle.wl_xdg_state.specs.Shell.{later_than, role_acknowledged}
 
--- An xdg_surface: its id, the xdg_wm_base that made it, its role object, the serials that wait, the
--- earliest first, and its window geometry: the last one that was asked, and the one that counts.
+-- An xdg_surface: its id, the xdg_wm_base that made it, its role object, its configures that wait, the earliest first, and its window
+-- geometry: the last one that was asked, and the one that counts.
 pub record Kept : Type 0 where
   pub id : ℕ
   pub base : ℕ
   pub role : Option RoleObject
-  pub serials : List ℕ
+  pub configures : List Configure
   pub pending : Option Rect
   pub applied : Option Rect
 
-abbrev pub role_of : KeptToplevel → RoleObject
-role_of toplevel = record { id = toplevel.id; kind = Toplevel; stage = toplevel.stage }
+-- ---- role objects
+
+abbrev pub kind_of : KeptKind → Kind
+kind_of kept.Toplevel = Toplevel
+kind_of (kept.Popup popup) = IsPopup popup
+
+-- a new toplevel
+abbrev pub toplevel_object : ℕ → RoleObject
+toplevel_object id = record { id = id; kind = Toplevel; stage = Fresh }
+
+-- what happens to a popup
+abbrev pub popup_by : PopupChange → Popup → Popup
+popup_by (change.Place placement) popup = in_force placement popup
+popup_by change.Grab popup = with_grab popup
+popup_by change.Release popup = without_grab popup
+popup_by change.Dismiss popup = dismiss popup
+popup_by (change.Orphan xdg) popup = orphan xdg popup
+
+abbrev pub kind_toplevel : RoleObject → Kind → Option KeptToplevel
+kind_toplevel object Toplevel = Some (record { id = object.id; stage = object.stage })
+kind_toplevel object (IsPopup popup) = None
+
+-- the toplevel that a role object is
+abbrev pub toplevel_in : Option RoleObject → Option KeptToplevel
+toplevel_in None = None
+toplevel_in (Some object) = kind_toplevel object object.kind
 
 abbrev pub stage_in : Kept → Option Stage
 stage_in k = option_map (λ object. object.stage) k.role
@@ -51,35 +81,31 @@ changing surface change kept = with_kept surface (option_map change (kept surfac
 abbrev pub is_of_base : ℕ → ℕ × Kept → Bool
 is_of_base base entry = entry.1.base == base
 
--- of serials alone: what is_waiting and later_than are of configures
-abbrev pub serial_waits : ℕ → List ℕ → Bool
-serial_waits serial serials = list_any (λ other. other == serial) serials
-
-abbrev pub serials_after : ℕ → List ℕ → List ℕ
-serials_after serial [] = []
-serials_after serial (s ∷ ss) =
-    if serial_waits serial ss then serials_after serial ss else (if s == serial then ss else s ∷ serials_after serial ss)
-
 -- ---- what each call makes of it
 
 abbrev pub first_kept : ℕ → ℕ → Kept
-first_kept id base = record { id = id; base = base; role = None; serials = []; pending = None; applied = None }
+first_kept id base = record { id = id; base = base; role = None; configures = []; pending = None; applied = None }
 
--- what was asked is forgotten, and so are the serials
+-- what was asked is forgotten, and so are the configures
 abbrev pub kept_forgetting : Kept → Kept
-kept_forgetting k = record k { serials = []; pending = None; applied = None }
+kept_forgetting k = record k { configures = []; pending = None; applied = None }
 
 abbrev pub kept_toplevel : ℕ → Kept → Kept
-kept_toplevel id k = record (kept_forgetting k) { role = Some (record { id = id; kind = Toplevel; stage = Fresh }) }
+kept_toplevel id k = record (kept_forgetting k) { role = Some (toplevel_object id) }
+
+abbrev pub kept_popup : ℕ → ℕ → Positioner → ℕ → Kept → Kept
+kept_popup id parent positioner number k = record (kept_forgetting k) { role = Some (popup_object id parent positioner number) }
 
 abbrev pub kept_asking : Rect → Kept → Kept
 kept_asking rect k = record k { pending = Some rect }
 
 abbrev pub kept_acknowledging : ℕ → Kept → Kept
-kept_acknowledging serial k = record k { role = option_map role_acknowledged k.role; serials = serials_after serial k.serials }
+kept_acknowledging serial k =
+    record k { role = option_map role_acknowledged k.role; configures = later_than serial k.configures }
 
+-- one configure more waits; the placement of its popup, if it has one, is in force already
 abbrev pub kept_configuring : ℕ → Kept → Kept
-kept_configuring serial k = record k { serials = k.serials ++ serial ∷ [] }
+kept_configuring serial k = record k { configures = k.configures ++ record { serial = serial; placement = None } ∷ [] }
 
 abbrev pub kept_without_role : Kept → Kept
 kept_without_role k = record (kept_forgetting k) { role = None }
@@ -91,14 +117,27 @@ kept_applied k = record k { applied = k.pending }
 abbrev pub kept_in_stage : Stage → Kept → Kept
 kept_in_stage stage k = record k { role = option_map (at_stage stage) k.role }
 
+-- its popup changes, if it has one
+abbrev pub kept_changed : (Popup → Popup) → Kept → Kept
+kept_changed change k = record k { role = option_map (with_popup_role change) k.role }
+
 abbrev pub kept_unmapping : Kept → Kept
-kept_unmapping k = kept_in_stage Fresh (kept_forgetting k)
+kept_unmapping k = kept_changed without_grab (kept_in_stage Fresh (kept_forgetting k))
 
 abbrev pub kept_after : ℕ → ShellAct → Kept → Kept
-kept_after serial (Configure placed) k = kept_configuring serial (kept_in_stage Waiting (kept_applied k))
+kept_after serial (Configured placed) k =
+    kept_configuring serial (kept_changed (in_force placed) (kept_in_stage Waiting (kept_applied k)))
 kept_after serial Map k = kept_in_stage Mapped (kept_applied k)
 kept_after serial Unmap k = kept_unmapping k
 kept_after serial Nothing k = kept_applied k
+
+-- a popup that isn't dismissed has a grab
+abbrev pub grabbing : Popup → Popup
+grabbing popup = if popup.is_dismissed then popup else with_grab popup
+
+abbrev pub kept_grabbing : Bool → Kept → Kept
+kept_grabbing true k = kept_changed grabbing k
+kept_grabbing false k = k
 
 -- ---- what each call answers; the first error of its kind
 
@@ -113,6 +152,14 @@ toplevel_answer has_other_role None = Err error.NotConstructed
 toplevel_answer has_other_role (Some k) =
     if is_some k.role then Err error.AlreadyConstructed else (if has_other_role then Err error.Role else Ok tt)
 
+-- xdg_surface.get_popup: whether its parent has a role object, and by its positioner
+abbrev pub popup_answer : Bool → Bool → Positioner → Option Kept → Result Unit ShellError
+popup_answer has_other_role has_parent positioner None = Err error.NotConstructed
+popup_answer has_other_role has_parent positioner (Some k) =
+    if is_some k.role then Err error.AlreadyConstructed else (
+    if has_other_role then Err error.Role else (
+    if has_parent then (if is_complete positioner then Ok tt else Err error.InvalidPositioner) else Err error.InvalidPopupParent))
+
 -- a request that wants a role object
 abbrev pub with_role_object : Option Kept → Result Unit ShellError → Result Unit ShellError
 with_role_object None answer = Err error.NotConstructed
@@ -123,41 +170,64 @@ abbrev pub geometry_answer : Rect → Option Kept → Result Unit ShellError
 geometry_answer rect k =
     with_role_object k (if int_lt (pos 0) rect.w && int_lt (pos 0) rect.h then Ok tt else Err error.InvalidSize)
 
-abbrev pub serials_in : Option Kept → List ℕ
-serials_in None = []
-serials_in (Some k) = k.serials
+abbrev pub configures_in : Option Kept → List Configure
+configures_in None = []
+configures_in (Some k) = k.configures
 
 -- xdg_surface.ack_configure
 abbrev pub acknowledgement_answer : ℕ → Option Kept → Result Unit ShellError
 acknowledgement_answer serial k =
-    with_role_object k (if serial_waits serial (serials_in k) then Ok tt else Err error.InvalidSerial)
+    with_role_object k (if is_waiting serial (configures_in k) then Ok tt else Err error.InvalidSerial)
 
 -- xdg_surface.destroy
 abbrev pub destruction_answer : Option Kept → Result Unit ShellError
 destruction_answer None = Ok tt
 destruction_answer (Some k) = if is_some k.role then Err error.DefunctRoleObject else Ok tt
 
--- wl_surface.commit, by what it comes to
-abbrev pub effect_answer : Effect → List ℕ → Result ShellAct ShellError
-effect_answer Stays serials = Ok Nothing
-effect_answer Unconfigured serials = Err error.UnconfiguredBuffer
-effect_answer Configures serials = if is_full serials then Err error.TooMany else Ok (Configure None)
-effect_answer Maps serials = Ok Map
-effect_answer Unmaps serials = Ok Unmap
+-- xdg_popup.grab: whether it is allowed. True where it is taken, or where nothing is done; false where the popup is to be dismissed.
+abbrev pub grab_by : Bool → Stage → Option Popup → Result Bool ShellError
+grab_by allowed stage None = Ok true
+grab_by allowed stage (Some popup) =
+    if popup.is_dismissed then Ok true else (if is_mapped_stage stage then Err error.InvalidGrab else Ok allowed)
 
-abbrev pub commit_answer : Bool → Option Kept → Result ShellAct ShellError
-commit_answer has_buffer None = Ok Nothing
-commit_answer has_buffer (Some k) = effect_answer (on_commit (stage_in k) has_buffer) k.serials
+abbrev pub grab_in : Bool → Option RoleObject → Result Bool ShellError
+grab_in allowed None = Ok true
+grab_in allowed (Some object) = grab_by allowed object.stage (popup_in (Some object))
+
+abbrev pub grab_answer : Bool → Option Kept → Result Bool ShellError
+grab_answer allowed None = Ok true
+grab_answer allowed (Some k) = grab_in allowed k.role
+
+-- where a popup is placed within the bounds, its parent's window geometry standing there; a toplevel is placed nowhere
+abbrev pub popup_placed : Rect → ℤ × ℤ → Option Popup → Option Placed
+popup_placed bounds parent_at None = None
+popup_placed bounds parent_at (Some popup) = place popup.positioner bounds parent_at
+
+abbrev pub placement_in : Rect → ℤ × ℤ → Option RoleObject → Option Placed
+placement_in bounds parent_at role = popup_placed bounds parent_at (popup_in role)
+
+-- wl_surface.commit, by what it comes to, and where a popup is placed
+abbrev pub effect_answer : Option Placed → Effect → List Configure → Result ShellAct ShellError
+effect_answer placed Stays configures = Ok Nothing
+effect_answer placed Unconfigured configures = Err error.UnconfiguredBuffer
+effect_answer placed Configures configures = if is_full configures then Err error.TooMany else Ok (Configured placed)
+effect_answer placed Maps configures = Ok Map
+effect_answer placed Unmaps configures = Ok Unmap
+
+abbrev pub commit_answer : Bool → Rect → ℤ × ℤ → Option Kept → Result ShellAct ShellError
+commit_answer has_buffer bounds parent_at None = Ok Nothing
+commit_answer has_buffer bounds parent_at (Some k) =
+    effect_answer (placement_in bounds parent_at k.role) (effect_in has_buffer k.role) k.configures
 
 -- xdg_toplevel.set_maximized and the like
-abbrev pub stage_configured : Option Stage → List ℕ → Result Bool ShellError
-stage_configured None serials = Ok false
-stage_configured (Some stage) serials =
-    if answers_states stage then (if is_full serials then Err error.TooMany else Ok true) else Ok false
+abbrev pub stage_configured : Option Stage → List Configure → Result Bool ShellError
+stage_configured None configures = Ok false
+stage_configured (Some stage) configures =
+    if answers_states stage then (if is_full configures then Err error.TooMany else Ok true) else Ok false
 
 abbrev pub configure_answer : Option Kept → Result Bool ShellError
 configure_answer None = Ok false
-configure_answer (Some k) = stage_configured (stage_in k) k.serials
+configure_answer (Some k) = stage_configured (stage_in k) k.configures
 
 abbrev pub kept_configured : Bool → ℕ → Kept → Kept
 kept_configured true serial k = kept_configuring serial k
@@ -165,14 +235,13 @@ kept_configured false serial k = k
 
 -- ---- what it stands for
 
--- What is kept stands for an xdg_surface whose surface has this history. Its role object, if it has one, is a toplevel. A window geometry
--- can be asked, and counts, only while there is a role object; without one nothing is said of it.
+-- What is kept stands for an xdg_surface whose surface has this history. A window geometry can be asked, and counts, only while there is a
+-- role object; without one nothing is said of it.
 pub record Stands (k : Kept) (x : XdgSurface) (h : History) : Type 0 where
   pub id : k.id ≡ x.id
   pub base : k.base ≡ x.base
   pub role : k.role ≡ x.role
-  pub toplevel : is_some x.role ≡ true → is_toplevel (Some x) ≡ true
-  pub serials : k.serials ≡ map (λ c. c.serial) x.configures
+  pub configures : k.configures ≡ x.configures
   pub pending : is_some x.role ≡ true → k.pending ≡ fold geometry_asked None (drop x.since h.requests)
   pub applied : is_some x.role ≡ true → k.applied ≡ geometry x.since h
   pub since_le : x.since ≤ length h.requests

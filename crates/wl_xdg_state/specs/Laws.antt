@@ -1,16 +1,16 @@
 -- Laws of an xdg_surface, and of where popups are placed.
-use Rattle.std.specs.Prelude.{ℕ, ℤ, ◌≡◌, ◌<◌, ◌≤◌, Bool, List, [], ◌∷◌, ◌++◌, length, true, None, Some, Option, Ok}
+use Rattle.std.specs.Prelude.{ℕ, ℤ, ◌≡◌, ◌<◌, ◌≤◌, Bool, List, [], ◌∷◌, ◌++◌, length, true, None, Some, Option, Ok, IfSome}
 use Rattle.wl_geom.specs.declared.rect.Rect.{Rect}
 use Rattle.wl_xdg_state.specs.Moves.{moved_to}
-use Rattle.wl_xdg_state.specs.Positioner.{Axis, Placed, placed_on}
+use Rattle.wl_xdg_state.specs.Positioner.{Axis, Placed, Positioner, place, placed_on}
 use Rattle.wl_state.specs.Request.{Request, Commit, SetWindowGeometry}
 use Rattle.wl_state.specs.State.{History, apply, geometry_asked}
 use Rattle.wl_xdg_state.specs.declared.acts.ShellAct.{ShellAct}
 use Rattle.wl_xdg_state.specs.Kept.{Kept, Stands, commit_answer, first_kept, kept_acknowledging, kept_after, kept_asking}
-use Rattle.wl_xdg_state.specs.Kept.{kept_configuring, kept_toplevel, kept_without_role}
-use Rattle.wl_xdg_state.specs.Popups.{with_effect}
+use Rattle.wl_xdg_state.specs.Kept.{kept_changed, kept_configuring, kept_popup, kept_toplevel, kept_without_role}
+use Rattle.wl_xdg_state.specs.Popups.{effect_in, new_popup, popup_changed, popup_in, with_effect}
 use Rattle.wl_xdg_state.specs.Shell.{Configure, Popup, XdgSurface, acknowledging, configuring, is_waiting, later_than, new_toplevel}
-use Rattle.wl_xdg_state.specs.Shell.{on_commit, stage_of, without_role}
+use Rattle.wl_xdg_state.specs.Shell.{without_role}
 
 -- An acknowledgement of a serial that waits leaves fewer.
 abbrev pub AcknowledgementForgets : Type 0
@@ -41,6 +41,18 @@ abbrev pub ToplevelStands : Type 0
 ToplevelStands = (id : ℕ) (k : Kept) (x : XdgSurface) (h : History) → Stands k x h
     → Stands (kept_toplevel id k) (new_toplevel id (length h.requests) x) h
 
+-- a new popup
+abbrev pub PopupStands : Type 0
+PopupStands =
+    (id parent : ℕ) (positioner : Positioner) (number : ℕ) (k : Kept) (x : XdgSurface) (h : History)
+    → Stands k x h
+    → Stands (kept_popup id parent positioner number k) (new_popup id parent positioner number (length h.requests) x) h
+
+-- its popup changes, as by a grab, as it is dismissed, or as its parent goes
+abbrev pub PopupChangeStands : Type 0
+PopupChangeStands = (change : Popup → Popup) (k : Kept) (x : XdgSurface) (h : History) → Stands k x h
+    → Stands (kept_changed change k) (popup_changed change x) h
+
 -- a window geometry is asked
 abbrev pub GeometryStands : Type 0
 GeometryStands = (rect : Rect) (k : Kept) (x : XdgSurface) (h : History) → Stands k x h
@@ -51,14 +63,16 @@ abbrev pub AcknowledgementStands : Type 0
 AcknowledgementStands = (serial : ℕ) (k : Kept) (x : XdgSurface) (h : History) → Stands k x h
     → Stands (kept_acknowledging serial k) (acknowledging serial x) h
 
--- A commit that isn't refused. It is asked and applied, and the answer says what it comes to.
+-- A commit that isn't refused. It is asked and applied, and the answer says what it comes to. A popup is placed within the bounds, its
+-- parent's window geometry standing at `parent_at`.
 abbrev pub CommitStands : Type 0
 CommitStands =
-    (has_buffer : Bool) (serial : ℕ) (where_to : Popup → Option Placed) (act : ShellAct) (k : Kept) (x : XdgSurface) (h : History)
-    → commit_answer has_buffer (Some k) ≡ Ok act
+    (has_buffer : Bool) (bounds : Rect) (parent_at : ℤ × ℤ) (serial : ℕ) (where_to : Popup → Option Placed) (act : ShellAct) (k : Kept)
+    (x : XdgSurface) (h : History)
+    → commit_answer has_buffer bounds parent_at (Some k) ≡ Ok act
+    → IfSome (popup_in x.role) (λ popup. where_to popup ≡ place popup.positioner bounds parent_at)
     → Stands k x h
-    → Stands (kept_after serial act k)
-    (with_effect serial (length (one_more Commit h).requests) where_to (on_commit (stage_of x) has_buffer) x)
+    → Stands (kept_after serial act k) (with_effect serial (length (one_more Commit h).requests) where_to (effect_in has_buffer x.role) x)
     (apply (one_more Commit h))
 
 -- a configure is sent
@@ -82,6 +96,8 @@ OtherStands =
 pub record ChangesStand : Type 0 where
   pub made : NewStands
   pub toplevel : ToplevelStands
+  pub popup : PopupStands
+  pub changed : PopupChangeStands
   pub geometry : GeometryStands
   pub acknowledgement : AcknowledgementStands
   pub commit : CommitStands

@@ -6,3 +6,4 @@ pub mod Popups
 pub mod Positioner
 pub mod Settings
 pub mod Shell
+pub mod Waits

@@ -1,7 +1,6 @@
 -- What the calls on a positioner answer, and how a popup lies on one axis as it is kept.
 use Rattle.std.specs.Prelude.{ℕ, ℤ, pos, negsuc, ◌+ℤ◌, ◌-ℤ◌, ◌≤ℤ◌, ◌^◌, neg_ℤ, Bool, true, false, Result, Ok, Err}
-use Rattle.wl_xdg_state.specs.Positioner.{Axis, Placed}
-use Rattle.wl_xdg_state.specs.declared.acts.Placed as declared
+use Rattle.wl_xdg_state.specs.Positioner.{Axis}
 use Rattle.wl_xdg_state.specs.declared.error.ShellError.{ShellError}
 use Rattle.wl_xdg_state.specs.declared.error.ShellError.TheVariants.{InvalidInput}
 use Rattle.wl_xdg_state.specs.declared.placing.Axis as kept
@@ -13,9 +12,6 @@ use Rattle.wl_xdg_state.specs.declared.placing.Edge.TheVariants.{Start, Middle, 
 abbrev pub set_answer : Bool → Result Unit ShellError
 set_answer true = Ok tt
 set_answer false = Err InvalidInput
-
-abbrev pub placed_of : declared.Placed → Placed
-placed_of p = record { x = p.x; y = p.y; w = p.w; h = p.h }
 
 abbrev pub edge_of : Edge → ℤ
 edge_of Start = negsuc 0

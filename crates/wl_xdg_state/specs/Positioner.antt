@@ -4,6 +4,7 @@ use Rattle.std.specs.Prelude.{if◌then◌else◌, Option, Some, None, is_some}
 use Rattle.std.specs.Int.{int_min, int_max}
 use Rattle.wl_geom.specs.declared.rect.Rect.{Rect}
 use Rattle.wl_state.specs.State.{within_bounds}
+use Rattle.wl_xdg_state.specs.declared.acts.Placed as declared
 
 -- What was set. A rectangle of 0 by 0 counts as not set.
 pub record Positioner : Type 0 where
@@ -110,11 +111,8 @@ placed_on flip slide resize first end a =
 abbrev pub has_bit : ℕ → ℕ → Bool
 has_bit weight number = (number / weight) % 2 == 1
 
-pub record Placed : Type 0 where
-  pub x : ℤ
-  pub y : ℤ
-  pub w : ℤ
-  pub h : ℤ
+abbrev pub Placed : Type 0
+Placed = declared.Placed
 
 abbrev pub placed_from : ℤ × ℤ → ℤ × ℤ → Placed
 placed_from x y = record { x = within_bounds x.0; y = within_bounds y.0; w = x.1; h = y.1 }

@@ -1,9 +1,10 @@
 -- The states of xdg surfaces (xdg-shell.xml, xdg_surface, xdg_toplevel and xdg_popup).
-use Rattle.std.specs.Option.{option_and_then, option_map}
+use Rattle.std.specs.Option.{option_map}
 use Rattle.std.specs.Prelude.{ℕ, ◌+◌, ◌==◌, nat_le, Bool, true, false, not, cond, if◌then◌else◌, Option, Some, None, List, [], ◌∷◌, ◌++◌}
 use Rattle.std.specs.Prelude.{length, find, map, filter}
 use Rattle.std.specs.List.{list_any}
 use Rattle.wl_xdg_state.specs.Positioner.{Placed, Positioner}
+use Rattle.wl_xdg_state.specs.declared.acts.Configure as declared
 use Rattle.wl_xdg_state.specs.declared.stage.Stage.{Stage}
 use Rattle.wl_xdg_state.specs.declared.stage.Stage.TheVariants as stage
 
@@ -40,11 +41,10 @@ pub record RoleObject : Type 0 where
   pub kind : Kind
   pub stage : Stage
 
--- a configure that waits to be acknowledged: its serial, and where it placed the popup that it was for (xdg-shell.xml,
--- xdg_surface.configure)
-pub record Configure : Type 0 where
-  pub serial : ℕ
-  pub placement : Option Placed
+-- A configure that waits to be acknowledged: its serial, and where it places its popup once it is acknowledged, if it does so. The
+-- first configure of a popup doesn't: its placement is in force at once (xdg-shell.xml, xdg_surface.configure).
+abbrev pub Configure : Type 0
+Configure = declared.Configure
 
 -- An xdg_surface by its id: the xdg_wm_base that made it, its surface, its role object, if there is one, its configures that weren't
 -- acknowledged, the earliest first, and the place in its surface's list from which on a window geometry counts.
@@ -155,17 +155,12 @@ next_serial serial = if serial == 4294967295 then 1 else serial + 1
 
 -- ---- what each change makes of an xdg_surface
 
--- where a popup was placed last; a toplevel is placed nowhere
-abbrev pub kind_placement : Kind → Option Placed
-kind_placement Toplevel = None
-kind_placement (IsPopup popup) = popup.placement
-
-abbrev pub placement_of : Option RoleObject → Option Placed
-placement_of role = option_and_then (λ object. kind_placement object.kind) role
-
 -- a configure waits to be acknowledged
+abbrev pub configuring_with : ℕ → Option Placed → XdgSurface → XdgSurface
+configuring_with serial placement x = record x { configures = x.configures ++ record { serial = serial; placement = placement } ∷ [] }
+
 abbrev pub configuring : ℕ → XdgSurface → XdgSurface
-configuring serial x = record x { configures = x.configures ++ record { serial = serial; placement = placement_of x.role } ∷ [] }
+configuring serial x = configuring_with serial None x
 
 -- The configures are forgotten, and no window geometry counts that was asked before this place.
 abbrev pub forgetting : ℕ → XdgSurface → XdgSurface

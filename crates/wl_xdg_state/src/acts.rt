@@ -1,4 +1,4 @@
-//! What a commit comes to.
+//! What a commit comes to, and the configures that are sent.
 
 /// Where a popup is placed, relative to the corner of its parent's window geometry, in pixels.
 #[derive(Clone, Copy, Debug, PartialEq, Eq)]
@@ -7,6 +7,14 @@ pub struct Placed {
     pub y: i32,
     pub w: i32,
     pub h: i32,
+}
+
+/// A configure that waits to be acknowledged (xdg-shell.xml, xdg_surface.configure).
+#[derive(Clone, Copy, Debug, Default, PartialEq, Eq)]
+pub struct Configure {
+    pub serial: u32,
+    /// Where it places its popup once it is acknowledged, if it does so.
+    pub placement: Option<Placed>,
 }
 
 /// What a commit comes to (wayland.xml, wl_surface.commit; xdg-shell.xml, xdg_surface).

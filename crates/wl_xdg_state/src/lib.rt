@@ -7,13 +7,16 @@ ghost use Rattle.wl_xdg_state.specs.Laws.{AcknowledgementForgets, ChangesStand, 
 mod acts;
 mod error;
 mod placing;
+mod popup;
 mod positioner;
+mod role_object;
 mod settings;
 mod stage;
 mod xdg_surface;
 
-pub use acts::{Placed, ShellAct};
+pub use acts::{Configure, Placed, ShellAct};
 pub use error::ShellError;
+pub use popup::Popup;
 pub use positioner::Positioner;
 pub use settings::Setting;
 pub use stage::Stage;

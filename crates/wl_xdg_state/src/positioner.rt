@@ -1,7 +1,7 @@
 //! What an xdg_positioner holds.
 
 ghost use Rattle.std.specs.Prelude.{◌≡◌, ◌<◌, ℤ, IsTrue, OnErr, OnOk, Some, nat_le};
-ghost use Rattle.wl_xdg_state.specs.Placing.{axis_of, placed_of, set_answer};
+ghost use Rattle.wl_xdg_state.specs.Placing.{axis_of, set_answer};
 ghost use Rattle.wl_xdg_state.specs.Positioner.{axis_x, axis_y, first_positioner, has_bit, is_anchor_rect, is_complete, is_size, place, placed_with, rect_set};
 ghost use Rattle.wl_xdg_state.specs.Settings.{is_allowed, with_setting};
 
@@ -188,7 +188,7 @@ impl Positioner {
     /// lie within the bounds (xdg-shell.xml, xdg_positioner.set_constraint_adjustment). A corner is held within -16,777,216 to 16,777,216.
     pub fn place(&self, bounds: Rect, parent_at: (i32, i32)) -> Placed
         requires { IsTrue (is_complete self.now) }
-        ensures { Some (placed_of result) ≡ place self.now bounds parent_at }
+        ensures { Some result ≡ place self.now bounds parent_at }
     {
         let (Some(size), Some(rect)) = (self.size, self.anchor_rect) else {
             unreachable!()
@@ -204,7 +204,7 @@ impl Positioner {
         bounds: &Rect,
         parent_at: (i32, i32),
     ) -> Placed
-        ensures { placed_of result ≡ placed_with self.now size rect.now bounds.now parent_at }
+        ensures { result ≡ placed_with self.now size rect.now bounds.now parent_at }
     {
         let across = Bounds {
             start: bounds.x,

@@ -1,14 +1,16 @@
 //! One xdg_surface.
 
-ghost use Rattle.std.specs.Prelude.{◌≡◌, ◌≢◌, ◌<◌, ◌↔◌, ℕ, false, Option, Some, OnOk, OnErr, IfOk, IfSome, IfNone, IsTrue, drop, is_some, length, slice_index_or};
-ghost use Rattle.std.specs.Option.{option_map};
-ghost use Rattle.arrayvec.specs.ArrayVec.{array_vec_len};
-ghost use Rattle.wl_xdg_state.specs.Shell.{is_full};
-ghost use Rattle.wl_xdg_state.specs.Kept.{acknowledgement_answer, commit_answer, configure_answer, destruction_answer, first_kept, geometry_answer, kept_acknowledging, kept_after, kept_asking, kept_configured, kept_configuring, kept_forgetting, kept_in_stage, kept_toplevel, kept_unmapping, kept_without_role, role_of, stage_in, toplevel_answer};
-ghost use Rattle.wl_xdg_state.specs.declared.acts.Placed.{Placed};
-ghost use Rattle.wl_xdg_state.specs.declared.acts.ShellAct.TheVariants.{Configure};
+ghost use Rattle.std.specs.Prelude.{◌≡◌, ◌≢◌, ◌<◌, ◌↔◌, ℕ, false, Option, Some, OnOk, OnErr, IfOk, IfSome, IfNone, IsTrue, drop, is_some, length, map, slice_index_or};
+ghost use Rattle.std.specs.Option.{option_copied, option_map};
+ghost use Rattle.wl_xdg_state.specs.Shell.{Waiting, is_full};
+ghost use Rattle.wl_xdg_state.specs.Kept.{acknowledgement_answer, commit_answer, configure_answer, destruction_answer, first_kept, geometry_answer, grab_answer, kept_acknowledging, kept_after, kept_asking, kept_changed, kept_configured, kept_configuring, kept_forgetting, kept_grabbing, kept_in_stage, kept_popup, kept_toplevel, kept_unmapping, kept_without_role, placement_in, popup_answer, popup_by, stage_in, toplevel_answer, toplevel_in};
+ghost use Rattle.wl_xdg_state.specs.Popups.{dismiss, in_force, is_dismissed_in, orphan, popup_in};
+ghost use Rattle.wl_xdg_state.specs.Positioner.{Placed};
+ghost use Rattle.wl_xdg_state.specs.Waits.{room_answer, serial_at};
 
-use crate::{ShellAct, ShellError, Stage};
+use crate::popup::{Popup, PopupChange};
+use crate::role_object::RoleObject;
+use crate::{Configure, Placed, Positioner, ShellAct, ShellError, Stage};
 use arrayvec::ArrayVec;
 use std::marker::Model;
 use wl_geom::Rect;
@@ -29,35 +31,36 @@ pub struct Toplevel {
 pub struct XdgSurface {
     id: u32,
     base: u32,
-    role: Option<Toplevel>,
-    serials: ArrayVec<u32, MOST_WAITING>,
+    role: Option<RoleObject>,
+    configures: ArrayVec<Configure, MOST_WAITING>,
     pending: Option<Rect>,
     applied: Option<Rect>,
 }
 
 impl Model for XdgSurface {
-    ghost use Rattle.std.specs.Option.{option_map};
-    ghost use Rattle.wl_xdg_state.specs.Kept.{Kept, role_of};
+    ghost use Rattle.wl_xdg_state.specs.Kept.{Kept};
 
     ghost Value = { Kept };
 
-    ghost view = { λ x. record { id = x.id; base = x.base; role = option_map role_of x.role; serials = x.serials.items; pending = x.pending; applied = x.applied } };
+    ghost view = { λ x. record { id = x.id; base = x.base; role = x.role; configures = x.configures.items; pending = x.pending; applied = x.applied } };
 }
 
-/// The place of the last serial of this number.
-fn last_place_of(serials: &[u32], serial: u32) -> Option<usize>
-    ensures some { IfSome result (λ place. (place < length serials.now) × (slice_index_or serials.now place 0 ≡ serial) × ((k : ℕ) → place < k → k < length serials.now → slice_index_or serials.now k 0 ≢ serial)) }
-    ensures none { IfNone result ((k : ℕ) → k < length serials.now → slice_index_or serials.now k 0 ≢ serial) }
+/// The place of the last configure of this serial.
+fn last_place_of(configures: &[Configure], serial: u32) -> Option<usize>
+    ensures some { IfSome result (λ place. (place < length configures.now) × (serial_at configures.now place ≡ serial) × ((k : ℕ) → place < k → k < length configures.now → serial_at configures.now k ≢ serial)) }
+    ensures none { IfNone result ((k : ℕ) → k < length configures.now → serial_at configures.now k ≢ serial) }
 {
-    serials.iter().rposition(|waiting| *waiting == serial)
+    configures
+        .iter()
+        .rposition(|configure| configure.serial == serial)
 }
 
-/// The first serials of so many go.
-fn forget_first(serials: &mut ArrayVec<u32, MOST_WAITING>, count: usize)
-    ensures { serials.new.items ≡ drop count serials.old.items }
+/// The first configures of so many go.
+fn forget_first(configures: &mut ArrayVec<Configure, MOST_WAITING>, count: usize)
+    ensures { configures.new.items ≡ drop count configures.old.items }
 {
-    let count = count.min(serials.len());
-    serials.drain(..count);
+    let count = count.min(configures.len());
+    configures.drain(..count);
 }
 
 impl XdgSurface {
@@ -69,7 +72,7 @@ impl XdgSurface {
             id,
             base,
             role: None,
-            serials: ArrayVec::new(),
+            configures: ArrayVec::new(),
             pending: None,
             applied: None,
         }
@@ -89,18 +92,34 @@ impl XdgSurface {
         self.base
     }
 
-    /// Its role object, if it has one.
-    pub fn toplevel(&self) -> Option<Toplevel>
-        ensures { option_map role_of result ≡ self.now.role }
+    /// The id of its role object, if it has one.
+    pub fn role_id(&self) -> Option<u32>
+        ensures { result ≡ option_map (λ object. object.id) self.now.role }
     {
-        self.role
+        let role = self.role.as_ref()?;
+        Some(role.id())
+    }
+
+    /// Its toplevel, if that is its role object.
+    pub fn toplevel(&self) -> Option<Toplevel>
+        ensures { result ≡ toplevel_in self.now.role }
+    {
+        self.role.as_ref()?.as_toplevel()
+    }
+
+    /// Its popup, if that is its role object.
+    pub fn popup(&self) -> Option<&Popup>
+        ensures { option_copied result ≡ popup_in self.now.role }
+    {
+        self.role.as_ref()?.popup()
     }
 
     /// How far its role object is, if it has one.
     pub fn stage(&self) -> Option<Stage>
         ensures { result ≡ stage_in self.now }
     {
-        self.role.map(|toplevel| toplevel.stage)
+        let role = self.role.as_ref()?;
+        Some(role.stage())
     }
 
     /// It has a role object.
@@ -125,13 +144,30 @@ impl XdgSurface {
         self.applied
     }
 
-    /// What was asked is forgotten, and so are the serials.
+    /// What was asked is forgotten, and so are the configures.
     fn forget(&mut self)
         ensures { self.new ≡ kept_forgetting self.old }
     {
-        self.serials.clear();
+        self.configures.clear();
         self.pending = None;
         self.applied = None;
+    }
+
+    /// It may get a role object.
+    ///
+    /// # Errors
+    ///
+    /// The first of these. `AlreadyConstructed` where it has a role object, `Role` where its surface has another role.
+    fn check_new(&self, has_other_role: bool) -> Result<(), ShellError>
+        ensures { result ≡ toplevel_answer has_other_role (Some self.now) }
+    {
+        if self.has_role() {
+            return Err(ShellError::AlreadyConstructed);
+        }
+        if has_other_role {
+            return Err(ShellError::Role);
+        }
+        Ok(())
     }
 
     /// xdg_surface.get_toplevel: its role object is a new toplevel. What was asked before is forgotten.
@@ -144,16 +180,39 @@ impl XdgSurface {
         ensures ok { OnOk result (self.new ≡ kept_toplevel id self.old) }
         ensures err { OnErr result (self.new ≡ self.old) }
     {
-        if self.has_role() {
-            return Err(ShellError::AlreadyConstructed);
+        self.check_new(has_other_role)?;
+        self.role = Some(RoleObject::toplevel(id));
+        self.forget();
+        Ok(())
+    }
+
+    /// xdg_surface.get_popup: its role object is a new popup, of this number in order of creation; the positioner is copied. `parent` is the id of
+    /// the parent's xdg_surface where that has a role object, and none elsewhere. What was asked before is forgotten.
+    ///
+    /// # Errors
+    ///
+    /// The first of these; each changes nothing. `AlreadyConstructed` where it has a role object, `Role` where its surface has another role,
+    /// `InvalidPopupParent` where there is no such parent, `InvalidPositioner` where the positioner isn't complete.
+    pub fn get_popup(
+        &mut self,
+        id: u32,
+        parent: Option<u32>,
+        positioner: &Positioner,
+        number: u64,
+        has_other_role: bool,
+    ) -> Result<(), ShellError>
+        ensures answer { result ≡ popup_answer has_other_role (is_some parent) positioner.now (Some self.old) }
+        ensures ok { OnOk result (IfSome parent (λ xdg. self.new ≡ kept_popup id xdg positioner.now number self.old)) }
+        ensures err { OnErr result (self.new ≡ self.old) }
+    {
+        self.check_new(has_other_role)?;
+        let Some(parent) = parent else {
+            return Err(ShellError::InvalidPopupParent);
+        };
+        if !positioner.is_complete() {
+            return Err(ShellError::InvalidPositioner);
         }
-        if has_other_role {
-            return Err(ShellError::Role);
-        }
-        self.role = Some(Toplevel {
-            id,
-            stage: Stage::Fresh,
-        });
+        self.role = Some(RoleObject::popup_of(id, parent, positioner, number));
         self.forget();
         Ok(())
     }
@@ -189,37 +248,69 @@ impl XdgSurface {
         ensures ok { OnOk result (self.new ≡ kept_acknowledging serial self.old) }
         ensures err { OnErr result (self.new ≡ self.old) }
     {
-        let Some(toplevel) = self.role else {
+        let Some(role) = &mut self.role else {
             return Err(ShellError::NotConstructed);
         };
-        let Some(place) = last_place_of(&self.serials, serial) else {
+        let Some(place) = last_place_of(&self.configures, serial) else {
             return Err(ShellError::InvalidSerial);
         };
-        forget_first(&mut self.serials, place + 1);
-        self.role = Some(Toplevel {
-            stage: toplevel.stage.acknowledged(),
-            ..toplevel
-        });
+        forget_first(&mut self.configures, place + 1);
+        role.acknowledge();
         Ok(())
     }
 
-    /// As many configures wait as may.
-    fn is_full(&self) -> bool
-        ensures { result ≡ is_full self.now.serials }
+    /// One configure more may wait.
+    ///
+    /// # Errors
+    ///
+    /// `TooMany` where 64 of them wait.
+    fn check_room(&self) -> Result<(), ShellError>
+        ensures { result ≡ room_answer (is_full self.now.configures) }
     {
-        self.serials.len() >= MOST_WAITING
+        if self.configures.len() >= MOST_WAITING {
+            return Err(ShellError::TooMany);
+        }
+        Ok(())
     }
 
-    /// What a commit comes to.
-    fn answer(&self, has_buffer: bool) -> Result<ShellAct, ShellError>
-        ensures { result ≡ commit_answer has_buffer (Some self.now) }
+    /// Its role object is a popup that was dismissed.
+    fn is_dismissed(&self) -> bool
+        ensures { result ≡ is_dismissed_in self.now.role }
     {
+        match self.popup() {
+            Some(popup) => popup.is_dismissed(),
+            None => false,
+        }
+    }
+
+    /// Where its popup is placed now. A toplevel is placed nowhere.
+    fn placement(&self, bounds: Rect, parent_at: (i32, i32)) -> Option<Placed>
+        ensures { result ≡ placement_in bounds parent_at self.now.role }
+    {
+        let popup = self.popup()?;
+        popup.place(bounds, parent_at)
+    }
+
+    /// What a commit comes to. The table isn't used for a popup that was dismissed.
+    fn answer(
+        &self,
+        has_buffer: bool,
+        bounds: Rect,
+        parent_at: (i32, i32),
+    ) -> Result<ShellAct, ShellError>
+        ensures { result ≡ commit_answer has_buffer bounds parent_at (Some self.now) }
+    {
+        if self.is_dismissed() {
+            return Ok(ShellAct::Nothing);
+        }
         match (self.stage(), has_buffer) {
             (None | Some(Stage::Fresh | Stage::Waiting), true) => Err(
                 ShellError::UnconfiguredBuffer,
             ),
-            (Some(Stage::Fresh), false) if self.is_full() => Err(ShellError::TooMany),
-            (Some(Stage::Fresh), false) => Ok(ShellAct::Configure(None)),
+            (Some(Stage::Fresh), false) => {
+                self.check_room()?;
+                Ok(ShellAct::Configure(self.placement(bounds, parent_at)))
+            }
             (Some(Stage::Ready), true) => Ok(ShellAct::Map),
             (Some(Stage::Mapped), false) => Ok(ShellAct::Unmap),
             (None | Some(Stage::Waiting | Stage::Ready), false) | (Some(Stage::Mapped), true) => Ok(
@@ -229,39 +320,61 @@ impl XdgSurface {
     }
 
     /// One configure more waits.
-    fn push_serial(&mut self, serial: u32)
-        requires { is_full self.old.serials ≡ false }
+    fn push(&mut self, serial: u32)
+        requires { is_full self.old.configures ≡ false }
         ensures { self.new ≡ kept_configuring serial self.old }
     {
-        self.serials.push(serial);
+        self.configures.push(Configure {
+            serial,
+            placement: None,
+        });
     }
 
     /// The role object is in this stage, where there is one.
     fn set_stage(&mut self, stage: Stage)
         ensures { self.new ≡ kept_in_stage stage self.old }
     {
-        self.role = self.role.map(|toplevel| Toplevel { stage, ..toplevel });
+        if let Some(role) = &mut self.role {
+            role.set_stage(stage);
+        }
     }
 
-    /// Its surface isn't mapped any more.
+    /// This happens to its popup, where it has one.
+    fn change(&mut self, change: &PopupChange)
+        ensures { self.new ≡ kept_changed (popup_by change.now) self.old }
+    {
+        if let Some(role) = &mut self.role {
+            role.change(change);
+        }
+    }
+
+    /// Its surface isn't mapped any more. A popup holds no grab then, and keeps its placement.
     fn unmap(&mut self)
         ensures { self.new ≡ kept_unmapping self.old }
     {
-        self.set_stage(Stage::Fresh);
         self.forget();
+        self.set_stage(Stage::Fresh);
+        self.change(&PopupChange::Release);
+    }
+
+    /// A popup is placed there, and a configure of this serial is sent.
+    fn configure_placed(&mut self, placed: Option<Placed>, serial: u32)
+        requires { is_full self.old.configures ≡ false }
+        ensures { self.new ≡ kept_configuring serial (kept_changed (in_force placed) (kept_in_stage Waiting self.old)) }
+    {
+        self.set_stage(Stage::Waiting);
+        self.change(&PopupChange::Place(placed));
+        self.push(serial);
     }
 
     /// A commit comes to this.
     fn act(&mut self, act: ShellAct, serial: u32)
-        requires { (placed : Option Placed) → act ≡ Configure placed → is_full self.old.serials ≡ false }
+        requires { (placed : Option Placed) → act ≡ ShellAct.Configure placed → is_full self.old.configures ≡ false }
         ensures { self.new ≡ kept_after serial act self.old }
     {
         self.applied = self.pending;
         match act {
-            ShellAct::Configure(_) => {
-                self.set_stage(Stage::Waiting);
-                self.push_serial(serial);
-            }
+            ShellAct::Configure(placed) => self.configure_placed(placed, serial),
             ShellAct::Map => self.set_stage(Stage::Mapped),
             ShellAct::Unmap => self.unmap(),
             ShellAct::Nothing => {}
@@ -269,18 +382,25 @@ impl XdgSurface {
     }
 
     /// wl_surface.commit: its surface is committed, and its state then has a buffer, or none. The window geometry that was asked counts from
-    /// then on. Where a configure is to be sent it has this serial, which waits to be acknowledged.
+    /// then on. Where a configure is to be sent it has this serial, which waits to be acknowledged; a popup is placed then, within the bounds,
+    /// given in pixels of the output, its parent's window geometry standing at `parent_at` there. Of a dismissed popup nothing else changes.
     ///
     /// # Errors
     ///
     /// Each changes nothing. `UnconfiguredBuffer` where the state has a buffer and no configure was acknowledged, `TooMany` where a configure
     /// would be sent and 64 of them wait.
-    pub fn commit(&mut self, has_buffer: bool, serial: u32) -> Result<ShellAct, ShellError>
-        ensures answer { result ≡ commit_answer has_buffer (Some self.old) }
+    pub fn commit(
+        &mut self,
+        has_buffer: bool,
+        bounds: Rect,
+        parent_at: (i32, i32),
+        serial: u32,
+    ) -> Result<ShellAct, ShellError>
+        ensures answer { result ≡ commit_answer has_buffer bounds parent_at (Some self.old) }
         ensures ok { IfOk result (λ act. self.new ≡ kept_after serial act self.old) }
         ensures err { OnErr result (self.new ≡ self.old) }
     {
-        let act = self.answer(has_buffer)?;
+        let act = self.answer(has_buffer, bounds, parent_at)?;
         self.act(act, serial);
         Ok(act)
     }
@@ -299,15 +419,50 @@ impl XdgSurface {
         if !self.stage().is_some_and(Stage::answers_states) {
             return Ok(false);
         }
-        if self.is_full() {
-            return Err(ShellError::TooMany);
-        }
-        self.push_serial(serial);
+        self.check_room()?;
+        self.push(serial);
         Ok(true)
     }
 
-    /// xdg_toplevel.destroy: its role object goes, and what was asked is forgotten.
-    pub fn destroy_toplevel(&mut self)
+    /// xdg_popup.grab: its popup has a grab where it is allowed. True where that is so, and where nothing is done, since its popup was dismissed
+    /// or it has none; false, and nothing changes, where the popup is to be dismissed.
+    ///
+    /// # Errors
+    ///
+    /// `InvalidGrab` where the popup is mapped; nothing changes.
+    pub fn grab(&mut self, is_allowed: bool) -> Result<bool, ShellError>
+        ensures answer { result ≡ grab_answer is_allowed (Some self.old) }
+        ensures ok { IfOk result (λ is_taken. self.new ≡ kept_grabbing is_taken self.old) }
+        ensures err { OnErr result (self.new ≡ self.old) }
+    {
+        if self.popup().is_none() || self.is_dismissed() {
+            return Ok(true);
+        }
+        if self.is_mapped() {
+            return Err(ShellError::InvalidGrab);
+        }
+        if is_allowed {
+            self.change(&PopupChange::Grab);
+        }
+        Ok(is_allowed)
+    }
+
+    /// Its popup, if it has one, is dismissed, and has no grab any more.
+    pub fn dismiss(&mut self)
+        ensures { self.new ≡ kept_changed dismiss self.old }
+    {
+        self.change(&PopupChange::Dismiss);
+    }
+
+    /// The toplevel of the xdg_surface with this id goes. Where that is the parent of its popup, the popup has no parent any more.
+    pub fn orphan(&mut self, xdg_surface: u32)
+        ensures { self.new ≡ kept_changed (orphan xdg_surface) self.old }
+    {
+        self.change(&PopupChange::Orphan(xdg_surface));
+    }
+
+    /// xdg_toplevel.destroy or xdg_popup.destroy: its role object goes, and what was asked is forgotten.
+    pub fn destroy_role(&mut self)
         ensures { self.new ≡ kept_without_role self.old }
     {
         self.role = None;

@@ -1,6 +1,6 @@
 -- What each thing that is asked changes of what a client owns, and of what is kept of it.
 use Rattle.std.proofs.Common.{◌≡◌, ℕ, ◌+◌, List, Bool, true, false, Option, Some, None, cond, length, refl, ap, sym, subst, ◌∙◌, eq-eqb}
-use Rattle.std.specs.Prelude.{◌==◌, Ok, Result, fold, is_some}
+use Rattle.std.specs.Prelude.{◌==◌, ℤ, IfSome, Ok, Result, fold, is_some}
 use Rattle.std.specs.Option.{option_map, option_map_or}
 use Rattle.wl_geom.specs.declared.rect.Rect.{Rect}
 use Rattle.wl_family.specs.Family.{Tied}
@@ -12,13 +12,13 @@ use Rattle.wl_surface.specs.Surfaces.{Surfaces, history_in, surface_at, with_cha
 use Rattle.wl_state.specs.declared.role.Role.TheVariants.{Cursor as AsCursor, Toplevel as AsToplevel}
 use Rattle.wl_shell.specs.Agreement.{with_history}
 use Rattle.wl_xdg_state.specs.Kept.{Kept, Stands, changing, commit_answer, effect_answer, first_kept, kept_acknowledging, kept_after, kept_asking, kept_configuring, kept_toplevel, kept_without_role}
-use Rattle.wl_xdg_state.specs.Kept.{stage_in, with_kept}
+use Rattle.wl_xdg_state.specs.Kept.{placement_in, with_kept}
 use Rattle.wl_xdg_state.specs.Laws.{one_more}
 use Rattle.wl_xdg_state.specs.Shell.{Effect, Stays, Unconfigured, Configures, Maps, Unmaps, Fresh, Waiting, Mapped, Popup, RoleObject, Shell, XdgSurface, acknowledging, at_stage, configuring}
-use Rattle.wl_xdg_state.specs.Shell.{in_stage, is_full}
-use Rattle.wl_xdg_state.specs.Shell.{is_role, new_toplevel, on_commit, role_acknowledged, stage_of, unmapping, with_change, without_role, xdg_of}
-use Rattle.wl_xdg_state.specs.Popups.{placing, popup_changed, with_effect, with_popup_role, without_grab}
-use Rattle.wl_xdg_state.specs.Positioner.{Placed}
+use Rattle.wl_xdg_state.specs.Shell.{Configure as Waits, in_stage, is_full}
+use Rattle.wl_xdg_state.specs.Shell.{is_role, new_toplevel, role_acknowledged, unmapping, with_change, without_role, xdg_of}
+use Rattle.wl_xdg_state.specs.Popups.{effect_in, kind_popup, placing, popup_changed, popup_in, with_effect, with_popup_role, without_grab}
+use Rattle.wl_xdg_state.specs.Positioner.{Placed, place}
 use Rattle.wl_xdg_state.specs.declared.acts.ShellAct.{ShellAct}
 use Rattle.wl_xdg_state.specs.declared.acts.ShellAct.TheVariants.{Configure, Map, Unmap, Nothing}
 use Rattle.wl_xdg_state.specs.declared.error.ShellError.{ShellError}
@@ -50,7 +50,9 @@ use Rattle.wl_plain.specs.Changing.{drawing, is_configure, tree_committed}
 use Rattle.wl_plain.specs.Demand.{Asks, EndSurface, EndToplevel, MakeCursor}
 use Rattle.wl_plain.specs.Demanding.{effect_on_xdg}
 use Rattle.wl_invariants.specs.Simple.{changed_simply, effect_on}
-use Rattle.wl_invariants.proofs.WithoutPopups.Simple.{effect-toplevel, if-top}
+use Rattle.wl_invariants.specs.Toplevels.{AreToplevels, IsToplevel}
+use Rattle.wl_invariants.proofs.KeptRecords.Toplevels.Judged.{IsToplevelAt, found-toplevel}
+use Rattle.wl_owning.proofs.Keeping.OwningReads.{effect-by-role}
 
 -- ---- histories of a surface that changes
 
@@ -112,6 +114,11 @@ effect-owned : (id : ℕ) (effect : Effect) (x : XdgSurface) (r : Resident)
 effect-owned id effect x r = drawn-owned (is_configure effect) (xdg_changed x.id (with_effect r.peer.serial (asked_so_far id r) (λ popup. None) effect) r)
 
 -- ---- what is asked
+
+-- a toplevel is no popup
+no-popup : (o : Option RoleObject) → IsToplevel o → popup_in o ≡ None
+no-popup None top = refl
+no-popup (Some object) top = ap kind_popup top
 
 module _ (names : Names) (slots : Slots) (tied : Tied) (kept : ℕ → Option Kept) (r : Resident) (is : IsOwned names slots tied kept r.owned) where
   pub owned-created : (id version number : ℕ) (new : Slots) (now : Names) → names.surfaces id ≡ None
@@ -249,15 +256,16 @@ module _ (names : Names) (slots : Slots) (tied : Tied) (kept : ℕ → Option Ke
         (sym (histories-same x.surface (Some h) (λ other. history_in other r.owned.surfaces) one.history))) (changes_stand.destruction k x h one.stands)))
 
     -- a commit of its surface
-    committed-with : (shows : Bool) (act : ShellAct) (new : Slots) (tying : Tied) → AreOnceLinked r.owned.surfaces.links → AreNumbered r.owned.surfaces.links
+    committed-with : (shows : Bool) (bounds : Rect) (parent_at : ℤ × ℤ) (act : ShellAct) (new : Slots) (tying : Tied) → AreOnceLinked r.owned.surfaces.links → AreNumbered r.owned.surfaces.links
         → ((surface : ℕ) → is_some (xdg_of surface r.owned.shell) ≡ true → IsNoChild surface r.owned.surfaces)
-        → Makes slots tied new tying (committed_in number) → commit_answer shows (Some k) ≡ Ok act
+        → IsToplevel x.role → Makes slots tied new tying (committed_in number) → commit_answer shows bounds parent_at (Some k) ≡ Ok act
         → IsOwned names new tying (changing number (kept_after r.peer.serial act) kept)
-        (effect_on x.surface (on_commit (stage_of x) shows) (Some x) (tree_committed x.surface r)).owned
-    committed-with shows act new tying once apart roots makes answer =
+        (effect_on x.surface (effect_in shows x.role) (Some x) (tree_committed x.surface r)).owned
+    committed-with shows bounds parent_at act new tying once apart roots top makes answer =
         let all = committed_in x.surface r.owned.surfaces in
         let then = tree_committed x.surface r in
-        let effect = on_commit (stage_of x) shows in
+        let effect = effect_in shows x.role in
+        let placed = subst (λ (o : Option Popup). IfSome o (λ popup. None ≡ place popup.positioner bounds parent_at)) (sym (no-popup x.role top)) tt in
         let now = apply (one_more Commit h) in
         let has : is_some (xdg_of x.surface r.owned.shell) ≡ true = ap is_some one.of_surface in
         let histories = agree-committed r.owned.surfaces r.owned.shell once apart roots x.surface h one.history has in
@@ -266,7 +274,7 @@ module _ (names : Names) (slots : Slots) (tied : Tied) (kept : ℕ → Option Ke
         ∙ ap (λ b. option_map_or (λ (h : History). length h.requests) (cond b (Some now) (history_in x.surface r.owned.surfaces)) 0) (eq-eqb x.surface x.surface refl) in
         let stands : Stands (kept_after r.peer.serial act k) (with_effect r.peer.serial (asked_so_far x.surface then) (λ popup. None) effect x) now =
         subst (λ n. Stands (kept_after r.peer.serial act k) (with_effect r.peer.serial n (λ popup. None) effect x) now) (sym since)
-        (changes_stand.commit shows r.peer.serial (λ popup. None) act k x h answer one.stands) in
+        (changes_stand.commit shows bounds parent_at r.peer.serial (λ popup. None) act k x h answer placed one.stands) in
         subst (λ (o : Owned). IsOwned names new tying (changing number (kept_after r.peer.serial act) kept) o) (sym (effect-owned x.surface effect x then))
         (IsOwned-stepped names slots tied kept r.owned is number k x h one (kept_after r.peer.serial act)
         (with_effect r.peer.serial (asked_so_far x.surface then) (λ popup. None) effect) now new tying all
@@ -275,12 +283,13 @@ module _ (names : Names) (slots : Slots) (tied : Tied) (kept : ℕ → Option Ke
         (committed-by names.surfaces slots tied r.owned.surfaces is.surfaces x.surface number one.surface new tying makes))
         histories stands)
 
-  pub owned-committed : (id number : ℕ) (shows : Bool) (act : ShellAct) (new : Slots) (tying : Tied) (after : ℕ → Option Kept) → AreOnceLinked r.owned.surfaces.links
+  pub owned-committed : (id number : ℕ) (shows : Bool) (bounds : Rect) (parent_at : ℤ × ℤ) (act : ShellAct) (new : Slots) (tying : Tied) (after : ℕ → Option Kept) → AreToplevels r.owned.shell
+      → AreOnceLinked r.owned.surfaces.links
       → AreNumbered r.owned.surfaces.links → ((surface : ℕ) → is_some (xdg_of surface r.owned.shell) ≡ true → IsNoChild surface r.owned.surfaces)
       → names.surfaces id ≡ Some number → Makes slots tied new tying (committed_in number)
-      → commit_answer shows (kept number) ≡ Ok act → after ≡ changing number (kept_after r.peer.serial act) kept
+      → commit_answer shows bounds parent_at (kept number) ≡ Ok act → after ≡ changing number (kept_after r.peer.serial act) kept
       → IsOwned names new tying after (effect_on id (effect_on_xdg shows (xdg_of id r.owned.shell)) (xdg_of id r.owned.shell) (tree_committed id r)).owned
-  owned-committed id number shows act new tying after once apart roots named makes answer keeps =
+  owned-committed id number shows bounds parent_at act new tying after tops once apart roots named makes answer keeps =
       subst (λ (ks : ℕ → Option Kept). IsOwned names new tying ks (effect_on id (effect_on_xdg shows (xdg_of id r.owned.shell)) (xdg_of id r.owned.shell) (tree_committed id r)).owned) (sym keeps)
       (at (kept number) refl)
     where
@@ -301,33 +310,34 @@ module _ (names : Names) (slots : Slots) (tied : Tied) (kept : ℕ → Option Ke
           refl (λ x some found. refl) is.known))
       at (Some k) here =
           let xdg = xdg-of names slots tied kept r.owned is id number k named here in
-          let done = committed-with number k xdg.0 xdg.1 xdg.2 shows act new tying once apart roots makes (ap (commit_answer shows) (sym here) ∙ answer) in
+          let top : IsToplevel xdg.0.role = subst IsToplevelAt xdg.3 (found-toplevel (λ x. x.surface == id) r.owned.shell tops) in
+          let done = committed-with number k xdg.0 xdg.1 xdg.2 shows bounds parent_at act new tying once apart roots top makes (ap (commit_answer shows bounds parent_at) (sym here) ∙ answer) in
           subst (λ (o : Option XdgSurface). Done o id) (sym xdg.3)
           (subst (λ i. Done (Some xdg.0) i) xdg.4
           (subst (λ effect. IsOwned names new tying (changing number (kept_after r.peer.serial act) kept) (effect_on xdg.0.surface effect (Some xdg.0) (tree_committed xdg.0.surface r)).owned)
-          (sym (effect-toplevel shows xdg.0 (if-top xdg.0.role xdg.2.stands.toplevel))) done))
+          (sym (effect-by-role shows xdg.0)) done))
 
   -- what a commit comes to for the shell is what the shell answered
-  pub answered-effect : (id number : ℕ) (shows : Bool) (act : ShellAct) → names.surfaces id ≡ Some number → commit_answer shows (kept number) ≡ Ok act
+  pub answered-effect : (id number : ℕ) (shows : Bool) (bounds : Rect) (parent_at : ℤ × ℤ) (act : ShellAct) → names.surfaces id ≡ Some number → commit_answer shows bounds parent_at (kept number) ≡ Ok act
       → effect_on_xdg shows (xdg_of id r.owned.shell) ≡ effect_by act
-  answered-effect id number shows act named answer = at (kept number) refl
+  answered-effect id number shows bounds parent_at act named answer = at (kept number) refl
     where
       of-act : (a : ShellAct) → ◌≡◌ {A = Result ShellAct ShellError} (Ok a) (Ok act) → effect_by a ≡ effect_by act
       of-act a e = let same : a ≡ act = cc in ap effect_by same
 
-      by-effect : (effect : Effect) (serials : List ℕ) (full : Bool) → is_full serials ≡ full → effect_answer effect serials ≡ Ok act → effect ≡ effect_by act
-      by-effect Stays serials full e answer = of-act Nothing answer
-      by-effect Unconfigured serials full e answer = absurd (cc)
-      by-effect Configures serials true e answer = absurd (let told = rw e at answer in cc)
-      by-effect Configures serials false e answer = of-act (Configure None) (rw e at answer)
-      by-effect Maps serials full e answer = of-act Map answer
-      by-effect Unmaps serials full e answer = of-act Unmap answer
+      by-effect : (placed : Option Placed) (effect : Effect) (configures : List Waits) (full : Bool) → is_full configures ≡ full → effect_answer placed effect configures ≡ Ok act → effect ≡ effect_by act
+      by-effect placed Stays configures full e answer = of-act Nothing answer
+      by-effect placed Unconfigured configures full e answer = absurd (cc)
+      by-effect placed Configures configures true e answer = absurd (let told = rw e at answer in cc)
+      by-effect placed Configures configures false e answer = of-act (Configure placed) (rw e at answer)
+      by-effect placed Maps configures full e answer = of-act Map answer
+      by-effect placed Unmaps configures full e answer = of-act Unmap answer
 
       at : (o : Option Kept) → kept number ≡ o → effect_on_xdg shows (xdg_of id r.owned.shell) ≡ effect_by act
-      at None here = ap (effect_on_xdg shows) (xdg-of-none names slots tied kept r.owned is id number named here) ∙ of-act Nothing (ap (commit_answer shows) (sym here) ∙ answer)
+      at None here = ap (effect_on_xdg shows) (xdg-of-none names slots tied kept r.owned is id number named here) ∙ of-act Nothing (ap (commit_answer shows bounds parent_at) (sym here) ∙ answer)
       at (Some k) here =
           let xdg = xdg-of names slots tied kept r.owned is id number k named here in
           ap (effect_on_xdg shows) xdg.3
-          ∙ effect-toplevel shows xdg.0 (if-top xdg.0.role xdg.2.stands.toplevel)
-          ∙ ap (λ (role : Option RoleObject). on_commit (option_map (λ object. object.stage) role) shows) (sym xdg.2.stands.role)
-          ∙ by-effect (on_commit (stage_in k) shows) k.serials (is_full k.serials) refl (ap (commit_answer shows) (sym here) ∙ answer)
+          ∙ effect-by-role shows xdg.0
+          ∙ ap (effect_in shows) (sym xdg.2.stands.role)
+          ∙ by-effect (placement_in bounds parent_at k.role) (effect_in shows k.role) k.configures (is_full k.configures) refl (ap (commit_answer shows bounds parent_at) (sym here) ∙ answer)

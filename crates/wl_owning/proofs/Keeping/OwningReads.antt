@@ -1,6 +1,6 @@
 -- What is read of what is kept of a client is what the plain desktop asks.
 use Rattle.std.proofs.Common.{◌≡◌, ◌≢◌, ℕ, List, Bool, true, false, Option, Some, None, Result, refl, ap, sym, subst, ◌∙◌}
-use Rattle.std.specs.Prelude.{◌==◌, ◌&&◌, ◌||◌, int_lt, pos, IfSome, IsSomeAnd, Ok, Err, is_some, if◌then◌else◌}
+use Rattle.std.specs.Prelude.{ℤ, ◌==◌, ◌&&◌, ◌||◌, int_lt, pos, IfSome, IsSomeAnd, Ok, Err, is_some, if◌then◌else◌}
 use Rattle.std.specs.List.{list_any}
 use Rattle.std.specs.Option.{option_and_then, option_map, option_map_or}
 use Rattle.wl_geom.specs.declared.rect.Rect.{Rect}
@@ -19,10 +19,11 @@ use Rattle.wl_surface.specs.Surfaces.{history_in, surface_at}
 use Rattle.wl_xdg_state.specs.declared.error.ShellError.{ShellError}
 use Rattle.wl_xdg_state.specs.declared.error.ShellError.TheVariants as failed
 use Rattle.wl_xdg_state.specs.declared.stage.Stage.{Stage}
-use Rattle.wl_xdg_state.specs.Kept.{Kept, acknowledgement_answer, commit_answer, configure_answer, destruction_answer, effect_answer, geometry_answer, making_refused, stage_configured, stage_in}
+use Rattle.wl_xdg_state.specs.Kept.{Kept, acknowledgement_answer, commit_answer, configure_answer, destruction_answer, effect_answer, geometry_answer, making_refused, placement_in, stage_configured}
 use Rattle.wl_xdg_state.specs.Kept.{toplevel_answer}
-use Rattle.wl_xdg_state.specs.Shell.{Effect, Stays, Unconfigured, Configures, Maps, Unmaps, RoleObject, XdgSurface, answers_states, is_full, is_waiting, on_commit, stage_of, xdg_of}
-use Rattle.wl_xdg_state.proofs.Serials.{full-so, serials_of, waits-so}
+use Rattle.wl_xdg_state.specs.Popups.{effect_in, kind_popup, popped_kind, popped_role}
+use Rattle.wl_xdg_state.specs.Positioner.{Placed}
+use Rattle.wl_xdg_state.specs.Shell.{Configure, Effect, Stays, Unconfigured, Configures, Maps, Unmaps, Kind, Toplevel, IsPopup, RoleObject, XdgSurface, answers_states, is_full, is_waiting, on_commit, stage_of, xdg_of}
 use Rattle.wl_shell.proofs.Shells.{shells_stand}
 use Rattle.wl_plain.specs.Ask.{AskSurface, EndObject, GetXdgSurface, DestroyXdgSurface, GetToplevel, Acknowledge, ConfigureAgain, Ignore}
 use Rattle.wl_plain.specs.Desktop.{Resident}
@@ -35,17 +36,29 @@ use Rattle.wl_laws.proofs.Lists.Keys.{none-some, some-same}
 use Rattle.wl_owning.proofs.Keeping.OwningSurfaces.{surface-read}
 use Rattle.wl_owning.proofs.Keeping.OwningXdg.{xdg-of, xdg-of-none, xdg-there}
 use Rattle.wl_plain.specs.Demand.{EndSurface, CommitTree}
-use Rattle.wl_plain.specs.Demanding.{commit_demand, committed_by, effect_of_commit, effect_on_xdg, surface_destroyed}
+use Rattle.wl_plain.specs.Demanding.{commit_demand, committed_by, effect_of_commit, effect_on_xdg, is_dismissed, surface_destroyed}
 use Rattle.wl_plain.specs.WlSubsurface.{refuses}
-use Rattle.wl_invariants.proofs.WithoutPopups.Simple.{effect-toplevel, if-top}
 
 there-mapped : {X : Type 0} (f : X → Buffer) (o : Option X) → is_there (option_map f o) ≡ is_some o
 there-mapped f None = refl
 there-mapped f (Some x) = refl
 
--- as many serials are kept as configures wait
-full-kept : (k : Kept) (x : XdgSurface) → k.serials ≡ serials_of x.configures → is_full k.serials ≡ is_full x.configures
-full-kept k x same = ap (λ (serials : List ℕ). is_full serials) same ∙ full-so x.configures
+-- as many configures are kept as wait
+full-kept : (k : Kept) (x : XdgSurface) → k.configures ≡ x.configures → is_full k.configures ≡ is_full x.configures
+full-kept k x same = ap (λ (configures : List Configure). is_full configures) same
+
+-- what a commit comes to goes by the role object
+pub effect-by-role : (shows : Bool) (x : XdgSurface) → effect_on_xdg shows (Some x) ≡ effect_in shows x.role
+effect-by-role shows x = at x.role
+  where
+    by-kind : (object : RoleObject) (kind : Kind) → (if is_dismissed (popped_kind x object kind) then Stays else on_commit (Some object.stage) shows)
+        ≡ (if option_map_or (λ popup. popup.is_dismissed) (kind_popup kind) false then Stays else on_commit (Some object.stage) shows)
+    by-kind object Toplevel = refl
+    by-kind object (IsPopup popup) = refl
+
+    at : (o : Option RoleObject) → (if is_dismissed (popped_role x o) then Stays else on_commit (option_map (λ object. object.stage) o) shows) ≡ effect_in shows o
+    at None = refl
+    at (Some object) = by-kind object object.kind
 
 module _ (names : Names) (slots : Slots) (tied : Tied) (kept : ℕ → Option Kept) (r : Resident) (is : IsOwned names slots tied kept r.owned) where
   -- ---- a surface
@@ -83,32 +96,33 @@ module _ (names : Names) (slots : Slots) (tied : Tied) (kept : ℕ → Option Ke
 
   -- ---- a commit
 
-  pub committed-by : (id number base object : ℕ) → names.surfaces id ≡ Some number
-      → commit_demand r id ≡ asks_by (λ act. CommitTree id) (shell_refusal base (kept_id (kept number)) object) (commit_answer (will_show r id) (kept number))
-  committed-by id number base object named = at (kept number) refl
+  pub committed-by : (bounds : Rect) (parent_at : ℤ × ℤ) (id number base object : ℕ) → names.surfaces id ≡ Some number
+      → commit_demand r id ≡ asks_by (λ act. CommitTree id) (shell_refusal base (kept_id (kept number)) object) (commit_answer (will_show r id) bounds parent_at (kept number))
+  committed-by bounds parent_at id number base object named = at (kept number) refl
     where
-      by-effect : (x : XdgSurface) (effect : Effect) (serials : List ℕ) (full : Bool) → is_full x.configures ≡ full → is_full serials ≡ full
-          → committed_by (Some x) id effect ≡ asks_by (λ act. CommitTree id) (shell_refusal base x.id object) (effect_answer effect serials)
-      by-effect x Stays serials full e f = refl
-      by-effect x Unconfigured serials full e f = refl
-      by-effect x Maps serials full e f = refl
-      by-effect x Unmaps serials full e f = refl
-      by-effect x Configures serials true e f = rw (e, f) refl
-      by-effect x Configures serials false e f = rw (e, f) refl
+      by-effect : (x : XdgSurface) (placed : Option Placed) (effect : Effect) (full : Bool) → is_full x.configures ≡ full
+          → committed_by (Some x) id effect ≡ asks_by (λ act. CommitTree id) (shell_refusal base x.id object) (effect_answer placed effect x.configures)
+      by-effect x placed Stays full e = refl
+      by-effect x placed Unconfigured full e = refl
+      by-effect x placed Maps full e = refl
+      by-effect x placed Unmaps full e = refl
+      by-effect x placed Configures true e = rw e refl
+      by-effect x placed Configures false e = rw e refl
 
       at : (o : Option Kept) → kept number ≡ o
-          → committed_by (xdg_of id r.owned.shell) id (effect_of_commit r id) ≡ asks_by (λ act. CommitTree id) (shell_refusal base (kept_id o) object) (commit_answer (will_show r id) o)
+          → committed_by (xdg_of id r.owned.shell) id (effect_of_commit r id) ≡ asks_by (λ act. CommitTree id) (shell_refusal base (kept_id o) object) (commit_answer (will_show r id) bounds parent_at o)
       at None here = ap (λ (o : Option XdgSurface). committed_by o id (effect_on_xdg (will_show r id) o)) (xdg-of-none names slots tied kept r.owned is id number named here)
       at (Some k) here =
           let xdg = xdg-of names slots tied kept r.owned is id number k named here in
           let x = xdg.0 in
           let stands = xdg.2.stands in
+          let placed = placement_in bounds parent_at k.role in
+          let effect = effect_in (will_show r id) k.role in
           ap (λ (o : Option XdgSurface). committed_by o id (effect_on_xdg (will_show r id) o)) xdg.3
-          ∙ ap (λ effect. committed_by (Some x) id effect) (effect-toplevel (will_show r id) x (if-top x.role stands.toplevel))
-          ∙ by-effect x (on_commit (stage_of x) (will_show r id)) k.serials (is_full x.configures) refl (full-kept k x stands.serials)
-          ∙ sym (ap (λ (i : ℕ). asks_by (λ act. CommitTree id) (shell_refusal base i object) (effect_answer (on_commit (stage_in k) (will_show r id)) k.serials)) stands.id
-          ∙ ap (λ (role : Option RoleObject). asks_by (λ act. CommitTree id) (shell_refusal base x.id object)
-          (effect_answer (on_commit (option_map (λ object. object.stage) role) (will_show r id)) k.serials)) stands.role)
+          ∙ ap (λ effect. committed_by (Some x) id effect) (effect-by-role (will_show r id) x ∙ ap (effect_in (will_show r id)) (sym stands.role))
+          ∙ by-effect x placed effect (is_full x.configures) refl
+          ∙ ap (λ (i : ℕ). asks_by (λ act. CommitTree id) (shell_refusal base i object) (effect_answer placed effect x.configures)) (sym stands.id)
+          ∙ ap (λ (cs : List Configure). asks_by (λ act. CommitTree id) (shell_refusal base k.id object) (effect_answer placed effect cs)) (sym stands.configures)
 
   -- ---- xdg_wm_base
 
@@ -185,7 +199,7 @@ module _ (names : Names) (kept : ℕ → Option Kept) (r : Resident) (number : �
       at false c = refl
 
   pub acknowledged-by : (serial : ℕ) → acknowledged_by x serial ≡ asks_by {X = Unit {0}} (λ u. Acknowledge x.id serial) refusal (acknowledgement_answer serial (kept number))
-  acknowledged-by serial = rw (one.here, one.stands.role, one.stands.serials, waits-so serial x.configures) (at (is_some x.role) (is_waiting serial x.configures))
+  acknowledged-by serial = rw (one.here, one.stands.role, one.stands.configures) (at (is_some x.role) (is_waiting serial x.configures))
     where
       at : (b c : Bool) → (if b then (if c then Ok (Acknowledge x.id serial) else refuse x.id error.InvalidSerial) else refuse x.id error.NotConstructed)
           ≡ asks_by {X = Unit {0}} (λ u. Acknowledge x.id serial) refusal (if b then (if c then Ok tt else Err failed.InvalidSerial) else Err failed.NotConstructed)
@@ -194,7 +208,7 @@ module _ (names : Names) (kept : ℕ → Option Kept) (r : Resident) (number : �
       at false c = refl
 
   pub configured-by : configured_again x ≡ asks_by (λ sent. configuring_if sent x.id) refusal (configure_answer (kept number))
-  configured-by = rw (one.here, one.stands.role) (at (stage_of x) k.serials (full-kept k x one.stands.serials))
+  configured-by = rw (one.here, one.stands.role) (at (stage_of x) k.configures (full-kept k x one.stands.configures))
     where
       by : (b c : Bool) → (if b then (if c then refuse_limit else Ok (ConfigureAgain x.id)) else Ok Ignore) ≡ asks_by (λ sent. configuring_if sent x.id) refusal
           (if b then (if c then Err failed.TooMany else Ok true) else Ok false)
@@ -202,11 +216,11 @@ module _ (names : Names) (kept : ℕ → Option Kept) (r : Resident) (number : �
       by true false = refl
       by false c = refl
 
-      at : (o : Option Stage) (serials : List ℕ) → is_full serials ≡ is_full x.configures
+      at : (o : Option Stage) (configures : List Configure) → is_full configures ≡ is_full x.configures
           → (if option_map_or answers_states o false then (if is_full x.configures then refuse_limit else Ok (ConfigureAgain x.id)) else Ok Ignore)
-          ≡ asks_by (λ sent. configuring_if sent x.id) refusal (stage_configured o serials)
-      at None serials e = refl
-      at (Some stage) serials e = rw e (by (answers_states stage) (is_full x.configures))
+          ≡ asks_by (λ sent. configuring_if sent x.id) refusal (stage_configured o configures)
+      at None configures e = refl
+      at (Some stage) configures e = rw e (by (answers_states stage) (is_full x.configures))
 
   -- the configures of its role object, by what is kept
   pub configures-read : (serial : ℕ) → configures_told serial (Some x) ≡ role_configured serial k.id k.role

@@ -4,6 +4,6 @@ use Rattle.wl_shell.proofs.shell.Shell.destroy_toplevel.Goals as goal
 
 pub returns : goal.returns
 returns g c =
-    changed c.self.inside.surfaces (c.get_mut.follows.lender c.destroy_toplevel.new.self)
-    c.args.self.now c.args.surface c.in-Some.xdg_surface.now c.destroy_toplevel.new.self c.self.view_is c.in-Some.ensures.value (c.get_mut.follows.holds c.destroy_toplevel.new.self)
-    kept_without_role c.destroy_toplevel.ensures
+    changed c.self.inside.surfaces (c.get_mut.follows.lender c.destroy_role.new.self)
+    c.args.self.now c.args.surface c.in-Some.xdg_surface.now c.destroy_role.new.self c.self.view_is c.in-Some.ensures.value (c.get_mut.follows.holds c.destroy_role.new.self)
+    kept_without_role c.destroy_role.ensures

@@ -5,7 +5,7 @@ use Rattle.wl_shell.proofs.shell.Shell.on_commit.Goals as goal
 
 pub returns-clause-answer : goal.returns-clause-answer
 returns-clause-answer g c =
-    c.commit.ensures.answer ∙ ap (commit_answer c.args.has_buffer) (c.in-Some.ensures.value ∙ ap (λ book. kept_of book c.args.surface) c.self.view_is)
+    c.commit.ensures.answer ∙ ap (commit_answer c.args.has_buffer c.args.bounds c.args.parent_at) (c.in-Some.ensures.value ∙ ap (λ book. kept_of book c.args.surface) c.self.view_is)
 
 pub returns-clause-ok : goal.returns-clause-ok
 returns-clause-ok g c =
