@@ -17,6 +17,7 @@ use Rattle.wl_plain.specs.Desktop.{Desktop, Resident}
 use Rattle.wl_invariants.specs.InOrder.{may_dismiss}
 use Rattle.wl_plain.specs.Step.{asked_so_far, changed_by, toplevel_given, xdg_changed}
 
+-- `P` is said of a popup and of the id of its role object; of one that is a toplevel nothing is
 abbrev pub OfKind : (ℕ → Popup → Type 0) → ℕ → Kind → Type 0
 OfKind P id Toplevel = Unit {0}
 OfKind P id (IsPopup popup) = P id popup
@@ -25,7 +26,7 @@ abbrev pub OfRole : (ℕ → Popup → Type 0) → Option RoleObject → Type 0
 OfRole P None = Unit {0}
 OfRole P (Some object) = OfKind P object.id object.kind
 
--- it is said of each popup of these, by the id of its role object
+-- it is said of each popup of these
 abbrev pub OfEach : (ℕ → Popup → Type 0) → Shell → Type 0
 OfEach P [] = Unit {0}
 OfEach P (x ∷ xs) = OfRole P x.role × OfEach P xs

@@ -2,8 +2,9 @@
 //! keeps, and each message by itself, whatever is left out. Each law is a function that does nothing and promises it.
 
 ghost use Rattle.wl_invariants.specs.InOrderLaws.{ClientsAreInOrder, DemandsKeepInOrder, EmptyIsInOrder, EndsKeepInOrder};
-ghost use Rattle.wl_invariants.specs.InOrderLaws.{FramesKeepInOrder, InOrderIsSound, InOrderStays, MessagesKeepInOrder, OthersDismissNone};
-ghost use Rattle.wl_invariants.specs.InOrderLaws.{OrderlyIsInOrder, OwnsOrderlyIsInOrder, PeersKeepInOrder, PiecesKeepInOrder, PopupsAreNumbered, PopupsRise};
+ghost use Rattle.wl_invariants.specs.InOrderLaws.{FramesKeepInOrder, InOrderIsSound, InOrderStays, MessagesKeepInOrder};
+ghost use Rattle.wl_invariants.specs.InOrderLaws.{OrderlyIsInOrder, OthersDismissNone, OwnsOrderlyIsInOrder, PeersKeepInOrder};
+ghost use Rattle.wl_invariants.specs.InOrderLaws.{PiecesKeepInOrder, PopupsAreNumbered, PopupsRise};
 
 /// A desktop without clients is in order.
 pub fn empty_is_in_order()
