@@ -1,5 +1,5 @@
 //! Tests of what knows no clients: regions, stores, painting, surfaces by themselves and linked, the windows of their trees, xdg_surfaces and the
-//! stack of toplevels, the pointer, positioners; with allocations that are refused.
+//! stack of toplevels, the pointer and what it hits, positioners; with allocations that are refused.
 #![tactic(auto)]
 
 #[cfg(test)]
@@ -14,6 +14,8 @@ mod damage;
 mod family;
 #[cfg(test)]
 mod held;
+#[cfg(test)]
+mod hits;
 #[cfg(test)]
 mod images;
 #[cfg(test)]
