@@ -1,5 +1,5 @@
 //! Tests of what knows no clients: regions, stores, painting, surfaces by themselves and linked, the windows of their trees, xdg_surfaces and the
-//! stack of toplevels, positioners; with allocations that are refused.
+//! stack of toplevels, popups, positioners; with allocations that are refused.
 #![tactic(auto)]
 
 #[cfg(test)]
@@ -20,6 +20,8 @@ mod images;
 mod linked;
 #[cfg(test)]
 mod painting;
+#[cfg(test)]
+mod popups;
 #[cfg(test)]
 mod positioners;
 #[cfg(test)]
