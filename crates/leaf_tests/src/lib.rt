@@ -1,5 +1,5 @@
 //! Tests of what knows no clients: regions, stores, painting, surfaces by themselves and linked, the windows of their trees, xdg_surfaces and the
-//! stack of toplevels, the pointer and what it hits, positioners; with allocations that are refused.
+//! stack of toplevels, popups, the pointer and what it hits, positioners; with allocations that are refused.
 #![tactic(auto)]
 
 #[cfg(test)]
@@ -24,6 +24,7 @@ mod linked;
 mod painting;
 #[cfg(test)]
 mod pointer;
+mod popups;
 #[cfg(test)]
 mod positioners;
 #[cfg(test)]

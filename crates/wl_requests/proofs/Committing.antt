@@ -1,6 +1,8 @@
 -- What a commit comes to for the shell, and what is told of it.
 use Rattle.std.proofs.Common.{◌≡◌, ℕ, [], ◌∷◌, Bool, Option, Some, None, refl, ap, sym, ◌∙◌, eq-eqb}
-use Rattle.std.specs.Prelude.{if◌then◌else◌, Ok}
+use Rattle.std.specs.Prelude.{ℤ, if◌then◌else◌, Ok}
+use Rattle.wl_geom.specs.declared.rect.Rect.{Rect}
+use Rattle.wl_xdg_state.specs.Popups.{in_force, with_popup_role}
 use Rattle.std.specs.Option.{option_and_then, option_map}
 use Rattle.wl_peer.specs.Peer.{Peer}
 use Rattle.wl_family.specs.Family.{Tied}
@@ -38,16 +40,16 @@ same-told serial id change None keeps = refl
 same-told serial id change (Some object) keeps = ap (λ (i : ℕ). role_configured serial id (Some (record object { id = i }))) (keeps object)
 
 -- a surface without xdg_surface isn't configured
-unconfigured : (shows : Bool) (o : Option Kept) (placed : Option Placed) → commit_answer shows o ≡ Ok (Configure placed) → (k : Kept) × (o ≡ Some k)
-unconfigured shows None placed e = absurd (cc)
-unconfigured shows (Some k) placed e = (k, refl)
+unconfigured : (shows : Bool) (bounds : Rect) (at : ℤ × ℤ) (o : Option Kept) (placed : Option Placed) → commit_answer shows bounds at o ≡ Ok (Configure placed) → (k : Kept) × (o ≡ Some k)
+unconfigured shows bounds at None placed e = absurd (cc)
+unconfigured shows bounds at (Some k) placed e = (k, refl)
 
 module _ (names : Names) (slots : Slots) (tied : Tied) (kept : ℕ → Option Kept) (r : Resident) (is : IsOwned names slots tied kept r.owned) (id number : ℕ)
-    (named : names.surfaces id ≡ Some number) (shows : Bool) where
+    (named : names.surfaces id ≡ Some number) (shows : Bool) (bounds : Rect) (at : ℤ × ℤ) where
   -- where a serial is drawn
-  pub commit-peer : (act : ShellAct) (after : Resident) → commit_answer shows (kept number) ≡ Ok act → (effect_on id (effect_by act) (xdg_of id r.owned.shell) after).peer ≡ drawn_by act after.peer
+  pub commit-peer : (act : ShellAct) (after : Resident) → commit_answer shows bounds at (kept number) ≡ Ok act → (effect_on id (effect_by act) (xdg_of id r.owned.shell) after).peer ≡ drawn_by act after.peer
   commit-peer (Configure placed) after answer =
-      let k = unconfigured shows (kept number) placed answer in
+      let k = unconfigured shows bounds at (kept number) placed answer in
       let xdg = xdg-of names slots tied kept r.owned is id number k.0 named k.1 in
       ap (λ (o : Option XdgSurface). (effect_on id Configures o after).peer) xdg.3
   commit-peer Map after answer = mapped-peer id (xdg_of id r.owned.shell) after
@@ -55,15 +57,16 @@ module _ (names : Names) (slots : Slots) (tied : Tied) (kept : ℕ → Option Ke
   commit-peer Nothing after answer = still-peer id (xdg_of id r.owned.shell) after
 
   -- and what is told of it
-  pub commit-told : (act : ShellAct) (serial : ℕ) → commit_answer shows (kept number) ≡ Ok act → serial ≡ r.peer.serial
+  pub commit-told : (act : ShellAct) (serial : ℕ) → commit_answer shows bounds at (kept number) ≡ Ok act → serial ≡ r.peer.serial
       → told_by act serial (changing number (kept_after serial act) kept number) ≡ answers_on (effect_by act) id r
   commit-told (Configure placed) serial answer same =
-      let k = unconfigured shows (kept number) placed answer in
+      let k = unconfigured shows bounds at (kept number) placed answer in
       let xdg = xdg-of names slots tied kept r.owned is id number k.0 named k.1 in
       let now : changing number (kept_after serial (Configure placed)) kept number ≡ Some (kept_after serial (Configure placed) k.0) =
       ap (λ (b : Bool). if b then option_map (kept_after serial (Configure placed)) (kept number) else kept number) (eq-eqb number number refl)
       ∙ ap (option_map (kept_after serial (Configure placed))) k.1 in
       ap (told_of serial) now
+      ∙ same-told serial k.0.id (with_popup_role (in_force placed)) (option_map (at_stage Waiting) k.0.role) (λ object. refl)
       ∙ same-told serial k.0.id (at_stage Waiting) k.0.role (λ object. refl)
       ∙ sym (configures-read names kept r number k.0 xdg.0 xdg.1 xdg.2 0 serial)
       ∙ ap (λ (o : Option XdgSurface). configures_told serial o) (sym xdg.3)

@@ -1,6 +1,6 @@
 //! The requests of wl_surface.
 
-ghost use Rattle.std.specs.Prelude.{◌≡◌, ◌==◌, ◌≢◌, ◌+◌, ◌++◌, ◌||◌, ℕ, Bool, Ok, Option, None, Some, is_some, true, map, unsigned_abs};
+ghost use Rattle.std.specs.Prelude.{◌≡◌, ◌==◌, ◌≢◌, ◌+◌, ◌++◌, ◌||◌, ℕ, ℤ, Bool, Ok, Option, None, Some, is_some, true, map, unsigned_abs};
 ghost use Rattle.std.specs.List.{list_any};
 ghost use Rattle.std.specs.Option.{option_map};
 ghost use Rattle.wl_client.specs.Agreement.{IsPeer};
@@ -10,6 +10,7 @@ ghost use Rattle.wl_surface.specs.Slots.{is_transform};
 ghost use Rattle.wl_state.specs.Request.{Attach, Damage as DamageAsked, SetBufferTransform, SetInputRegion, SetOpaqueRegion};
 ghost use Rattle.wl_proto.specs.Messages.{wl_surface_request};
 ghost use Rattle.wl_proto.specs.declared.wl_surface.WlSurfaceRequest.TheVariants.{Commit, Destroy, Frame as FrameAsked, SetBufferTransform as TransformAsked};
+ghost use Rattle.wl_geom.specs.declared.rect.Rect.{Rect as ScreenRect};
 ghost use Rattle.wl_xdg_state.specs.Kept.{Kept as KeptXdg, changing, commit_answer, kept_after, kept_of};
 ghost use Rattle.wl_plain.specs.Ask.{AskSurface};
 ghost use Rattle.wl_plain.specs.Demand.{CommitTree, EndSurface};
@@ -215,11 +216,11 @@ impl<A: Allocator + Copy> Resident<A> {
         serial: u32,
         has_room: bool,
     ) -> Option<Applied<A>>
-        ensures applies { (c : ℕ) (r : Plain) (d : Desktop) (names : Names) (object : ℕ) (kept : ℕ → Option KeptXdg) (shows : Bool) → OwnsOrderly r
+        ensures applies { (c : ℕ) (r : Plain) (d : Desktop) (names : Names) (object : ℕ) (kept : ℕ → Option KeptXdg) (shows : Bool) (bounds : ScreenRect) (at : ℤ × ℤ) → OwnsOrderly r
             → effect_of_commit r object ≡ effect_by act → r.peer.status ≡ None → IsPeer self.old.client r.peer → IsOwned names self.old.owned.linked.surfaces self.old.owned.linked.family kept r.owned
             → AreFramed self.old.owned.linked.surfaces.frames (by_number names.surfaces r.owned.surfaces) (r.peer.requests + 1) r.callbacks
             → AreOfSurfaces self.old.subsurfaces names.surfaces r.subsurfaces
-            → names_in self.old.client.objects ≡ names → names.surfaces object ≡ Some surface → commit_answer shows (kept surface) ≡ Ok act → serial ≡ r.peer.serial
+            → names_in self.old.client.objects ≡ names → names.surfaces object ≡ Some surface → commit_answer shows bounds at (kept surface) ≡ Ok act → serial ≡ r.peer.serial
             → kept_of self.old.owned.shell ≡ changing surface (kept_after r.peer.serial act) kept
             → MeetsAs (is_some result) c (CommitTree object) r d self.old self.new }
         ensures touched { IsTouched (Commits surface) self.old.owned.linked self.new.owned.linked result }

@@ -110,12 +110,11 @@ impl<A: Allocator + Copy> Resident<A> {
         self.client.queue_all(&[first, second]);
     }
 
-    /// The id of the toplevel of a surface, if it has one.
+    /// The id of the role object of a surface, if it has one.
     fn toplevel_of(&self, surface: SurfaceNo) -> Option<u32>
         ensures { result ≡ option_and_then (λ k. option_map (λ object. object.id) k.role) (kept_of self.now.owned.shell surface) }
     {
-        let toplevel = self.owned.shell.get(surface)?.toplevel()?;
-        Some(toplevel.id)
+        self.owned.shell.get(surface)?.role_id()
     }
 
     /// Where a commit came to a configure, its serial is drawn, and the toplevel of the surface is configured with it.

@@ -40,19 +40,19 @@ use Rattle.wl_requests.proofs.Trees.{are-one, lived, told-all, tree-lets-go}
 use Rattle.wl_requests.proofs.residents.Resident.apply.Goals as goal
 
 pub returns-in_default-clause-applies : goal.returns-in_default-clause-applies
-returns-in_default-clause-applies g c = λ client r on names object kept shows only comes lives is owned framed subs names_are named answer serial shell.
+returns-in_default-clause-applies g c = λ client r on names object kept shows bounds at only comes lives is owned framed subs names_are named answer serial shell.
     meets-as _ _ client on (CommitTree object) r only.no_popups tt false (
     let lacks = lacked c.args.self.now _ _ r (c.lack_memory.ensures.lacks r.peer is) c.lack_memory.ensures.ended in
     (refl, lacks.0, lacks.1, lacks.2))
 
 pub returns-in_default-let_go_of_told-clause-applies : goal.returns-in_default-let_go_of_told-clause-applies
-returns-in_default-let_go_of_told-clause-applies g c = λ client r on names object kept shows only comes lives is owned framed subs names_are named answer serial shell.
+returns-in_default-let_go_of_told-clause-applies g c = λ client r on names object kept shows bounds at only comes lives is owned framed subs names_are named answer serial shell.
     meets-as _ _ client on (CommitTree object) r only.no_popups tt false (
     let lacks = lacked c.args.self.now _ _ r (c.in_default-let_go_of_told.ensures.lacks r.peer is) c.in_default-let_go_of_told.ensures.ended in
     (refl, lacks.0, lacks.1, lacks.2))
 
 pub returns-clause-applies : goal.returns-clause-applies
-returns-clause-applies g c = λ client r on names object kept shows only comes lives is owned framed subs names_are named answer serial shell.
+returns-clause-applies g c = λ client r on names object kept shows bounds at only comes lives is owned framed subs names_are named answer serial shell.
     let v = c.args.self.now in
     let number = c.args.surface in
     let act = c.args.act in
@@ -74,7 +74,7 @@ returns-clause-applies g c = λ client r on names object kept shows only comes l
     let same : kept_of c.let_go_of_told.new.self.owned.shell number ≡ changing number (kept_after c.args.serial act) kept number =
     ap (λ o. kept_of o.shell number) c.let_go_of_told.ensures.owned ∙ ap (λ (k : ℕ → Option Kept). k number) (shell ∙ ap (λ n. changing number (kept_after n act) kept) (sym serial)) in
     let events : told_by act c.args.serial (kept_of c.let_go_of_told.new.self.owned.shell number) ≡ answers_on (effect_by act) object r =
-    ap (told_by act c.args.serial) same ∙ commit-told names slots tied kept r owned object number named shows act c.args.serial answer serial in
+    ap (told_by act c.args.serial) same ∙ commit-told names slots tied kept r owned object number named shows bounds at act c.args.serial answer serial in
     let surfaces : made.owned.surfaces ≡ all = effect-surfaces object (effect_by act) o after in
     let buffers : made.peer.buffers ≡ r.peer.buffers = effect-buffers object (effect_by act) o after in
     let ids = c.in-Some.released.items in
@@ -98,16 +98,16 @@ returns-clause-applies g c = λ client r on names object kept shows only comes l
     (sym comes) (
       next.0,
       subst (λ (p : Peer). Queues (answers_on (effect_by act) object r ++ releases r made) p next.0)
-          (sym (commit-peer names slots tied kept r owned object number named shows act after answer))
+          (sym (commit-peer names slots tied kept r owned object number named shows bounds at act after answer))
           (subst (λ (es : List Said). Queues es (drawn_by act after.peer) next.0)
           (ap (λ (es : List Said). es ++ releasing) events ∙ ap (λ (es : List Said). answers_on (effect_by act) object r ++ es) (sym rel)) next.1),
       record {
         peer = next.2;
         owns = λ alive. owns-told c.tell_releases.new.self _ names made.owned (ap names_in (table alive) ∙ names_are) kept_owned
             (subst (λ (f : Effect). IsOwned names c.commit.new.self.surfaces c.commit.new.self.family (kept_of v.owned.shell) (effect_on object f o after).owned)
-            (answered-effect names slots tied kept r owned object number shows act named answer)
-            (owned-committed names slots tied kept r owned object number shows act c.commit.new.self.surfaces c.commit.new.self.family (kept_of v.owned.shell)
-            only.once only.numbered only.roots named c.in-Ok.ensures.ok answer shell));
+            (answered-effect names slots tied kept r owned object number shows bounds at act named answer)
+            (owned-committed names slots tied kept r owned object number shows bounds at act c.commit.new.self.surfaces c.commit.new.self.family (kept_of v.owned.shell)
+            only.no_popups.roles only.once only.numbered only.roots named c.in-Ok.ensures.ok answer shell));
         frames = λ alive. rw (
           kept_owned,
           table alive,

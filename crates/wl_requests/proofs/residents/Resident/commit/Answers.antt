@@ -1,5 +1,6 @@
 use Rattle.std.proofs.Common.{◌≡◌, ℕ, Bool, Result, refl, ap, subst, sym, ◌∙◌}
-use Rattle.std.specs.Prelude.{Err, is_some}
+use Rattle.std.specs.Prelude.{ℤ, pos, Err, is_some}
+use Rattle.wl_geom.specs.declared.rect.Rect.{Rect}
 use Rattle.wl_peer.specs.Peer.{counted}
 use Rattle.wl_xdg_state.specs.Kept.{changing, commit_answer, kept_after, kept_of}
 use Rattle.wl_xdg_state.specs.declared.acts.ShellAct.{ShellAct}
@@ -18,6 +19,13 @@ use Rattle.wl_requests.proofs.Shelling.{meets-from, names-counted, objects-count
 use Rattle.wl_requests.proofs.residents.Resident.commit.Goals as goal
 use Rattle.wl_requests.proofs.Framing.{framed-names, one-more}
 
+-- within what, and beside which corner, a toplevel is placed: it isn't
+abbrev no_bounds : Rect
+no_bounds = record { x = pos 0; y = pos 0; w = pos 0; h = pos 0 }
+
+abbrev corner : ℤ × ℤ
+corner = (pos 0, pos 0)
+
 pub returns-in-Ok-clause-answers : goal.returns-in-Ok-clause-answers
 returns-in-Ok-clause-answers g c = λ named client r on is only.
     let v = c.args.self.now in
@@ -30,14 +38,14 @@ returns-in-Ok-clause-answers g c = λ named client r on is only.
     let will : shows ≡ will_show r object = c.is_some-has_buffer.ensures ∙ pending-read names v.owned.linked.surfaces v.owned.linked.family kept r is.owns object number c.pending_buffer.result
     named c.pending_buffer.ensures in
     let answer = sym c.on_commit.ensures.answer ∙ c.in-Ok.is in
-    let judged = committed-by names v.owned.linked.surfaces v.owned.linked.family kept r is.owns object number 0 0 named
-    ∙ ap (λ (b : Bool). asks_by (λ (a : ShellAct). CommitTree object) (shell_refusal 0 (kept_id (kept number)) 0) (commit_answer b (kept number))) (sym will)
+    let judged = committed-by names v.owned.linked.surfaces v.owned.linked.family kept r is.owns no_bounds corner object number 0 0 named
+    ∙ ap (λ (b : Bool). asks_by (λ (a : ShellAct). CommitTree object) (shell_refusal 0 (kept_id (kept number)) 0) (commit_answer b no_bounds corner (kept number))) (sym will)
     ∙ ap (asks_by (λ (a : ShellAct). CommitTree object) (shell_refusal 0 (kept_id (kept number)) 0)) answer in
     let serial : c.serial-serial.result ≡ r.peer.serial = c.serial-serial.ensures ∙ is.peer.serial in
     let shell = c.in-Ok.ensures.ok ∙ ap (λ (n : ℕ). changing number (kept_after n act) kept) serial in
-    let comes = answered-effect names v.owned.linked.surfaces v.owned.linked.family kept r is.owns object number (will_show r object) act named
-    (ap (λ (b : Bool). commit_answer b (kept number)) (sym will) ∙ answer) in
-    let applied = c.apply-applied.ensures.applies client (with_peer (counted r.peer) r) on names object kept shows (counted-orderly r only) comes
+    let comes = answered-effect names v.owned.linked.surfaces v.owned.linked.family kept r is.owns object number (will_show r object) no_bounds corner act named
+    (ap (λ (b : Bool). commit_answer b no_bounds corner (kept number)) (sym will) ∙ answer) in
+    let applied = c.apply-applied.ensures.applies client (with_peer (counted r.peer) r) on names object kept shows no_bounds corner (counted-orderly r only) comes
     (sym is.peer.status ∙ is.lives) (c.count.ensures.counts r.peer is.peer) is.owns
     (framed-names v.owned.linked.surfaces.frames v.client.objects v.client.objects r (with_peer (counted r.peer) r) refl (one-more r.peer.requests) is.frames refl refl)
     is.subsurfaces (names-counted v.client c.count.new.self c.count.ensures.only) named answer serial shell in
@@ -60,10 +68,10 @@ returns-in-Err-clause-answers g c = rw c.of.ensures (λ named client r on is onl
     let will : c.is_some-has_buffer.result ≡ will_show r object = c.is_some-has_buffer.ensures
     ∙ pending-read names v.owned.linked.surfaces v.owned.linked.family kept r is.owns object number c.pending_buffer.result named c.pending_buffer.ensures in
     let same : kept_id (kept number) ≡ xdg = sym (c.xdg_surface_of-xdg_surface.ensures ∙ ap (λ b. kept_id (kept_of b number)) c.in-Err.ensures.err) in
-    let judged = told-err (commit_demand r object) (λ (a : ShellAct). CommitTree object) (shell_refusal base (kept_id (kept number)) xdg) (commit_answer (will_show r object) (kept number))
+    let judged = told-err (commit_demand r object) (λ (a : ShellAct). CommitTree object) (shell_refusal base (kept_id (kept number)) xdg) (commit_answer (will_show r object) no_bounds corner (kept number))
     c.on_commit.result error
-    (committed-by names v.owned.linked.surfaces v.owned.linked.family kept r is.owns object number base xdg named)
-    (c.on_commit.ensures.answer ∙ ap (λ (b : Bool). commit_answer b (kept number)) will) c.in-Err.is in
+    (committed-by names v.owned.linked.surfaces v.owned.linked.family kept r is.owns no_bounds corner object number base xdg named)
+    (c.on_commit.ensures.answer ∙ ap (λ (b : Bool). commit_answer b no_bounds corner (kept number)) will) c.in-Err.is in
     refused-as _ _ client r on (commit_demand r object) (shell_refusal base xdg xdg error) (judged ∙ ap (λ i. Err (shell_refusal base i xdg error)) same)
     c.refuse_xdg_surface.ensures.ended
     (c.refuse_xdg_surface.ensures.errs r.peer is.peer))
@@ -77,11 +85,11 @@ returns-in-Ok-clause-stacks g c = λ named r is only.
     let kept = kept_of v.owned.shell in
     let will : c.is_some-has_buffer.result ≡ will_show r object = c.is_some-has_buffer.ensures
     ∙ pending-read names v.owned.linked.surfaces v.owned.linked.family kept r is.owns object number c.pending_buffer.result named c.pending_buffer.ensures in
-    let judged = committed-by names v.owned.linked.surfaces v.owned.linked.family kept r is.owns object number 0 0 named
-    ∙ ap (λ (b : Bool). asks_by (λ (a : ShellAct). CommitTree object) (shell_refusal 0 (kept_id (kept number)) 0) (commit_answer b (kept number))) (sym will)
+    let judged = committed-by names v.owned.linked.surfaces v.owned.linked.family kept r is.owns no_bounds corner object number 0 0 named
+    ∙ ap (λ (b : Bool). asks_by (λ (a : ShellAct). CommitTree object) (shell_refusal 0 (kept_id (kept number)) 0) (commit_answer b no_bounds corner (kept number))) (sym will)
     ∙ ap (asks_by (λ (a : ShellAct). CommitTree object) (shell_refusal 0 (kept_id (kept number)) 0)) (sym c.on_commit.ensures.answer ∙ c.in-Ok.is) in
-    let comes = answered-effect names v.owned.linked.surfaces v.owned.linked.family kept r is.owns object number (will_show r object) c.in-Ok.act named
-    (ap (λ (b : Bool). commit_answer b (kept number)) (sym will)
+    let comes = answered-effect names v.owned.linked.surfaces v.owned.linked.family kept r is.owns object number (will_show r object) no_bounds corner c.in-Ok.act named
+    (ap (λ (b : Bool). commit_answer b no_bounds corner (kept number)) (sym will)
     ∙ sym c.on_commit.ensures.answer ∙ c.in-Ok.is) in
     commit-stacks v r object number c.in-Ok.act (commit_demand r object) c.stacking_of.result named judged comes c.stacking_of.ensures
 
@@ -104,10 +112,10 @@ returns-in-Err-clause-stacks g c = λ named r is only.
     let will : c.is_some-has_buffer.result ≡ will_show r object = c.is_some-has_buffer.ensures
     ∙ pending-read names v.owned.linked.surfaces v.owned.linked.family kept r is.owns object number c.pending_buffer.result named c.pending_buffer.ensures in
     let same : kept_id (kept number) ≡ xdg = sym (c.xdg_surface_of-xdg_surface.ensures ∙ ap (λ b. kept_id (kept_of b number)) c.in-Err.ensures.err) in
-    let judged = told-err (commit_demand r object) (λ (a : ShellAct). CommitTree object) (shell_refusal base (kept_id (kept number)) xdg) (commit_answer (will_show r object) (kept number))
+    let judged = told-err (commit_demand r object) (λ (a : ShellAct). CommitTree object) (shell_refusal base (kept_id (kept number)) xdg) (commit_answer (will_show r object) no_bounds corner (kept number))
     c.on_commit.result error
-    (committed-by names v.owned.linked.surfaces v.owned.linked.family kept r is.owns object number base xdg named)
-    (c.on_commit.ensures.answer ∙ ap (λ (b : Bool). commit_answer b (kept number)) will) c.in-Err.is in
+    (committed-by names v.owned.linked.surfaces v.owned.linked.family kept r is.owns no_bounds corner object number base xdg named)
+    (c.on_commit.ensures.answer ∙ ap (λ (b : Bool). commit_answer b no_bounds corner (kept number)) will) c.in-Err.is in
     subst (λ (j : Result Demand Refusal). StacksSo v r j c.of.result.stacking) (sym judged) tt
 
 pub returns-in-Ok-clause-touched : goal.returns-in-Ok-clause-touched
