@@ -2,7 +2,7 @@ use std::alloc::{Allocator, Global};
 use wl_geom::Rect;
 use wl_linked::{Change, SurfaceNo};
 use wl_paint::Damage;
-use wl_repaint::mark_tree;
+use wl_repaint::{mark_tree, mark_trees};
 use wl_store::Transform;
 use wl_windows::TreeWindow;
 
@@ -87,4 +87,44 @@ fn a_tree_is_marked(rt: HostRuntime) {
         Some(72)
     );
     assert_eq!(rt; marked(alloc, &[], &[], 1, one), Some(0));
+}
+
+// A toplevel of 8 by 8 at the corner of the output, and a popup of 4 by 4 that stands there.
+fn with_popup(at: (i32, i32)) -> [TreeWindow; 2] {
+    let mut popup = window(1, at, 4);
+    popup.root = 1;
+    [window(0, (0, 0), 8), popup]
+}
+
+// How many points of an output of 64 by 64 are marked, where these were the windows of several trees and those are.
+fn marked_trees(alloc: Global, was: &[TreeWindow], is: &[TreeWindow]) -> Option<u32> {
+    let Ok(mut damage) = Damage::new(alloc, 64, 64) else {
+        return None;
+    };
+    let changes: Vec<Change<Global>, Global> = Vec::new(alloc);
+    mark_trees(&mut damage, was, is, &changes);
+    Some(damage.count())
+}
+
+// xdg_popup: a popup that moves, comes or goes is marked by itself, and not the toplevel.
+#[test]
+fn a_popup_is_marked_by_itself(rt: HostRuntime) {
+    let alloc = rt.alloc();
+    let toplevel = [window(0, (0, 0), 8)];
+    assert_eq!(rt;
+        marked_trees(alloc, &with_popup((3, 3)), &with_popup((3, 3))),
+        Some(0)
+    );
+    assert_eq!(rt;
+        marked_trees(alloc, &with_popup((3, 3)), &with_popup((4, 3))),
+        Some(20)
+    );
+    assert_eq!(rt;
+        marked_trees(alloc, &toplevel, &with_popup((4, 3))),
+        Some(16)
+    );
+    assert_eq!(rt;
+        marked_trees(alloc, &with_popup((4, 3)), &toplevel),
+        Some(16)
+    );
 }
