@@ -3,6 +3,7 @@ pub mod Away
 pub mod Change
 pub mod Commits
 pub mod Demands
+pub mod Dismissed
 pub mod Kept
 pub mod Left
 pub mod Links

@@ -2,7 +2,7 @@
 //! wl_surface, wl_subcompositor and wl_subsurface; xdg-shell.xml, xdg_surface, xdg_toplevel and xdg_popup). Each law is a function that
 //! promises it.
 
-ghost use Rattle.wl_toplevels.specs.DemandLaws.{CommitsChangeOneToplevel, ModesChangeOneToplevel, RequestsChangeNoWindow};
+ghost use Rattle.wl_toplevels.specs.DemandLaws.{CommitsChangeOneToplevel, GrabsChangeNoWindow, ModesChangeOneToplevel, RequestsChangeNoWindow};
 ghost use Rattle.wl_toplevels.specs.DemandLaws.{StatesChangeNoWindow, SubsurfaceEndsChangeOneToplevel, SurfaceEndsChangeOneToplevel};
 
 /// A commit changes the windows that are stacked with the toplevel of its tree, or none.
@@ -33,4 +33,9 @@ pub fn requests_change_no_window()
 /// A client's own interfaces, objects that stand for nothing, and configures change no window.
 pub fn states_change_no_window()
     ensures { StatesChangeNoWindow }
+{}
+
+/// A grab changes no window, whether it is taken or refused: what is dismissed by it wasn't stacked.
+pub fn grabs_change_no_window()
+    ensures { GrabsChangeNoWindow }
 {}
