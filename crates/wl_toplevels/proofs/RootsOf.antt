@@ -16,6 +16,7 @@ pub mod Shells
 pub mod Stacked
 pub mod Stacks
 pub mod Staying
+pub mod Toplevels
 pub mod Touched
 pub mod Trees
 pub mod Turns
