@@ -3,7 +3,7 @@ use Rattle.std.specs.Prelude.{ℕ, Bool}
 use Rattle.wl_state.specs.Request.{Request}
 use Rattle.wl_peer.specs.declared.actions.Action.{Action}
 use Rattle.wl_plain.specs.Ask.{Acknowledge, AskSurface, ConfigureAgain, EndObject, Ignore, Own}
-use Rattle.wl_plain.specs.Demand.{AskFrame, Asks, CommitTree, EndSubsurface, EndSurface, GetPointer, GetSubsurface, Grab, MakeCursor, Move, SetMode}
+use Rattle.wl_plain.specs.Demand.{AskFrame, Asks, CommitTree, EndSubsurface, EndSurface, EndToplevel, GetPointer, GetSubsurface, Grab, MakeCursor, Move, SetMode}
 use Rattle.wl_toplevels.specs.Done.{DemandChanges}
 
 -- wl_surface.commit
@@ -42,3 +42,7 @@ pub record StatesChangeNoWindow : Type 0 where
 -- xdg_popup.grab, whether it is taken or refused
 abbrev pub GrabsChangeNoWindow : Type 0
 GrabsChangeNoWindow = (xdg serial : ℕ) → DemandChanges (Grab xdg serial)
+
+-- xdg_toplevel.destroy, with the popups that it dismisses
+abbrev pub ToplevelEndsChangeOneToplevel : Type 0
+ToplevelEndsChangeOneToplevel = (id xdg surface : ℕ) → DemandChanges (EndToplevel id xdg surface)

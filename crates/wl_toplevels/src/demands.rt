@@ -4,6 +4,7 @@
 
 ghost use Rattle.wl_toplevels.specs.DemandLaws.{CommitsChangeOneToplevel, GrabsChangeNoWindow, ModesChangeOneToplevel, RequestsChangeNoWindow};
 ghost use Rattle.wl_toplevels.specs.DemandLaws.{StatesChangeNoWindow, SubsurfaceEndsChangeOneToplevel, SurfaceEndsChangeOneToplevel};
+ghost use Rattle.wl_toplevels.specs.DemandLaws.{ToplevelEndsChangeOneToplevel};
 
 /// A commit changes the windows that are stacked with the toplevel of its tree, or none.
 pub fn commits_change_one_toplevel()
@@ -38,4 +39,9 @@ pub fn states_change_no_window()
 /// A grab changes no window, whether it is taken or refused: what is dismissed by it wasn't stacked.
 pub fn grabs_change_no_window()
     ensures { GrabsChangeNoWindow }
+{}
+
+/// The end of a toplevel changes the windows that are stacked with it, and else none, whatever popups it dismisses.
+pub fn toplevel_ends_change_one_toplevel()
+    ensures { ToplevelEndsChangeOneToplevel }
 {}

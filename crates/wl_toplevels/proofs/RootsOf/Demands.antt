@@ -1,14 +1,14 @@
 -- What each demand changes of the windows.
 use Rattle.std.specs.Prelude.{◌==◌}
-use Rattle.std.proofs.Common.{Option, ◌≡◌, ℕ, Bool, true, false, cond, Some, map, refl, ap, sym, subst, ◌∙◌}
+use Rattle.std.proofs.Common.{None, Option, ◌≡◌, ℕ, Bool, true, false, cond, Some, map, refl, ap, sym, subst, ◌∙◌}
 use Rattle.std.specs.Option.{option_and_then}
 use Rattle.std.proofs.lemmas.Bool.{eqb-true}
 use Rattle.wl_peer.specs.Peer.{Peer}
 use Rattle.wl_state.specs.Request.{Frame}
 use Rattle.wl_state.specs.declared.role.Role.TheVariants.{Cursor as AsCursor}
 use Rattle.wl_surface.specs.Surfaces.{Surfaces, link_at}
-use Rattle.wl_xdg_state.specs.Popups.{Popped, dismissing, first_of, is_popup_mapped, popped_of, popup_at, popup_changed, with_grab}
-use Rattle.wl_xdg_state.specs.Shell.{XdgSurface, acknowledging, configuring}
+use Rattle.wl_xdg_state.specs.Popups.{Popped, dismissing, first_of, is_parent_of, is_popup_mapped, orphaning, popped_of, popup_at, popup_changed, with_grab}
+use Rattle.wl_xdg_state.specs.Shell.{XdgSurface, acknowledging, configuring, with_change as with_xdg, without_role, xdg_at}
 use Rattle.wl_stacking.specs.Stacking.{Owned}
 use Rattle.wl_plain.specs.Ask.{Acknowledge, AskSurface, ConfigureAgain, EndObject, Ignore, Own}
 use Rattle.wl_plain.specs.Changing.{drawing, grab_allowed, grabbed, has_focus}
@@ -24,13 +24,21 @@ use Rattle.wl_invariants.proofs.TreeSteps.Ends.{destruction-keeps-others}
 use Rattle.wl_invariants.proofs.TreeSteps.Modes.{mode-keeps-all}
 use Rattle.wl_toplevels.specs.Changes.{HasTrees, StaysPainted}
 use Rattle.wl_toplevels.specs.Done.{IsDone, IsMeant}
-use Rattle.wl_toplevels.specs.DemandLaws.{CommitsChangeOneToplevel, GrabsChangeNoWindow, ModesChangeOneToplevel, RequestsChangeNoWindow, StatesChangeNoWindow, SubsurfaceEndsChangeOneToplevel, SurfaceEndsChangeOneToplevel}
-use Rattle.wl_toplevels.specs.StackedWith.{ChangesAt}
+use Rattle.wl_toplevels.specs.DemandLaws.{CommitsChangeOneToplevel, GrabsChangeNoWindow, ModesChangeOneToplevel, RequestsChangeNoWindow, StatesChangeNoWindow, SubsurfaceEndsChangeOneToplevel, SurfaceEndsChangeOneToplevel, ToplevelEndsChangeOneToplevel}
+use Rattle.wl_toplevels.specs.StackedWith.{ChangesAt, ChangesWith, IsStackedAs, popup_of}
+use Rattle.wl_toplevels.specs.Toplevel.{ChangesToplevel}
+use Rattle.wl_toplevels.proofs.RootsOf.Toplevels.{toplevel-end-changes}
+use Rattle.wl_toplevels.proofs.RootsOf.Kept.{surfaces_in}
+use Rattle.wl_toplevels.proofs.RootsOf.Shells.{there-top}
+use Rattle.wl_laws.proofs.Lists.Keys.{found-by, found-passes}
+use Rattle.wl_laws.proofs.Marks.Stacks.{equal-numbers}
+use Rattle.wl_laws.specs.Soundness.{IsNoChild}
+use Rattle.wl_stacking.specs.Windows.{StackedPopup}
 use Rattle.wl_toplevels.proofs.RootsOf.Alike.{changed-keeps}
-use Rattle.wl_toplevels.proofs.RootsOf.Commits.{commit-changes}
+use Rattle.wl_toplevels.proofs.RootsOf.Commits.{commit-changes, own-root, toplevel-unpopped}
 use Rattle.wl_toplevels.proofs.RootsOf.Dismissed.{dismissed-painted}
 use Rattle.wl_toplevels.proofs.RootsOf.Painted.{KeepsStacked}
-use Rattle.wl_toplevels.proofs.RootsOf.Popped.{IsPopped, KeepsPopups}
+use Rattle.wl_toplevels.proofs.RootsOf.Popped.{IsPopped, IsThere, KeepsPopups}
 use Rattle.wl_toplevels.proofs.RootsOf.Requests.{acknowledging-keeps, acknowledging-stacked, changed-stacked, configuring-keeps, configuring-stacked, desynchronised, ended, given, grab-keeps, grab-stacked, kept, kept-by, same-keeps, tree-kept}
 
 module _ (c : ℕ) (r : Resident) (p : Peer) (d e : Desktop) (had : HasTrees d) (has : HasTrees e) (here : client_at c d ≡ Some r) where
@@ -135,6 +143,41 @@ grab-changes-by xdg serial c r p d e had has here meant done false own =
 pub grabs-change : GrabsChangeNoWindow
 grabs-change xdg serial c r p d e had has here meant done =
     grab-changes-by xdg serial c r p d e had has here meant done (grab_allowed c xdg serial (with_peer p r) d) done.own
+
+-- a tree whose root is no popup is stacked with its own toplevel
+its-own : (c root : ℕ) (d : Desktop) (o : Option ℕ) (q : Option StackedPopup) → q ≡ None → IsStackedAs c root d q o → o ≡ Some root
+its-own c root d None None e is = absurd is
+its-own c root d (Some t) None e is = ap (λ n. Some n) is
+its-own c root d o (Some q) e is = absurd (cc)
+
+pub toplevel-ends-change : ToplevelEndsChangeOneToplevel
+toplevel-ends-change id xdg surface c r p d e had has here meant done root t its with =
+    subst (λ o. ChangesWith o c d e) (sym (its-own c root d t (popup_of c root d) (subst (λ n. popup_of c n d ≡ None) (sym root-is) unpopped) with))
+    (subst (λ n. ChangesToplevel c n d e) (sym root-is)
+    (toplevel-end-changes c xdg surface d e had has done.others meant.it there
+    (eqb-true meant.it.id xdg (found-passes (λ x. x.id == xdg) r.owned.shell meant.it meant.here)) meant.own meant.role
+    (ap (λ (o : Owned). o.surfaces) done.own ∙ sym (was c r p d e had has here))
+    (ap (λ (o : Owned). o.shell) done.own
+    ∙ ap (λ (o : Owned). with_xdg xdg without_role (orphaning xdg (dismissing (λ p. is_parent_of xdg p.popup) o.shell))) (sym (was-owned c r p d e had has here)))
+    done.stack))
+  where
+    found : xdg_at xdg (owned_in d c).shell ≡ Some meant.it
+    found = ap (λ (o : Owned). xdg_at xdg o.shell) (was-owned c r p d e had has here) ∙ meant.here
+
+    there : IsThere (owned_in d c).shell meant.it
+    there = record {
+      by_id =
+          ap (λ n. xdg_at n (owned_in d c).shell) (eqb-true meant.it.id xdg (found-passes (λ x. x.id == xdg) (owned_in d c).shell meant.it found)) ∙ found;
+      by_surface =
+          found-by (λ surface x. x.surface == surface) (λ x. x.id == xdg) meant.it.surface (owned_in d c).shell meant.it (had.xdg_apart c) found
+          (equal-numbers meant.it.surface meant.it.surface refl);
+    }
+
+    root-is : root ≡ surface
+    root-is = own-root c d had surface root (subst (λ n. IsNoChild n (surfaces_in d c)) meant.own (there-top c d had meant.it there)) its
+
+    unpopped : popup_of c surface d ≡ None
+    unpopped = subst (λ n. popup_of c n d ≡ None) meant.own (toplevel-unpopped c d had meant.it there meant.role)
 
 pub states-change : StatesChangeNoWindow
 states-change = record {
