@@ -2,8 +2,10 @@ pub mod Alike
 pub mod Away
 pub mod Change
 pub mod Commits
+pub mod Created
 pub mod Demands
 pub mod Dismissed
+pub mod Fresh
 pub mod Kept
 pub mod Left
 pub mod Links

@@ -2,7 +2,7 @@
 use Rattle.std.specs.Prelude.{ℕ, Bool}
 use Rattle.wl_state.specs.Request.{Request}
 use Rattle.wl_peer.specs.declared.actions.Action.{Action}
-use Rattle.wl_plain.specs.Ask.{Acknowledge, AskSurface, ConfigureAgain, EndObject, Ignore, Own}
+use Rattle.wl_plain.specs.Ask.{Acknowledge, AskSurface, ConfigureAgain, CreateSurface, EndObject, Ignore, Own}
 use Rattle.wl_plain.specs.Demand.{AskFrame, Asks, CommitTree, EndSubsurface, EndSurface, EndToplevel, GetPointer, GetSubsurface, Grab, MakeCursor, Move, SetMode}
 use Rattle.wl_toplevels.specs.Done.{DemandChanges}
 
@@ -22,8 +22,9 @@ SubsurfaceEndsChangeOneToplevel = (id : ℕ) → DemandChanges (EndSubsurface id
 abbrev pub ModesChangeOneToplevel : Type 0
 ModesChangeOneToplevel = (link : ℕ) (synchronised : Bool) → DemandChanges (SetMode link synchronised)
 
--- what is asked of surfaces until they are committed, frame callbacks, new wl_subsurfaces and wl_pointers, cursors and moves
+-- new surfaces, what is asked of surfaces until they are committed, frame callbacks, new wl_subsurfaces and wl_pointers, cursors and moves
 pub record RequestsChangeNoWindow : Type 0 where
+  pub create_surface : (id version : ℕ) → DemandChanges (Asks (CreateSurface id version))
   pub ask_surface : (id : ℕ) (request : Request) → DemandChanges (Asks (AskSurface id request))
   pub ask_frame : (id version surface : ℕ) → DemandChanges (AskFrame id version surface)
   pub get_subsurface : (id version child parent : ℕ) → DemandChanges (GetSubsurface id version child parent)

@@ -26,7 +26,8 @@ pub fn modes_change_one_toplevel()
     ensures { ModesChangeOneToplevel }
 {}
 
-/// What is asked of surfaces changes no window until it is committed; nor do frame callbacks, new subsurfaces and pointers, cursors and moves.
+/// What is asked of surfaces changes no window until it is committed; nor do new surfaces, frame
+/// callbacks, new subsurfaces and pointers, cursors and moves.
 pub fn requests_change_no_window()
     ensures { RequestsChangeNoWindow }
 {}

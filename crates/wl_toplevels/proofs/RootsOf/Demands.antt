@@ -6,11 +6,11 @@ use Rattle.std.proofs.lemmas.Bool.{eqb-true}
 use Rattle.wl_peer.specs.Peer.{Peer}
 use Rattle.wl_state.specs.Request.{Frame}
 use Rattle.wl_state.specs.declared.role.Role.TheVariants.{Cursor as AsCursor}
-use Rattle.wl_surface.specs.Surfaces.{Surfaces, link_at}
+use Rattle.wl_surface.specs.Surfaces.{Surfaces, link_at, with_new}
 use Rattle.wl_xdg_state.specs.Popups.{Popped, dismissing, first_of, is_parent_of, is_popup_mapped, orphaning, popped_of, popup_at, popup_changed, with_grab}
 use Rattle.wl_xdg_state.specs.Shell.{XdgSurface, acknowledging, configuring, with_change as with_xdg, without_role, xdg_at}
 use Rattle.wl_stacking.specs.Stacking.{Owned}
-use Rattle.wl_plain.specs.Ask.{Acknowledge, AskSurface, ConfigureAgain, EndObject, Ignore, Own}
+use Rattle.wl_plain.specs.Ask.{Acknowledge, AskSurface, ConfigureAgain, CreateSurface, EndObject, Ignore, Own}
 use Rattle.wl_plain.specs.Changing.{drawing, grab_allowed, grabbed, has_focus}
 use Rattle.wl_plain.specs.Demand.{AskFrame, Asks, Demand, EndSubsurface, EndSurface, GetPointer, GetSubsurface, Grab, MakeCursor, Move, SetMode}
 use Rattle.wl_plain.specs.Desktop.{Desktop, Resident, client_at, owned_in, owned_of}
@@ -36,6 +36,7 @@ use Rattle.wl_laws.specs.Soundness.{IsNoChild}
 use Rattle.wl_stacking.specs.Windows.{StackedPopup}
 use Rattle.wl_toplevels.proofs.RootsOf.Alike.{changed-keeps}
 use Rattle.wl_toplevels.proofs.RootsOf.Commits.{commit-changes, own-root, toplevel-unpopped}
+use Rattle.wl_toplevels.proofs.RootsOf.Created.{created-painted}
 use Rattle.wl_toplevels.proofs.RootsOf.Dismissed.{dismissed-painted}
 use Rattle.wl_toplevels.proofs.RootsOf.Painted.{KeepsStacked}
 use Rattle.wl_toplevels.proofs.RootsOf.Popped.{IsPopped, IsThere, KeepsPopups}
@@ -107,6 +108,10 @@ drawn false r = refl
 
 pub requests-change : RequestsChangeNoWindow
 requests-change = record {
+  create_surface = λ id version c r p d e had has here meant done.
+      created-painted c id d e had done.others done.stack
+      (ap (λ (o : Owned). o.surfaces) done.own ∙ ap (λ (all : Surfaces). with_new id all) (sym (was c r p d e had has here)))
+      (same-shell c r p d e had has here (Asks (CreateSurface id version)) done done.stack _ done.own refl);
   ask_surface = λ id request c r p d e had has here meant done.
       still c r p d e had has here (Asks (AskSurface id request)) done done.stack _ done.own refl (request-keeps-all r.owned.surfaces (tied c r p d e had has here) id request);
   ask_frame = λ id version surface c r p d e had has here meant done.
