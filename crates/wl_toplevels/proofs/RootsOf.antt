@@ -2,7 +2,10 @@ pub mod Alike
 pub mod Away
 pub mod Change
 pub mod Commits
+pub mod Created
 pub mod Demands
+pub mod Dismissed
+pub mod Fresh
 pub mod Kept
 pub mod Left
 pub mod Links
@@ -15,6 +18,7 @@ pub mod Shells
 pub mod Stacked
 pub mod Stacks
 pub mod Staying
+pub mod Toplevels
 pub mod Touched
 pub mod Trees
 pub mod Turns

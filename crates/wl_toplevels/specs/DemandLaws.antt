@@ -2,8 +2,8 @@
 use Rattle.std.specs.Prelude.{ℕ, Bool}
 use Rattle.wl_state.specs.Request.{Request}
 use Rattle.wl_peer.specs.declared.actions.Action.{Action}
-use Rattle.wl_plain.specs.Ask.{Acknowledge, AskSurface, ConfigureAgain, EndObject, Ignore, Own}
-use Rattle.wl_plain.specs.Demand.{AskFrame, Asks, CommitTree, EndSubsurface, EndSurface, GetPointer, GetSubsurface, MakeCursor, Move, SetMode}
+use Rattle.wl_plain.specs.Ask.{Acknowledge, AskSurface, ConfigureAgain, CreateSurface, EndObject, Ignore, Own}
+use Rattle.wl_plain.specs.Demand.{AskFrame, Asks, CommitTree, EndSubsurface, EndSurface, EndToplevel, GetPointer, GetSubsurface, Grab, MakeCursor, Move, SetMode}
 use Rattle.wl_toplevels.specs.Done.{DemandChanges}
 
 -- wl_surface.commit
@@ -22,8 +22,9 @@ SubsurfaceEndsChangeOneToplevel = (id : ℕ) → DemandChanges (EndSubsurface id
 abbrev pub ModesChangeOneToplevel : Type 0
 ModesChangeOneToplevel = (link : ℕ) (synchronised : Bool) → DemandChanges (SetMode link synchronised)
 
--- what is asked of surfaces until they are committed, frame callbacks, new wl_subsurfaces and wl_pointers, cursors and moves
+-- new surfaces, what is asked of surfaces until they are committed, frame callbacks, new wl_subsurfaces and wl_pointers, cursors and moves
 pub record RequestsChangeNoWindow : Type 0 where
+  pub create_surface : (id version : ℕ) → DemandChanges (Asks (CreateSurface id version))
   pub ask_surface : (id : ℕ) (request : Request) → DemandChanges (Asks (AskSurface id request))
   pub ask_frame : (id version surface : ℕ) → DemandChanges (AskFrame id version surface)
   pub get_subsurface : (id version child parent : ℕ) → DemandChanges (GetSubsurface id version child parent)
@@ -38,3 +39,11 @@ pub record StatesChangeNoWindow : Type 0 where
   pub acknowledge : (xdg serial : ℕ) → DemandChanges (Asks (Acknowledge xdg serial))
   pub configure_again : (xdg : ℕ) → DemandChanges (Asks (ConfigureAgain xdg))
   pub ignore : DemandChanges (Asks Ignore)
+
+-- xdg_popup.grab, whether it is taken or refused
+abbrev pub GrabsChangeNoWindow : Type 0
+GrabsChangeNoWindow = (xdg serial : ℕ) → DemandChanges (Grab xdg serial)
+
+-- xdg_toplevel.destroy, with the popups that it dismisses
+abbrev pub ToplevelEndsChangeOneToplevel : Type 0
+ToplevelEndsChangeOneToplevel = (id xdg surface : ℕ) → DemandChanges (EndToplevel id xdg surface)

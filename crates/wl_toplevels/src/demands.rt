@@ -2,8 +2,9 @@
 //! wl_surface, wl_subcompositor and wl_subsurface; xdg-shell.xml, xdg_surface, xdg_toplevel and xdg_popup). Each law is a function that
 //! promises it.
 
-ghost use Rattle.wl_toplevels.specs.DemandLaws.{CommitsChangeOneToplevel, ModesChangeOneToplevel, RequestsChangeNoWindow};
+ghost use Rattle.wl_toplevels.specs.DemandLaws.{CommitsChangeOneToplevel, GrabsChangeNoWindow, ModesChangeOneToplevel, RequestsChangeNoWindow};
 ghost use Rattle.wl_toplevels.specs.DemandLaws.{StatesChangeNoWindow, SubsurfaceEndsChangeOneToplevel, SurfaceEndsChangeOneToplevel};
+ghost use Rattle.wl_toplevels.specs.DemandLaws.{ToplevelEndsChangeOneToplevel};
 
 /// A commit changes the windows that are stacked with the toplevel of its tree, or none.
 pub fn commits_change_one_toplevel()
@@ -25,7 +26,8 @@ pub fn modes_change_one_toplevel()
     ensures { ModesChangeOneToplevel }
 {}
 
-/// What is asked of surfaces changes no window until it is committed; nor do frame callbacks, new subsurfaces and pointers, cursors and moves.
+/// What is asked of surfaces changes no window until it is committed; nor do new surfaces, frame
+/// callbacks, new subsurfaces and pointers, cursors and moves.
 pub fn requests_change_no_window()
     ensures { RequestsChangeNoWindow }
 {}
@@ -33,4 +35,14 @@ pub fn requests_change_no_window()
 /// A client's own interfaces, objects that stand for nothing, and configures change no window.
 pub fn states_change_no_window()
     ensures { StatesChangeNoWindow }
+{}
+
+/// A grab changes no window, whether it is taken or refused: what is dismissed by it wasn't stacked.
+pub fn grabs_change_no_window()
+    ensures { GrabsChangeNoWindow }
+{}
+
+/// The end of a toplevel changes the windows that are stacked with it, and else none, whatever popups it dismisses.
+pub fn toplevel_ends_change_one_toplevel()
+    ensures { ToplevelEndsChangeOneToplevel }
 {}

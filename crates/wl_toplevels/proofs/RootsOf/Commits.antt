@@ -33,7 +33,7 @@ use Rattle.wl_toplevels.proofs.RootsOf.Trees.{other-tree}
 
 -- ---- a toplevel is no popup
 
-no-popped : (x : XdgSurface) → is_toplevel (Some x) ≡ true → popped_of x ≡ []
+pub no-popped : (x : XdgSurface) → is_toplevel (Some x) ≡ true → popped_of x ≡ []
 no-popped x is = at x.role is
   where
     kind : (object : RoleObject) (k : Kind) → is_toplevel_kind k ≡ true → popped_kind x object k ≡ []

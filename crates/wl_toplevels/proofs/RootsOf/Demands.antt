@@ -1,15 +1,18 @@
 -- What each demand changes of the windows.
 use Rattle.std.specs.Prelude.{◌==◌}
-use Rattle.std.proofs.Common.{◌≡◌, ℕ, Bool, true, false, cond, Some, map, refl, ap, sym, subst, ◌∙◌}
+use Rattle.std.proofs.Common.{None, Option, ◌≡◌, ℕ, Bool, true, false, cond, Some, map, refl, ap, sym, subst, ◌∙◌}
+use Rattle.std.specs.Option.{option_and_then}
+use Rattle.std.proofs.lemmas.Bool.{eqb-true}
 use Rattle.wl_peer.specs.Peer.{Peer}
 use Rattle.wl_state.specs.Request.{Frame}
 use Rattle.wl_state.specs.declared.role.Role.TheVariants.{Cursor as AsCursor}
-use Rattle.wl_surface.specs.Surfaces.{Surfaces, link_at}
-use Rattle.wl_xdg_state.specs.Shell.{XdgSurface, acknowledging, configuring}
+use Rattle.wl_surface.specs.Surfaces.{Surfaces, link_at, with_new}
+use Rattle.wl_xdg_state.specs.Popups.{Popped, dismissing, first_of, is_parent_of, is_popup_mapped, orphaning, popped_of, popup_at, popup_changed, with_grab}
+use Rattle.wl_xdg_state.specs.Shell.{XdgSurface, acknowledging, configuring, with_change as with_xdg, without_role, xdg_at}
 use Rattle.wl_stacking.specs.Stacking.{Owned}
-use Rattle.wl_plain.specs.Ask.{Acknowledge, AskSurface, ConfigureAgain, EndObject, Ignore, Own}
-use Rattle.wl_plain.specs.Changing.{drawing, has_focus}
-use Rattle.wl_plain.specs.Demand.{AskFrame, Asks, Demand, EndSubsurface, EndSurface, GetPointer, GetSubsurface, MakeCursor, Move, SetMode}
+use Rattle.wl_plain.specs.Ask.{Acknowledge, AskSurface, ConfigureAgain, CreateSurface, EndObject, Ignore, Own}
+use Rattle.wl_plain.specs.Changing.{drawing, grab_allowed, grabbed, has_focus}
+use Rattle.wl_plain.specs.Demand.{AskFrame, Asks, Demand, EndSubsurface, EndSurface, GetPointer, GetSubsurface, Grab, MakeCursor, Move, SetMode}
 use Rattle.wl_plain.specs.Desktop.{Desktop, Resident, client_at, owned_in, owned_of}
 use Rattle.wl_plain.specs.Step.{with_peer}
 use Rattle.wl_plain.specs.WlSubsurface.{subsurface_at}
@@ -20,14 +23,24 @@ use Rattle.wl_invariants.proofs.TreeSteps.Commits.{request-keeps-all, role-keeps
 use Rattle.wl_invariants.proofs.TreeSteps.Ends.{destruction-keeps-others}
 use Rattle.wl_invariants.proofs.TreeSteps.Modes.{mode-keeps-all}
 use Rattle.wl_toplevels.specs.Changes.{HasTrees, StaysPainted}
-use Rattle.wl_toplevels.specs.Done.{IsDone}
-use Rattle.wl_toplevels.specs.DemandLaws.{CommitsChangeOneToplevel, ModesChangeOneToplevel, RequestsChangeNoWindow, StatesChangeNoWindow, SubsurfaceEndsChangeOneToplevel, SurfaceEndsChangeOneToplevel}
-use Rattle.wl_toplevels.specs.StackedWith.{ChangesAt}
+use Rattle.wl_toplevels.specs.Done.{IsDone, IsMeant}
+use Rattle.wl_toplevels.specs.DemandLaws.{CommitsChangeOneToplevel, GrabsChangeNoWindow, ModesChangeOneToplevel, RequestsChangeNoWindow, StatesChangeNoWindow, SubsurfaceEndsChangeOneToplevel, SurfaceEndsChangeOneToplevel, ToplevelEndsChangeOneToplevel}
+use Rattle.wl_toplevels.specs.StackedWith.{ChangesAt, ChangesWith, IsStackedAs, popup_of}
+use Rattle.wl_toplevels.specs.Toplevel.{ChangesToplevel}
+use Rattle.wl_toplevels.proofs.RootsOf.Toplevels.{toplevel-end-changes}
+use Rattle.wl_toplevels.proofs.RootsOf.Kept.{surfaces_in}
+use Rattle.wl_toplevels.proofs.RootsOf.Shells.{there-top}
+use Rattle.wl_laws.proofs.Lists.Keys.{found-by, found-passes}
+use Rattle.wl_laws.proofs.Marks.Stacks.{equal-numbers}
+use Rattle.wl_laws.specs.Soundness.{IsNoChild}
+use Rattle.wl_stacking.specs.Windows.{StackedPopup}
 use Rattle.wl_toplevels.proofs.RootsOf.Alike.{changed-keeps}
-use Rattle.wl_toplevels.proofs.RootsOf.Commits.{commit-changes}
+use Rattle.wl_toplevels.proofs.RootsOf.Commits.{commit-changes, own-root, toplevel-unpopped}
+use Rattle.wl_toplevels.proofs.RootsOf.Created.{created-painted}
+use Rattle.wl_toplevels.proofs.RootsOf.Dismissed.{dismissed-painted}
 use Rattle.wl_toplevels.proofs.RootsOf.Painted.{KeepsStacked}
-use Rattle.wl_toplevels.proofs.RootsOf.Popped.{KeepsPopups}
-use Rattle.wl_toplevels.proofs.RootsOf.Requests.{acknowledging-keeps, acknowledging-stacked, changed-stacked, configuring-keeps, configuring-stacked, desynchronised, ended, given, kept, kept-by, same-keeps, tree-kept}
+use Rattle.wl_toplevels.proofs.RootsOf.Popped.{IsPopped, IsThere, KeepsPopups}
+use Rattle.wl_toplevels.proofs.RootsOf.Requests.{acknowledging-keeps, acknowledging-stacked, changed-stacked, configuring-keeps, configuring-stacked, desynchronised, ended, given, grab-keeps, grab-stacked, kept, kept-by, same-keeps, tree-kept}
 
 module _ (c : ℕ) (r : Resident) (p : Peer) (d e : Desktop) (had : HasTrees d) (has : HasTrees e) (here : client_at c d ≡ Some r) where
   abbrev all : Surfaces
@@ -95,6 +108,10 @@ drawn false r = refl
 
 pub requests-change : RequestsChangeNoWindow
 requests-change = record {
+  create_surface = λ id version c r p d e had has here meant done.
+      created-painted c id d e had done.others done.stack
+      (ap (λ (o : Owned). o.surfaces) done.own ∙ ap (λ (all : Surfaces). with_new id all) (sym (was c r p d e had has here)))
+      (same-shell c r p d e had has here (Asks (CreateSurface id version)) done done.stack _ done.own refl);
   ask_surface = λ id request c r p d e had has here meant done.
       still c r p d e had has here (Asks (AskSurface id request)) done done.stack _ done.own refl (request-keeps-all r.owned.surfaces (tied c r p d e had has here) id request);
   ask_frame = λ id version surface c r p d e had has here meant done.
@@ -110,6 +127,62 @@ requests-change = record {
   move = λ surface serial c r p d e had has here meant done.
       still c r p d e had has here (Move surface serial) done done.stack _ done.own refl (same-keeps r.owned.surfaces);
 }
+
+-- a grab is taken, or refused: then a popup that isn't mapped is dismissed, and what is stacked on it
+grab-changes-by : (xdg serial c : ℕ) (r : Resident) (p : Peer) (d e : Desktop) → HasTrees d → HasTrees e → client_at c d ≡ Some r → IsMeant (Grab xdg serial) r
+    → IsDone c (Grab xdg serial) (with_peer p r) d e → (allowed : Bool) → owned_in e c ≡ (grabbed allowed xdg (with_peer p r)).owned → StaysPainted d e
+grab-changes-by xdg serial c r p d e had has here meant done true own =
+    still-by c r p d e had has here (Grab xdg serial) done done.stack _ own refl (λ x. cond (x.id == xdg) (popup_changed with_grab x) x)
+    (changed-keeps xdg (popup_changed with_grab) grab-keeps) (changed-stacked xdg (popup_changed with_grab) grab-stacked) refl
+grab-changes-by xdg serial c r p d e had has here meant done false own =
+    dismissed-painted c d e had done.others done.stack (ap (λ (o : Owned). o.surfaces) own ∙ sym (was c r p d e had has here)) (λ p. p.xdg.id == xdg)
+    (ap (λ (o : Owned). o.shell) own ∙ ap (λ (o : Owned). dismissing (λ p. p.xdg.id == xdg) o.shell) (sym (was-owned c r p d e had has here))) unmapped
+  where
+    unmapped : (q : Popped) → IsPopped (owned_in d c).shell q → (q.xdg.id == xdg) ≡ true → is_popup_mapped q ≡ false
+    unmapped q popped is =
+        meant q
+        (ap (λ (o : Owned). popup_at xdg o.shell) (sym (was-owned c r p d e had has here))
+        ∙ (ap (λ n. popup_at n (owned_in d c).shell) (sym (eqb-true q.xdg.id xdg is))
+        ∙ (ap (λ (o : Option XdgSurface). option_and_then (λ x. first_of (popped_of x)) o) popped.there.by_id ∙ ap first_of popped.its)))
+
+pub grabs-change : GrabsChangeNoWindow
+grabs-change xdg serial c r p d e had has here meant done =
+    grab-changes-by xdg serial c r p d e had has here meant done (grab_allowed c xdg serial (with_peer p r) d) done.own
+
+-- a tree whose root is no popup is stacked with its own toplevel
+its-own : (c root : ℕ) (d : Desktop) (o : Option ℕ) (q : Option StackedPopup) → q ≡ None → IsStackedAs c root d q o → o ≡ Some root
+its-own c root d None None e is = absurd is
+its-own c root d (Some t) None e is = ap (λ n. Some n) is
+its-own c root d o (Some q) e is = absurd (cc)
+
+pub toplevel-ends-change : ToplevelEndsChangeOneToplevel
+toplevel-ends-change id xdg surface c r p d e had has here meant done root t its with =
+    subst (λ o. ChangesWith o c d e) (sym (its-own c root d t (popup_of c root d) (subst (λ n. popup_of c n d ≡ None) (sym root-is) unpopped) with))
+    (subst (λ n. ChangesToplevel c n d e) (sym root-is)
+    (toplevel-end-changes c xdg surface d e had has done.others meant.it there
+    (eqb-true meant.it.id xdg (found-passes (λ x. x.id == xdg) r.owned.shell meant.it meant.here)) meant.own meant.role
+    (ap (λ (o : Owned). o.surfaces) done.own ∙ sym (was c r p d e had has here))
+    (ap (λ (o : Owned). o.shell) done.own
+    ∙ ap (λ (o : Owned). with_xdg xdg without_role (orphaning xdg (dismissing (λ p. is_parent_of xdg p.popup) o.shell))) (sym (was-owned c r p d e had has here)))
+    done.stack))
+  where
+    found : xdg_at xdg (owned_in d c).shell ≡ Some meant.it
+    found = ap (λ (o : Owned). xdg_at xdg o.shell) (was-owned c r p d e had has here) ∙ meant.here
+
+    there : IsThere (owned_in d c).shell meant.it
+    there = record {
+      by_id =
+          ap (λ n. xdg_at n (owned_in d c).shell) (eqb-true meant.it.id xdg (found-passes (λ x. x.id == xdg) (owned_in d c).shell meant.it found)) ∙ found;
+      by_surface =
+          found-by (λ surface x. x.surface == surface) (λ x. x.id == xdg) meant.it.surface (owned_in d c).shell meant.it (had.xdg_apart c) found
+          (equal-numbers meant.it.surface meant.it.surface refl);
+    }
+
+    root-is : root ≡ surface
+    root-is = own-root c d had surface root (subst (λ n. IsNoChild n (surfaces_in d c)) meant.own (there-top c d had meant.it there)) its
+
+    unpopped : popup_of c surface d ≡ None
+    unpopped = subst (λ n. popup_of c n d ≡ None) meant.own (toplevel-unpopped c d had meant.it there meant.role)
 
 pub states-change : StatesChangeNoWindow
 states-change = record {
