@@ -24,6 +24,7 @@ mod linked;
 mod painting;
 #[cfg(test)]
 mod pointer;
+#[cfg(test)]
 mod popups;
 #[cfg(test)]
 mod positioners;
