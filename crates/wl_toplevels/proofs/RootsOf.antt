@@ -10,6 +10,7 @@ pub mod Kept
 pub mod Left
 pub mod Links
 pub mod One
+pub mod Ordered
 pub mod Painted
 pub mod Popped
 pub mod Requests
