@@ -13,6 +13,7 @@ pub mod One
 pub mod Ordered
 pub mod Painted
 pub mod Popped
+pub mod PopupEnds
 pub mod Requests
 pub mod Same
 pub mod Shells
