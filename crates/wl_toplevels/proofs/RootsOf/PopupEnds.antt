@@ -13,7 +13,7 @@ use Rattle.wl_stacking.specs.Windows.{StackedPopup}
 use Rattle.wl_plain.specs.Desktop.{Desktop, owned_in}
 use Rattle.wl_laws.proofs.Lists.Keys.{found-map, found-passes}
 use Rattle.wl_laws.proofs.Marks.Stacks.{Each, differ, equal-numbers, unless}
-use Rattle.wl_invariants.specs.TreeStepsLaws.{IsRootOf, KeepsAll, counted_in}
+use Rattle.wl_invariants.specs.TreeStepsLaws.{KeepsAll, counted_in}
 use Rattle.wl_toplevels.specs.Changes.{HasTrees}
 use Rattle.wl_toplevels.specs.StackedWith.{ChangesAt}
 use Rattle.wl_toplevels.proofs.RootsOf.Commits.{fixed-at, own-root, some-is}
