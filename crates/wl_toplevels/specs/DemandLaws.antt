@@ -3,7 +3,8 @@ use Rattle.std.specs.Prelude.{ℕ, Bool}
 use Rattle.wl_state.specs.Request.{Request}
 use Rattle.wl_peer.specs.declared.actions.Action.{Action}
 use Rattle.wl_plain.specs.Ask.{Acknowledge, AskSurface, ConfigureAgain, CreateSurface, EndObject, Ignore, Own}
-use Rattle.wl_plain.specs.Demand.{AskFrame, Asks, CommitTree, EndPopup, EndSubsurface, EndSurface, EndToplevel, GetPointer, GetSubsurface, Grab, MakeCursor, Move, SetMode}
+use Rattle.wl_plain.specs.Demand.{AskFrame, Asks, CommitTree, EndPopup, EndSubsurface, EndSurface, EndToplevel, GetPointer}
+use Rattle.wl_plain.specs.Demand.{GetSubsurface, Grab, MakeCursor, Move, SetMode}
 use Rattle.wl_toplevels.specs.Done.{DemandChanges}
 
 -- wl_surface.commit

@@ -24,7 +24,8 @@ use Rattle.wl_invariants.proofs.TreeSteps.Ends.{destruction-keeps-others}
 use Rattle.wl_invariants.proofs.TreeSteps.Modes.{mode-keeps-all}
 use Rattle.wl_toplevels.specs.Changes.{HasTrees, StaysPainted}
 use Rattle.wl_toplevels.specs.Done.{IsDone, IsMeant}
-use Rattle.wl_toplevels.specs.DemandLaws.{CommitsChangeOneToplevel, GrabsChangeNoWindow, ModesChangeOneToplevel, PopupEndsChangeOneToplevel, RequestsChangeNoWindow, StatesChangeNoWindow, SubsurfaceEndsChangeOneToplevel, SurfaceEndsChangeOneToplevel, ToplevelEndsChangeOneToplevel}
+use Rattle.wl_toplevels.specs.DemandLaws.{CommitsChangeOneToplevel, GrabsChangeNoWindow, ModesChangeOneToplevel, PopupEndsChangeOneToplevel, RequestsChangeNoWindow, StatesChangeNoWindow}
+use Rattle.wl_toplevels.specs.DemandLaws.{SubsurfaceEndsChangeOneToplevel, SurfaceEndsChangeOneToplevel, ToplevelEndsChangeOneToplevel}
 use Rattle.wl_toplevels.specs.StackedWith.{ChangesAt, ChangesWith, IsStackedAs, popup_of}
 use Rattle.wl_toplevels.specs.Toplevel.{ChangesToplevel}
 use Rattle.wl_toplevels.proofs.RootsOf.Toplevels.{toplevel-end-changes}
@@ -41,7 +42,8 @@ use Rattle.wl_toplevels.proofs.RootsOf.Dismissed.{dismissed-painted}
 use Rattle.wl_toplevels.proofs.RootsOf.Painted.{KeepsStacked}
 use Rattle.wl_toplevels.proofs.RootsOf.PopupEnds.{popup-end-changes}
 use Rattle.wl_toplevels.proofs.RootsOf.Popped.{IsPopped, IsThere, KeepsPopups}
-use Rattle.wl_toplevels.proofs.RootsOf.Requests.{acknowledging-keeps, acknowledging-stacked, changed-stacked, configuring-keeps, configuring-stacked, desynchronised, ended, given, grab-keeps, grab-stacked, kept, kept-by, same-keeps, tree-kept}
+use Rattle.wl_toplevels.proofs.RootsOf.Requests.{acknowledging-keeps, acknowledging-stacked, changed-stacked, configuring-keeps, configuring-stacked, desynchronised, ended, given, grab-keeps}
+use Rattle.wl_toplevels.proofs.RootsOf.Requests.{grab-stacked, kept, kept-by, same-keeps, tree-kept}
 
 module _ (c : ℕ) (r : Resident) (p : Peer) (d e : Desktop) (had : HasTrees d) (has : HasTrees e) (here : client_at c d ≡ Some r) where
   abbrev all : Surfaces
