@@ -39,6 +39,7 @@ fn window(client: u32, surface: usize, x: i32, y: i32) -> Stacked {
         root: 0,
         window: TreeWindow {
             surface,
+            root: 0,
             x,
             y,
             w: 8,
