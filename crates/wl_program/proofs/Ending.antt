@@ -1,6 +1,6 @@
 -- How the program ends, by what its parts answer.
 use Rattle.std.proofs.Common.{◌≡◌, refl, ◌∙◌, inl, inr, ℕ, List, Option, Some, None, Result, Ok, Err}
-use Rattle.std.specs.Result.{OnOk}
+use Rattle.std.specs.Result.{OnErr, OnOk}
 use Rattle.std.specs.Io.KnownBytes.{Appends, Keeps}
 use Rattle.clap.specs.Words.{IsAmong, Text}
 use Rattle.clap.specs.declared.error.kind.ErrorKind.{ErrorKind}
@@ -49,6 +49,10 @@ pub on_ok : {T E P : Type 0} (r : Result T E) → P → OnOk r P
 on_ok (Ok x) p = p
 on_ok (Err e) p = tt
 
+pub on_err : {T E P : Type 0} (r : Result T E) → P → OnErr r P
+on_err (Ok x) p = tt
+on_err (Err e) p = p
+
 -- a recording that was played is reported once the report is flushed
 pub played-kept : (replay : Replay) (summary : Summary) (from side : FolderView) (read report mid reported images imaged : Option (List ℕ)) → from ≡ folder_of replay
     → (first : Stage) × IsFirst (config_of replay) first × IsPlayed folder_files first from side summary read report mid images imaged → Keeps mid reported → IsReported replay read report reported
@@ -75,32 +79,32 @@ stops-kept replay stopped.Memory from side read report mid reported images image
 -- a replay that fails ends the program by its fault's status
 pub fails-ends : (words : List Text) (replay : Replay) (fault : Fault) (read report reported : Option (List ℕ)) → Asks words (asked.Replay replay)
     → Fails fault replay read report reported → Ends words (status_of fault) read report reported
-fails-ends words replay Read read report reported asks fails = tt
-fails-ends words replay Write read report reported asks fails = tt
-fails-ends words replay (Side line) read report reported asks fails = tt
+fails-ends words replay Read read report reported asks fails = inl (asked.Replay replay, asks)
+fails-ends words replay Write read report reported asks fails = inl (asked.Replay replay, asks)
+fails-ends words replay (Side line) read report reported asks fails = inl (asked.Replay replay, asks)
 fails-ends words replay Bind read report reported asks fails = absurd fails
 fails-ends words replay Rate read report reported asks fails = absurd fails
 fails-ends words replay Size read report reported asks fails = absurd fails
 fails-ends words replay (BadLine line) read report reported asks fails = inl (replay, line, asks, fails)
-fails-ends words replay Memory read report reported asks fails = tt
+fails-ends words replay Memory read report reported asks fails = inl (replay, asks)
 
 -- and so does serving that fails
 pub serving-ends : (words : List Text) (serve : Serve) (fault : Fault) (read report reported : Option (List ℕ)) → Asks words (asked.Serve serve)
     → FailsServing fault serve report reported → Ends words (status_of fault) read report reported
-serving-ends words serve Read read report reported asks fails = tt
-serving-ends words serve Write read report reported asks fails = tt
+serving-ends words serve Read read report reported asks fails = inl (asked.Serve serve, asks)
+serving-ends words serve Write read report reported asks fails = inl (asked.Serve serve, asks)
 serving-ends words serve (Side line) read report reported asks fails = absurd fails
-serving-ends words serve Bind read report reported asks fails = tt
+serving-ends words serve Bind read report reported asks fails = inl (asked.Serve serve, asks)
 serving-ends words serve Rate read report reported asks fails = absurd fails
 serving-ends words serve Size read report reported asks fails = absurd fails
 serving-ends words serve (BadLine line) read report reported asks fails = inr (serve, asks, fails)
-serving-ends words serve Memory read report reported asks fails = tt
+serving-ends words serve Memory read report reported asks fails = inr fails
 
 -- what is shown of the usage ends the program, and nothing is reported
 pub shown-ends : (words : List Text) (kind : ErrorKind) (how : Status) (read report : Option (List ℕ)) → IsAmong kind (refusals words)
     → IsToldBy kind how → Ends words how read report report
 shown-ends words kind status.Done read report among told = inr (inl ((kind, among, told), refl))
-shown-ends words kind status.Failed read report among told = tt
+shown-ends words kind status.Failed read report among told = inr ((kind, among), refl)
 shown-ends words kind status.Usage read report among told = (inl (kind, among, told), refl)
 shown-ends words kind status.BadLine read report among told = absurd told
 shown-ends words kind status.Memory read report among told = absurd told
@@ -110,9 +114,9 @@ pub refused-ends : (words : List Text) (fault : Fault) (read report : Option (Li
     → Ends words (status_of fault) read report report
 refused-ends words Rate read report has = (inr (refused.Fault Rate, has), refl)
 refused-ends words Size read report has = (inr (refused.Fault Size, has), refl)
-refused-ends words Memory read report has = tt
-refused-ends words Read read report has = tt
-refused-ends words Write read report has = tt
-refused-ends words (Side line) read report has = tt
-refused-ends words Bind read report has = tt
+refused-ends words Memory read report has = inr refl
+refused-ends words Read read report has = absurd has.1
+refused-ends words Write read report has = absurd has.1
+refused-ends words (Side line) read report has = absurd has.1
+refused-ends words Bind read report has = absurd has.1
 refused-ends words (BadLine line) read report has = absurd has.1

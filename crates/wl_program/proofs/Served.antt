@@ -1,6 +1,6 @@
 -- What is served, by what its parts answer.
-use Rattle.std.proofs.Common.{◌≡◌, ◌+◌, ◌∙◌, ap, refl, subst, ℕ, List, [], Option, Result, Ok, Err}
-use Rattle.std.specs.Prelude.{is_some}
+use Rattle.std.proofs.Common.{◌≡◌, ◌⊎◌, ◌+◌, ◌∙◌, ap, inl, inr, refl, subst, ℕ, List, [], Option, Result, Ok, Err}
+use Rattle.std.specs.Prelude.{◌<◌, ⊤, is_some}
 use Rattle.std.specs.Result.{IfErr, OnOk}
 use Rattle.wl_plain.specs.Desktop.{empty}
 use Rattle.wl_replay.specs.Told.{IsFirst}
@@ -12,15 +12,15 @@ use Rattle.wl_server.specs.Seats.{Seated, nobody as unconnected}
 use Rattle.wl_server.specs.Ways.{Serving, Ways, serving}
 use Rattle.wl_server.specs.declared.seat.Seat.{Seat}
 use Rattle.wl_recording.specs.Side.{Files}
-use Rattle.wl_options.specs.Folder.{FolderView, folder_files, new_folder}
 use Rattle.mio.specs.declared.net.uds.stream.UnixStream.{UnixStream}
-use Rattle.wl_server.specs.Acting.{InTurn, IsServed, Stretch, Then}
-use Rattle.wl_server.specs.Phases.{IsTurn}
-use Rattle.wl_server.specs.Telling.{IsToldOf, Reports, Tells, gathered, pictured, reported}
-use Rattle.wl_server.proofs.Taking.{InTurn-more, InTurn-zero, went-none}
+use Rattle.wl_options.specs.Folder.{FolderView, folder_files, new_folder}
+use Rattle.wl_server.specs.Acting.{InTurn, IsServed, Stretch, Takes, Then}
+use Rattle.wl_server.specs.Phases.{IsTurn, StartsTurn}
+use Rattle.wl_server.specs.Telling.{IsToldOf, Tells, gathered, pictured, reported}
+use Rattle.wl_server.proofs.Taking.{InTurn-more, InTurn-zero, Takes-both, Takes-weaker, went-none}
 use Rattle.wl_server.proofs.Telling.{Tells-weaker}
 use Rattle.wl_server.proofs.Turning.{Tells-both}
-use Rattle.std.specs.Io.KnownBytes.{Appends, Keeps}
+use Rattle.std.specs.Io.KnownBytes.{Keeps}
 use Rattle.std.proofs.KnownBytes.{Appends-kept, Appends-nil}
 use Rattle.wl_options.specs.declared.command.Serve.{Serve}
 use Rattle.wl_options.specs.declared.fault.Fault.{Fault}
@@ -29,7 +29,7 @@ use Rattle.wl_program.specs.Run.{FailsServing}
 use Rattle.wl_server.proofs.Frames.{served-as}
 use Rattle.wl_options.specs.declared.rate.Rate as paced
 use Rattle.wl_program.specs.Pace.{count_of, hertz_of, time_of}
-use Rattle.wl_program.specs.Serving.{AreTurns, IsOfPointer, TakesTurns, begun_of, moment_of, output_of, socket_ways, stage_of}
+use Rattle.wl_program.specs.Serving.{AreTurns, BeginsTurns, IsOfPointer, ServedTurns, begun_of, moment_of, output_of, socket_ways, stage_of}
 
 -- what a turn told, once it is flushed
 pub turn-told : (P : Stretch) (old new : SessionView) (report told flushed images imaged shown : Option (List ℕ)) → IsServed P (IsToldOf report told images imaged) old new
@@ -41,6 +41,10 @@ turn-told P old new report told flushed images imaged shown served keeps holds =
       s.2,
       (Appends-kept report told flushed (gathered reported s.1.events) s.3.0 keeps, Appends-kept images imaged shown (gathered pictured s.1.events) s.3.1 holds),
     )
+
+-- what a turn that was begun took
+pub turn-begun : (P : Stretch) (old new : SessionView) → IsServed P (λ events. ⊤) old new → Takes P old new
+turn-begun P old new served = λ d agrees. let s = served d agrees in (s.0, s.1, s.2)
 
 -- ---- turns at a rate, one after another
 
@@ -68,19 +72,27 @@ pub turns-all : {H C S : Type 0} (w : Ways H C) (files : Files S) (rate : Option
 turns-all w files rate turns n from to old new x y i j all tells =
     subst (λ (count : ℕ). Tells (InTurn (TurnAt w files rate) count from to) old new x y i j) all tells
 
--- what is told of them is reported
-pub turns-reported : (P : Stretch) (old new : SessionView) (x y i j : Option (List ℕ)) → Tells P old new x y i j → Reports P old new x y
-turns-reported P old new x y i j tells = λ d agrees. let s = tells d agrees in (s.0, s.1, s.2, s.3.0)
+-- where the next one is only begun, it and those before it are
+pub turns-begun : {H C S : Type 0} (w : Ways H C) (files : Files S) (rate : Option paced.Rate) (turns : Option ℕ) (n time : ℕ) (from between to : Serving H C S) (old mid new : SessionView)
+    (x y i j : Option (List ℕ)) → n < count_of turns → time ≡ time_of (hertz_of rate) (n + 1)
+    → Tells (InTurn (TurnAt w files rate) n from between) old mid x y i j → Takes (StartsTurn w files time between to) mid new
+    → Takes (BeginsTurns w files rate turns from to) old new
+turns-begun w files rate turns n time from between to old mid new x y i j fewer is first next =
+    let own : Takes (StartsTurn w files (time_of (hertz_of rate) (n + 1)) between to) mid new = subst (λ (t : ℕ). Takes (StartsTurn w files t between to) mid new) is next in
+    let took : Takes (InTurn (TurnAt w files rate) n from between) old mid = λ d agrees. let s = first d agrees in (s.0, s.1, s.2) in
+    Takes-weaker (Then (InTurn (TurnAt w files rate) n) (StartsTurn w files (time_of (hertz_of rate) (n + 1))) from to) (BeginsTurns w files rate turns from to) old new
+    (Takes-both (InTurn (TurnAt w files rate) n) (StartsTurn w files (time_of (hertz_of rate) (n + 1))) from between to old mid new took own)
+    (λ d e a es ad ae runs then. (n, fewer, then))
 
 -- turns of a new session are turns of a desktop without clients
-turns-taken : (serve : Serve) (to : Serving ℕ UnixStream FolderView) (first old new : SessionView) (report told : Option (List ℕ)) → old ≡ first
+turns-taken : (serve : Serve) (to : Serving ℕ UnixStream FolderView) (first old new : SessionView) (report told images imaged : Option (List ℕ)) → old ≡ first
     → Agrees first.desk (empty (record { width = serve.size.width; height = serve.size.height })) → IsRightBut nobody (moment_of serve.size first)
     → IsFirst (output_of serve.size) (stage_of serve.size first)
-    → Reports (AreTurns socket_ways folder_files serve.rate serve.turns (begun_of serve) to) old new report told → TakesTurns serve
-turns-taken serve to first old new report told same agrees right begins takes =
+    → Tells (AreTurns socket_ways folder_files serve.rate serve.turns (begun_of serve) to) old new report told images imaged → ServedTurns serve report told
+turns-taken serve to first old new report told images imaged same agrees right begins takes =
     let P = AreTurns socket_ways folder_files serve.rate serve.turns (begun_of serve) to in
-    let from_first : Reports P first new report told = subst (λ (v : SessionView). Reports P v new report told) same takes in
-    let s = served-as P (λ events. Appends report told (gathered reported events)) first new from_first
+    let from_first : Tells P first new report told images imaged = subst (λ (v : SessionView). Tells P v new report told images imaged) same takes in
+    let s = served-as P (IsToldOf report told images imaged) first new from_first
     (empty (record { width = serve.size.width; height = serve.size.height })) agrees in
     record {
       first = stage_of serve.size first;
@@ -88,10 +100,13 @@ turns-taken serve to first old new report told same agrees right begins takes =
       events = s.1.events;
       last = moment s.1.desktop new;
       to = to;
+      images = images;
+      imaged = imaged;
       begins = begins;
       turns = s.2;
       runs = s.1.runs;
       shows = s.4 nobody right;
+      tells = s.3;
     }
 
 pub begun-as : (serve : Serve) (hub : ℕ) (connections : Seated (Seat UnixStream)) (side : FolderView) → hub ≡ 0 → connections ≡ unconnected → side ≡ new_folder serve.dir.now
@@ -101,16 +116,16 @@ begun-as serve hub connections side none nobody_yet unopened =
     ∙ (ap (λ (s : Seated (Seat UnixStream)). serving 0 s side) nobody_yet ∙ ap (λ (f : FolderView). serving 0 unconnected f) unopened)
 
 pub turns-ok : {T : Type 0} (r : Result T Fault) (serve : Serve) (rate : Option paced.Rate) (turns : Option ℕ) (from to : Serving ℕ UnixStream FolderView) (first old new : SessionView)
-    (report told : Option (List ℕ)) → old ≡ first
+    (report told images imaged : Option (List ℕ)) → old ≡ first
     → Agrees first.desk (empty (record { width = serve.size.width; height = serve.size.height })) → IsRightBut nobody (moment_of serve.size first)
     → IsFirst (output_of serve.size) (stage_of serve.size first) → rate ≡ serve.rate → turns ≡ serve.turns → from ≡ begun_of serve
-    → OnOk r (Reports (AreTurns socket_ways folder_files rate turns from to) old new report told) → OnOk r (TakesTurns serve)
-turns-ok (Ok x) serve rate turns from to first old new report told same agrees right begins same_rate same_turns same_from takes =
-    let at_rate = subst (λ (u : Option paced.Rate). Reports (AreTurns socket_ways folder_files u turns from to) old new report told) same_rate takes in
-    let so_many = subst (λ (n : Option ℕ). Reports (AreTurns socket_ways folder_files serve.rate n from to) old new report told) same_turns at_rate in
-    let over = subst (λ (f : Serving ℕ UnixStream FolderView). Reports (AreTurns socket_ways folder_files serve.rate serve.turns f to) old new report told) same_from so_many in
-    turns-taken serve to first old new report told same agrees right begins over
-turns-ok (Err e) serve rate turns from to first old new report told same agrees right begins same_rate same_turns same_from takes = tt
+    → OnOk r (Tells (AreTurns socket_ways folder_files rate turns from to) old new report told images imaged) → OnOk r (ServedTurns serve report told)
+turns-ok (Ok x) serve rate turns from to first old new report told images imaged same agrees right begins same_rate same_turns same_from takes =
+    let at_rate = subst (λ (u : Option paced.Rate). Tells (AreTurns socket_ways folder_files u turns from to) old new report told images imaged) same_rate takes in
+    let so_many = subst (λ (n : Option ℕ). Tells (AreTurns socket_ways folder_files serve.rate n from to) old new report told images imaged) same_turns at_rate in
+    let over = subst (λ (f : Serving ℕ UnixStream FolderView). Tells (AreTurns socket_ways folder_files serve.rate serve.turns f to) old new report told images imaged) same_from so_many in
+    turns-taken serve to first old new report told images imaged same agrees right begins over
+turns-ok (Err e) serve rate turns from to first old new report told images imaged same agrees right begins same_rate same_turns same_from takes = tt
 
 -- what fails to be written is a fault of serving
 pub write-fails : {T : Type 0} (r : Result T Fault) (serve : Serve) (report reported : Option (List ℕ)) → IfErr r (λ fault. fault ≡ Write)
@@ -120,11 +135,21 @@ write-fails (Err e) serve report reported is = rw is tt
 
 -- a fault of the pointer's file is one of serving
 pub pointer-fails : (serve : Serve) (fault : Fault) (report : Option (List ℕ)) → IsOfPointer (is_some serve.pointer) fault → FailsServing fault serve report report
-pointer-fails serve Read report is = tt
+pointer-fails serve Read report is = refl
 pointer-fails serve (BadLine line) report is = (is, refl)
-pointer-fails serve Memory report is = tt
+pointer-fails serve Memory report is = refl
 pointer-fails serve Write report is = absurd is
 pointer-fails serve (Side line) report is = absurd is
 pointer-fails serve Bind report is = absurd is
 pointer-fails serve Rate report is = absurd is
 pointer-fails serve Size report is = absurd is
+
+-- and one of the socket
+pub socket-fails : (serve : Serve) (fault : Fault) (report : Option (List ℕ)) → (fault ≡ Bind) ⊎ (fault ≡ Memory) → FailsServing fault serve report report
+socket-fails serve fault report (inl is) = rw is refl
+socket-fails serve fault report (inr is) = rw is refl
+
+-- and one of the images' file
+pub images-fail : (serve : Serve) (fault : Fault) (report : Option (List ℕ)) → (fault ≡ Write) ⊎ (fault ≡ Memory) → FailsServing fault serve report report
+images-fail serve fault report (inl is) = rw is tt
+images-fail serve fault report (inr is) = rw is refl

@@ -11,6 +11,7 @@ use Rattle.wl_recording.specs.declared.error.ReplayError.TheVariants as stopped
 use Rattle.wl_recording.specs.declared.error.Summary.{Summary}
 use Rattle.wl_options.specs.Command.{Asks, HasFault, refusals}
 use Rattle.wl_options.specs.Folder.{FolderView, folder_files, new_folder}
+use Rattle.wl_options.specs.declared.command.Asked.{Asked}
 use Rattle.wl_options.specs.declared.command.Asked.TheVariants as asked
 use Rattle.wl_options.specs.declared.command.CommandError.{CommandError}
 use Rattle.wl_options.specs.declared.command.Replay.{Replay}
@@ -19,7 +20,7 @@ use Rattle.wl_options.specs.declared.fault.Fault.{Fault}
 use Rattle.wl_options.specs.declared.fault.Fault.TheVariants.{Read, Write, Side, Bind, Rate, Size, BadLine, Memory}
 use Rattle.wl_options.specs.declared.fault.Status.{Status}
 use Rattle.wl_options.specs.declared.fault.Status.TheVariants as status
-use Rattle.wl_program.specs.Serving.{TakesTurns, output_of}
+use Rattle.wl_program.specs.Serving.{ServedTurns, output_of}
 
 -- the output of a replay
 abbrev pub config_of : Replay → Config
@@ -58,16 +59,16 @@ Fails Memory replay read report reported = ⊤
 abbrev pub IsUntold : Serve → Option (List ℕ) → Option (List ℕ) → Type 0
 IsUntold serve report reported = (is_some serve.pointer ≡ true) × (reported ≡ report)
 
--- How serving fails. Nothing is said of what was told where a stream failed or memory was wanted.
+-- How serving fails: before its first turn, so that nothing was told, or as something is written. Then nothing is said of what was told.
 abbrev pub FailsServing : Fault → Serve → Option (List ℕ) → Option (List ℕ) → Type 0
 FailsServing (BadLine line) serve report reported = IsUntold serve report reported
 FailsServing (Side line) serve report reported = ⊥
 FailsServing Rate serve report reported = ⊥
 FailsServing Size serve report reported = ⊥
-FailsServing Bind serve report reported = ⊤
-FailsServing Read serve report reported = ⊤
+FailsServing Bind serve report reported = reported ≡ report
+FailsServing Read serve report reported = reported ≡ report
 FailsServing Write serve report reported = ⊤
-FailsServing Memory serve report reported = ⊤
+FailsServing Memory serve report reported = reported ≡ report
 
 -- help or the version was asked for
 abbrev pub IsShown : ErrorKind → Type 0
@@ -84,18 +85,21 @@ IsToldBy kind status.Failed = ⊤
 IsToldBy kind status.BadLine = ⊥
 IsToldBy kind status.Memory = ⊥
 
--- Done: the recording was played and told of, or as many turns as were asked for were taken, or help or the version was shown. Usage: the words are refused, or the size or the rate is none. BadLine: the recording was played up to a line, or a pointer's file was asked for and nothing told. With Failed a stream,
--- a side file or the socket failed, and with Memory memory was wanted: nothing is said of them.
+-- Done: the recording was played and told of, or as many turns as were asked for were taken and told of, or help or the version was shown.
+-- Usage: the words are refused, or the size or the rate is none. BadLine: the recording was played up to a line, or a pointer's file was
+-- asked for and nothing told. Failed: a stream, a side file or the socket failed of what the words ask, or what was to be shown couldn't be.
+-- Memory: memory was wanted, and where no recording was to be played, nothing was told.
 abbrev pub Ends : List Text → Status → Option (List ℕ) → Option (List ℕ) → Option (List ℕ) → Type 0
 Ends words status.Done read report reported =
     ((replay : Replay) × Asks words (asked.Replay replay) × IsReported replay read report reported)
     ⊎ ((((kind : ErrorKind) × IsAmong kind (refusals words) × IsShown kind) × (reported ≡ report))
-    ⊎ ((serve : Serve) × Asks words (asked.Serve serve) × TakesTurns serve))
+    ⊎ ((serve : Serve) × Asks words (asked.Serve serve) × ServedTurns serve report reported))
 Ends words status.Usage read report reported =
     (((kind : ErrorKind) × IsAmong kind (refusals words) × IsMisuse kind) ⊎ ((error : CommandError) × HasFault words error))
     × (reported ≡ report)
 Ends words status.BadLine read report reported =
     ((replay : Replay) × (line : ℕ) × Asks words (asked.Replay replay) × IsReportedTo (stopped.BadLine line) replay read report reported)
     ⊎ ((serve : Serve) × Asks words (asked.Serve serve) × IsUntold serve report reported)
-Ends words status.Failed read report reported = ⊤
-Ends words status.Memory read report reported = ⊤
+Ends words status.Failed read report reported =
+    ((asks : Asked) × Asks words asks) ⊎ (((kind : ErrorKind) × IsAmong kind (refusals words)) × (reported ≡ report))
+Ends words status.Memory read report reported = ((replay : Replay) × Asks words (asked.Replay replay)) ⊎ (reported ≡ report)

@@ -1,5 +1,5 @@
 -- What is served: turns of the plain desktop, one after another.
-use Rattle.std.specs.Prelude.{◌≡◌, ⊤, ℕ, Bool, true, List, [], Option}
+use Rattle.std.specs.Prelude.{◌≡◌, ◌<◌, ◌+◌, ⊤, ℕ, Bool, true, List, [], Option}
 use Rattle.mio.specs.declared.net.uds.stream.UnixStream.{UnixStream}
 use Rattle.wl_hub.specs.Sockets.{MayAccept, MayClose, MayMove}
 use Rattle.wl_recording.specs.Side.{Files}
@@ -13,13 +13,14 @@ use Rattle.wl_plain.specs.Act.{Act}
 use Rattle.wl_plain.specs.Desktop.{empty}
 use Rattle.wl_plain.specs.LeftOut.{served_now}
 use Rattle.wl_replay.specs.Told.{IsFirst, Stage}
-use Rattle.wl_server.specs.Acting.{InTurn, ShowsScratch, Stretch}
-use Rattle.wl_server.specs.Phases.{IsTurn}
+use Rattle.wl_server.specs.Acting.{InTurn, ShowsScratch, Stretch, Then}
+use Rattle.wl_server.specs.Phases.{IsTurn, StartsTurn}
 use Rattle.wl_server.specs.Course.{Runs, moment}
 use Rattle.wl_server.specs.Events.{Event, Moment}
 use Rattle.wl_server.specs.Liars.{nobody}
 use Rattle.wl_server.specs.Seats.{nobody as unconnected}
 use Rattle.wl_server.specs.View.{SessionView}
+use Rattle.wl_server.specs.Telling.{IsToldOf}
 use Rattle.wl_server.specs.Ways.{Serving, Ways, serving, ways}
 use Rattle.wl_replay.specs.Config.{Config}
 use Rattle.wl_program.specs.Pace.{count_of, hertz_of, time_of}
@@ -40,6 +41,12 @@ stage_of size session =
 abbrev pub AreTurns : {H C S : Type 0} → Ways H C → Files S → Option paced.Rate → Option ℕ → Serving H C S → Serving H C S → Stretch
 AreTurns w files rate turns from to start acts events end = InTurn (λ n. IsTurn w files (time_of (hertz_of rate) n)) (count_of turns) from to start acts events end
 
+-- Fewer are, and the next one begins.
+abbrev pub BeginsTurns : {H C S : Type 0} → Ways H C → Files S → Option paced.Rate → Option ℕ → Serving H C S → Serving H C S → Stretch
+BeginsTurns w files rate turns from to start acts events end =
+    (n : ℕ) × (n < count_of turns)
+    × Then (InTurn (λ k. IsTurn w files (time_of (hertz_of rate) k)) n) (StartsTurn w files (time_of (hertz_of rate) (n + 1))) from to start acts events end
+
 -- what may come of the calls of a socket's hub
 abbrev pub socket_ways : Ways ℕ UnixStream
 socket_ways = ways MayAccept MayMove MayMove MayClose (λ faults. faults)
@@ -49,18 +56,21 @@ abbrev pub begun_of : Serve → Serving ℕ UnixStream FolderView
 begun_of serve = serving 0 unconnected (new_folder serve.dir.now)
 
 -- On an output of the size that is asked, from a desktop without clients on, the turns 1 to the last that is asked were taken over the
--- socket and the folder, one after another, each at its time, event by event, and each frame that was shown was the desktop painted from nothing
--- where each client kept its promises.
-pub record TakesTurns (serve : Serve) : Type 0 where
+-- socket and the folder, one after another, each at its time, event by event. Each frame that was shown was the desktop painted from nothing
+-- where each client kept its promises. The report goes on from what was there by the lines of these events, and some images by their pictures.
+pub record ServedTurns (serve : Serve) (report told : Option (List ℕ)) : Type 0 where
   pub first : Stage
   pub acts : List Act
   pub events : List Event
   pub last : Moment
   pub to : Serving ℕ UnixStream FolderView
+  pub images : Option (List ℕ)
+  pub imaged : Option (List ℕ)
   pub begins : IsFirst (output_of serve.size) first
   pub turns : AreTurns socket_ways folder_files serve.rate serve.turns (begun_of serve) to first.now acts events last
   pub runs : Runs served_now first.now acts events last
   pub shows : ShowsScratch nobody events
+  pub tells : IsToldOf report told images imaged events
 
 -- how reading the pointer's file fails: a line is bad only where there is such a file
 abbrev pub IsOfPointer : Bool → Fault → Type 0

@@ -1,16 +1,17 @@
 //! Clients are served.
 
-ghost use Rattle.std.specs.Prelude.{◌≡◌, ◌⊎◌, IfErr, IfOk, OnOk};
+ghost use Rattle.std.specs.Prelude.{◌≡◌, ◌⊎◌, IfErr, IfOk, OnErr, OnOk};
 ghost use Rattle.wl_plain.specs.Desktop.{empty};
 ghost use Rattle.wl_replay.specs.Told.{IsFirst};
 ghost use Rattle.wl_server.specs.Agreeing.{Agrees};
 ghost use Rattle.wl_server.specs.Liars.{IsRightBut, nobody};
-ghost use Rattle.wl_server.specs.Phases.{IsTurn};
+ghost use Rattle.wl_server.specs.Acting.{Takes};
+ghost use Rattle.wl_server.specs.Phases.{IsTurn, StartsTurn};
 ghost use Rattle.wl_recording.specs.Side.{files_of};
-ghost use Rattle.wl_server.specs.Telling.{Reports, Tells, images_in};
+ghost use Rattle.wl_server.specs.Telling.{Tells, images_in};
 ghost use Rattle.wl_server.specs.Ways.{serving, ways};
 ghost use Rattle.wl_program.specs.Run.{FailsServing};
-ghost use Rattle.wl_program.specs.Serving.{AreTurns, TakesTurns, moment_of, output_of, stage_of};
+ghost use Rattle.wl_program.specs.Serving.{AreTurns, BeginsTurns, ServedTurns, moment_of, output_of, stage_of};
 
 use crate::pace::{Pace, Timer};
 use crate::pointing::read_pointer;
@@ -34,27 +35,27 @@ pub(crate) fn serve<'a, F: Files + Net + Clock + AllocGlobal, A: Allocator + Cop
     serve: Serve<'a>,
     output: &mut W,
 ) -> Result<(), Fault>
-    ensures served { OnOk result (TakesTurns serve.entry) }
+    ensures served { OnOk result (ServedTurns serve.entry (W.contents output.old) (W.contents output.new)) }
     ensures failed { IfErr result (λ fault. FailsServing fault serve.entry (W.contents output.old) (W.contents output.new)) }
 {
     let mut ppm = create(files, serve.ppm)?;
     let lines = read_pointer(files, alloc, serve.pointer)?;
-    let mut hub = bind(files, serve.socket)?;
-    let mut side = Folder::new(files, serve.dir);
+    let hub = bind(files, serve.socket)?;
+    let side = Folder::new(files, serve.dir);
     let session = session_of(alloc, serve.size)?;
-    let mut service = Service::new(session, lines, &mut *output, ppm.as_mut());
-    let mut connections = Connections::new();
+    let mut service = Service::new(session, hub, side, lines);
     let pace = Pace {
         turns: serve.turns,
         rate: serve.rate,
     };
+    let mut connections = Connections::new();
     serve_on(
         files,
-        &mut hub,
-        &mut connections,
-        &mut side,
         &mut service,
+        &mut connections,
         pace,
+        output,
+        &mut ppm,
     )
 }
 
@@ -100,21 +101,24 @@ fn session_of<A: Allocator + Copy>(alloc: A, size: Size) -> Result<Session<A>, F
 }
 
 /// Takes a turn at this time, and writes what it reports, so that whoever reads along sees it before the next one.
-fn take_turn<A: Allocator + Copy, H: Hub, W: Write + Drop, P: Write + Drop, S: SideFiles>(
-    hub: &mut H,
-    service: &mut Service<A, W, P>,
+fn take_turn<A: Allocator + Copy, H: Hub, S: SideFiles, W: Write, P: Write>(
+    service: &mut Service<A, H, S>,
     connections: &mut Connections<H::Conn>,
-    side: &mut S,
     time: u32,
+    report: &mut W,
+    ppm: &mut Option<P>,
 ) -> Result<(), Fault>
     ensures taken { OnOk result (Tells (IsTurn (ways H.accepts H.reads H.writes H.closes H.fault_count) (files_of S.opens S.gives S.fault_count) time
-        (serving hub.old connections.old side.old) (serving hub.new connections.new side.new))
-        service.old.session service.new.session (W.contents service.old.report) (W.contents service.new.report)
-        (images_in P.contents service.old.ppm) (images_in P.contents service.new.ppm)) }
+        (serving service.old.hub connections.old service.old.side) (serving service.new.hub connections.new service.new.side))
+        service.old.session service.new.session (W.contents report.old) (W.contents report.new)
+        (images_in P.contents ppm.old) (images_in P.contents ppm.new)) }
+    ensures begun { Takes (StartsTurn (ways H.accepts H.reads H.writes H.closes H.fault_count) (files_of S.opens S.gives S.fault_count) time
+        (serving service.old.hub connections.old service.old.side) (serving service.new.hub connections.new service.new.side))
+        service.old.session service.new.session }
     ensures failed { IfErr result (λ fault. fault ≡ Fault.Write) }
 {
-    let taken = turn(hub, service, connections, side, time);
-    let flushed = flush(&mut service.report, &mut service.ppm);
+    let taken = turn(service, connections, time, report, ppm);
+    let flushed = flush(report, ppm);
     match taken {
         Ok(()) => flushed,
         Err(TurnError::Write) => Err(Fault::Write),
@@ -123,37 +127,30 @@ fn take_turn<A: Allocator + Copy, H: Hub, W: Write + Drop, P: Write + Drop, S: S
 
 /// Serves the clients of a hub over their connections: takes the turns 1 to as many as the pace has, one after another, each at its time.
 ///
-/// Turns begin at most as often as the pace says, and between them it sleeps by the clock; no clause says how long. `Write` is answered where the report or the
-/// images couldn't be written; then no more turns are taken.
-pub fn serve_on<
-    C: Clock,
-    A: Allocator + Copy,
-    H: Hub,
-    W: Write + Drop,
-    P: Write + Drop,
-    S: SideFiles,
->(
+/// Turns begin at most as often as the pace says, and between them it sleeps by the clock; no clause says how long. `Write` is answered where the
+/// report or the images couldn't be written; then no more turns are taken, and the steps of those that were stand.
+pub fn serve_on<C: Clock, A: Allocator + Copy, H: Hub, S: SideFiles, W: Write, P: Write>(
     clock: &C,
-    hub: &mut H,
+    service: &mut Service<A, H, S>,
     connections: &mut Connections<H::Conn>,
-    side: &mut S,
-    service: &mut Service<A, W, P>,
     pace: Pace,
+    report: &mut W,
+    ppm: &mut Option<P>,
 ) -> Result<(), Fault>
-    ensures reported { OnOk result (Reports (AreTurns (ways H.accepts H.reads H.writes H.closes H.fault_count) (files_of S.opens S.gives S.fault_count) pace.rate pace.turns
-        (serving hub.old connections.old side.old) (serving hub.new connections.new side.new))
-        service.old.session service.new.session (W.contents service.old.report) (W.contents service.new.report)) }
     ensures taken { OnOk result (Tells (AreTurns (ways H.accepts H.reads H.writes H.closes H.fault_count) (files_of S.opens S.gives S.fault_count) pace.rate pace.turns
-        (serving hub.old connections.old side.old) (serving hub.new connections.new side.new))
-        service.old.session service.new.session (W.contents service.old.report) (W.contents service.new.report)
-        (images_in P.contents service.old.ppm) (images_in P.contents service.new.ppm)) }
+        (serving service.old.hub connections.old service.old.side) (serving service.new.hub connections.new service.new.side))
+        service.old.session service.new.session (W.contents report.old) (W.contents report.new)
+        (images_in P.contents ppm.old) (images_in P.contents ppm.new)) }
+    ensures begun { OnErr result (Takes (BeginsTurns (ways H.accepts H.reads H.writes H.closes H.fault_count) (files_of S.opens S.gives S.fault_count) pace.rate pace.turns
+        (serving service.old.hub connections.old service.old.side) (serving service.new.hub connections.new service.new.side))
+        service.old.session service.new.session) }
     ensures failed { IfErr result (λ fault. fault ≡ Fault.Write) }
 {
     let mut timer = Timer::new(pace.rate);
     for before in 0..pace.count() {
         timer.wait(clock);
         let time = pace.time_of(before + 1);
-        take_turn(hub, service, connections, side, time)?;
+        take_turn(service, connections, time, report, ppm)?;
     }
     Ok(())
 }

@@ -46,7 +46,7 @@ const DONE: &[u8] = b"\x0b\0\0\0\0\0\x0c\0";
 const DELETED: &[u8] = b"\x01\0\0\0\x01\0\x0c\0\x0b\0\0\0";
 
 /// A hub with a client that syncs, and one that draws a window. None where there is no memory.
-fn hub<'a>(alloc: Global) -> Option<MemoryHub<'a>> {
+fn hub(alloc: Global) -> Option<MemoryHub<'static>> {
     let mut clients = Vec::new(alloc);
     clients.push(Client::new(alloc, SYNC)).ok()?;
     clients.push(Client::new(alloc, WINDOW)).ok()?;
@@ -72,22 +72,28 @@ fn are_answered(hub: &MemoryHub, time: u32) -> bool {
     }
 }
 
-/// How serving both clients ends at this pace, where the images are as wanted and this is reported. None where they aren't.
-fn serves<W: Write + Drop>(
+/// Both clients' session over that hub.
+type Served = Service<Global, MemoryHub<'static>, OneFile<'static>>;
+
+/// That session before its first turn. None where there is no memory.
+fn begun(alloc: Global) -> Option<Served> {
+    let session = Session::new(alloc, SMALL).ok()?;
+    let side = OneFile::new("2.1", PIXELS);
+    Some(Service::new(session, hub(alloc)?, side, Vec::new(alloc)))
+}
+
+/// How serving ends at this pace, where the images are as wanted. None where they aren't.
+fn serves<W: Write>(
     rt: &HostRuntime,
-    hub: &mut MemoryHub,
+    service: &mut Served,
     pace: Pace,
     report: &mut W,
     images: &[u8],
 ) -> Option<Result<(), Fault>> {
-    let session = Session::new(rt.alloc(), SMALL).ok()?;
-    let mut ppm = Vec::new(rt.alloc());
-    let mut service = Service::new(session, Vec::new(rt.alloc()), report, Some(&mut ppm));
-    let mut side = OneFile::new("2.1", PIXELS);
+    let mut ppm = Some(Vec::new(rt.alloc()));
     let mut connections = Connections::new();
-    let served = serve_on(rt, hub, &mut connections, &mut side, &mut service, pace);
-    drop(service);
-    if ppm.as_slice() == images {
+    let served = serve_on(rt, service, &mut connections, pace, report, &mut ppm);
+    if ppm?.as_slice() == images {
         Some(served)
     } else {
         None
@@ -101,11 +107,11 @@ fn tells(rt: &HostRuntime, rate: Option<Rate>, wanted: &[u8], time: u32) -> bool
         rate,
     };
     let mut report = Vec::new(rt.alloc());
-    match hub(rt.alloc()) {
-        Some(mut hub) => {
-            serves(rt, &mut hub, pace, &mut report, IMAGE) == Some(Ok(()))
+    match begun(rt.alloc()) {
+        Some(mut service) => {
+            serves(rt, &mut service, pace, &mut report, IMAGE) == Some(Ok(()))
                 && report.as_slice() == wanted
-                && are_answered(&hub, time)
+                && are_answered(&service.hub, time)
         }
         None => false,
     }
@@ -130,8 +136,8 @@ fn stops(rt: &HostRuntime, call: u64, images: &[u8]) -> Option<Result<(), Fault>
         rate: Rate::parse("1000"),
     };
     let mut report = FaultyWriter::new(rt.alloc()).failing_at(call);
-    let mut hub = hub(rt.alloc())?;
-    serves(rt, &mut hub, pace, &mut report, images)
+    let mut service = begun(rt.alloc())?;
+    serves(rt, &mut service, pace, &mut report, images)
 }
 
 #[test]

@@ -1,6 +1,6 @@
 //! What lasts from turn to turn, and the turn.
 
-ghost use Rattle.std.specs.Prelude.{◌≡◌, ⊤, OnOk, length};
+ghost use Rattle.std.specs.Prelude.{◌≡◌, ⊤, OnOk};
 ghost use Rattle.wl_recording.specs.Side.{files_of};
 ghost use Rattle.wl_server.specs.Acting.{IsServed, Takes};
 ghost use Rattle.wl_server.specs.Due.{left_at};
@@ -23,36 +23,31 @@ use wl_hub::Hub;
 use wl_recording::{PointerLine, SideFiles};
 use wl_session::Session;
 
-/// A session that is served, with the pointer lines that weren't taken yet, and what it is told to.
+/// A session whose clients are connections of a hub, with the side files of their stores, and the pointer lines that weren't taken yet.
 #[derive(Drop)]
-pub struct Service<A: Allocator, W: Drop, P: Drop> {
+pub struct Service<A: Allocator, H, S> {
     /// The clients, and the frame.
     pub session: Session<A>,
-    /// What the lines of the report are written to.
-    pub report: W,
-    /// What the images are written to, if there is to be any.
-    pub ppm: Option<P>,
+    /// What gives the connections, and moves their bytes.
+    pub hub: H,
+    /// The files of the clients' stores.
+    pub side: S,
     /// The lines of the pointer file that weren't taken yet.
     pub waiting: Waiting<A>,
 }
 
-impl<A: Allocator, W: Drop, P: Drop> Service<A, W, P> {
+impl<A: Allocator, H, S> Service<A, H, S> {
     /// A session before its first turn. It takes no memory. Of the pointer lines those that are skipped or bad are passed over.
-    pub fn new(
-        session: Session<A>,
-        lines: Vec<PointerLine, A>,
-        report: W,
-        ppm: Option<P>,
-    ) -> Service<A, W, P>
+    pub fn new(session: Session<A>, hub: H, side: S, lines: Vec<PointerLine, A>) -> Service<A, H, S>
         ensures session { result.session ≡ session }
-        ensures report { result.report ≡ report }
-        ensures ppm { result.ppm ≡ ppm }
+        ensures hub { result.hub ≡ hub }
+        ensures side { result.side ≡ side }
         ensures waiting { result.waiting ≡ lines.items }
     {
         Service {
             session,
-            report,
-            ppm,
+            hub,
+            side,
             waiting: Waiting::new(lines),
         }
     }
@@ -66,57 +61,54 @@ impl<A: Allocator, W: Drop, P: Drop> Service<A, W, P> {
 ///
 /// What it takes are steps of a session, event by event: the frame that it shows is the desktop as the frame began, painted from nothing, at
 /// each point that no window covers of a client that broke its promises (wayland.xml, wl_surface.damage and wl_buffer.release). Told are each client
-/// that connects, the frame where something was to be painted for it, with its image, and each client that is closed; nothing else.
+/// that connects, the frame where something was to be painted for it, with its image where images are wanted, and each client that is closed; nothing else.
 ///
 /// What fails of a connection ends its client, and is never answered. `Write` is answered where the report or the images couldn't be
 /// written; the steps that were taken stand, and are those that a turn begins with.
-pub fn turn<A: Allocator + Copy, H: Hub, W: Write + Drop, P: Write + Drop, S: SideFiles>(
-    hub: &mut H,
-    service: &mut Service<A, W, P>,
+pub fn turn<A: Allocator + Copy, H: Hub, S: SideFiles, W: Write, P: Write>(
+    service: &mut Service<A, H, S>,
     connections: &mut Connections<H::Conn>,
-    side: &mut S,
     time: u32,
+    report: &mut W,
+    ppm: &mut Option<P>,
 ) -> Result<(), TurnError>
     ensures taken { OnOk result (IsServed (IsTurn (ways H.accepts H.reads H.writes H.closes H.fault_count) (files_of S.opens S.gives S.fault_count) time
-        (serving hub.old connections.old side.old) (serving hub.new connections.new side.new))
-        (IsToldOf (W.contents service.old.report) (W.contents service.new.report) (images_in P.contents service.old.ppm) (images_in P.contents service.new.ppm))
+        (serving service.old.hub connections.old service.old.side) (serving service.new.hub connections.new service.new.side))
+        (IsToldOf (W.contents report.old) (W.contents report.new) (images_in P.contents ppm.old) (images_in P.contents ppm.new))
         service.old.session service.new.session) }
     ensures begun { IsServed (StartsTurn (ways H.accepts H.reads H.writes H.closes H.fault_count) (files_of S.opens S.gives S.fault_count) time
-        (serving hub.old connections.old side.old) (serving hub.new connections.new side.new)) (λ events. ⊤) service.old.session service.new.session }
+        (serving service.old.hub connections.old service.old.side) (serving service.new.hub connections.new service.new.side))
+        (λ events. ⊤) service.old.session service.new.session }
     ensures waiting { service.new.waiting ≡ left_at time service.old.waiting }
 {
     service.waiting.take(time);
-    take_phases(hub, service, connections, side, time)
+    take_phases(service, connections, time, report, ppm)
 }
 
 /// The phases of a turn, but that of the pointer lines.
-fn take_phases<A: Allocator + Copy, H: Hub, W: Write + Drop, P: Write + Drop, S: SideFiles>(
-    hub: &mut H,
-    service: &mut Service<A, W, P>,
+fn take_phases<A: Allocator + Copy, H: Hub, S: SideFiles, W: Write, P: Write>(
+    service: &mut Service<A, H, S>,
     connections: &mut Connections<H::Conn>,
-    side: &mut S,
     time: u32,
+    report: &mut W,
+    ppm: &mut Option<P>,
 ) -> Result<(), TurnError>
     ensures taken { OnOk result (Tells (IsTurn (ways H.accepts H.reads H.writes H.closes H.fault_count) (files_of S.opens S.gives S.fault_count) time
-        (serving hub.old connections.old side.old) (serving hub.new connections.new side.new))
-        service.old.session service.new.session (W.contents service.old.report) (W.contents service.new.report)
-        (images_in P.contents service.old.ppm) (images_in P.contents service.new.ppm)) }
+        (serving service.old.hub connections.old service.old.side) (serving service.new.hub connections.new service.new.side))
+        service.old.session service.new.session (W.contents report.old) (W.contents report.new)
+        (images_in P.contents ppm.old) (images_in P.contents ppm.new)) }
     ensures begun { Takes (StartsTurn (ways H.accepts H.reads H.writes H.closes H.fault_count) (files_of S.opens S.gives S.fault_count) time
-        (serving hub.old connections.old side.old) (serving hub.new connections.new side.new)) service.old.session service.new.session }
+        (serving service.old.hub connections.old service.old.side) (serving service.new.hub connections.new service.new.side))
+        service.old.session service.new.session }
     ensures waiting { service.new.waiting ≡ service.old.waiting }
 {
+    let hub = &mut service.hub;
     let session = &mut service.session;
     let seats = &mut connections.seats;
-    accept_all(
-        hub,
-        session,
-        seats,
-        &mut connections.accepted,
-        &mut service.report,
-    )?;
+    accept_all(hub, session, seats, &mut connections.accepted, report)?;
     read_all(hub, session, seats);
-    fill_all(session, seats, side);
-    show(session, time, &mut service.report, &mut service.ppm)?;
+    fill_all(session, seats, &mut service.side);
+    show(session, time, report, ppm)?;
     write_all(hub, session, seats);
-    close_all(hub, session, seats, &mut service.report)
+    close_all(hub, session, seats, report)
 }

@@ -69,11 +69,12 @@ fn have_taken(hub: &MemoryHub, first: &[u8], second: &[u8]) -> bool {
 
 /// Whether two clients that send a sync each are given their own answers in three turns.
 fn answers_each(alloc: Global) -> bool {
-    let mut side = Endless { reads: 0, asked: 0 };
-    match hub(alloc, SYNC, OTHER_SYNC) {
-        Some(mut hub) => {
-            reports(alloc, &mut hub, &mut side, 3, BOTH) && have_taken(&hub, ANSWER, OTHER_ANSWER)
-        }
+    let side = Endless { reads: 0, asked: 0 };
+    let Some(hub) = hub(alloc, SYNC, OTHER_SYNC) else {
+        return false;
+    };
+    match reports(alloc, hub, side, 3, BOTH) {
+        Some(service) => have_taken(&service.hub, ANSWER, OTHER_ANSWER),
         None => false,
     }
 }
@@ -85,11 +86,12 @@ fn each_gets_its_own_answer(rt: HostRuntime) {
 
 /// Whether the file of a pool is read twice in three turns, up to the end of its store.
 fn reads_twice(alloc: Global) -> bool {
-    let mut side = Endless { reads: 0, asked: 0 };
-    match hub(alloc, b"", POOL) {
-        Some(mut hub) => {
-            reports(alloc, &mut hub, &mut side, 3, BOTH) && side.reads == 2 && side.asked == 5000
-        }
+    let side = Endless { reads: 0, asked: 0 };
+    let Some(hub) = hub(alloc, b"", POOL) else {
+        return false;
+    };
+    match reports(alloc, hub, side, 3, BOTH) {
+        Some(service) => service.side.reads == 2 && service.side.asked == 5000,
         None => false,
     }
 }

@@ -1,8 +1,9 @@
 //! Turns over a hub in memory.
 
 use crate::memory::{Client, MemoryHub, OneFile};
-use crate::turns::reports;
+use crate::turns::{reports, served, takes};
 use std::alloc::Global;
+use wl_server::Connections;
 
 /// wl_display.sync with the new callback 2.
 pub(crate) const SYNC: &[u8] = b"\x01\0\0\0\0\0\x0c\0\x02\0\0\0";
@@ -44,15 +45,19 @@ fn serves(
     let Some(clients) = clients else {
         return false;
     };
-    let mut hub = MemoryHub::new(clients, largest);
-    let mut side = OneFile {
+    let hub = MemoryHub::new(clients, largest);
+    let side = OneFile {
         name: "1.1",
         opened: 0,
     };
-    reports(alloc, &mut hub, &mut side, 2, wanted)
-        && has_taken(&hub, 0, &ANSWER[..taken[0].min(ANSWER.len())])
-        && has_taken(&hub, 1, &ANSWER[..taken[1].min(ANSWER.len())])
-        && side.opened == 0
+    match reports(alloc, hub, side, 2, wanted) {
+        Some(service) => {
+            has_taken(&service.hub, 0, &ANSWER[..taken[0].min(ANSWER.len())])
+                && has_taken(&service.hub, 1, &ANSWER[..taken[1].min(ANSWER.len())])
+                && service.side.opened == 0
+        }
+        None => false,
+    }
 }
 
 const STAY: &[u8] = b"client 1\nclient 2\n";
@@ -136,13 +141,21 @@ fn closes_the_last(alloc: Global) -> bool {
     let Some(clients) = idle(alloc, 33) else {
         return false;
     };
-    let mut hub = MemoryHub::new(clients, 4096);
-    let mut side = OneFile {
+    let hub = MemoryHub::new(clients, 4096);
+    let side = OneFile {
         name: "1.1",
         opened: 0,
     };
-    let _ = reports(alloc, &mut hub, &mut side, 2, b"");
-    is_closed(&hub, 32) && !is_closed(&hub, 31)
+    let mut connections = Connections::new();
+    let mut report = Vec::new(alloc);
+    match served(alloc, hub, side) {
+        Some(mut service) => {
+            takes(&mut service, &mut connections, 1, 2, &mut report)
+                && is_closed(&service.hub, 32)
+                && !is_closed(&service.hub, 31)
+        }
+        None => false,
+    }
 }
 
 #[test]
@@ -160,12 +173,15 @@ fn asks_for_its_file(alloc: Global) -> bool {
     let Some(clients) = two(alloc, Client::new(alloc, b""), Client::new(alloc, POOL)) else {
         return false;
     };
-    let mut hub = MemoryHub::new(clients, 4096);
-    let mut side = OneFile {
+    let hub = MemoryHub::new(clients, 4096);
+    let side = OneFile {
         name: "2.1",
         opened: 0,
     };
-    reports(alloc, &mut hub, &mut side, 3, STAY) && side.opened == 1
+    match reports(alloc, hub, side, 3, STAY) {
+        Some(service) => service.side.opened == 1,
+        None => false,
+    }
 }
 
 #[test]

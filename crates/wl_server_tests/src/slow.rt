@@ -127,28 +127,16 @@ impl Hub for SlowHub {
     }
 }
 
+/// A session over that hub, where no side file is there.
+type Slow = Served<SlowHub, OneFile<'static>>;
+
 /// Whether the client that floods stands so.
-fn stands(service: &Served, wanted: Fed) -> bool {
+fn stands(service: &Slow, wanted: Fed) -> bool {
     service.session.status(1) == wanted
 }
 
 /// What is told of two clients that connected.
 const BOTH: &[u8] = b"client 1\nclient 2\n";
-
-/// Whether these turns were taken, from the one up to the other, where no side file is there.
-fn goes_on(
-    hub: &mut SlowHub,
-    service: &mut Served,
-    connections: &mut Connections<Way>,
-    from: u32,
-    to: u32,
-) -> bool {
-    let mut side = OneFile {
-        name: "none",
-        opened: 0,
-    };
-    takes(hub, service, connections, &mut side, from, to)
-}
 
 /// Whether nobody connects in the first turn, and both in the second; and the client that never reads lives as long as what waits for it is
 /// within 1,048,576 bytes, and ends then.
@@ -156,38 +144,43 @@ fn goes_on(
 /// Each turn reads 16 times 4,096 bytes, and 12 of them are answered by 24: after eight turns 43,690 syncs wait with 1,048,560 bytes, and in the
 /// ninth the next one passes the limit.
 fn ends_the_one(
-    hub: &mut SlowHub,
-    service: &mut Served,
+    service: &mut Slow,
     connections: &mut Connections<Way>,
+    report: &mut Vec<u8>,
 ) -> bool {
-    goes_on(hub, service, connections, 1, 1)
-        && service.report.is_empty()
-        && goes_on(hub, service, connections, 2, 9)
+    takes(service, connections, 1, 1, report)
+        && report.is_empty()
+        && takes(service, connections, 2, 9, report)
         && stands(service, Fed::Alive)
-        && goes_on(hub, service, connections, 10, 10)
+        && takes(service, connections, 10, 10, report)
         && stands(service, Fed::Ended(Cause::Slow))
 }
 
 /// Whether the client that ended isn't closed, and the one that sends a byte a turn is answered as its last one came.
 fn answers_the_other(
-    hub: &mut SlowHub,
-    service: &mut Served,
+    service: &mut Slow,
     connections: &mut Connections<Way>,
+    report: &mut Vec<u8>,
 ) -> bool {
-    goes_on(hub, service, connections, 11, 12)
-        && hub.taken.is_empty()
-        && goes_on(hub, service, connections, 13, 13)
-        && hub.taken.as_slice() == ANSWER
-        && service.report.as_slice() == BOTH
+    takes(service, connections, 11, 12, report)
+        && service.hub.taken.is_empty()
+        && takes(service, connections, 13, 13, report)
+        && service.hub.taken.as_slice() == ANSWER
+        && report.as_slice() == BOTH
 }
 
-fn serves_the_slow(alloc: Global, hub: &mut SlowHub) -> bool {
+fn serves_the_slow(alloc: Global) -> bool {
+    let side = OneFile {
+        name: "none",
+        opened: 0,
+    };
     let mut connections = Connections::new();
-    match served(alloc) {
+    let mut report = Vec::new(alloc);
+    match served(alloc, SlowHub::new(alloc), side) {
         Some(mut service) => {
-            ends_the_one(hub, &mut service, &mut connections)
-                && answers_the_other(hub, &mut service, &mut connections)
-                && hub.faults == 1
+            ends_the_one(&mut service, &mut connections, &mut report)
+                && answers_the_other(&mut service, &mut connections, &mut report)
+                && service.hub.faults == 1
         }
         None => false,
     }
@@ -195,6 +188,5 @@ fn serves_the_slow(alloc: Global, hub: &mut SlowHub) -> bool {
 
 #[test]
 fn slow_clients_hold_up_nobody(rt: HostRuntime) {
-    let mut hub = SlowHub::new(rt.alloc());
-    assert!(rt; serves_the_slow(rt.alloc(), &mut hub));
+    assert!(rt; serves_the_slow(rt.alloc()));
 }

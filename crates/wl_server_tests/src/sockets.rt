@@ -29,17 +29,13 @@ fn is_answered(near: &mut UnixStream) -> bool {
 
 /// Whether the sync of a client is answered within 50 turns.
 fn answers_within_50(
-    hub: &mut SocketHub,
-    service: &mut Served,
-    connections: &mut Connections<UnixStream>,
+    service: &mut Served<SocketHub, OneFile>,
     near: &mut UnixStream,
+    report: &mut Vec<u8>,
 ) -> bool {
-    let mut side = OneFile {
-        name: "1.1",
-        opened: 0,
-    };
+    let mut connections = Connections::new();
     for time in 1..51_u32 {
-        if !takes(hub, service, connections, &mut side, time, time) {
+        if !takes(service, &mut connections, time, time, report) {
             return false;
         }
         if is_answered(near) {
@@ -50,10 +46,14 @@ fn answers_within_50(
 }
 
 /// Whether the sync of a client is answered by a new session.
-fn answers(alloc: Global, hub: &mut SocketHub, near: &mut UnixStream) -> bool {
-    let mut connections = Connections::new();
-    match served(alloc) {
-        Some(mut service) => answers_within_50(hub, &mut service, &mut connections, near),
+fn answers(alloc: Global, hub: SocketHub, near: &mut UnixStream) -> bool {
+    let side = OneFile {
+        name: "1.1",
+        opened: 0,
+    };
+    let mut report = Vec::new(alloc);
+    match served(alloc, hub, side) {
+        Some(mut service) => answers_within_50(&mut service, near, &mut report),
         None => false,
     }
 }
@@ -61,14 +61,14 @@ fn answers(alloc: Global, hub: &mut SocketHub, near: &mut UnixStream) -> bool {
 /// Whether two clients connect and stay, and the second is answered.
 fn answers_the_second(rt: &HostRuntime) -> Option<bool> {
     let path = socket_path(rt)?;
-    let mut hub = SocketHub::bind(rt, path.as_str()).ok()?;
+    let hub = SocketHub::bind(rt, path.as_str()).ok()?;
     let first = UnixStream::connect(rt, path.as_str()).ok();
     let second = UnixStream::connect(rt, path.as_str()).ok();
     fs::remove_file(rt, path.as_str()).ok()?;
     let _first = first?;
     let mut second = second?;
     second.write_all(SYNC).ok()?;
-    Some(answers(rt.alloc(), &mut hub, &mut second))
+    Some(answers(rt.alloc(), hub, &mut second))
 }
 
 #[test]

@@ -13,46 +13,45 @@ pub(crate) const CONFIG: Config = Config {
     background: Rgb { r: 0, g: 0, b: 0 },
 };
 
-/// A session that is served, whose report is kept.
-pub(crate) type Served = Service<Global, Vec<u8>, Vec<u8>>;
+/// A session that is served over a hub.
+pub(crate) type Served<H, S> = Service<Global, H, S>;
 
-/// A session before its first turn, without pointer lines and images. None where there is no memory for it.
-pub(crate) fn served(alloc: Global) -> Option<Served> {
+/// A session before its first turn, without pointer lines. None where there is no memory for it.
+pub(crate) fn served<H: Drop, S: Drop>(alloc: Global, hub: H, side: S) -> Option<Served<H, S>> {
     let session = Session::new(alloc, CONFIG).ok()?;
-    Some(Service::new(session, Vec::new(alloc), Vec::new(alloc), None))
+    Some(Service::new(session, hub, side, Vec::new(alloc)))
 }
 
-/// Whether these turns were taken, from the one up to the other.
+/// Whether these turns were taken, from the one up to the other, without images.
 pub(crate) fn takes<H: Hub, S: SideFiles>(
-    hub: &mut H,
-    service: &mut Served,
+    service: &mut Served<H, S>,
     connections: &mut Connections<H::Conn>,
-    side: &mut S,
     from: u32,
     to: u32,
+    report: &mut Vec<u8>,
 ) -> bool {
     for time in from..to.saturating_add(1) {
-        if turn(hub, service, connections, side, time).is_err() {
+        if turn(service, connections, time, report, &mut None::<Vec<u8>>).is_err() {
             return false;
         }
     }
     true
 }
 
-/// Whether so many turns are taken of a new session, and this is reported of them.
-pub(crate) fn reports<S: SideFiles>(
+/// A new session after so many turns. None where something else is reported of them.
+pub(crate) fn reports<'a, S: SideFiles + Drop>(
     alloc: Global,
-    hub: &mut MemoryHub,
-    side: &mut S,
+    hub: MemoryHub<'a>,
+    side: S,
     turns: u32,
     wanted: &[u8],
-) -> bool {
+) -> Option<Served<MemoryHub<'a>, S>> {
+    let mut service = served(alloc, hub, side)?;
     let mut connections = Connections::new();
-    match served(alloc) {
-        Some(mut service) => {
-            takes(hub, &mut service, &mut connections, side, 1, turns)
-                && service.report.as_slice() == wanted
-        }
-        None => false,
+    let mut report = Vec::new(alloc);
+    if takes(&mut service, &mut connections, 1, turns, &mut report) && report.as_slice() == wanted {
+        Some(service)
+    } else {
+        None
     }
 }

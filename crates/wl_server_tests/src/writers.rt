@@ -56,43 +56,40 @@ impl Write for Failing {
     }
 }
 
-/// What the turns of a session with these writers are answered, where a client makes the window, and the service after them. It ends with the
-/// first that isn't `Ok`. None where there is no memory.
-fn takes<W: Write + Drop, P: Write + Drop>(
+/// What the turns of a session with these writers are answered, where a client makes the window. It ends with the first that isn't `Ok`. None
+/// where there is no memory.
+fn takes<W: Write, P: Write>(
     alloc: Global,
-    report: W,
-    ppm: Option<P>,
+    report: &mut W,
+    ppm: &mut Option<P>,
     turns: u32,
-) -> Option<(Result<(), TurnError>, Service<Global, W, P>)> {
+) -> Option<Result<(), TurnError>> {
     let session = Session::new(alloc, OUTPUT).ok()?;
-    let mut service = Service::new(session, Vec::new(alloc), report, ppm);
     let mut clients = Vec::new(alloc);
     clients.push(Client::new(alloc, WINDOW)).ok()?;
-    let mut hub = MemoryHub::new(clients, 4096);
-    let mut connections = Connections::new();
-    let mut side = OneFile {
+    let hub = MemoryHub::new(clients, 4096);
+    let side = OneFile {
         name: "2.1",
         opened: 0,
     };
+    let mut service = Service::new(session, hub, side, Vec::new(alloc));
+    let mut connections = Connections::new();
     for time in 1..turns.saturating_add(1) {
-        let answer = turn(&mut hub, &mut service, &mut connections, &mut side, time);
+        let answer = turn(&mut service, &mut connections, time, report, ppm);
         if answer.is_err() {
-            return Some((answer, service));
+            return Some(answer);
         }
     }
-    Some((Ok(()), service))
+    Some(Ok(()))
 }
 
 /// Whether the frame of the first turn alone is told of, and its image is there.
 fn shows_one_image(alloc: Global) -> bool {
-    match takes(alloc, Vec::new(alloc), Some(Vec::new(alloc)), 3) {
-        Some((answer, service)) => {
-            answer == Ok(())
-                && service.report.as_slice() == TOLD
-                && service.ppm.is_some_and(|image| image.as_slice() == IMAGE)
-        }
-        None => false,
-    }
+    let mut report = Vec::new(alloc);
+    let mut ppm = Some(Vec::new(alloc));
+    takes(alloc, &mut report, &mut ppm, 3) == Some(Ok(()))
+        && report.as_slice() == TOLD
+        && ppm.is_some_and(|image| image.as_slice() == IMAGE)
 }
 
 #[test]
@@ -102,14 +99,13 @@ fn a_frame_is_told_of_with_its_image(rt: HostRuntime) {
 
 /// What turns are answered whose report takes so many bytes.
 fn report_of(alloc: Global, room: usize) -> Option<Result<(), TurnError>> {
-    let (answer, _service) = takes(alloc, Failing { room }, None::<Vec<u8>>, 3)?;
-    Some(answer)
+    takes(alloc, &mut Failing { room }, &mut None::<Vec<u8>>, 3)
 }
 
 /// What turns are answered whose images take so many bytes.
 fn images_of(alloc: Global, room: usize) -> Option<Result<(), TurnError>> {
-    let (answer, _service) = takes(alloc, Vec::new(alloc), Some(Failing { room }), 3)?;
-    Some(answer)
+    let mut report = Vec::new(alloc);
+    takes(alloc, &mut report, &mut Some(Failing { room }), 3)
 }
 
 #[test]

@@ -1,9 +1,9 @@
 -- One turn more is taken, and told of.
 use Rattle.std.proofs.Common.{arith}
 use Rattle.wl_recording.specs.Side.{files_of}
-use Rattle.wl_server.specs.Ways.{serving, ways}
-use Rattle.wl_program.specs.Serving.{AreTurns}
-use Rattle.wl_program.proofs.Served.{turns-all, turns-more, turns-none, turns-reported}
+use Rattle.wl_server.specs.Ways.{ways}
+use Rattle.wl_program.proofs.Ending.{on_err}
+use Rattle.wl_program.proofs.Served.{turns-all, turns-begun, turns-more, turns-none}
 use Rattle.wl_program.proofs.serving.serve_on.Goals as goal
 
 pub loop-before-init : goal.loop-before-init
@@ -23,11 +23,8 @@ returns-clause-taken g c =
     (files_of g.S.SideFiles.opens g.S.SideFiles.gives g.S.SideFiles.fault_count) c.args.pace.rate c.args.pace.turns c.loop-before.before _ _ _ _ _ _ _ _ (omega arith)
     c.loop-before.invariant
 
-pub returns-clause-reported : goal.returns-clause-reported
-returns-clause-reported g c =
-    turns-reported (AreTurns (ways g.H.Hub.accepts g.H.Hub.reads g.H.Hub.writes g.H.Hub.closes g.H.Hub.fault_count)
-    (files_of g.S.SideFiles.opens g.S.SideFiles.gives g.S.SideFiles.fault_count) c.args.pace.rate c.args.pace.turns
-    (serving c.args.hub.now c.args.connections.now c.args.side.now) (serving c.loop-before.hub c.loop-before.connections c.loop-before.side)) _ _ _ _ _ _
-    (turns-all (ways g.H.Hub.accepts g.H.Hub.reads g.H.Hub.writes g.H.Hub.closes g.H.Hub.fault_count)
-    (files_of g.S.SideFiles.opens g.S.SideFiles.gives g.S.SideFiles.fault_count) c.args.pace.rate c.args.pace.turns c.loop-before.before _ _ _ _ _ _ _ _ (omega arith)
-    c.loop-before.invariant)
+pub returns-in_err-take_turn-clause-begun : goal.returns-in_err-take_turn-clause-begun
+returns-in_err-take_turn-clause-begun g c =
+    on_err _ (turns-begun (ways g.H.Hub.accepts g.H.Hub.reads g.H.Hub.writes g.H.Hub.closes g.H.Hub.fault_count)
+    (files_of g.S.SideFiles.opens g.S.SideFiles.gives g.S.SideFiles.fault_count) c.args.pace.rate c.args.pace.turns c.loop-before.before _ _ _ _ _ _ _ _ _ _ _ (omega arith)
+    c.time_of-time.ensures c.loop-before.invariant c.in_err-take_turn.ensures.begun)
