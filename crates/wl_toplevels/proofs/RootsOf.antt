@@ -10,8 +10,10 @@ pub mod Kept
 pub mod Left
 pub mod Links
 pub mod One
+pub mod Ordered
 pub mod Painted
 pub mod Popped
+pub mod PopupEnds
 pub mod Requests
 pub mod Same
 pub mod Shells

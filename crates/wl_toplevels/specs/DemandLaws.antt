@@ -3,7 +3,8 @@ use Rattle.std.specs.Prelude.{ℕ, Bool}
 use Rattle.wl_state.specs.Request.{Request}
 use Rattle.wl_peer.specs.declared.actions.Action.{Action}
 use Rattle.wl_plain.specs.Ask.{Acknowledge, AskSurface, ConfigureAgain, CreateSurface, EndObject, Ignore, Own}
-use Rattle.wl_plain.specs.Demand.{AskFrame, Asks, CommitTree, EndSubsurface, EndSurface, EndToplevel, GetPointer, GetSubsurface, Grab, MakeCursor, Move, SetMode}
+use Rattle.wl_plain.specs.Demand.{AskFrame, Asks, CommitTree, EndPopup, EndSubsurface, EndSurface, EndToplevel, GetPointer}
+use Rattle.wl_plain.specs.Demand.{GetSubsurface, Grab, MakeCursor, Move, SetMode}
 use Rattle.wl_toplevels.specs.Done.{DemandChanges}
 
 -- wl_surface.commit
@@ -47,3 +48,7 @@ GrabsChangeNoWindow = (xdg serial : ℕ) → DemandChanges (Grab xdg serial)
 -- xdg_toplevel.destroy, with the popups that it dismisses
 abbrev pub ToplevelEndsChangeOneToplevel : Type 0
 ToplevelEndsChangeOneToplevel = (id xdg surface : ℕ) → DemandChanges (EndToplevel id xdg surface)
+
+-- xdg_popup.destroy
+abbrev pub PopupEndsChangeOneToplevel : Type 0
+PopupEndsChangeOneToplevel = (id xdg : ℕ) → DemandChanges (EndPopup id xdg)

@@ -4,7 +4,7 @@
 
 ghost use Rattle.wl_toplevels.specs.DemandLaws.{CommitsChangeOneToplevel, GrabsChangeNoWindow, ModesChangeOneToplevel, RequestsChangeNoWindow};
 ghost use Rattle.wl_toplevels.specs.DemandLaws.{StatesChangeNoWindow, SubsurfaceEndsChangeOneToplevel, SurfaceEndsChangeOneToplevel};
-ghost use Rattle.wl_toplevels.specs.DemandLaws.{ToplevelEndsChangeOneToplevel};
+ghost use Rattle.wl_toplevels.specs.DemandLaws.{PopupEndsChangeOneToplevel, ToplevelEndsChangeOneToplevel};
 
 /// A commit changes the windows that are stacked with the toplevel of its tree, or none.
 pub fn commits_change_one_toplevel()
@@ -45,4 +45,9 @@ pub fn grabs_change_no_window()
 /// The end of a toplevel changes the windows that are stacked with it, and else none, whatever popups it dismisses.
 pub fn toplevel_ends_change_one_toplevel()
     ensures { ToplevelEndsChangeOneToplevel }
+{}
+
+/// The end of a popup changes the windows that are stacked with the toplevel that it was stacked with, or none.
+pub fn popup_ends_change_one_toplevel()
+    ensures { PopupEndsChangeOneToplevel }
 {}

@@ -9,8 +9,9 @@ mod roots;
 
 pub use demands::{
     commits_change_one_toplevel, grabs_change_no_window, modes_change_one_toplevel,
-    requests_change_no_window, states_change_no_window, subsurface_ends_change_one_toplevel,
-    surface_ends_change_one_toplevel, toplevel_ends_change_one_toplevel,
+    popup_ends_change_one_toplevel, requests_change_no_window, states_change_no_window,
+    subsurface_ends_change_one_toplevel, surface_ends_change_one_toplevel,
+    toplevel_ends_change_one_toplevel,
 };
 pub use marked::marks_by_trees_between;
 pub use roots::roots_stay;

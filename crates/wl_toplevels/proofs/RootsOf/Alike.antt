@@ -32,7 +32,8 @@ same-kind Toplevel = refl
 same-kind (IsPopup popup) = refl
 
 -- only its stage changes, or something else that the kind isn't read from
-pub alike-stage : (x y : XdgSurface) (g : RoleObject → RoleObject) → ((object : RoleObject) → (g object).kind ≡ object.kind) → (o : Option RoleObject) → AreAlike (popped_role x o) (popped_role y (option_map g o))
+pub alike-stage : (x y : XdgSurface) (g : RoleObject → RoleObject) → ((object : RoleObject) → (g object).kind ≡ object.kind) → (o : Option RoleObject)
+    → AreAlike (popped_role x o) (popped_role y (option_map g o))
 alike-stage x y g kinds o = alike-by x y g (λ popup. popup) same-one (λ object. kinds object ∙ same-kind object.kind) o
 
 alike-kind : (x y : XdgSurface) (object : RoleObject) (k : Kind) → AreAlike (popped_kind x object k) (popped_kind y object k)

@@ -1,7 +1,7 @@
 -- What each demand changes of the windows.
 use Rattle.std.specs.Prelude.{◌==◌}
 use Rattle.std.proofs.Common.{None, Option, ◌≡◌, ℕ, Bool, true, false, cond, Some, map, refl, ap, sym, subst, ◌∙◌}
-use Rattle.std.specs.Option.{option_and_then}
+use Rattle.std.specs.Option.{option_and_then, option_map}
 use Rattle.std.proofs.lemmas.Bool.{eqb-true}
 use Rattle.wl_peer.specs.Peer.{Peer}
 use Rattle.wl_state.specs.Request.{Frame}
@@ -12,7 +12,7 @@ use Rattle.wl_xdg_state.specs.Shell.{XdgSurface, acknowledging, configuring, wit
 use Rattle.wl_stacking.specs.Stacking.{Owned}
 use Rattle.wl_plain.specs.Ask.{Acknowledge, AskSurface, ConfigureAgain, CreateSurface, EndObject, Ignore, Own}
 use Rattle.wl_plain.specs.Changing.{drawing, grab_allowed, grabbed, has_focus}
-use Rattle.wl_plain.specs.Demand.{AskFrame, Asks, Demand, EndSubsurface, EndSurface, GetPointer, GetSubsurface, Grab, MakeCursor, Move, SetMode}
+use Rattle.wl_plain.specs.Demand.{AskFrame, Asks, Demand, EndPopup, EndSubsurface, EndSurface, GetPointer, GetSubsurface, Grab, MakeCursor, Move, SetMode}
 use Rattle.wl_plain.specs.Desktop.{Desktop, Resident, client_at, owned_in, owned_of}
 use Rattle.wl_plain.specs.Step.{with_peer}
 use Rattle.wl_plain.specs.WlSubsurface.{subsurface_at}
@@ -24,13 +24,14 @@ use Rattle.wl_invariants.proofs.TreeSteps.Ends.{destruction-keeps-others}
 use Rattle.wl_invariants.proofs.TreeSteps.Modes.{mode-keeps-all}
 use Rattle.wl_toplevels.specs.Changes.{HasTrees, StaysPainted}
 use Rattle.wl_toplevels.specs.Done.{IsDone, IsMeant}
-use Rattle.wl_toplevels.specs.DemandLaws.{CommitsChangeOneToplevel, GrabsChangeNoWindow, ModesChangeOneToplevel, RequestsChangeNoWindow, StatesChangeNoWindow, SubsurfaceEndsChangeOneToplevel, SurfaceEndsChangeOneToplevel, ToplevelEndsChangeOneToplevel}
+use Rattle.wl_toplevels.specs.DemandLaws.{CommitsChangeOneToplevel, GrabsChangeNoWindow, ModesChangeOneToplevel, PopupEndsChangeOneToplevel, RequestsChangeNoWindow, StatesChangeNoWindow}
+use Rattle.wl_toplevels.specs.DemandLaws.{SubsurfaceEndsChangeOneToplevel, SurfaceEndsChangeOneToplevel, ToplevelEndsChangeOneToplevel}
 use Rattle.wl_toplevels.specs.StackedWith.{ChangesAt, ChangesWith, IsStackedAs, popup_of}
 use Rattle.wl_toplevels.specs.Toplevel.{ChangesToplevel}
 use Rattle.wl_toplevels.proofs.RootsOf.Toplevels.{toplevel-end-changes}
 use Rattle.wl_toplevels.proofs.RootsOf.Kept.{surfaces_in}
 use Rattle.wl_toplevels.proofs.RootsOf.Shells.{there-top}
-use Rattle.wl_laws.proofs.Lists.Keys.{found-by, found-passes}
+use Rattle.wl_laws.proofs.Lists.Keys.{found-by, found-passes, unmapped}
 use Rattle.wl_laws.proofs.Marks.Stacks.{equal-numbers}
 use Rattle.wl_laws.specs.Soundness.{IsNoChild}
 use Rattle.wl_stacking.specs.Windows.{StackedPopup}
@@ -39,8 +40,10 @@ use Rattle.wl_toplevels.proofs.RootsOf.Commits.{commit-changes, own-root, toplev
 use Rattle.wl_toplevels.proofs.RootsOf.Created.{created-painted}
 use Rattle.wl_toplevels.proofs.RootsOf.Dismissed.{dismissed-painted}
 use Rattle.wl_toplevels.proofs.RootsOf.Painted.{KeepsStacked}
+use Rattle.wl_toplevels.proofs.RootsOf.PopupEnds.{popup-end-changes}
 use Rattle.wl_toplevels.proofs.RootsOf.Popped.{IsPopped, IsThere, KeepsPopups}
-use Rattle.wl_toplevels.proofs.RootsOf.Requests.{acknowledging-keeps, acknowledging-stacked, changed-stacked, configuring-keeps, configuring-stacked, desynchronised, ended, given, grab-keeps, grab-stacked, kept, kept-by, same-keeps, tree-kept}
+use Rattle.wl_toplevels.proofs.RootsOf.Requests.{acknowledging-keeps, acknowledging-stacked, changed-stacked, configuring-keeps, configuring-stacked, desynchronised, ended, given, grab-keeps}
+use Rattle.wl_toplevels.proofs.RootsOf.Requests.{grab-stacked, kept, kept-by, same-keeps, tree-kept}
 
 module _ (c : ℕ) (r : Resident) (p : Peer) (d e : Desktop) (had : HasTrees d) (has : HasTrees e) (here : client_at c d ≡ Some r) where
   abbrev all : Surfaces
@@ -183,6 +186,25 @@ toplevel-ends-change id xdg surface c r p d e had has here meant done root t its
 
     unpopped : popup_of c surface d ≡ None
     unpopped = subst (λ n. popup_of c n d ≡ None) meant.own (toplevel-unpopped c d had meant.it there meant.role)
+
+pub popup-ends-change : PopupEndsChangeOneToplevel
+popup-ends-change id xdg c r p d e had has here meant done = at (xdg_at xdg r.owned.shell) refl
+  where
+    at : (o : Option XdgSurface) → xdg_at xdg r.owned.shell ≡ o → ChangesAt (option_map (λ (x : XdgSurface). x.surface) o) c d e
+    at None none =
+        still c r p d e had has here (EndPopup id xdg) done done.stack _ done.own (unmapped (λ x. x.id == xdg) without_role r.owned.shell none) (same-keeps r.owned.surfaces)
+    at (Some x) some =
+        let found : xdg_at xdg (owned_in d c).shell ≡ Some x = ap (λ (o : Owned). xdg_at xdg o.shell) (was-owned c r p d e had has here) ∙ some in
+        let id-is : x.id ≡ xdg = eqb-true x.id xdg (found-passes (λ x. x.id == xdg) (owned_in d c).shell x found) in
+        popup-end-changes c xdg d e had has done.others x
+        (record {
+          by_id = ap (λ n. xdg_at n (owned_in d c).shell) id-is ∙ found;
+          by_surface =
+              found-by (λ surface x. x.surface == surface) (λ x. x.id == xdg) x.surface (owned_in d c).shell x (had.xdg_apart c) found
+              (equal-numbers x.surface x.surface refl);
+        })
+        id-is (ap (λ (o : Owned). o.surfaces) done.own ∙ sym (was c r p d e had has here))
+        (ap (λ (o : Owned). o.shell) done.own ∙ ap (λ (o : Owned). with_xdg xdg without_role o.shell) (sym (was-owned c r p d e had has here))) done.stack
 
 pub states-change : StatesChangeNoWindow
 states-change = record {

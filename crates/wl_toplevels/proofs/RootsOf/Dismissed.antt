@@ -55,7 +55,8 @@ unmapped-kind : (y : XdgSurface) (object : RoleObject) (change : Popup → Popup
 unmapped-kind y object change gone Toplevel = tt
 unmapped-kind y object change gone (IsPopup popup) = (ap (λ b. is_mapped_stage object.stage && not b) (gone popup) ∙ and-none (is_mapped_stage object.stage), tt)
 
-unmapped-role : (y : XdgSurface) (change : Popup → Popup) → ((p : Popup) → (change p).is_dismissed ≡ true) → (o : Option RoleObject) → AreUnmapped (popped_role y (option_map (with_popup_role change) o))
+unmapped-role : (y : XdgSurface) (change : Popup → Popup) → ((p : Popup) → (change p).is_dismissed ≡ true) → (o : Option RoleObject)
+    → AreUnmapped (popped_role y (option_map (with_popup_role change) o))
 unmapped-role y change gone None = tt
 unmapped-role y change gone (Some object) = unmapped-kind y (with_popup_role change object) change gone object.kind
 

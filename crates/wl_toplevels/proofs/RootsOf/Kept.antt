@@ -128,7 +128,8 @@ module _ (d e : Desktop) where
           ap (λ geometry. roots_of (surfaces_in e s.client) (at geometry) (popups_in e s.client)) kept.geometry
           ∙ roots-stay (surfaces_in d s.client) (surfaces_in e s.client) (root_of (owned_in d) s) (popups_in d s.client) (popups_in e s.client)
           (each-all (λ r. corner_in (surfaces_in e s.client) r ≡ corner_in (surfaces_in d s.client) r) (stacked_roots d s)
-          (each-map (λ r. RootIsKept s.client d e r.surface) (λ r. corner_in (surfaces_in e s.client) r ≡ corner_in (surfaces_in d s.client) r) (λ r keeps. counted-corner (surfaces_in d s.client) (surfaces_in e s.client) r keeps.counts)
+          (each-map (λ r. RootIsKept s.client d e r.surface) (λ r. corner_in (surfaces_in e s.client) r
+          ≡ corner_in (surfaces_in d s.client) r) (λ r keeps. counted-corner (surfaces_in d s.client) (surfaces_in e s.client) r keeps.counts)
           (stacked_roots d s) kept.roots)) kept.popups
 
   pub kept-undamaged : (s : Standing) → ToplevelIsKept d e s → Each (IsUndamaged d e) (shown d s)

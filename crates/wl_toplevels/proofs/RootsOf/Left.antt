@@ -187,7 +187,8 @@ module _ (c : ℕ) (d : Desktop) (had : HasTrees d) (s : Standing) (stands : lis
   any-next p [] outs e = absurd (differ e)
   any-next p (id ∷ ids) outs e = at (is_parent_of id p.popup) refl e (any-next p ids outs.1)
     where
-      at : (b : Bool) → is_parent_of id p.popup ≡ b → (b || list_any (λ id. is_parent_of id p.popup) ids) ≡ true → (list_any (λ id. is_parent_of id p.popup) ids ≡ true → is_on p ≡ false) → is_on p ≡ false
+      at : (b : Bool) → is_parent_of id p.popup ≡ b → (b || list_any (λ id. is_parent_of id p.popup) ids) ≡ true → (list_any (λ id. is_parent_of id p.popup) ids ≡ true → is_on p ≡ false)
+          → is_on p ≡ false
       at true f e later = off-next p id outs.0 f
       at false f e later = later e
 

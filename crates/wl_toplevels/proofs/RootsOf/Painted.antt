@@ -35,7 +35,8 @@ use Rattle.wl_toplevels.proofs.RootsOf.Trees.{any-tree}
 abbrev Shows : ℕ → Desktop → ℕ → Type 0
 Shows c d x = shows_buffer (history_in x (surfaces_in d c)) ≡ true
 
-pub roots-show : (d : Desktop) → HasTrees d → (s : Standing) → list_any (is_of s.client s.surface) d.standing ≡ true → Each (λ r. shows_buffer (history_in r.surface (surfaces_in d s.client)) ≡ true) (stacked_roots d s)
+pub roots-show : (d : Desktop) → HasTrees d → (s : Standing) → list_any (is_of s.client s.surface) d.standing ≡ true
+    → Each (λ r. shows_buffer (history_in r.surface (surfaces_in d s.client)) ≡ true) (stacked_roots d s)
 roots-show d had s stands =
     each-map (λ r. In r.surface (stacked_roots d s) ≡ true) (λ r. Shows s.client d r.surface)
     (λ r there. at r.surface (root-or-popup (surfaces_in d s.client) r.surface (root_of (owned_in d) s ∷ []) (popups_in d s.client) there))
@@ -150,7 +151,8 @@ module _ (c : ℕ) (d e : Desktop) (had : HasTrees d) (f : XdgSurface → XdgSur
       ap (λ (s : Shell). map (stacked_popup now) (popups_of s)) shell
       ∙ (ap (map (stacked_popup now)) (popups-through f own.shell (numbered f keeps own.shell))
       ∙ all (popups_of own.shell)
-      (each-both (IsPopped own.shell) (IsThrough f) (λ p. stacked_popup now (through f p) ≡ stacked_popup own p) one (popups_of own.shell) (all-popped-of c d had) (all-through f own.shell (numbered f keeps own.shell))))
+      (each-both (IsPopped own.shell) (IsThrough f) (λ p. stacked_popup now (through f p)
+      ≡ stacked_popup own p) one (popups_of own.shell) (all-popped-of c d had) (all-through f own.shell (numbered f keeps own.shell))))
     where
       all : (ps : List Popped) → Each (λ p. stacked_popup now (through f p) ≡ stacked_popup own p) ps → map (stacked_popup now) (map (through f) ps) ≡ map (stacked_popup own) ps
       all [] each = refl

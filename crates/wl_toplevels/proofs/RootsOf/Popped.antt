@@ -165,7 +165,8 @@ module _ (f : XdgSurface → XdgSurface) where
   popped-through : (x : XdgSurface) → AreNumberedAlike (popped_of x) (popped_of (f x)) → popped_of (f x) ≡ map (through f) (popped_of x)
   popped-through x alike = at (popped_of x) refl (popped_of (f x)) refl alike (popped-its x)
     where
-      at : (ps : List Popped) → popped_of x ≡ ps → (qs : List Popped) → popped_of (f x) ≡ qs → AreNumberedAlike ps qs → Each (λ p. (p.xdg ≡ x) × (popped_of p.xdg ≡ p ∷ [])) ps → qs ≡ map (through f) ps
+      at : (ps : List Popped) → popped_of x ≡ ps → (qs : List Popped) → popped_of (f x) ≡ qs → AreNumberedAlike ps qs → Each (λ p. (p.xdg ≡ x) × (popped_of p.xdg ≡ p ∷ [])) ps
+          → qs ≡ map (through f) ps
       at [] e [] g a b = refl
       at [] e (q ∷ qs) g a b = absurd a
       at (p ∷ ps) e [] g a b = absurd a

@@ -19,7 +19,8 @@ use Rattle.wl_laws.proofs.Marks.Stacks.{Each, each-both, each-map, equal-numbers
 use Rattle.wl_invariants.specs.TreeStepsLaws.{counted_in}
 use Rattle.wl_toplevels.specs.Changes.{HasTrees}
 use Rattle.wl_toplevels.proofs.RootsOf.Kept.{RootIsKept, popups_in, surfaces_in}
-use Rattle.wl_toplevels.proofs.RootsOf.Popped.{IsPopped, IsThere, IsThrough, KeepsPopups, all-popped, all-through, first_or, numbered, parent-through, popups-through, surface-through, through, xdg-through}
+use Rattle.wl_toplevels.proofs.RootsOf.Popped.{IsPopped, IsThere, IsThrough, KeepsPopups, all-popped, all-through, first_or, numbered, parent-through, popups-through, surface-through, through}
+use Rattle.wl_toplevels.proofs.RootsOf.Popped.{xdg-through}
 use Rattle.wl_toplevels.proofs.RootsOf.Touched.{HadParent, Touches, is_other}
 use Rattle.wl_toplevels.proofs.RootsOf.Turns.{AreFrom, all-from, popup_surfaces}
 
@@ -123,7 +124,8 @@ module _ (c : ℕ) (d : Desktop) (had : HasTrees d) where
     became p = stacked_popup now (through f p)
 
     became-all : popups_in e c ≡ map became (popups_of own.shell)
-    became-all = ap (λ (s : Shell). map (stacked_popup now) (popups_of s)) shell ∙ (ap (map (stacked_popup now)) (popups-through f own.shell (numbered f keeps own.shell)) ∙ twice (popups_of own.shell))
+    became-all = ap (λ (s : Shell). map (stacked_popup now) (popups_of s)) shell ∙ (ap (map (stacked_popup now)) (popups-through f own.shell (numbered f keeps own.shell))
+        ∙ twice (popups_of own.shell))
       where
         twice : (ps : List Popped) → map (stacked_popup now) (map (through f) ps) ≡ map became ps
         twice [] = refl

@@ -5,7 +5,8 @@ use Rattle.std.specs.List.{All, list_any}
 use Rattle.std.specs.Option.{option_and_then, option_map, option_map_or}
 use Rattle.std.proofs.lemmas.Bool.{eqb-false, eqb-true}
 use Rattle.wl_surface.specs.Surfaces.{Surfaces}
-use Rattle.wl_xdg_state.specs.Popups.{Popped, dismiss, dismissed_after, dismissed_among, dismissed_with, dismissing, is_among, is_mapped_stage, is_parent_of, is_popup_mapped, is_toplevel, orphan, orphaning}
+use Rattle.wl_xdg_state.specs.Popups.{Popped, dismiss, dismissed_after, dismissed_among, dismissed_with, dismissing, is_among, is_mapped_stage, is_parent_of, is_popup_mapped, is_toplevel, orphan}
+use Rattle.wl_xdg_state.specs.Popups.{orphaning}
 use Rattle.wl_xdg_state.specs.Popups.{popped_kind, popped_of, popped_role, popup_changed, popups_of, with_popup, with_popup_role}
 use Rattle.wl_xdg_state.specs.Shell.{IsPopup, Kind, Popup, RoleObject, Shell, Toplevel, XdgSurface, with_change, without_role, xdg_at}
 use Rattle.wl_stacking.specs.Popups.{stacked_popup, surface_at_xdg}

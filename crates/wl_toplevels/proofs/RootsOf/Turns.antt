@@ -97,7 +97,8 @@ of-append : (root : ℕ) (ws vs : List Window) → of_root root (ws ++ vs) ≡ o
 of-append root [] vs = refl
 of-append root (w ∷ ws) vs = at (root == w.owner.root) (of-append root ws vs)
   where
-    at : (b : Bool) → of_root root (ws ++ vs) ≡ of_root root ws ++ of_root root vs → cond b (w ∷ of_root root (ws ++ vs)) (of_root root (ws ++ vs)) ≡ cond b (w ∷ of_root root ws) (of_root root ws) ++ of_root root vs
+    at : (b : Bool) → of_root root (ws ++ vs) ≡ of_root root ws ++ of_root root vs
+        → cond b (w ∷ of_root root (ws ++ vs)) (of_root root (ws ++ vs)) ≡ cond b (w ∷ of_root root ws) (of_root root ws) ++ of_root root vs
     at true e = ap (λ ys. w ∷ ys) e
     at false e = e
 
