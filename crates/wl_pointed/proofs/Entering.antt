@@ -74,12 +74,12 @@ more-none [] = refl
 more-none (x ∷ xs) = ap (λ (told : List Said). x ∷ told) (more-none xs)
 
 -- a client is told this and nothing else where it owns what it did
-told-alone : (b : Bool) (told : List Said) (old new : Resident) → new.owned ≡ old.owned → told ++ releases_unless b old new ++ popups_done old new ≡ told
+pub told-alone : (b : Bool) (told : List Said) (old new : Resident) → new.owned ≡ old.owned → told ++ releases_unless b old new ++ popups_done old new ≡ told
 told-alone b told old new same =
     ap₂ (λ (xs ys : List Said). told ++ xs ++ ys) (none-let b old new (ap (λ o. o.surfaces) same)) (ap (λ o. popups_done old (record old { owned = o })) same ∙ none-done old)
     ∙ (more-none (told ++ []) ∙ more-none told)
 
-lacking : (p q : Peer) → LacksMemory p q → q.status ≡ Some Memory
+pub lacking : (p q : Peer) → LacksMemory p q → q.status ≡ Some Memory
 lacking p q (inl h) = ap (λ (x : Peer). x.status) h
 lacking p q (inr h) = ap (λ (x : Peer). x.status) h.1
 

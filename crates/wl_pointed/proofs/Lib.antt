@@ -1,3 +1,4 @@
+pub mod Ended
 pub mod Entering
 pub mod Frames
 pub mod Happenings
@@ -5,5 +6,8 @@ pub mod Marking
 pub mod Messages
 pub mod Moved
 pub mod Pointers
+pub mod Pointing
 pub mod Rounds
+pub mod Seats
+pub mod Unshown
 pub mod Whole

@@ -93,7 +93,7 @@ to-end : (ss : List Strike) (d : Desktop) → AreStruck ss d.clients → AreToEn
 to-end [] d struck = tt
 to-end (s ∷ ss) d struck = ((struck.0.there, struck.0.is, struck.0.alive), struck.1, to-end ss d struck.2)
 
-of-end : (ss : List Strike) (d : Desktop) → AreToEnd ss d → AreStruck ss d.clients
+pub of-end : (ss : List Strike) (d : Desktop) → AreToEnd ss d → AreStruck ss d.clients
 of-end [] d struck = tt
 of-end (s ∷ ss) d struck = (record { there = struck.0.0; is = struck.0.1; alive = struck.0.2 }, struck.1, of-end ss d struck.2)
 
@@ -112,7 +112,7 @@ round-fewer old new path struck round =
     subst (λ (m : Midstep). AreStruck m.struck m.desktop.clients × (suc (lasting m.desktop.clients) ≤ lasting old.desktop.clients)) (sym round.6)
     ((ended-after s round.2 now there).sound, fewer)
 
-rounds-fewer : (n : ℕ) (old new : Midstep) (path : List Desktop) → AreStruck old.struck old.desktop.clients → AreRounds n old path new
+pub rounds-fewer : (n : ℕ) (old new : Midstep) (path : List Desktop) → AreStruck old.struck old.desktop.clients → AreRounds n old path new
     → AreStruck new.struck new.desktop.clients × (n + lasting new.desktop.clients ≤ lasting old.desktop.clients)
 rounds-fewer zero old new path struck rounds =
     let few : 0 + lasting old.desktop.clients ≤ lasting old.desktop.clients = omega arith in

@@ -5,4 +5,5 @@ pub mod Marking
 pub mod Moved
 pub mod Pointed
 pub mod Rounds
+pub mod Seats
 pub mod Whole

@@ -1,5 +1,5 @@
 //! The pointer apart: a step of the desktop is what it is where nobody has pointed yet, and then the pointer is put back and its focus settled; and
-//! the ends that follow, round by round. Each function does nothing and promises one law.
+//! the ends that follow, round by round; and which wl_pointers clients have. Each function does nothing and promises one law.
 #![tactic(auto)]
 
 ghost use Rattle.wl_pointed.specs.Apart.{PointerApart, PointerApartThrough};
@@ -10,6 +10,7 @@ ghost use Rattle.wl_pointed.specs.Marking.{LastMarksNothing, MarksApart, MarksIn
 ghost use Rattle.wl_pointed.specs.Marking.{RoundsMarkInTurn, SettlingMarksNothing};
 ghost use Rattle.wl_pointed.specs.Moved.{MovedStandsOn};
 ghost use Rattle.wl_pointed.specs.Rounds.{ButtonsEnd, MotionsEnd, RoundsAreFew, RoundsSettle, SettledAtOnce, SettlesAtLast, SettlesIdly, StruckLive};
+ghost use Rattle.wl_pointed.specs.Seats.{EndedStay, NewPointerShowsNothing, PointersStay, RoundsEndClients};
 ghost use Rattle.wl_pointed.specs.Whole.{StepsByRounds};
 
 // ---- messages
@@ -174,4 +175,26 @@ pub fn new_pointer_marks()
 /// A step with the pointer put aside, and then the rounds that follow with the pointer put back, are the step; and it marks what those mark.
 pub fn steps_by_rounds()
     ensures { StepsByRounds }
+{}
+
+// ---- the seats of clients
+
+/// Whatever happens, only wl_seat.get_pointer changes which wl_pointers a client that lives has.
+pub fn pointers_stay()
+    ensures { PointersStay }
+{}
+
+/// Where nobody points, a client that gets a wl_pointer and lives on leaves all windows as they are.
+pub fn new_pointer_shows_nothing()
+    ensures { NewPointerShowsNothing }
+{}
+
+/// A client that ended stays so until its number is given back, whatever happens, and so it does round by round.
+pub fn ended_stay()
+    ensures { EndedStay }
+{}
+
+/// Each round ends a client that lives: where none has ended, there was no round.
+pub fn rounds_end_clients()
+    ensures { RoundsEndClients }
 {}

@@ -1,0 +1,66 @@
+-- The seats of clients: which wl_pointers a client that lives has, that a new one shows nothing, and that a client that ended stays so.
+use Rattle.std.specs.Prelude.{ℕ, ◌≡◌, ◌≢◌, ◌≤◌, ◌⊎◌, true, Some, None, Ok, List, [], length}
+use Rattle.wl_peer.specs.declared.cause.Cause.{Cause}
+use Rattle.wl_stacking.specs.Pointer.{first_pointer}
+use Rattle.wl_plain.specs.declared.answers.Done.TheVariants as gave
+use Rattle.wl_plain.specs.Act.{Close, Connect}
+use Rattle.wl_plain.specs.Changing.{in_rising_order}
+use Rattle.wl_plain.specs.Demand.{GetPointer}
+use Rattle.wl_plain.specs.Desktop.{Desktop, Resident, client_at, status_in}
+use Rattle.wl_plain.specs.Happenings.{Happening, Leads, Message, Single}
+use Rattle.wl_plain.specs.LeftOut.{LeftOut}
+use Rattle.wl_plain.specs.Settling.{Midstep}
+use Rattle.wl_plain.specs.Stacked.{all_windows}
+use Rattle.wl_plain.specs.Through.{ServesThrough}
+use Rattle.wl_pointed.specs.Pointed.{asked}
+use Rattle.wl_pointed.specs.Rounds.{AreRounds, AreToEnd}
+
+-- ---- wl_pointers
+
+-- a client had the wl_pointers that it has, and asked for none
+abbrev pub HadPointers : LeftOut → Happening → Desktop → ℕ → Resident → Type 0
+HadPointers left h d c q =
+    (r : Resident) × (client_at c d ≡ Some r) × (r.peer.status ≡ None) × (q.pointers ≡ r.pointers)
+    × ((id version : ℕ) → h ≡ Message c → asked left c d ≡ Some (GetPointer id version) → ⊥)
+
+-- or it asked for one more (wayland.xml, wl_seat.get_pointer)
+abbrev pub AskedForPointer : LeftOut → Happening → Desktop → ℕ → Resident → Type 0
+AskedForPointer left h d c q =
+    (r : Resident) × (id : ℕ) × (version : ℕ) × (client_at c d ≡ Some r) × (r.peer.status ≡ None) × (h ≡ Message c)
+    × (asked left c d ≡ Some (GetPointer id version)) × (q.pointers ≡ in_rising_order id r.pointers)
+
+-- or it came, and has none yet
+abbrev pub CameWithoutPointers : Happening → ℕ → Resident → Type 0
+CameWithoutPointers h c q = (h ≡ Single Connect (gave.Connect (Ok c))) × (q.pointers ≡ [])
+
+abbrev pub HasPointersAfter : LeftOut → Happening → Desktop → ℕ → Resident → Type 0
+HasPointersAfter left h d c q = HadPointers left h d c q ⊎ (AskedForPointer left h d c q ⊎ CameWithoutPointers h c q)
+
+-- Only wl_seat.get_pointer changes which wl_pointers a client that lives has.
+abbrev pub PointersStay : Type 0
+PointersStay =
+    (left : LeftOut) (h : Happening) (d : Desktop) (path : List Desktop) (e : Desktop) (c : ℕ) (q : Resident)
+    → Leads left h d path e → client_at c e ≡ Some q → q.peer.status ≡ None → HasPointersAfter left h d c q
+
+-- Where nobody points, a client that gets a wl_pointer and lives on leaves all windows as they are.
+abbrev pub NewPointerShowsNothing : Type 0
+NewPointerShowsNothing =
+    (left : LeftOut) (c id version : ℕ) (d : Desktop) (path : List Desktop) (e : Desktop) → d.pointer ≡ first_pointer
+    → asked left c d ≡ Some (GetPointer id version) → ServesThrough left c d path e → status_in c e ≡ None
+    → all_windows e ≡ all_windows d
+
+-- ---- ends
+
+-- A client that ended stays so, for the same cause, whatever happens but that its number is given back; and round by round.
+abbrev pub EndedStay : Type 0
+EndedStay =
+    ((left : LeftOut) (h : Happening) (d : Desktop) (path : List Desktop) (e : Desktop) (c : ℕ) (why : Cause) → length d.clients ≤ 32
+    → Leads left h d path e → h ≢ Single (Close c) (gave.Close true) → status_in c d ≡ Some why → status_in c e ≡ Some why)
+    × ((n : ℕ) (old new : Midstep) (path : List Desktop) (c : ℕ) (why : Cause) → AreToEnd old.struck old.desktop
+    → AreRounds n old path new → status_in c old.desktop ≡ Some why → status_in c new.desktop ≡ Some why)
+
+-- Each round ends a client that lives: where none has ended that hadn't before, there was no round.
+abbrev pub RoundsEndClients : Type 0
+RoundsEndClients =
+    (n : ℕ) (old new : Midstep) (path : List Desktop) → AreToEnd old.struck old.desktop → AreRounds n old path new
+    → ((c : ℕ) → status_in c new.desktop ≡ status_in c old.desktop) → n ≡ 0
