@@ -18,6 +18,7 @@ pub mod Linking
 pub mod Beside
 pub mod Placing
 pub mod Pointing
+pub mod PointerAsks
 pub mod Asking
 pub mod OwnAsking
 pub mod Counting

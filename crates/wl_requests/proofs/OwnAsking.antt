@@ -114,7 +114,7 @@ own-asked WlBuffer r object version m own is = rw is refl
 own-asked XdgPositioner r object version m own is = rw is refl
 own-asked interface r object version m own is = absurd (cc)
 
-own-demand-of : (r : Resident) (object version : ℕ) (m : Message) → is_own m.interface ≡ true
+pub own-demand-of : (r : Resident) (object version : ℕ) (m : Message) → is_own m.interface ≡ true
     → demand_of served_now r object version m ≡ demands (owns (action_of (known_of r.peer) object version (request_of m)))
 own-demand-of r object version m own = own-asked m.interface r object version m own refl
 

@@ -23,7 +23,7 @@ use Rattle.wl_xdg_state.specs.declared.acts.ShellAct.TheVariants.{Configure, Map
 use Rattle.wl_requests.specs.declared.residents.Resident.{Resident as Kept}
 use Rattle.wl_requests.specs.declared.xdg_toplevel.ToplevelAsked.{ToplevelAsked}
 use Rattle.wl_requests.specs.declared.xdg_toplevel.ToplevelAsked.TheVariants.{Destruction, Configure as AskedConfigure}
-use Rattle.wl_requests.specs.declared.xdg_toplevel.ToplevelAsked.TheVariants.{Nothing as AskedNothing}
+use Rattle.wl_requests.specs.declared.xdg_toplevel.ToplevelAsked.TheVariants.{Move as AskedMove, Nothing as AskedNothing}
 use Rattle.wl_requests.specs.declared.residents.Stacking.{Stacking}
 use Rattle.wl_requests.specs.declared.residents.Stacking.TheVariants.{Stays, ToTop, Out}
 use Rattle.wl_plain.specs.Ask.{Ask}
@@ -251,4 +251,5 @@ asked_by toplevel.SetMaximized = AskedConfigure
 asked_by toplevel.UnsetMaximized = AskedConfigure
 asked_by (toplevel.SetFullscreen output) = AskedConfigure
 asked_by toplevel.UnsetFullscreen = AskedConfigure
+asked_by (toplevel.Move by serial) = AskedMove serial
 asked_by request = AskedNothing

@@ -4,6 +4,7 @@
 
 mod frames;
 mod messages;
+mod pointer_asked;
 mod releases;
 mod residents;
 mod surface_requests;
@@ -17,5 +18,6 @@ mod xdg_toplevel;
 mod xdg_wm_base;
 
 pub use messages::{Asked, Kind};
+pub use pointer_asked::PointerAsked;
 pub use residents::{Outcome, Resident, Stacking};
 pub use xdg_toplevel::ToplevelAsked;

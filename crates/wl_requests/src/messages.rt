@@ -9,11 +9,13 @@ ghost use Rattle.wl_proto.specs.Messages.{Message, request_message};
 ghost use Rattle.wl_peer.specs.Peer.{IsIdleAt};
 ghost use Rattle.wl_client.specs.Serving.{is_own};
 ghost use Rattle.wl_requests.specs.Messages.{IsAsked, IsKind, IsTouchOf, IsTouchOfAsked};
+ghost use Rattle.wl_requests.specs.PointerAsks.{pointer_asked_by, pointer_in};
 ghost use Rattle.wl_requests.specs.Touching.{IsTouched, Touch};
 ghost use Rattle.wl_requests.specs.Residents.{AnswersDemand, AnswersDemandAs, Leaves, NewIsFree, ObjectsFit, Stacks, TakesMessage, TakesMessageAs};
 ghost use Rattle.wl_plain.specs.LeftOut.{served_now};
 ghost use Rattle.wl_plain.specs.Demanding.{demand_of};
 
+use crate::pointer_asked::PointerAsked;
 use crate::residents::{Outcome, Resident, Stacking};
 use crate::xdg_toplevel::{ToplevelAsked, asked_of};
 use std::alloc::Allocator;
@@ -113,7 +115,8 @@ impl<A: Allocator + Copy> Resident<A> {
         }
     }
 
-    /// Answers a request to an object, which has this version and target. Where there is no room for windows nothing is applied.
+    /// Answers a request to an object, which has this version and target. Where there is no room for windows nothing is applied, and where
+    /// there is none for a new wl_pointer its client ends.
     fn answer(
         &mut self,
         object: u32,
@@ -134,6 +137,7 @@ impl<A: Allocator + Copy> Resident<A> {
         ensures nothing { ((touch : Touch) → IsTouchOf kind object target self.old touch → ⊥) → (numbers : ById ℕ) (subsurfaces : List Subsurface) → AreOfSurfaces self.old.subsurfaces numbers subsurfaces → result.applied ≡ None }
         ensures rest { Leaves self.old self.new }
         ensures room { is_some result.applied ≡ true → has_room ≡ true }
+        ensures seat { (id : ℕ) → pointer_asked_by target kind ≡ PointerAsked.NewPointer id → has_room ≡ false → is_some self.new.client.ended ≡ true }
     {
         match kind {
             Kind::Surface(request) => self.wl_surface(object, version, target, &request, has_room),
@@ -148,7 +152,7 @@ impl<A: Allocator + Copy> Resident<A> {
             }
             Kind::Subsurface(request) => self.wl_subsurface(object, version, &request, has_room),
             Kind::Seat(request) => {
-                self.wl_seat(object, version, &request);
+                self.wl_seat(object, version, &request, has_room);
                 Outcome::of(Stacking::Stays)
             }
             Kind::Pointer(request) => {
@@ -172,7 +176,7 @@ impl<A: Allocator + Copy> Resident<A> {
 
     /// Takes the first whole message of a client that lives, which asks this, and answers what that did. None where there is no whole message;
     /// then nothing is changed. Where there is no room for the windows that it leads to, a request that may change what several surfaces show
-    /// lacks memory, and nothing is applied.
+    /// lacks memory, and nothing is applied; so does wl_seat.get_pointer where there is none for the new wl_pointer.
     pub fn serve(&mut self, asked: Asked, has_room: bool) -> Option<Outcome<A>>
         requires { IsAsked self.old.client asked }
         ensures lives { IfSome result (λ s. self.old.client.ended ≡ None) }
@@ -184,6 +188,7 @@ impl<A: Allocator + Copy> Resident<A> {
         ensures idle { IfNone result ((self.new ≡ self.old) × IsIdleAt self.old.client.ended self.old.client.rest) }
         ensures less { IfSome result (λ s. length self.new.client.rest < length self.old.client.rest) }
         ensures room { IfSome result (λ s. is_some s.applied ≡ true → has_room ≡ true) }
+        ensures seat { IfSome result (λ s. (id : ℕ) → pointer_in asked ≡ PointerAsked.NewPointer id → has_room ≡ false → is_some self.new.client.ended ≡ true) }
     {
         if self.client.has_ended() {
             return None;

@@ -33,6 +33,8 @@ pub enum ToplevelAsked {
     Destruction,
     /// Another state is asked for, as by set_maximized: it is configured again, if it was configured before.
     Configure,
+    /// It is to be moved with the pointer, by the serial of a press (xdg-shell.xml, xdg_toplevel.move).
+    Move { serial: u32 },
     /// It has no effect.
     Nothing,
 }
@@ -47,11 +49,11 @@ pub(crate) fn asked_of(request: &XdgToplevelRequest) -> ToplevelAsked
         | XdgToplevelRequest::UnsetMaximized
         | XdgToplevelRequest::SetFullscreen { .. }
         | XdgToplevelRequest::UnsetFullscreen => ToplevelAsked::Configure,
+        XdgToplevelRequest::Move { serial, .. } => ToplevelAsked::Move { serial: *serial },
         XdgToplevelRequest::SetParent { .. }
         | XdgToplevelRequest::SetTitle { .. }
         | XdgToplevelRequest::SetAppId { .. }
         | XdgToplevelRequest::ShowWindowMenu { .. }
-        | XdgToplevelRequest::Move { .. }
         | XdgToplevelRequest::Resize { .. }
         | XdgToplevelRequest::SetMaxSize { .. }
         | XdgToplevelRequest::SetMinSize { .. }
@@ -179,6 +181,10 @@ impl<A: Allocator + Copy> Resident<A> {
                 Stacking::Stays
             }
             ToplevelAsked::Nothing => {
+                self.ignore();
+                Stacking::Stays
+            }
+            ToplevelAsked::Move { .. } => {
                 self.ignore();
                 Stacking::Stays
             }

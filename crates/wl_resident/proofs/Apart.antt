@@ -25,7 +25,7 @@ use Rattle.wl_resident.specs.Marking.{MarksAtLeast, MarksMost, MarksThrough}
 use Rattle.wl_resident.specs.Screens.{IsTouchedBy, has_own}
 use Rattle.wl_resident.specs.Seats.{IsClearedBy, IsRestacked, IsSeated}
 use Rattle.wl_resident.specs.View.{Pile, pile_of}
-use Rattle.wl_resident.proofs.Assembling.{Asks, is-applied, leads-seated, leads-through, owns, resident, trees}
+use Rattle.wl_resident.proofs.Assembling.{Asks, leads-seated, leads-through, owns, resident, trees}
 use Rattle.wl_resident.proofs.Ended.{Ending, ended-least, ended-on, ended-seated, ended-through, ending-apart}
 use Rattle.wl_resident.proofs.Living.{stays-apart}
 use Rattle.wl_resident.proofs.Serving as serving

@@ -13,9 +13,7 @@ use Rattle.wl_repaint.specs.Repaint.{window_has}
 use Rattle.wl_plain.specs.Desktop.{Desktop, Resident}
 use Rattle.wl_plain.specs.Stacked.{all_windows}
 use Rattle.wl_invariants.specs.Touching.{has_window_at}
-use Rattle.wl_invariants.proofs.WithoutPopups.Windows.{windows_are_toplevels}
 use Rattle.wl_invariants.specs.Orderly.{Orderly}
-use Rattle.wl_invariants.proofs.OrderlyClients.Clients.{orderly_has_no_popups}
 use Rattle.wl_owning.specs.Owning.{targets_in}
 use Rattle.wl_stacked.specs.declared.stacked.Stacked.{Stacked}
 use Rattle.wl_lending.specs.Stacked.{AreStacked, IsStacked}

@@ -38,9 +38,7 @@ use Rattle.wl_repaint.specs.Repaint.{window_has}
 use Rattle.wl_stacked.specs.declared.stacked.Stacked.{Stacked}
 use Rattle.wl_invariants.specs.TreeMarksLaws.{is_in_any}
 use Rattle.wl_invariants.proofs.TreeMarks.Lists.{either-of}
-use Rattle.wl_invariants.specs.NoPopups.{NoPopups}
 use Rattle.wl_invariants.specs.Simple.{changed_simply}
-use Rattle.wl_invariants.proofs.WithoutPopups.Windows.{windows_are_toplevels}
 use Rattle.wl_windows.specs.Windows.{told_of}
 use Rattle.wl_windows.specs.declared.window.TreeWindow.{TreeWindow}
 use Rattle.wl_invariants.specs.Orderly.{Orderly, OwnsOrderly}

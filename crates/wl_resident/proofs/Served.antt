@@ -2,6 +2,7 @@
 use Rattle.std.proofs.Common.{◌≡◌, ℕ, Bool, true, false, Option, Some, None, List, [], refl, ap, sym, subst, ◌∙◌}
 use Rattle.std.specs.Prelude.{Result, Ok, Err, OnOk, is_ok, is_some}
 use Rattle.std.specs.declared.alloc.AllocError.{AllocError}
+use Rattle.wl_family.specs.declared.link.Link.{Link}
 use Rattle.wl_family.specs.Family.{links_in}
 use Rattle.wl_laws.proofs.Lists.Keys.{differ, none-some, some-same}
 use Rattle.wl_peer.specs.Objects.{ById}
@@ -9,14 +10,23 @@ use Rattle.wl_surface.specs.Slots.{count}
 use Rattle.wl_surface.specs.declared.applied.Applied.{Applied}
 use Rattle.wl_plain.specs.Desktop.{Subsurface}
 use Rattle.wl_owning.specs.Subsurfaces.{AreOfSurfaces}
+use Rattle.wl_proto.specs.declared.wl_subsurface.WlSubsurfaceRequest.TheVariants as subsurface
+use Rattle.wl_proto.specs.declared.wl_surface.WlSurfaceRequest.TheVariants as surface
 use Rattle.wl_requests.specs.declared.messages.Asked.{Asked}
+use Rattle.wl_requests.specs.declared.messages.Asked.TheVariants as asked
+use Rattle.wl_requests.specs.declared.messages.Kind.{Kind}
+use Rattle.wl_requests.specs.declared.messages.Kind.TheVariants as kind
+use Rattle.wl_requests.specs.declared.pointer_asked.PointerAsked.TheVariants.{NewPointer}
 use Rattle.wl_requests.specs.declared.residents.Resident.{Resident as Kept}
 use Rattle.wl_requests.specs.declared.residents.Stacking.{Stacking}
-use Rattle.wl_requests.specs.Messages.{IsAsked, IsTouchOfAsked}
+use Rattle.wl_requests.specs.declared.xdg_toplevel.ToplevelAsked.TheVariants.{Move as MoveAsked}
+use Rattle.wl_requests.specs.Linking.{IsChildOf}
+use Rattle.wl_requests.specs.Messages.{IsAsked, IsTouchOf, IsTouchOfAsked}
+use Rattle.wl_requests.specs.PointerAsks.{pointer_asked_by, pointer_in}
 use Rattle.wl_requests.specs.Residents.{TakesMessage, TakesMessageAs}
 use Rattle.wl_requests.specs.Touching.{IsTouched, Touch}
 use Rattle.wl_resident.specs.declared.screens.Screen.{Screen}
-use Rattle.wl_resident.specs.Screens.{HasRoom, IsSameScreen, IsTouchedBy, root_in, tree_kept}
+use Rattle.wl_resident.specs.Screens.{HasRoom, IsSameScreen, IsTouchedBy, IsTouchedIn, root_in, tree_kept}
 use Rattle.wl_resident.proofs.Assembling.{Asks}
 
 -- ---- what was prepared
@@ -56,16 +66,36 @@ asks-so c v mid b was ready asked surface root stacking applied result surfaces 
 
 -- ---- where no tree is touched, nothing is prepared, and nothing is applied
 
-pub unapplied : {X : Type 0} (o : Option X) → (is_some o ≡ true → false ≡ true) → o ≡ None
-unapplied None never = refl
-unapplied (Some x) never = absurd (differ (sym (never refl)))
+-- of a wl_subsurface whose link is gone there is no such child
+childless : {A : Type 0} (v : Kept A) (numbers : ById ℕ) (subsurfaces : List Subsurface) → AreOfSurfaces v.subsurfaces numbers subsurfaces → (object child : ℕ) → IsChildOf v object None
+    → IsChildOf v object (Some child) → ⊥
+childless v numbers subsurfaces are object child gone there =
+    differ (sym there.1 ∙ ap (λ (o : Option Link). is_some o) (gone numbers subsurfaces are child there.0))
+
+untouched-kind : {A : Type 0} (v : Kept A) (numbers : ById ℕ) (subsurfaces : List Subsurface) → AreOfSurfaces v.subsurfaces numbers subsurfaces → (k : Kind) (object target : ℕ) (touch : Touch)
+    → IsTouchedIn v object target k None → IsTouchOf k object target v touch → ⊥
+untouched-kind v numbers subsurfaces are (kind.Surface surface.Commit) object target touch none it = none-some target none
+untouched-kind v numbers subsurfaces are (kind.Surface surface.Destroy) object target touch none it = none-some target none
+untouched-kind v numbers subsurfaces are (kind.Subsurface subsurface.Destroy) object target touch none it = childless v numbers subsurfaces are object it.0 none it.1.0
+untouched-kind v numbers subsurfaces are (kind.Subsurface subsurface.SetDesync) object target touch none it = childless v numbers subsurfaces are object it.0 none it.1.0
+untouched-kind v numbers subsurfaces are k object target touch none it = it
+
+untouched : {A : Type 0} (v : Kept A) (numbers : ById ℕ) (subsurfaces : List Subsurface) → AreOfSurfaces v.subsurfaces numbers subsurfaces → (a : Asked) (touch : Touch) → IsTouchedBy v a None
+    → IsTouchOfAsked a v touch → ⊥
+untouched v numbers subsurfaces are (asked.Request object version size target k) touch none it = untouched-kind v numbers subsurfaces are k object target touch none it
+untouched v numbers subsurfaces are a touch none it = it
+
+pub unapplied : {A : Type 0} (v : Kept A) (asked : Asked) (applied : Option (Applied A)) → IsTouchedBy v asked None
+    → (((touch : Touch) → IsTouchOfAsked asked v touch → ⊥) → (numbers : ById ℕ) (subsurfaces : List Subsurface) → AreOfSurfaces v.subsurfaces numbers subsurfaces → applied ≡ None)
+    → (numbers : ById ℕ) (subsurfaces : List Subsurface) → AreOfSurfaces v.subsurfaces numbers subsurfaces → applied ≡ None
+unapplied v asked applied by nothing numbers subsurfaces are = nothing (λ touch it. untouched v numbers subsurfaces are asked touch by it) numbers subsurfaces are
 
 pub asks-apart : {A : Type 0} (c : ℕ) (v mid : Kept A) (was : Screen A) (asked : Asked) (stacking : Stacking) (applied : Option (Applied A))
     → v.client.ended ≡ None → IsAsked v.client asked → IsTouchedBy v asked None → TakesMessage v mid stacking
     → ((touch : Touch) → IsTouchOfAsked asked v touch → TakesMessageAs (is_some applied) v mid)
     → ((touch : Touch) → IsTouchOfAsked asked v touch → IsTouched touch v.owned.linked mid.owned.linked applied)
-    → (is_some applied ≡ true → false ≡ true) → Asks c v mid was was asked None stacking applied
-asks-apart c v mid was asked stacking applied lives asks by takes decides touched_so never =
+    → applied ≡ None → Asks c v mid was was asked None stacking applied
+asks-apart {A} c v mid was asked stacking applied lives asks by takes decides touched_so none =
     record {
       lives = lives;
       asks = asks;
@@ -76,12 +106,15 @@ asks-apart c v mid was asked stacking applied lives asks by takes decides touche
       takes = takes;
       decides = decides;
       touched_so = touched_so;
-      nothing = λ none. unapplied applied never;
+      nothing = λ never. none;
       same = record { scene = refl; windows = refl; damage = refl };
-      kept = λ some. absurd (differ (sym (never some)));
-      room = λ some. absurd (differ (sym (never some)));
-      empty = λ some. absurd (differ (sym (never some)));
+      kept = λ some. absurd (never some);
+      room = λ some. absurd (never some);
+      empty = λ some. absurd (never some);
     }
+  where
+    never : is_some applied ≡ true → ⊥
+    never some = differ (sym some ∙ ap (λ (o : Option (Applied A)). is_some o) none)
 
 pub ended-so : {X : Type 0} (o : Option X) → is_some o ≡ true → (x : X) × (o ≡ Some x)
 ended-so None some = absurd (differ (sym some))
@@ -90,3 +123,14 @@ ended-so (Some x) some = (x, refl)
 pub lives-so : {X : Type 0} (o : Option X) → is_some o ≡ false → o ≡ None
 lives-so None none = refl
 lives-so (Some x) none = absurd (differ none)
+
+-- ---- a wl_pointer is asked for by a message that touches no tree
+
+only-seats : (target : ℕ) (k : Kind) (id : ℕ) → pointer_asked_by target k ≡ NewPointer id → {A : Type 0} (v : Kept A) (object surface : ℕ) → IsTouchedIn v object target k (Some surface) → ⊥
+only-seats target (kind.Seat request) id e v object surface there = none-some surface (sym there)
+only-seats target (kind.Toplevel (MoveAsked serial)) id e v object surface there = cc
+only-seats target k id e v object surface there = cc
+
+pub no-pointer : {A : Type 0} (v : Kept A) (a : Asked) (surface id : ℕ) → IsTouchedBy v a (Some surface) → pointer_in a ≡ NewPointer id → ⊥
+no-pointer v (asked.Request object version size target k) surface id there e = only-seats target k id e v object surface there
+no-pointer v a surface id there e = cc

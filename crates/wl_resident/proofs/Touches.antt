@@ -66,7 +66,7 @@ use Rattle.wl_requests.specs.declared.messages.Kind.{Kind}
 use Rattle.wl_requests.specs.declared.messages.Kind.TheVariants as kind
 use Rattle.wl_requests.specs.declared.residents.Resident.{Resident as Kept}
 use Rattle.wl_requests.specs.declared.xdg_toplevel.ToplevelAsked.{ToplevelAsked}
-use Rattle.wl_requests.specs.declared.xdg_toplevel.ToplevelAsked.TheVariants.{Configure, Destruction, Nothing}
+use Rattle.wl_requests.specs.declared.xdg_toplevel.ToplevelAsked.TheVariants.{Configure, Destruction, Move as AskedMove, Nothing}
 use Rattle.wl_requests.specs.Linking.{IsChildOf, IsOnlyChild}
 use Rattle.wl_requests.specs.Messages.{IsAsked, IsKind, IsTouchOf, IsTouchOfAsked}
 use Rattle.wl_requests.specs.Residents.{IsResident, asked_by}
@@ -459,6 +459,7 @@ module _ {A : Type 0} (v : Kept A) (r : Resident) (is : IsResident v r) (orderly
         subst (λ (d : Demand). Touches v r (λ touch. ⊥) touched d) (sym e)
         (one-touched (λ touch. ⊥) touched (EndToplevel object its.1.id its.1.surface) its.1.surface target refl there its.3.surface (λ touch it. it) (λ touch it. absurd it))
     toplevel-touches Configure i is_it touched there = other-touches Configure i is_it (λ same. absurd (cc)) touched there
+    toplevel-touches (AskedMove serial) i is_it touched there = other-touches (AskedMove serial) i is_it (λ same. absurd (cc)) touched there
     toplevel-touches Nothing i is_it touched there = other-touches Nothing i is_it (λ same. absurd (cc)) touched there
 
     -- ---- of whatever interface

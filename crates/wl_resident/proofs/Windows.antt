@@ -20,7 +20,6 @@ use Rattle.wl_invariants.proofs.TreeMarks.Roots.{is-tree-of-root}
 use Rattle.wl_invariants.proofs.TreeMarks.Tree.{marks-tree-alone}
 use Rattle.wl_invariants.proofs.TreeMarks.Whole.{may-mark-whole-tree}
 use Rattle.wl_invariants.specs.NoPopups.{NoPopups}
-use Rattle.wl_invariants.proofs.WithoutPopups.Windows.{windows_are_toplevels}
 
 -- one of these windows is of the client, and contains the point
 abbrev pub is_own_in : ℕ → ℤ → ℤ → List Window → Bool

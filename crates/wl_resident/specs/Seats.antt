@@ -4,6 +4,7 @@ use Rattle.wl_interface.specs.declared.interface.Interface.TheVariants.{WlSurfac
 use Rattle.wl_peer.specs.Objects.{ById}
 use Rattle.wl_peer.specs.Peer.{Peer, ended}
 use Rattle.wl_peer.specs.declared.cause.Cause.{Cause}
+use Rattle.wl_client.specs.View.{opened}
 use Rattle.wl_linked.specs.Linked.{Stand}
 use Rattle.wl_surface.specs.Surfaces.{no_surfaces}
 use Rattle.wl_stacking.specs.Stacking.{without_client, without_surface_of}
@@ -37,6 +38,10 @@ pub record IsSeated {A : Type 0} (c : ℕ) (others : ℕ → ById ℕ) (base : D
   pub scene : IsScene (with_numbers c (targets_in WlSurface v.client.objects) others) pile.scene d
   pub windows : AreStacked (with_numbers c (targets_in WlSurface v.client.objects) others) pile.windows (all_windows d)
   pub mapped : MappedStand d
+
+-- the same, as if no event for it had been refused
+abbrev pub opened_kept : {A : Type 0} → Kept A → Kept A
+opened_kept v = record v { client = opened v.client }
 
 -- A call does to what is kept of client c what R does to it on the desktop: its stream, objects and stores change, or it ends.
 abbrev pub IsChangedSo : {A : Type 0} → ℕ → (Peer → Done → Option Peer → Type 0) → Done → Kept A → Kept A → Pile → Pile → Type 0

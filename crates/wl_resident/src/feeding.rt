@@ -1,16 +1,17 @@
 //! What a client sends is taken one message at a time, and its toplevels and their windows follow; a client ends, and goes.
 
-ghost use Rattle.std.specs.Prelude.{ℕ, ◌≡◌, ◌<◌, ◌||◌, List, None, Some, length, is_some, pos, true, false};
+ghost use Rattle.std.specs.Prelude.{ℕ, ◌≡◌, ◌<◌, ◌≤◌, ◌||◌, IfSome, List, None, Some, length, is_some, pos, true, false};
 ghost use Rattle.wl_marking.specs.Marking.{IsAsLarge};
-ghost use Rattle.wl_resident.specs.Marking.{MarksAtLeast, MarksAtMost, MarksOwn, MarksThrough};
+ghost use Rattle.wl_resident.specs.Marking.{MarksAtLeast, MarksAtMost, MarksOwn, MarksOwnIf, MarksThrough};
 ghost use Rattle.wl_peer.specs.Objects.{ById};
 ghost use Rattle.wl_store.specs.Stores.{write_refusal};
 ghost use Rattle.wl_client.specs.Agreement.{IsPeer};
-ghost use Rattle.wl_peer.specs.Peer.{IsIdleAt, Peer, stored_at};
+ghost use Rattle.wl_peer.specs.Peer.{IsIdleAt, Peer, ended, stored_at};
 ghost use Rattle.wl_plain.specs.Desktop.{Desktop, Resident as Plain, become};
 ghost use Rattle.wl_paint.specs.Damage.{has};
+ghost use Rattle.wl_requests.specs.PointerAsks.{MessageAsksPointer};
 ghost use Rattle.wl_resident.specs.Screens.{IsFollowed, IsParted, has_own};
-ghost use Rattle.wl_resident.specs.Seats.{IsBare, IsChangedSo, IsClearedBy, IsSeated, ended_by};
+ghost use Rattle.wl_resident.specs.Seats.{IsBare, IsChangedSo, IsClearedBy, IsSeated, ended_by, opened_kept};
 ghost use Rattle.wl_resident.specs.View.{Pile, pile_of};
 ghost use Rattle.wl_plain.specs.LeftOut.{served_now};
 ghost use Rattle.wl_invariants.specs.Orderly.{Orderly};
@@ -24,7 +25,7 @@ use std::alloc::Allocator;
 use wl_client::{Cause, Client, StoreNo};
 use wl_linked::Linked;
 use wl_plain::{ClientNo, Done, Stored};
-use wl_requests::{Outcome, Resident};
+use wl_requests::{Outcome, PointerAsked, Resident};
 use wl_scene::Owned;
 use wl_shell::Shell;
 use wl_subsurfaces::Subsurfaces;
@@ -111,60 +112,76 @@ impl<A: Allocator + Copy> Screen<A> {
         self.clear(resident, client, alloc);
     }
 
-    /// Takes the first whole message of a client that lives, and answers whether there was one. What it changes of the windows of a tree is
-    /// marked: the damage that it applied, where the windows stand as they did; else all of them, as they were before and as they are after.
-    /// Where the client ends by it, its windows are marked, and no more.
-    pub fn serve(&mut self, resident: &mut Resident<A>, client: ClientNo, alloc: A) -> bool
-        ensures serves { result ≡ true → (others : ℕ → ById ℕ) (base d : Desktop) (r : Plain) → IsSeated client others base resident.old (pile_of self.old) d r → Orderly d
+    /// Takes the first whole message of a client that lives, and answers what it asks of the pointer; None where there is none. What it changes
+    /// of the windows of a tree is marked: the damage that it applied, where the windows stand as they did; else all of them, as they were
+    /// before and as they are after. Where the client ends by it, its windows are marked, and no more; so does one that asks for a wl_pointer
+    /// where there is no seat for that.
+    pub fn serve(
+        &mut self,
+        resident: &mut Resident<A>,
+        client: ClientNo,
+        has_seat: bool,
+        alloc: A,
+    ) -> Option<PointerAsked>
+        ensures serves { is_some result ≡ true → (others : ℕ → ById ℕ) (base d : Desktop) (r : Plain) → IsSeated client others base resident.old (pile_of self.old) d r → Orderly d
             → (e : Desktop) × (q : Plain) × Serves served_now client d e × IsSeated client others base resident.new (pile_of self.new) e q }
-        ensures marks { result ≡ true → (others : ℕ → ById ℕ) (base d : Desktop) (r : Plain) → IsSeated client others base resident.old (pile_of self.old) d r → Orderly d
+        ensures marks { is_some result ≡ true → (others : ℕ → ById ℕ) (base d : Desktop) (r : Plain) → IsSeated client others base resident.old (pile_of self.old) d r → Orderly d
             → (e : Desktop) (q : Plain) → Serves served_now client d e → IsSeated client others base resident.new (pile_of self.new) e q
             → MarksAtLeast d e self.old.damage self.new.damage }
-        ensures within { result ≡ true → (others : ℕ → ById ℕ) (base d : Desktop) (r : Plain)
+        ensures within { is_some result ≡ true → (others : ℕ → ById ℕ) (base d : Desktop) (r : Plain)
             → self.old.damage.width ≡ d.output.width → self.old.damage.height ≡ d.output.height
             → IsSeated client others base resident.old (pile_of self.old) d r → Orderly d
             → (e : Desktop) (q : Plain) → Serves served_now client d e → IsSeated client others base resident.new (pile_of self.new) e q
             → MarksAtMost client d e self.old.damage self.new.damage }
-        ensures through { result ≡ true → (others : ℕ → ById ℕ) (base d : Desktop) (r : Plain)
+        ensures through { is_some result ≡ true → (others : ℕ → ById ℕ) (base d : Desktop) (r : Plain)
             → self.old.damage.width ≡ d.output.width → self.old.damage.height ≡ d.output.height
             → IsSeated client others base resident.old (pile_of self.old) d r → Orderly d
             → (e : Desktop) × (q : Plain) × (path : List Desktop) × ServesThrough served_now client d path e
             × IsSeated client others base resident.new (pile_of self.new) e q × MarksThrough d path self.old.damage self.new.damage }
-        ensures idle { result ≡ false → (resident.new ≡ resident.old) × (pile_of self.new ≡ pile_of self.old)
+        ensures asks { IfSome result (λ asked. (resident.old.client.ended ≡ None) × MessageAsksPointer resident.old asked) }
+        ensures seat { IfSome result (λ asked. (id : ℕ) → asked ≡ PointerAsked.NewPointer id → has_seat ≡ false → is_some resident.new.client.ended ≡ true) }
+        ensures idle { is_some result ≡ false → (resident.new ≡ resident.old) × (pile_of self.new ≡ pile_of self.old)
             × (self.new.damage ≡ self.old.damage) × IsIdleAt resident.old.client.ended resident.old.client.rest }
         ensures sides { IsAsLarge self.old.damage self.new.damage }
-        ensures less { result ≡ true → length resident.new.client.rest < length resident.old.client.rest }
+        ensures less { is_some result ≡ true → length resident.new.client.rest < length resident.old.client.rest }
     {
         if resident.client.has_ended() {
-            return false;
+            return None;
         }
         let asked = resident.asked();
+        let pointer = resident.pointer_asked(&asked);
         let Some(surface) = touched_by(resident, &asked) else {
-            let Some(_outcome) = resident.serve(asked, false) else {
-                return false;
+            let Some(_outcome) = resident.serve(asked, has_seat) else {
+                return None;
             };
             self.part_alone(resident, client, alloc);
-            return true;
+            return Some(pointer);
         };
         let root = root_of(resident, surface);
         let surfaces = resident.owned.linked.surfaces.len();
         let has_room = self.prepare(client, root, surfaces).is_ok();
         let Some(outcome) = resident.serve(asked, has_room) else {
-            return false;
+            return None;
         };
         if resident.client.has_ended() {
             self.part(resident, client, root, &outcome, alloc);
         } else {
             self.follow(resident, client, root, &outcome);
         }
-        true
+        Some(pointer)
     }
 
-    /// The client ends by this, where it lives. Its windows are marked, and no more.
+    /// The client ends by this, where it lives, also where an event wasn't queued for it. Its windows are marked, and no more.
     pub fn end(&mut self, resident: &mut Resident<A>, client: ClientNo, cause: Cause, alloc: A)
         ensures ends { (others : ℕ → ById ℕ) (base d : Desktop) (r : Plain) → IsSeated client others base resident.old (pile_of self.old) d r
             → (q : Plain) × IsSeated client others base resident.new (pile_of self.new) (become client r (ended_by r.peer.status cause r.peer) d) q }
         ensures marks { MarksOwn resident.old.client.ended client resident.old (pile_of self.old) self.old.damage self.new.damage }
+        ensures refused { resident.old.client.ended ≡ None → (others : ℕ → ById ℕ) (base d : Desktop) (r : Plain)
+            → IsSeated client others base (opened_kept resident.old) (pile_of self.old) d r
+            → (q : Plain) × IsSeated client others base resident.new (pile_of self.new) (become client r (ended cause r.peer) d) q }
+        ensures marks_refused { resident.old.client.ended ≡ None
+            → MarksOwnIf true client (opened_kept resident.old) (pile_of self.old) self.old.damage self.new.damage }
+        ensures rest { length resident.new.client.rest ≤ length resident.old.client.rest }
     {
         if !resident.client.has_ended() {
             self.mark_client(client);

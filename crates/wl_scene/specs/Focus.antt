@@ -4,15 +4,15 @@ use Rattle.std.specs.Option.{option_map}
 use Rattle.wl_scene.specs.declared.actions.Action.{Action}
 use Rattle.wl_scene.specs.declared.actions.Action.TheVariants as does
 use Rattle.wl_scene.specs.declared.focus.Point.{Point}
-use Rattle.wl_scene.specs.declared.scene.Surface.{Surface}
+use Rattle.wl_scene.specs.declared.actions.Target.{Target as Named}
 use Rattle.wl_stacking.specs.Pointer.{Pointer, Target, hit_by, is_stacked}
 use Rattle.wl_stacking.specs.PointerActions.{PointerAction, Leave, Enter, Motion, Button, Raise, MoveWindow, Dismiss}
 use Rattle.wl_stacking.specs.Windows.{Place, Window}
 
-abbrev pub target_of : Surface → Target
+abbrev pub target_of : Named → Target
 target_of s = record { client = s.client; surface = s.surface }
 
-abbrev pub target_or_none : Option Surface → Option Target
+abbrev pub target_or_none : Option Named → Option Target
 target_or_none surface = option_map target_of surface
 
 abbrev pub place_of : Point → Place

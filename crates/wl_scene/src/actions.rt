@@ -7,24 +7,30 @@ ghost use Rattle.wl_stacking.specs.PointerActions.{button_of, dismiss_of, enter_
 ghost use Rattle.wl_stacking.specs.Windows.{Window};
 ghost use Rattle.wl_scene.specs.Focus.{action_of, action_or_none, target_or_none, toplevel_of};
 
-use crate::scene::Surface;
 use arrayvec::ArrayVec;
 
-/// What the pointer does to surfaces and toplevels, each by its client and its number.
+/// A surface of a client, by the id of its wl_surface.
+#[derive(Clone, Copy, Debug, PartialEq, Eq)]
+pub struct Target {
+    pub client: u32,
+    pub surface: u32,
+}
+
+/// What the pointer does to surfaces and toplevels, each by its client and the id of its wl_surface.
 #[derive(Clone, Copy, Debug, PartialEq, Eq)]
 pub enum Action {
     /// The surface is left (wayland.xml, wl_pointer.leave).
-    Leave(Surface),
+    Leave(Target),
     /// The surface is entered (wayland.xml, wl_pointer.enter).
-    Enter(Surface),
+    Enter(Target),
     /// The surface is told of a motion at a time in milliseconds (wayland.xml, wl_pointer.motion).
-    Motion(u32, Surface),
+    Motion(u32, Target),
     /// The surface is told that at a time in milliseconds a button was pressed, or else released (wayland.xml, wl_pointer.button).
-    Button(u32, u32, bool, Surface),
+    Button(u32, u32, bool, Target),
     /// The toplevel comes to the top.
-    Raise(Surface),
+    Raise(Target),
     /// The toplevel goes so many pixels to the right and down.
-    MoveWindow(Surface, i64, i64),
+    MoveWindow(Target, i64, i64),
     /// The popups with a grab of this client are dismissed (xdg-shell.xml, xdg_popup.popup_done).
     Dismiss(u32),
 }
@@ -65,7 +71,7 @@ pub(crate) fn listed(
 }
 
 /// Whether both are the same surface, or none.
-pub(crate) fn is_same(one: Option<Surface>, other: Option<Surface>) -> bool
+pub(crate) fn is_same(one: Option<Target>, other: Option<Target>) -> bool
     ensures { result ≡ is_same (target_or_none one) (target_or_none other) }
 {
     match (one, other) {
@@ -75,19 +81,19 @@ pub(crate) fn is_same(one: Option<Surface>, other: Option<Surface>) -> bool
     }
 }
 
-pub(crate) fn leave(focus: Option<Surface>) -> Option<Action>
+pub(crate) fn leave(focus: Option<Target>) -> Option<Action>
     ensures { action_or_none result ≡ leave_of (target_or_none focus) }
 {
     Some(Action::Leave(focus?))
 }
 
-pub(crate) fn enter(focus: Option<Surface>) -> Option<Action>
+pub(crate) fn enter(focus: Option<Target>) -> Option<Action>
     ensures { action_or_none result ≡ enter_of (target_or_none focus) }
 {
     Some(Action::Enter(focus?))
 }
 
-pub(crate) fn motion(time: u32, moved: Option<Surface>, focus: Option<Surface>) -> Option<Action>
+pub(crate) fn motion(time: u32, moved: Option<Target>, focus: Option<Target>) -> Option<Action>
     ensures { action_or_none result ≡ motion_of time (target_or_none moved) (target_or_none focus) }
 {
     match (moved, focus) {
@@ -100,21 +106,21 @@ pub(crate) fn button(
     time: u32,
     button: u32,
     is_pressed: bool,
-    focus: Option<Surface>,
+    focus: Option<Target>,
 ) -> Option<Action>
     ensures { action_or_none result ≡ button_of time button is_pressed (target_or_none focus) }
 {
     Some(Action::Button(time, button, is_pressed, focus?))
 }
 
-pub(crate) fn raise(toplevel: Option<Surface>) -> Option<Action>
+pub(crate) fn raise(toplevel: Option<Target>) -> Option<Action>
     ensures { (w : Option Window) → toplevel_of w ≡ target_or_none toplevel → action_or_none result ≡ raise_of w }
 {
     Some(Action::Raise(toplevel?))
 }
 
 /// The popups with a grab of the client that holds one are dismissed, unless the press hits a surface of it.
-pub(crate) fn dismiss(holder: Option<u32>, toplevel: Option<Surface>) -> Option<Action>
+pub(crate) fn dismiss(holder: Option<u32>, toplevel: Option<Target>) -> Option<Action>
     ensures { (w : Option Window) → toplevel_of w ≡ target_or_none toplevel → action_or_none result ≡ dismiss_of holder w }
 {
     let holder = holder?;

@@ -7,8 +7,7 @@ ghost use Rattle.wl_stacking.specs.PointerActions.{GoTo, Press, Release, Settle,
 ghost use Rattle.wl_stacking.specs.Windows.{Window};
 ghost use Rattle.wl_scene.specs.Focus.{IsSeen, action_of, action_or_none, place_of, target_of, target_or_none, toplevel_of, unless_of, with_buttons};
 
-use crate::actions::{self, Action, Actions};
-use crate::scene::Surface;
+use crate::actions::{self, Action, Actions, Target};
 use arrayvec::ArrayVec;
 use std::marker::Model;
 
@@ -31,8 +30,8 @@ pub struct Focus {
     place: Option<Point>,
     buttons: ArrayVec<u32, MOST_BUTTONS>,
     hold: Option<u32>,
-    focus: Option<Surface>,
-    moved: Option<Surface>,
+    focus: Option<Target>,
+    moved: Option<Target>,
 }
 
 impl Model for Focus {
@@ -59,7 +58,7 @@ fn between(from: i32, to: i32) -> i64
 }
 
 /// The toplevel that is moved goes along by the difference between the two places.
-fn drag(from: Option<Point>, to: Point, moved: Option<Surface>) -> Option<Action>
+fn drag(from: Option<Point>, to: Point, moved: Option<Target>) -> Option<Action>
     ensures { action_or_none result ≡ move_of (option_map place_of from) (place_of to) (target_or_none moved) }
 {
     let from = from?;
@@ -69,7 +68,7 @@ fn drag(from: Option<Point>, to: Point, moved: Option<Surface>) -> Option<Action
 }
 
 /// The surface, if it isn't of this client.
-fn unless_of(client: u32, surface: Option<Surface>) -> Option<Surface>
+fn unless_of(client: u32, surface: Option<Target>) -> Option<Target>
     ensures { target_or_none result ≡ unless_of client (target_or_none surface) }
 {
     surface.filter(|surface| surface.client != client)
@@ -111,14 +110,14 @@ impl Focus {
     }
 
     /// The surface that has the focus.
-    pub fn focus(&self) -> Option<Surface>
+    pub fn focus(&self) -> Option<Target>
         ensures { target_or_none result ≡ self.now.focus }
     {
         self.focus
     }
 
     /// The toplevel that is moved.
-    pub fn moved(&self) -> Option<Surface>
+    pub fn moved(&self) -> Option<Target>
         ensures { target_or_none result ≡ self.now.move }
     {
         self.moved
@@ -146,7 +145,7 @@ impl Focus {
     }
 
     /// The focus after a step, by what is told of the windows.
-    fn settled(&self, hit: Option<Surface>, is_stacked: bool) -> Option<Surface>
+    fn settled(&self, hit: Option<Target>, is_stacked: bool) -> Option<Target>
         ensures { (ws : List Window) → IsSeen (target_or_none hit) is_stacked self.now ws → target_or_none result ≡ settled self.now ws }
     {
         if self.buttons.is_empty() {
@@ -156,7 +155,7 @@ impl Focus {
     }
 
     /// Another surface, or none, has the focus: the old one is left and the new one entered. Where it stays, so much is done.
-    fn refocus(&mut self, focus: Option<Surface>, staying: Option<Action>) -> Actions
+    fn refocus(&mut self, focus: Option<Target>, staying: Option<Action>) -> Actions
         ensures acts { (ws : List Window) → target_or_none focus ≡ settled self.old ws
             → map action_of result.items ≡ focus_or (action_or_none staying) self.old ws }
         ensures keeps { self.new ≡ record self.old { focus = target_or_none focus } }
@@ -172,7 +171,7 @@ impl Focus {
     /// The windows may have changed: where the focus moves, the surface that had it is left and the one that has it now is entered
     /// (wayland.xml, wl_pointer.leave and wl_pointer.enter). It is told which surface the pointer hits, which counts only where no button
     /// is down, and whether the surface that has the focus is among the windows, which counts only where one is.
-    pub fn settle(&mut self, hit: Option<Surface>, is_stacked: bool) -> Actions
+    pub fn settle(&mut self, hit: Option<Target>, is_stacked: bool) -> Actions
         ensures acts { (ws : List Window) → IsSeen (target_or_none hit) is_stacked self.old ws
             → map action_of result.items ≡ actions Settle self.old ws }
         ensures keeps { (ws : List Window) → IsSeen (target_or_none hit) is_stacked self.old ws
@@ -195,7 +194,7 @@ impl Focus {
     /// The pointer went where it is, at a time in milliseconds: where the focus stays, its surface is told of the motion (wayland.xml,
     /// wl_pointer.motion), unless a toplevel is moved; where it moves, the surface that had it is left and the one that has it now is
     /// entered. It is told of the windows what [`Focus::settle`] is.
-    pub fn went(&mut self, time: u32, hit: Option<Surface>, is_stacked: bool) -> Actions
+    pub fn went(&mut self, time: u32, hit: Option<Target>, is_stacked: bool) -> Actions
         ensures acts { (ws : List Window) → IsSeen (target_or_none hit) is_stacked self.old ws
             → map action_of result.items ≡ actions (Went time) self.old ws }
         ensures keeps { (ws : List Window) → IsSeen (target_or_none hit) is_stacked self.old ws
@@ -213,7 +212,7 @@ impl Focus {
         &mut self,
         time: u32,
         button: u32,
-        toplevel: Option<Surface>,
+        toplevel: Option<Target>,
         holder: Option<u32>,
     ) -> Actions
         ensures acts { is_press button self.old.buttons ≡ true
@@ -269,7 +268,7 @@ impl Focus {
     }
 
     /// Motions move this toplevel from now on (xdg-shell.xml, xdg_toplevel.move). That it may be moved is the caller's condition.
-    pub fn begin_move(&mut self, toplevel: Surface)
+    pub fn begin_move(&mut self, toplevel: Target)
         ensures { self.new ≡ record self.old { move = Some (target_of toplevel) } }
     {
         self.moved = Some(toplevel);

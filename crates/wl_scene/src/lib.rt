@@ -8,7 +8,7 @@ mod focus;
 mod owned;
 mod scene;
 
-pub use actions::{Action, Actions};
+pub use actions::{Action, Actions, Target};
 pub use coordinates::fixed;
 pub use focus::{Focus, Point};
 pub use owned::Owned;

@@ -24,6 +24,3 @@ returns-in-SetParent-7 c = search rules
 
 pub returns-in-SetParent-8 : goal.returns-in-SetParent-8
 returns-in-SetParent-8 c = search rules
-
-pub returns-in-SetParent-9 : goal.returns-in-SetParent-9
-returns-in-SetParent-9 c = search rules

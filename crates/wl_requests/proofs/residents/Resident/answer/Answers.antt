@@ -23,6 +23,7 @@ use Rattle.wl_requests.specs.Residents.{AnswersDemand, AnswersDemandAs, NewIsFre
 use Rattle.wl_requests.proofs.Doing.{named-by}
 use Rattle.wl_requests.proofs.Interfaces.{object-is, of-base, of-subcompositor, of-subsurface, of-surface, of-xdg-surface}
 use Rattle.wl_requests.proofs.Simply.{asks-stay}
+use Rattle.wl_requests.proofs.PointerAsks.{seat-asked}
 use Rattle.wl_requests.proofs.Stackings.{base-stays, pointer-stays, subcompositor-stays, subsurface-stays, xdg-stays}
 use Rattle.wl_requests.proofs.residents.Resident.answer.Goals as goal
 
@@ -329,3 +330,37 @@ returns-in-XdgSurface-clause-rest g c = c.xdg_surface.ensures.rest
 
 pub returns-in-Unserved-clause-rest : goal.returns-in-Unserved-clause-rest
 returns-in-Unserved-clause-rest g c = c.refuse_unserved.ensures.rest
+
+-- ---- a new wl_pointer where there is no room for it
+
+pub returns-in-Surface-clause-seat : goal.returns-in-Surface-clause-seat
+returns-in-Surface-clause-seat g c = λ id e without. let same = sym c.in-Surface.is ∙ seat-asked c.args.target c.args.kind id e in absurd (cc)
+
+pub returns-in-Toplevel-clause-seat : goal.returns-in-Toplevel-clause-seat
+returns-in-Toplevel-clause-seat g c = λ id e without. let same = sym c.in-Toplevel.is ∙ seat-asked c.args.target c.args.kind id e in absurd (cc)
+
+pub returns-in-Compositor-clause-seat : goal.returns-in-Compositor-clause-seat
+returns-in-Compositor-clause-seat g c = λ id e without. let same = sym c.in-Compositor.is ∙ seat-asked c.args.target c.args.kind id e in absurd (cc)
+
+pub returns-in-Subcompositor-clause-seat : goal.returns-in-Subcompositor-clause-seat
+returns-in-Subcompositor-clause-seat g c = λ id e without. let same = sym c.in-Subcompositor.is ∙ seat-asked c.args.target c.args.kind id e in absurd (cc)
+
+pub returns-in-Subsurface-clause-seat : goal.returns-in-Subsurface-clause-seat
+returns-in-Subsurface-clause-seat g c = λ id e without. let same = sym c.in-Subsurface.is ∙ seat-asked c.args.target c.args.kind id e in absurd (cc)
+
+pub returns-in-Pointer-clause-seat : goal.returns-in-Pointer-clause-seat
+returns-in-Pointer-clause-seat g c = λ id e without. let same = sym c.in-Pointer.is ∙ seat-asked c.args.target c.args.kind id e in absurd (cc)
+
+pub returns-in-Base-clause-seat : goal.returns-in-Base-clause-seat
+returns-in-Base-clause-seat g c = λ id e without. let same = sym c.in-Base.is ∙ seat-asked c.args.target c.args.kind id e in absurd (cc)
+
+pub returns-in-XdgSurface-clause-seat : goal.returns-in-XdgSurface-clause-seat
+returns-in-XdgSurface-clause-seat g c = λ id e without. let same = sym c.in-XdgSurface.is ∙ seat-asked c.args.target c.args.kind id e in absurd (cc)
+
+pub returns-in-Unserved-clause-seat : goal.returns-in-Unserved-clause-seat
+returns-in-Unserved-clause-seat g c = λ id e without. let same = sym c.in-Unserved.is ∙ seat-asked c.args.target c.args.kind id e in absurd (cc)
+
+pub returns-in-Seat-clause-seat : goal.returns-in-Seat-clause-seat
+returns-in-Seat-clause-seat g c = λ id e without.
+    let same = sym c.in-Seat.is ∙ seat-asked c.args.target c.args.kind id e in
+    c.wl_seat.ensures.room id (cc) without

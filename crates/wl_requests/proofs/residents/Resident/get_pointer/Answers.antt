@@ -1,4 +1,4 @@
-use Rattle.std.proofs.Common.{None, Some, refl, subst, sym, true, ◌≡◌}
+use Rattle.std.proofs.Common.{None, Some, inl, refl, subst, sym, true, ◌≡◌}
 use Rattle.wl_interface.specs.declared.interface.Interface.TheVariants.{WlPointer}
 use Rattle.wl_invariants.proofs.KeptRecords.Toplevels.Releases.{still-released}
 use Rattle.wl_invariants.specs.Simple.{changed_simply}
@@ -9,6 +9,7 @@ use Rattle.wl_plain.specs.Demand.{GetPointer}
 use Rattle.wl_plain.specs.Step.{with_peer}
 use Rattle.wl_table.specs.declared.entry.Entry.{Entry}
 use Rattle.wl_xdg_state.specs.Kept.{kept_of}
+use Rattle.wl_requests.proofs.Doing.{lacked}
 use Rattle.wl_requests.proofs.Framing.{framed-names, one-more}
 use Rattle.wl_requests.proofs.Naming.{subsurfaces-names}
 use Rattle.wl_requests.proofs.Numbers.{keeps-names}
@@ -43,3 +44,12 @@ returns-clause-answers g c = λ free client r on is only.
 
 pub returns-clause-surfaces : goal.returns-clause-surfaces
 returns-clause-surfaces g c = refl
+
+-- where there is no room
+pub returns-then-not-has_room-clause-answers : goal.returns-then-not-has_room-clause-answers
+returns-then-not-has_room-clause-answers g c = λ free client r on is only.
+    let v = c.args.self.now in
+    let demand = GetPointer c.args.id c.args.version in
+    let then = with_peer (counted r.peer) r in
+    let lacks = lacked v _ (changed_simply demand then) then (c.lack_memory.ensures.lacks (counted r.peer) (c.count.ensures.counts r.peer is.peer)) c.lack_memory.ensures.ended in
+    meets-simply _ _ client on demand then (counted-orderly r only).no_popups tt (lacks.0, inl lacks.1, lacks.2)

@@ -118,3 +118,14 @@ returns-in-Request-clause-nothing g c = λ none.
     let mid = record v { client = c.take_first.new.self } in
     c.answer.ensures.nothing (λ touch touches.
     none touch (rw c.in-Request.is (touch-same c.in-Request.kind c.in-Request.object c.in-Request.target mid v touch refl refl touches)))
+
+-- ---- a new wl_pointer where there is no room for it
+
+pub returns-in-Refused-clause-seat : goal.returns-in-Refused-clause-seat
+returns-in-Refused-clause-seat g c = λ id e without. c.refuse.ensures.ended
+
+pub returns-in-Own-clause-seat : goal.returns-in-Own-clause-seat
+returns-in-Own-clause-seat g c = λ id e without. let never = rw c.in-Own.is at e in absurd (cc)
+
+pub returns-in-Request-clause-seat : goal.returns-in-Request-clause-seat
+returns-in-Request-clause-seat g c = λ id e without. c.answer.ensures.seat id (rw c.in-Request.is at e) without

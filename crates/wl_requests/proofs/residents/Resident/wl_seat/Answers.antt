@@ -15,4 +15,8 @@ returns-in-GetKeyboard g c = record {
       (c.refuse.ensures.errs r.peer is.peer);
   rest = let none = c.refuse.ensures.rest in omega arith;
   surfaces = refl;
+  room = λ id same without. c.refuse.ensures.ended;
 }
+
+pub returns-in-GetPointer-clause-answers : goal.returns-in-GetPointer-clause-answers
+returns-in-GetPointer-clause-answers g c = λ free. rw c.in-GetPointer.is (c.get_pointer.ensures.answers (rw c.in-GetPointer.is at free))

@@ -1,4 +1,4 @@
-use Rattle.std.proofs.Common.{◌≡◌, ℕ, Option, Some, subst, sym, ◌∙◌, ap}
+use Rattle.std.proofs.Common.{refl, ◌≡◌, ℕ, Option, Some, subst, sym, ◌∙◌, ap}
 use Rattle.std.specs.Prelude.{Ok, Result}
 use Rattle.wl_peer.specs.declared.refusals.Refusal.{Refusal}
 use Rattle.wl_xdg_state.specs.Kept.{kept_of}
@@ -14,7 +14,7 @@ use Rattle.wl_owning.specs.Owning.{names_in}
 use Rattle.wl_owning.proofs.Keeping.OwningXdg.{toplevel-named}
 use Rattle.wl_plain.specs.Demand.{Demand, Asks}
 use Rattle.wl_requests.specs.declared.residents.Resident.{Resident as Kept}
-use Rattle.wl_requests.specs.declared.xdg_toplevel.ToplevelAsked.TheVariants.{Nothing as AskedNothing}
+use Rattle.wl_requests.specs.declared.xdg_toplevel.ToplevelAsked.TheVariants.{Destruction, Configure as AskedConfigure}
 use Rattle.wl_requests.specs.Residents.{AnswersSo, StacksSo, asked_by}
 use Rattle.wl_requests.proofs.Stackings.{toplevel-destroy, toplevel-of, toplevel-out, toplevel-state, toplevel-stays}
 use Rattle.wl_requests.proofs.residents.Resident.xdg_toplevel.Goals as goal
@@ -35,16 +35,16 @@ returns-in-Configure-clause-answers g c = λ named version m interface asked cli
     (sym (toplevel-of r object version m interface ∙ state))
     (c.configure_again.ensures.answers named client r on is only)
 
--- one that isn't destroyed and asks for no other state does nothing: no pointer moves it yet
-nothing-asked : {A : Type 0} (old new : Kept A) (c : ℕ) (r : Resident) (d : Desktop) (object : ℕ) (x : Xdg) (request : ToplevelRequest) → asked_by request ≡ AskedNothing
-    → AnswersSo (Ok (Asks Ignore)) c r d old new → AnswersSo (toplevel_asked object (Some x) request) c r d old new
-nothing-asked old new c r d object x toplevel.Destroy is h = absurd (cc)
-nothing-asked old new c r d object x toplevel.SetMaximized is h = absurd (cc)
-nothing-asked old new c r d object x toplevel.UnsetMaximized is h = absurd (cc)
-nothing-asked old new c r d object x (toplevel.SetFullscreen output) is h = absurd (cc)
-nothing-asked old new c r d object x toplevel.UnsetFullscreen is h = absurd (cc)
-nothing-asked old new c r d object x (toplevel.Move seat serial) is h = h
-nothing-asked old new c r d object x request is h = h
+-- one that isn't destroyed and asks for no other state changes nothing of the client
+ignored : {A : Type 0} (old new : Kept A) (c : ℕ) (r : Resident) (d : Desktop) (object : ℕ) (x : Xdg) (request : ToplevelRequest) → (asked_by request ≡ Destruction → ⊥)
+    → (asked_by request ≡ AskedConfigure → ⊥) → AnswersSo (Ok (Asks Ignore)) c r d old new → AnswersSo (toplevel_asked object (Some x) request) c r d old new
+ignored old new c r d object x toplevel.Destroy stays still h = absurd (stays refl)
+ignored old new c r d object x toplevel.SetMaximized stays still h = absurd (still refl)
+ignored old new c r d object x toplevel.UnsetMaximized stays still h = absurd (still refl)
+ignored old new c r d object x (toplevel.SetFullscreen output) stays still h = absurd (still refl)
+ignored old new c r d object x toplevel.UnsetFullscreen stays still h = absurd (still refl)
+ignored old new c r d object x (toplevel.Move seat serial) stays still h = h
+ignored old new c r d object x request stays still h = h
 
 pub returns-in-Nothing-clause-answers : goal.returns-in-Nothing-clause-answers
 returns-in-Nothing-clause-answers g c = λ named version m interface asked client r on is only.
@@ -54,7 +54,19 @@ returns-in-Nothing-clause-answers g c = λ named version m interface asked clien
     let one = toplevel-named (names_in v.client.objects) v.owned.linked.surfaces v.owned.linked.family (kept_of v.owned.shell) r.owned is.owns object c.args.surface named in
     subst (λ (j : Result Demand Refusal). AnswersSo j client r on v c.ignore.new.self) (sym (toplevel-of r object version m interface))
     (subst (λ (o : Option Xdg). AnswersSo (toplevel_asked object o request) client r on v c.ignore.new.self) (sym one.4)
-    (nothing-asked v c.ignore.new.self client r on object one.1 request (sym asked ∙ c.in-Nothing.is) (c.ignore.ensures.answers client r on is only)))
+    (ignored v c.ignore.new.self client r on object one.1 request (λ is. let both = sym is ∙ sym asked ∙ c.in-Nothing.is in absurd (cc))
+    (λ is. let both = sym is ∙ sym asked ∙ c.in-Nothing.is in absurd (cc)) (c.ignore.ensures.answers client r on is only)))
+
+pub returns-in-Move-clause-answers : goal.returns-in-Move-clause-answers
+returns-in-Move-clause-answers g c = λ named version m interface asked client r on is only.
+    let v = c.args.self.now in
+    let object = c.args.object in
+    let request = toplevel_request m.opcode m.fields in
+    let one = toplevel-named (names_in v.client.objects) v.owned.linked.surfaces v.owned.linked.family (kept_of v.owned.shell) r.owned is.owns object c.args.surface named in
+    subst (λ (j : Result Demand Refusal). AnswersSo j client r on v c.ignore-in-Move.new.self) (sym (toplevel-of r object version m interface))
+    (subst (λ (o : Option Xdg). AnswersSo (toplevel_asked object o request) client r on v c.ignore-in-Move.new.self) (sym one.4)
+    (ignored v c.ignore-in-Move.new.self client r on object one.1 request (λ is. let both = sym is ∙ sym asked ∙ c.in-Move.is in absurd (cc))
+    (λ is. let both = sym is ∙ sym asked ∙ c.in-Move.is in absurd (cc)) (c.ignore-in-Move.ensures.answers client r on is only)))
 
 pub returns-in-Destruction-clause-stacks : goal.returns-in-Destruction-clause-stacks
 returns-in-Destruction-clause-stacks g c = λ named version m interface asked r is only.
@@ -79,6 +91,13 @@ returns-in-Nothing-clause-stacks g c = λ named version m interface asked r is o
     subst (λ (j : Result Demand Refusal). StacksSo v r j Stays) (sym (toplevel-of r object version m interface))
     (toplevel-stays v r object (xdg_with object r.owned.shell) (toplevel_request m.opcode m.fields) (λ is. let both = sym is ∙ sym asked ∙ c.in-Nothing.is in absurd (cc)))
 
+pub returns-in-Move-clause-stacks : goal.returns-in-Move-clause-stacks
+returns-in-Move-clause-stacks g c = λ named version m interface asked r is only.
+    let v = c.args.self.now in
+    let object = c.args.object in
+    subst (λ (j : Result Demand Refusal). StacksSo v r j Stays) (sym (toplevel-of r object version m interface))
+    (toplevel-stays v r object (xdg_with object r.owned.shell) (toplevel_request m.opcode m.fields) (λ is. let both = sym is ∙ sym asked ∙ c.in-Move.is in absurd (cc)))
+
 pub returns-in-Destruction-clause-surfaces : goal.returns-in-Destruction-clause-surfaces
 returns-in-Destruction-clause-surfaces g c = c.destroy_toplevel.ensures.surfaces
 
@@ -87,3 +106,6 @@ returns-in-Configure-clause-surfaces g c = c.configure_again.ensures.surfaces
 
 pub returns-in-Nothing-clause-surfaces : goal.returns-in-Nothing-clause-surfaces
 returns-in-Nothing-clause-surfaces g c = c.ignore.ensures.surfaces
+
+pub returns-in-Move-clause-surfaces : goal.returns-in-Move-clause-surfaces
+returns-in-Move-clause-surfaces g c = c.ignore-in-Move.ensures.surfaces

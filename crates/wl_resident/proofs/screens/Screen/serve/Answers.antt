@@ -1,4 +1,6 @@
-use Rattle.std.proofs.Common.{Some, refl, sym, subst, ◌∙◌}
+use Rattle.std.proofs.Common.{Some, ap, refl, sym, subst, ◌∙◌}
+use Rattle.std.specs.Prelude.{is_some}
+use Rattle.wl_client.specs.View.{ClientView}
 use Rattle.wl_requests.specs.declared.residents.Resident.{Resident as Kept}
 use Rattle.wl_resident.specs.declared.screens.Screen.{Screen}
 use Rattle.wl_resident.specs.Seats.{IsSeated}
@@ -6,7 +8,7 @@ use Rattle.wl_resident.specs.View.{pile_of}
 use Rattle.wl_resident.proofs.Apart.{settled-least, settled-most, settled-seated, settled-through}
 use Rattle.wl_resident.proofs.Assembling.{lives-least, lives-most, lives-seated, lives-through}
 use Rattle.wl_resident.proofs.Ended.{ended-least, ended-on, ended-seated, ended-through, ending-tree}
-use Rattle.wl_resident.proofs.Served.{asks-apart, asks-so, ended-so, lives-so, unapplied}
+use Rattle.wl_resident.proofs.Served.{asks-apart, asks-so, ended-so, lives-so, no-pointer, unapplied}
 use Rattle.wl_resident.proofs.screens.Screen.serve.Goals as goal
 use Rattle.wl_resident.proofs.screens.Screen.serve.Goals.{then-has_ended-2, else-has_ended-2}
 
@@ -19,8 +21,8 @@ returns-in_default-clause-serves g c = λ some others base d r is orderly.
     let was = c.args.self.now in
     let o = c.in-Some-serve._outcome in
     let said = c.in-Some-serve.ensures in
-    let asks = asks-apart c.args.client v mid was c.asked-asked.result o.stacking o.applied said.lives c.asked-asked.ensures c.in_default.ensures said.takes said.decides said.touched said.room in
-    let none = unapplied o.applied said.room in
+    let none = unapplied v c.asked-asked.result o.applied c.in_default.ensures said.nothing _ _ is.seat.subsurfaces in
+    let asks = asks-apart c.args.client v mid was c.asked-asked.result o.stacking o.applied said.lives c.asked-asked.ensures c.in_default.ensures said.takes said.decides said.touched none in
     settled-seated c.args.client others base d r v mid c.part_alone.new.resident was c.part_alone.new.self is orderly c.asked-asked.result o.stacking o.applied asks c.in_default.ensures none c.part_alone.ensures.clears
     c.part_alone.ensures.points c.part_alone.ensures.lives
 
@@ -31,8 +33,8 @@ returns-in_default-clause-marks g c = λ some others base d r is orderly e q ser
     let was = c.args.self.now in
     let o = c.in-Some-serve._outcome in
     let said = c.in-Some-serve.ensures in
-    let asks = asks-apart c.args.client v mid was c.asked-asked.result o.stacking o.applied said.lives c.asked-asked.ensures c.in_default.ensures said.takes said.decides said.touched said.room in
-    let none = unapplied o.applied said.room in
+    let none = unapplied v c.asked-asked.result o.applied c.in_default.ensures said.nothing _ _ is.seat.subsurfaces in
+    let asks = asks-apart c.args.client v mid was c.asked-asked.result o.stacking o.applied said.lives c.asked-asked.ensures c.in_default.ensures said.takes said.decides said.touched none in
     settled-least c.args.client others base d r v mid c.part_alone.new.resident was c.part_alone.new.self is orderly c.asked-asked.result o.stacking o.applied asks c.in_default.ensures none c.part_alone.ensures.clears
     c.part_alone.ensures.points c.part_alone.ensures.lives e q serves after
 
@@ -43,8 +45,8 @@ returns-in_default-clause-within g c = λ some others base d r width height is o
     let was = c.args.self.now in
     let o = c.in-Some-serve._outcome in
     let said = c.in-Some-serve.ensures in
-    let asks = asks-apart c.args.client v mid was c.asked-asked.result o.stacking o.applied said.lives c.asked-asked.ensures c.in_default.ensures said.takes said.decides said.touched said.room in
-    let none = unapplied o.applied said.room in
+    let none = unapplied v c.asked-asked.result o.applied c.in_default.ensures said.nothing _ _ is.seat.subsurfaces in
+    let asks = asks-apart c.args.client v mid was c.asked-asked.result o.stacking o.applied said.lives c.asked-asked.ensures c.in_default.ensures said.takes said.decides said.touched none in
     settled-most c.args.client others base d r v mid c.part_alone.new.resident was c.part_alone.new.self is orderly c.asked-asked.result o.stacking o.applied asks c.in_default.ensures none c.part_alone.ensures.clears
     c.part_alone.ensures.points c.part_alone.ensures.lives e q serves after lives
 
@@ -55,8 +57,8 @@ returns-in_default-clause-through g c = λ some others base d r width height is 
     let was = c.args.self.now in
     let o = c.in-Some-serve._outcome in
     let said = c.in-Some-serve.ensures in
-    let asks = asks-apart c.args.client v mid was c.asked-asked.result o.stacking o.applied said.lives c.asked-asked.ensures c.in_default.ensures said.takes said.decides said.touched said.room in
-    let none = unapplied o.applied said.room in
+    let none = unapplied v c.asked-asked.result o.applied c.in_default.ensures said.nothing _ _ is.seat.subsurfaces in
+    let asks = asks-apart c.args.client v mid was c.asked-asked.result o.stacking o.applied said.lives c.asked-asked.ensures c.in_default.ensures said.takes said.decides said.touched none in
     settled-through c.args.client others base d r v mid c.part_alone.new.resident was c.part_alone.new.self is orderly c.asked-asked.result o.stacking o.applied asks c.in_default.ensures none c.part_alone.ensures.clears
     c.part_alone.ensures.points c.part_alone.ensures.lives width height
 
@@ -173,3 +175,21 @@ returns-clause-through g c = λ some others base d r width height is orderly.
           (lives-through c.args.client others base d r v mid was ready w.follow.new.self is orderly asked root o.stacking o.applied asks
           (lives-so mid.client.ended (sym c.has_ended-2.ensures ∙ w.if-has_ended-2.false)) c.root_of-root.result refl w.follow.ensures.follows width height)
     ]
+
+-- ---- what is asked of the pointer
+
+pub returns-in_default-clause-asks : goal.returns-in_default-clause-asks
+returns-in_default-clause-asks g c = (c.in-Some-serve.ensures.lives, c.pointer_asked-pointer.ensures.asks)
+
+pub returns-clause-asks : goal.returns-clause-asks
+returns-clause-asks g c = (c.in-Some-serve-2.ensures.lives, c.pointer_asked-pointer.ensures.asks)
+
+-- ---- a wl_pointer is asked for where there is no seat for it
+
+pub returns-in_default-clause-seat : goal.returns-in_default-clause-seat
+returns-in_default-clause-seat g c = λ id asked without.
+    ap (λ (w : ClientView). is_some w.ended) c.part_alone.ensures.client ∙ c.in-Some-serve.ensures.seat id (sym c.pointer_asked-pointer.ensures.is ∙ asked) without
+
+pub returns-clause-seat : goal.returns-clause-seat
+returns-clause-seat g c = λ id asked without.
+    absurd (no-pointer c.args.resident.now c.asked-asked.result c.in-Some.surface id c.in-Some.ensures (sym c.pointer_asked-pointer.ensures.is ∙ asked))

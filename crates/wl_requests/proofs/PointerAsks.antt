@@ -1,0 +1,281 @@
+-- What the first message of a client asks of the pointer.
+use Rattle.std.proofs.Common.{◌≡◌, ℕ, List, ap, Bool, true, false, Option, Some, None, Result, refl, sym, subst, ◌∙◌}
+use Rattle.std.specs.Prelude.{◌==◌, ◌||◌, ◌-◌, if◌then◌else◌, is_some, Ok, Err, take, drop}
+use Rattle.wl_wire.specs.Wire.{split_of}
+use Rattle.wl_wire.specs.declared.header.Split.{Split}
+use Rattle.wl_wire.specs.declared.header.Split.TheVariants.{Message as Whole, More, Bad}
+use Rattle.wl_interface.specs.declared.interface.Interface.TheVariants.{WlSurface, XdgToplevel}
+use Rattle.wl_proto.specs.Messages.{Message, wl_compositor_request, wl_pointer_request, wl_seat_request, wl_subcompositor_request, wl_subsurface_request, wl_surface_request, xdg_surface_request}
+use Rattle.wl_proto.specs.Messages.{xdg_wm_base_request}
+use Rattle.wl_proto.specs.declared.wl_compositor.WlCompositorRequest.{WlCompositorRequest}
+use Rattle.wl_proto.specs.declared.wl_compositor.WlCompositorRequest.TheVariants as compositor
+use Rattle.wl_proto.specs.declared.wl_pointer.WlPointerRequest.{WlPointerRequest}
+use Rattle.wl_proto.specs.declared.wl_pointer.WlPointerRequest.TheVariants as on_pointer
+use Rattle.wl_proto.specs.declared.wl_seat.WlSeatRequest.{WlSeatRequest}
+use Rattle.wl_proto.specs.declared.wl_seat.WlSeatRequest.TheVariants as seat
+use Rattle.wl_proto.specs.declared.wl_subcompositor.WlSubcompositorRequest.{WlSubcompositorRequest}
+use Rattle.wl_proto.specs.declared.wl_subcompositor.WlSubcompositorRequest.TheVariants as subcompositor
+use Rattle.wl_proto.specs.declared.wl_subsurface.WlSubsurfaceRequest.{WlSubsurfaceRequest}
+use Rattle.wl_proto.specs.declared.wl_subsurface.WlSubsurfaceRequest.TheVariants as subsurface
+use Rattle.wl_proto.specs.declared.wl_surface.WlSurfaceRequest.{WlSurfaceRequest}
+use Rattle.wl_proto.specs.declared.wl_surface.WlSurfaceRequest.TheVariants as surface
+use Rattle.wl_proto.specs.declared.xdg_surface.XdgSurfaceRequest.{XdgSurfaceRequest}
+use Rattle.wl_proto.specs.declared.xdg_surface.XdgSurfaceRequest.TheVariants as requests
+use Rattle.wl_proto.specs.declared.xdg_wm_base.XdgWmBaseRequest.{XdgWmBaseRequest}
+use Rattle.wl_proto.specs.declared.xdg_wm_base.XdgWmBaseRequest.TheVariants as base
+use Rattle.wl_peer.specs.Objects.{ById}
+use Rattle.wl_peer.specs.Judgement.{action_of}
+use Rattle.wl_peer.specs.declared.actions.Action.{Action}
+use Rattle.wl_peer.specs.Requests.{ToXdgSurface, rect, request_of, toplevel_request}
+use Rattle.wl_peer.specs.ToplevelRequest.{ToplevelRequest}
+use Rattle.wl_peer.specs.ToplevelRequest as toplevel
+use Rattle.wl_peer.specs.Peer.{known_of, with_rest}
+use Rattle.wl_peer.specs.declared.refusals.ErrorCode.TheVariants.{Role as HasAnotherRole}
+use Rattle.wl_peer.specs.declared.refusals.Refusal.{Refusal}
+use Rattle.wl_client.specs.First.{IsRefused, Passes}
+use Rattle.wl_client.specs.Serving.{PassesTo}
+use Rattle.wl_client.proofs.Passing.{judged-refused}
+use Rattle.wl_state.specs.Request.{Member, PlaceAbove, PlaceBelow, Request as AskedOf}
+use Rattle.wl_surface.specs.Surfaces.{Link}
+use Rattle.wl_surface.specs.Trees.{is_bad_parent, is_too_deep}
+use Rattle.wl_xdg_state.specs.Kept.{kept_of}
+use Rattle.wl_xdg_state.specs.Shell.{Effect, Configures, Maps, Stays, Unconfigured, Unmaps, XdgSurface as Xdg, is_full, xdg_at, xdg_of}
+use Rattle.wl_owning.specs.Owning.{names_in, targets_in}
+use Rattle.wl_owning.proofs.Keeping.OwningXdg.{toplevel-named}
+use Rattle.wl_owning.proofs.Keeping.OwningNames.{targets-at}
+use Rattle.wl_plain.specs.Ask.{Ask, Ignore, owns}
+use Rattle.wl_plain.specs.Demand.{Asks, CommitTree, Demand, EndSurface}
+use Rattle.wl_plain.specs.Demanding.{committed_by, demand_by, demand_of, demands, effect_of_commit, toplevel_asked, xdg_asked}
+use Rattle.wl_plain.specs.Desktop.{Resident}
+use Rattle.wl_plain.specs.LeftOut.{served_now}
+use Rattle.wl_plain.specs.Served.{unserved_now}
+use Rattle.wl_plain.specs.Step.{with_peer}
+use Rattle.wl_plain.specs.WlPointer.{is_no_cursor}
+use Rattle.wl_plain.specs.WlSubsurface.{beside, demand_by_link, has_subsurface, is_no_subsurface, link_of_subsurface, past_limit, placed_beside, refuses}
+use Rattle.wl_plain.specs.WlSurface.{surface_created, transform_set}
+use Rattle.wl_plain.specs.XdgShell.{acknowledged_by, geometry_set, role_of, state_asked, toplevel_made, xdg_surface_destroyed}
+use Rattle.wl_requests.specs.declared.messages.Asked.{Asked}
+use Rattle.wl_requests.specs.declared.messages.Asked.TheVariants as asks
+use Rattle.wl_requests.specs.declared.messages.Kind.{Kind}
+use Rattle.wl_requests.specs.declared.messages.Kind.TheVariants as kind
+use Rattle.wl_requests.specs.declared.pointer_asked.PointerAsked.{PointerAsked}
+use Rattle.wl_requests.specs.declared.pointer_asked.PointerAsked.TheVariants.{NewPointer, Nothing}
+use Rattle.wl_requests.specs.declared.residents.Resident.{Resident as Kept}
+use Rattle.wl_requests.specs.declared.xdg_toplevel.ToplevelAsked.{ToplevelAsked}
+use Rattle.wl_requests.specs.declared.xdg_toplevel.ToplevelAsked.TheVariants.{Move as MoveAsked}
+use Rattle.wl_requests.specs.Messages.{IsAsked, IsKind}
+use Rattle.wl_requests.specs.PointerAsks.{AsksPointerFirst, AsksPointerSo, pointer_asked_by, pointer_in}
+use Rattle.wl_requests.specs.Residents.{IsResident, IsToplevel, Owns, asked_by}
+use Rattle.wl_requests.proofs.Asking.{demanded-first, passing-peer, whole-first}
+use Rattle.wl_requests.proofs.OwnAsking.{own-demand-of, passes-own}
+use Rattle.wl_requests.proofs.Stackings.{toplevel-of}
+
+module _ (numbers : ById ℕ) where
+  -- what a client asks alone, and what is refused
+  alone : (a : Result Ask Refusal) → AsksPointerSo numbers (demands a) Nothing
+  alone (Ok ask) = refl
+  alone (Err refusal) = tt
+
+  if-nothing : (b : Bool) (x y : Result Demand Refusal) → AsksPointerSo numbers x Nothing → AsksPointerSo numbers y Nothing → AsksPointerSo numbers (if b then x else y) Nothing
+  if-nothing true x y f g = f
+  if-nothing false x y f g = g
+
+  compositor-nothing : (r : Resident) (object version : ℕ) (request : WlCompositorRequest) → AsksPointerSo numbers (demand_of served_now r object version (wl_compositor_request request)) Nothing
+  compositor-nothing r object version (compositor.CreateSurface id) = alone (surface_created r id version)
+  compositor-nothing r object version (compositor.CreateRegion id) = refl
+
+  -- a surface is committed, if it may be
+  committed-nothing : (o : Option Xdg) (object : ℕ) (effect : Effect) → AsksPointerSo numbers (committed_by o object effect) Nothing
+  committed-nothing None object effect = refl
+  committed-nothing (Some x) object Unconfigured = tt
+  committed-nothing (Some x) object Configures = if-nothing (is_full x.configures) past_limit (Ok (CommitTree object)) tt refl
+  committed-nothing (Some x) object Stays = refl
+  committed-nothing (Some x) object Maps = refl
+  committed-nothing (Some x) object Unmaps = refl
+
+  ended-nothing : (object : ℕ) (b : Bool) (refused : Refusal) → AsksPointerSo numbers (if b then Err refused else Ok (EndSurface object)) Nothing
+  ended-nothing object true refused = tt
+  ended-nothing object false refused = refl
+
+  surface-nothing : (r : Resident) (object version : ℕ) (request : WlSurfaceRequest) → AsksPointerSo numbers (demand_of served_now r object version (wl_surface_request request)) Nothing
+  surface-nothing r object version surface.Destroy = ended-nothing object (is_some (xdg_of object r.owned.shell)) _
+  surface-nothing r object version (surface.Attach buffer x y) = refl
+  surface-nothing r object version (surface.Damage x y width height) = refl
+  surface-nothing r object version (surface.Frame callback) = refl
+  surface-nothing r object version (surface.SetOpaqueRegion region) = refl
+  surface-nothing r object version (surface.SetInputRegion region) = refl
+  surface-nothing r object version surface.Commit = committed-nothing (xdg_of object r.owned.shell) object (effect_of_commit r object)
+  surface-nothing r object version (surface.SetBufferTransform transform) = alone (transform_set object transform)
+
+  xdg-asked-nothing : (r : Resident) (o : Option Xdg) (version : ℕ) (request : XdgSurfaceRequest) → unserved_now (ToXdgSurface request) ≡ false
+      → AsksPointerSo numbers (xdg_asked r o version request) Nothing
+  xdg-asked-nothing r None version request served = tt
+  xdg-asked-nothing r (Some x) version requests.Destroy served = alone (xdg_surface_destroyed x)
+  xdg-asked-nothing r (Some x) version (requests.GetToplevel id) served = alone (toplevel_made r x version id)
+  xdg-asked-nothing r (Some x) version (requests.GetPopup id parent positioner) served = absurd (cc)
+  xdg-asked-nothing r (Some x) version (requests.SetWindowGeometry a b width height) served = alone (geometry_set x (rect a b width height))
+  xdg-asked-nothing r (Some x) version (requests.AckConfigure serial) served = alone (acknowledged_by x serial)
+
+  xdg-nothing : (r : Resident) (object version : ℕ) (request : XdgSurfaceRequest) → AsksPointerSo numbers (demand_of served_now r object version (xdg_surface_request request)) Nothing
+  xdg-nothing r object version (requests.GetPopup id parent positioner) = tt
+  xdg-nothing r object version requests.Destroy = xdg-asked-nothing r (xdg_at object r.owned.shell) version requests.Destroy refl
+  xdg-nothing r object version (requests.GetToplevel id) = xdg-asked-nothing r (xdg_at object r.owned.shell) version (requests.GetToplevel id) refl
+  xdg-nothing r object version (requests.SetWindowGeometry a b width height) = xdg-asked-nothing r (xdg_at object r.owned.shell) version (requests.SetWindowGeometry a b width height) refl
+  xdg-nothing r object version (requests.AckConfigure serial) = xdg-asked-nothing r (xdg_at object r.owned.shell) version (requests.AckConfigure serial) refl
+
+  placed-nothing : (object parent : ℕ) (request : Member → AskedOf) (o : Option Member) → AsksPointerSo numbers (placed_beside object parent request o) Nothing
+  placed-nothing object parent request None = tt
+  placed-nothing object parent request (Some member) = refl
+
+  linked-nothing : (r : Resident) (object : ℕ) (o : Option Link) (request : WlSubsurfaceRequest) → AsksPointerSo numbers (demand_by_link r object o request) Nothing
+  linked-nothing r object o subsurface.Destroy = refl
+  linked-nothing r object None request = refl
+  linked-nothing r object (Some l) (subsurface.SetPosition x y) = refl
+  linked-nothing r object (Some l) (subsurface.PlaceAbove sibling) = placed-nothing object l.parent (PlaceAbove l.number) (beside r.owned.surfaces l sibling)
+  linked-nothing r object (Some l) (subsurface.PlaceBelow sibling) = placed-nothing object l.parent (PlaceBelow l.number) (beside r.owned.surfaces l sibling)
+  linked-nothing r object (Some l) subsurface.SetSync = refl
+  linked-nothing r object (Some l) subsurface.SetDesync = refl
+
+  subsurface-nothing : (r : Resident) (object version : ℕ) (request : WlSubsurfaceRequest) → AsksPointerSo numbers (demand_of served_now r object version (wl_subsurface_request request)) Nothing
+  subsurface-nothing r object version subsurface.Destroy = linked-nothing r object (link_of_subsurface object r) subsurface.Destroy
+  subsurface-nothing r object version (subsurface.SetPosition x y) = linked-nothing r object (link_of_subsurface object r) (subsurface.SetPosition x y)
+  subsurface-nothing r object version (subsurface.PlaceAbove sibling) = linked-nothing r object (link_of_subsurface object r) (subsurface.PlaceAbove sibling)
+  subsurface-nothing r object version (subsurface.PlaceBelow sibling) = linked-nothing r object (link_of_subsurface object r) (subsurface.PlaceBelow sibling)
+  subsurface-nothing r object version subsurface.SetSync = linked-nothing r object (link_of_subsurface object r) subsurface.SetSync
+  subsurface-nothing r object version subsurface.SetDesync = linked-nothing r object (link_of_subsurface object r) subsurface.SetDesync
+
+  subcompositor-nothing : (r : Resident) (object version : ℕ) (request : WlSubcompositorRequest)
+      → AsksPointerSo numbers (demand_of served_now r object version (wl_subcompositor_request request)) Nothing
+  subcompositor-nothing r object version subcompositor.Destroy = refl
+  subcompositor-nothing r object version (subcompositor.GetSubsurface id child parent) =
+      if-nothing (is_too_deep r.owned.surfaces child parent) past_limit _ tt
+      (if-nothing (is_no_subsurface (role_of r child) || (has_subsurface child r || is_some (xdg_of child r.owned.shell))) _ _ tt
+      (if-nothing (is_bad_parent r.owned.surfaces child parent) _ _ tt refl))
+
+  cursor-nothing : (r : Resident) (object version : ℕ) (request : WlPointerRequest) → AsksPointerSo numbers (demand_of served_now r object version (wl_pointer_request request)) Nothing
+  cursor-nothing r object version (on_pointer.SetCursor serial surface x y) =
+      if-nothing (surface == 0) (Ok (Asks Ignore)) _ refl
+      (if-nothing (is_no_cursor (role_of r surface) || is_some (xdg_of surface r.owned.shell)) (refuses object HasAnotherRole) _ tt refl)
+
+  base-nothing : (r : Resident) (object version : ℕ) (request : XdgWmBaseRequest) → AsksPointerSo numbers (demand_of served_now r object version (xdg_wm_base_request request)) Nothing
+  base-nothing r object version base.Destroy = alone _
+  base-nothing r object version (base.CreatePositioner id) = refl
+  base-nothing r object version (base.GetXdgSurface id surface) = alone _
+  base-nothing r object version (base.Pong serial) = refl
+
+  seat-asks : (r : Resident) (object version target : ℕ) (request : WlSeatRequest)
+      → AsksPointerSo numbers (demand_of served_now r object version (wl_seat_request request)) (pointer_asked_by target (kind.Seat request))
+  seat-asks r object version target (seat.GetPointer id) = refl
+  seat-asks r object version target (seat.GetKeyboard id) = tt
+  seat-asks r object version target (seat.GetTouch id) = tt
+
+  -- a toplevel's requests, where its surface has this number
+  toplevel-asks : (object target : ℕ) (x : Xdg) (request : ToplevelRequest) → numbers x.surface ≡ Some target
+      → AsksPointerSo numbers (toplevel_asked object (Some x) request) (pointer_asked_by target (kind.Toplevel (asked_by request)))
+  toplevel-asks object target x toplevel.Destroy named = refl
+  toplevel-asks object target x (toplevel.Move by serial) named = (target, named, refl)
+  toplevel-asks object target x toplevel.SetMaximized named = alone (state_asked (Some x))
+  toplevel-asks object target x toplevel.UnsetMaximized named = alone (state_asked (Some x))
+  toplevel-asks object target x (toplevel.SetFullscreen output) named = alone (state_asked (Some x))
+  toplevel-asks object target x toplevel.UnsetFullscreen named = alone (state_asked (Some x))
+  toplevel-asks object target x request named = refl
+
+  -- a message that is this request
+  told-asks : (r : Resident) (object version : ℕ) (m n : Message) (asked : PointerAsked) → m ≡ n → AsksPointerSo numbers (demand_of served_now r object version n) asked
+      → AsksPointerSo numbers (demand_of served_now r object version m) asked
+  told-asks r object version m n asked told h = subst (λ (x : Message). AsksPointerSo numbers (demand_of served_now r object version x) asked) (sym told) h
+
+  unserved-asks : (r : Resident) (object version : ℕ) (m : Message) → IsKind kind.Unserved m → AsksPointerSo numbers (demand_of served_now r object version m) Nothing
+  unserved-asks r object version m unserved =
+      subst (λ (b : Bool). AsksPointerSo numbers (if b then past_limit else demand_by (request_of m) r object version) Nothing) (sym unserved) tt
+
+-- ---- a message that passes
+
+module _ {A : Type 0} (v : Kept A) (r : Resident) (its : Owns v r) where
+  abbrev numbered : ById ℕ
+  numbered = targets_in WlSurface v.client.objects
+
+  toplevel-told : (object version target : ℕ) (m : Message) (t : ToplevelAsked) → IsToplevel v object target → IsKind (kind.Toplevel t) m
+      → AsksPointerSo numbered (demand_of served_now r object version m) (pointer_asked_by target (kind.Toplevel t))
+  toplevel-told object version target m t named is_it =
+      let request = toplevel_request m.opcode m.fields in
+      let one = toplevel-named (names_in v.client.objects) v.owned.linked.surfaces v.owned.linked.family (kept_of v.owned.shell) r.owned its object target named in
+      subst (λ (j : Result Demand Refusal). AsksPointerSo numbered j (pointer_asked_by target (kind.Toplevel t))) (sym (toplevel-of r object version m is_it.0))
+      (subst (λ (o : Option Xdg). AsksPointerSo numbered (toplevel_asked object o request) (pointer_asked_by target (kind.Toplevel t))) (sym one.4)
+      (subst (λ (k : ToplevelAsked). AsksPointerSo numbered (toplevel_asked object (Some one.1) request) (pointer_asked_by target (kind.Toplevel k))) (sym is_it.1)
+      (toplevel-asks numbered object target one.1 request one.3.surface)))
+
+  pub kind-asks : (object version target : ℕ) (m : Message) (k : Kind) → IsKind k m → (m.interface ≡ XdgToplevel → IsToplevel v object target)
+      → AsksPointerSo numbered (demand_of served_now r object version m) (pointer_asked_by target k)
+  kind-asks object version target m (kind.Compositor request) is_it named = told-asks numbered r object version m _ Nothing is_it (compositor-nothing numbered r object version request)
+  kind-asks object version target m (kind.Surface request) is_it named = told-asks numbered r object version m _ Nothing is_it (surface-nothing numbered r object version request)
+  kind-asks object version target m (kind.Subcompositor request) is_it named = told-asks numbered r object version m _ Nothing is_it (subcompositor-nothing numbered r object version request)
+  kind-asks object version target m (kind.Subsurface request) is_it named = told-asks numbered r object version m _ Nothing is_it (subsurface-nothing numbered r object version request)
+  kind-asks object version target m (kind.Seat request) is_it named = told-asks numbered r object version m _ _ is_it (seat-asks numbered r object version target request)
+  kind-asks object version target m (kind.Pointer request) is_it named = told-asks numbered r object version m _ Nothing is_it (cursor-nothing numbered r object version request)
+  kind-asks object version target m (kind.Base request) is_it named = told-asks numbered r object version m _ Nothing is_it (base-nothing numbered r object version request)
+  kind-asks object version target m (kind.XdgSurface request) is_it named = told-asks numbered r object version m _ Nothing is_it (xdg-nothing numbered r object version request)
+  kind-asks object version target m (kind.Toplevel t) is_it named = toplevel-told object version target m t (named is_it.0) is_it
+  kind-asks object version target m kind.Unserved is_it named = unserved-asks numbered r object version m is_it
+
+-- ---- the first message
+
+module _ {A : Type 0} (v : Kept A) (r : Resident) (is : IsResident v r) where
+  abbrev names : ById ℕ
+  names = targets_in WlSurface v.client.objects
+
+  -- one that passes
+  passed-asks : (object version size target : ℕ) (m : Message) (asked : PointerAsked) → Passes v.client object version size target m
+      → AsksPointerSo names (demand_of served_now (with_peer (with_rest (drop size r.peer.rest) r.peer) r) object version m) asked
+      → AsksPointerFirst names (split_of r.peer.rest) r asked
+  passed-asks object version size target m asked passes h =
+      subst (λ (s : Split). AsksPointerFirst names s r asked) (sym (whole-first v r object version size target m passes is))
+      (subst (λ (j : Result Demand Refusal). AsksPointerSo names j asked) (sym (demanded-first v r object version size target m passes is)) h)
+
+  refused-asks : (s : Split) (refusal : Refusal) → IsRefused s v.client refusal → AsksPointerFirst names s r Nothing
+  refused-asks (Whole object opcode size) refusal why =
+      let judged = judged-refused r.peer.objects r.peer.held (λ version m. demand_of served_now r object version m) opcode (take (size - 8) (drop 8 r.peer.rest)) (r.peer.objects object) refusal
+      (passing-peer v.client r.peer object opcode size (Err refusal) is.peer why) in
+      subst (λ (j : Result Demand Refusal). AsksPointerSo names j Nothing) (sym judged) tt
+  refused-asks Bad refusal why = tt
+  refused-asks More refusal why = tt
+
+  first-refused-asks : (refusal : Refusal) → IsAsked v.client (asks.Refused refusal) → AsksPointerFirst names (split_of r.peer.rest) r Nothing
+  first-refused-asks refusal why =
+      subst (λ (rest : List ℕ). AsksPointerFirst names (split_of rest) r Nothing) is.peer.rest (refused-asks (split_of v.client.rest) refusal why)
+
+  none-asks : IsAsked v.client asks.More → AsksPointerFirst names (split_of r.peer.rest) r Nothing
+  none-asks none =
+      subst (λ (s : Split). AsksPointerFirst names s r Nothing) (sym (ap split_of (sym is.peer.rest) ∙ none)) tt
+
+  own-asks : PassesTo true v.client → AsksPointerFirst names (split_of r.peer.rest) r Nothing
+  own-asks (object, version, size, target, m, passes, own) =
+      let left : Resident = with_peer (with_rest (drop size r.peer.rest) r.peer) r in
+      passed-asks object version size target m Nothing passes
+      (subst (λ (j : Result Demand Refusal). AsksPointerSo names j Nothing) (sym (own-demand-of left object version m own)) (alone names (owns (action_of (known_of left.peer) object version (request_of m)))))
+
+  own-message-asks : (size : ℕ) (judged : Result Action Refusal) → IsAsked v.client (asks.Own size judged) → AsksPointerFirst names (split_of r.peer.rest) r Nothing
+  own-message-asks size judged own = own-asks (passes-own v.client size judged own)
+
+  request-asks : (object version size target : ℕ) (k : Kind) → IsAsked v.client (asks.Request object version size target k)
+      → AsksPointerFirst names (split_of r.peer.rest) r (pointer_asked_by target k)
+  request-asks object version size target k (m, passes, is_it) =
+      let left : Resident = with_peer (with_rest (drop size r.peer.rest) r.peer) r in
+      passed-asks object version size target m (pointer_asked_by target k) passes
+      (kind-asks v left is.owns object version target m k is_it (λ i. targets-at XdgToplevel v.client.objects object _ passes.entry i))
+
+  pub asked-asks : (a : Asked) → IsAsked v.client a → AsksPointerFirst names (split_of r.peer.rest) r (pointer_in a)
+  asked-asks asks.More asked = none-asks asked
+  asked-asks (asks.Refused refusal) asked = first-refused-asks refusal asked
+  asked-asks (asks.Own size judged) asked = own-message-asks size judged asked
+  asked-asks (asks.Request object version size target k) asked = request-asks object version size target k asked
+
+-- ---- a new wl_pointer
+
+-- only wl_seat.get_pointer asks for one
+pub seat-asked : (target : ℕ) (k : Kind) (id : ℕ) → pointer_asked_by target k ≡ NewPointer id → k ≡ kind.Seat (seat.GetPointer id)
+seat-asked target (kind.Seat (seat.GetPointer other)) id e = cc
+seat-asked target (kind.Seat (seat.GetKeyboard other)) id e = absurd (cc)
+seat-asked target (kind.Seat (seat.GetTouch other)) id e = absurd (cc)
+seat-asked target (kind.Toplevel (MoveAsked serial)) id e = absurd (cc)
+seat-asked target k id e = absurd (cc)
