@@ -1,338 +1,168 @@
--- The calls of the desk: one client is taken out and put back, comes, or goes.
-use Rattle.std.proofs.Common.{◌≡◌, ℕ, ◌+◌, suc, zero, ◌<◌, List, [], ◌∷◌, Bool, true, false, length, Option, Some, None, set, refl, subst, sym, ◌∙◌, ap, arith, inl, inr}
-use Rattle.std.specs.Option.{option_map}
-use Rattle.std.specs.Prelude.{◌==◌, ◌%◌, if◌then◌else◌, is_some, replicate, Ok, Err}
-use Rattle.std.specs.List.{list_any}
-use Rattle.wl_client.specs.Agreement.{IsPeer, output_of}
-use Rattle.wl_peer.specs.Objects.{ById, nothing}
-use Rattle.wl_peer.specs.Peer.{Peer, newcomer}
-use Rattle.wl_peer.specs.Told.{Output as Shown}
-use Rattle.wl_client.specs.View.{ClientView}
-use Rattle.wl_peer.specs.declared.cause.Cause.{Cause}
-use Rattle.wl_client.specs.declared.outputs.Output.{Output}
+-- What the calls of a desk come to, by what is kept of the clients, of the wl_pointers, and of the pointer.
+use Rattle.std.proofs.Common.{◌≡◌, ◌≢◌, ℕ, List, [], true, false, Option, Some, None, refl, ap, ap₂, subst, sym, ◌∙◌, inl, inr}
 use Rattle.wl_paint.specs.Damage.{Damaged}
-use Rattle.wl_stacking.specs.Stacking.{Standing, without_client}
-use Rattle.wl_scene.specs.Kept.{Stack}
-use Rattle.wl_stacking.specs.Windows.{Window}
-use Rattle.wl_stacked.specs.declared.stacked.Stacked.{Stacked}
-use Rattle.wl_stacked.specs.Stacked.{without_client as without_client_of}
-use Rattle.wl_lending.specs.Stacked.{AreStacked}
-use Rattle.wl_lending.proofs.Standing.{stacked-client-gone}
-use Rattle.wl_plain.specs.Act.{Close, Connect, IsClosed, closed_by, lowest, next_of, peer_at, peer_of}
-use Rattle.wl_plain.specs.Desktop.{Desktop, Resident, arrival, become, become_by, client_at, empty, place, status_of, with_client, with_number}
-use Rattle.wl_plain.specs.Happens.{Serves}
-use Rattle.wl_plain.specs.LeftOut.{served_now}
-use Rattle.wl_plain.specs.Stacked.{all_windows}
-use Rattle.wl_plain.specs.declared.answers.ConnectError.TheVariants.{Full, Memory}
+use Rattle.std.specs.Prelude.{ℤ, Result, Ok, Err}
+use Rattle.wl_client.specs.Agreement.{output_of}
+use Rattle.wl_client.specs.declared.outputs.Output.{Output as Sides}
+use Rattle.wl_peer.specs.Told.{Output}
+use Rattle.wl_marking.specs.Marking.{IsAsLarge}
+use Rattle.wl_stacking.specs.Pointer.{Pointer, Target, hit_by, settled}
+use Rattle.wl_stacking.specs.PointerActions.{PointerAction, Went, actions}
+use Rattle.wl_stacking.specs.Windows.{Place, Window}
+use Rattle.wl_scene.specs.Focus.{IsSeen}
+use Rattle.wl_plain.specs.declared.answers.ConnectError.{ConnectError}
 use Rattle.wl_plain.specs.declared.answers.Done.{Done}
 use Rattle.wl_plain.specs.declared.answers.Done.TheVariants as gave
-use Rattle.wl_laws.proofs.Lists.Keys.{differ, some-same}
-use Rattle.wl_laws.proofs.Marks.Stacks.{or-left, or-right}
-use Rattle.wl_laws.proofs.Runs.Forms.{ConnectsAt}
-use Rattle.wl_laws.proofs.Runs.Places.{client-kept}
-use Rattle.wl_invariants.specs.Orderly.{Orderly}
-use Rattle.wl_invariants.proofs.MappedToplevels.Steps.{empty_is_mapped, mapped_stays}
-use Rattle.wl_requests.specs.declared.residents.Resident.{Resident as Kept}
-use Rattle.wl_resident.specs.Agreement.{Matches, IsPlace, IsScene, IsStack, numbers_in, numbers_of, with_numbers}
-use Rattle.wl_resident.specs.Seats.{IsBare, IsChangedSo, IsSeated, ended_by}
-use Rattle.wl_resident.specs.View.{DeskView, MarkedDesk, OwnedView, Pile, owned_view}
-use Rattle.wl_resident.proofs.Ends.{nameless-newcomer, seat-bare}
-use Rattle.wl_resident.proofs.Scenes.{none-stands, numbers-by, stack-by, stack-without}
-use Rattle.wl_desk.specs.Agreeing.{Agrees}
-use Rattle.wl_desk.specs.Feeding.{IsIdleIn, IsIdleOf, kept_at, kept_of}
-use Rattle.wl_desk.specs.Residents.{client_views, owned_views, resident_at}
-use Rattle.wl_desk.proofs.Altering.{Changes, ChangesAt, alters-whole, left_so}
-use Rattle.wl_desk.proofs.Away.{away-windowless, others-left}
-use Rattle.wl_desk.proofs.Desktops.{agrees-put, at, at-map, map-length, scene-out, seated-back, seated-out, stacked-by, windows-out}
-use Rattle.wl_desk.proofs.Seats.{IsHere, client-here, client-put, clients-within, here-of, lowest-map, marked, owned-here, owned-put, view_of}
-use Rattle.wl_desk.proofs.Still.{closed-still, connects-still, still-windows}
+use Rattle.wl_plain.specs.declared.answers.Fed.TheVariants.{Alive}
+use Rattle.wl_plain.specs.Act.{Act, Connect, Leave, Motion, Tick, peer_at, status_of}
+use Rattle.wl_plain.specs.Desktop.{Desktop, unpointed}
+use Rattle.wl_plain.specs.Happenings.{Message, Single, Starve}
+use Rattle.wl_plain.specs.Happens.{point_in, within}
+use Rattle.wl_plain.specs.Settling.{AppliesAll, Midstep, PointerActs, pointer_without}
+use Rattle.wl_plain.specs.Stacked.{all_windows}
+use Rattle.wl_laws.specs.Focus.{EndedAreBare, IsSettled}
+use Rattle.wl_laws.proofs.Marks.Stacks.{Each}
+use Rattle.wl_laws.proofs.Lists.Keys.{none-some}
+use Rattle.wl_pointed.specs.Happenings.{is_quiet, pointer_left}
+use Rattle.wl_clients.specs.Agreeing.{Agrees as KeptAgrees, MarksNothing as KeptMarksNothing}
+use Rattle.wl_clients.specs.Leading.{LeadsBy as KeptLeadsBy, LeadsQuietly as KeptLeadsQuietly, Led}
+use Rattle.wl_clients.specs.View.{MarkedDesk as KeptDesk}
+use Rattle.wl_desk.specs.Agreeing.{Agrees, IsFree, LeadsBy, LeadsQuietly, MarksNothing}
+use Rattle.wl_desk.specs.Midway.{IsMidway, IsOfFocus, IsTelling, SettlesDown}
+use Rattle.wl_desk.specs.View.{DeskView, MarkedDesk, seat_of}
+use Rattle.wl_desk.proofs.Coming.{connects-lead}
+use Rattle.wl_desk.proofs.Ending.{ends-lead}
+use Rattle.wl_desk.proofs.Frames.{frames-lead}
+use Rattle.wl_desk.proofs.Moving.{is-each, is-midway, is-seen, is-telling, motion-leads, moved, pointer, there, ws}
+use Rattle.wl_desk.proofs.Quiet.{ended-bare, quiet-leads}
+use Rattle.wl_desk.proofs.SeatsStay.{KeepsSeats, seats-stay}
 
--- a client ends by this, where it lives
-abbrev pub ended_of : ℕ → Cause → Option Resident → Desktop → Desktop
-ended_of c cause None d = d
-ended_of c cause (Some r) d = become c r (ended_by r.peer.status cause r.peer) d
+abbrev pub desk_with : KeptDesk → List (List ℕ) → Pointer → MarkedDesk
+desk_with k seats p = record { desk = record { kept = k.desk; seats = seats; pointer = p }; damage = k.damage }
 
-abbrev pub ended_at : ℕ → Cause → Desktop → Desktop
-ended_at c cause d = ended_of c cause (client_at c d) d
+abbrev pub Settles : MarkedDesk → MarkedDesk → Type 0
+Settles mid new = (m : Midstep) → IsMidway mid.desk m → SettlesDown mid new m
 
-place-some : (x : Option ClientView) (o : Option OwnedView) (r : Option Resident) → IsPlace x o r → is_some x ≡ is_some r
-place-some None None None here = refl
-place-some (Some v) (Some o) (Some s) here = refl
-place-some None None (Some s) here = absurd here
-place-some None (Some o) None here = absurd here
-place-some None (Some o) (Some s) here = absurd here
-place-some (Some v) None None here = absurd here
-place-some (Some v) None (Some s) here = absurd here
-place-some (Some v) (Some o) None here = absurd here
+pub large-on : (a b c : Damaged) → IsAsLarge a b → IsAsLarge b c → IsAsLarge a c
+large-on a b c first second = record { width = second.width ∙ first.width; height = second.height ∙ first.height }
 
-pub lives-of : (o : Option Cause) → is_some o ≡ false → o ≡ None
-lives-of None e = refl
-lives-of (Some cause) e = absurd (differ e)
+-- ---- nobody is told, and nobody ends
 
-pub closed-none : (s : Option Cause) (p : Peer) → is_some s ≡ true → closed_by s p ≡ None
-closed-none None p e = absurd (differ (sym e))
-closed-none (Some cause) p e = refl
-
--- ---- what is left where a client's toplevels and windows go
-
-closed-scene : (c : ℕ) (old : ById ℕ) (others : ℕ → ById ℕ) (d e : Desktop) (was is : Stack) → IsScene (with_numbers c old others) was d → e.standing ≡ without_client c d.standing
-    → e.mappings ≡ d.mappings → is.standing ≡ without_client c was.standing → is.next ≡ was.next → IsScene (with_numbers c nothing others) is e
-closed-scene c old others d e was is scene standing mappings kept next =
-    record {
-      standing = subst (λ (ks : List Standing). IsStack (with_numbers c nothing others) ks e.standing) (sym kept)
-          (subst (λ (ss : List Standing). IsStack (with_numbers c nothing others) (without_client c was.standing) ss) (sym standing)
-          (stack-by (with_numbers c old others) (with_numbers c nothing others) (without_client c was.standing) (without_client c d.standing)
-          (numbers-by c old nothing others (without_client c d.standing) (λ surface n has is. absurd (differ (sym has ∙ none-stands c surface d.standing))))
-          (stack-without (with_numbers c old others) c was.standing d.standing scene.standing)));
-      next = next ∙ (scene.next ∙ ap (λ (m : ℕ). m % 8) (sym mappings));
-    }
-
--- windows of other clients stand for the desktop's whatever numbers one client has
-stacked-others : (c : ℕ) (old new : ById ℕ) (others : ℕ → ById ℕ) (ss : List Stacked) (ws : List Window) → list_any (λ (w : Window). w.owner.client == c) ws ≡ false
-    → AreStacked (with_numbers c old others) ss ws → AreStacked (with_numbers c new others) ss ws
-stacked-others c old new others [] [] none are = tt
-stacked-others c old new others [] (w ∷ ws) none are = absurd are
-stacked-others c old new others (s ∷ ss) [] none are = absurd are
-stacked-others c old new others (s ∷ ss) (w ∷ ws) none are =
-    let other : (s.client == c) ≡ false = ap (λ (n : ℕ). n == c) are.0.client ∙ or-left (w.owner.client == c) (list_any (λ (w : Window). w.owner.client == c) ws) none in
-    let same : with_numbers c new others s.client ≡ with_numbers c old others s.client =
-    ap (λ (b : Bool). if b then new else others s.client) other ∙ sym (ap (λ (b : Bool). if b then old else others s.client) other) in (
-      record {
-        client = are.0.client;
-        root = ap (λ (numbers : ById ℕ). numbers w.owner.root) same ∙ are.0.root;
-        surface = ap (λ (numbers : ById ℕ). numbers w.surface) same ∙ are.0.surface;
-        told = are.0.told;
-      },
-      stacked-others c old new others ss ws (or-right (w.owner.client == c) (list_any (λ (w : Window). w.owner.client == c) ws) none) are.1,
-    )
-
--- none of a client's windows is kept where it has none
-closed-windows : (c : ℕ) (old : ById ℕ) (others : ℕ → ById ℕ) (was is : List Stacked) (ws : List Window) → list_any (λ (w : Window). w.owner.client == c) ws ≡ false
-    → AreStacked (with_numbers c old others) was ws → is ≡ without_client_of c was → AreStacked (with_numbers c nothing others) is ws
-closed-windows c old others was is ws none are same =
-    stacked-others c old nothing others is ws none
-    (subst (λ (ss : List Stacked). AreStacked (with_numbers c old others) ss ws) (sym same)
-    (subst (λ (vs : List Window). AreStacked (with_numbers c old others) (without_client_of c was) vs) (others-left (λ (w : Window). w.owner.client == c) ws none)
-    (stacked-client-gone (with_numbers c old others) was ws c are)))
-
-module _ {A : Type 0} (output : Output) (rs : List (Option (Kept A))) (pile : Pile) (c k : ℕ) (v : Kept A) (is : IsHere rs c k v) (d : Desktop)
-    (a : Matches (view_of output rs pile) d) where
-  -- the desktop's client stands for it
-  pub out : (s : Resident) × (client_at c d ≡ Some s) × IsSeated c (numbers_in (client_views rs)) d v pile d s
-  out = rw is.number (seated-out (view_of output rs pile) d k v (client-here rs k v is.here) (owned-here rs k v is.here) a)
-
-  pub back : (new : Kept A) (now : Pile) (e : Desktop) (s : Resident) → IsSeated c (numbers_in (client_views rs)) d new now e s
-      → Matches (view_of output (set rs k (Some new)) now) e
-  back new now e s seated =
-      seated-back (view_of output rs pile) k new s _ _ now d e a (clients-within rs k is.within) (client-put rs k (Some new) is.within)
-      (owned-put rs k (Some new) is.within) (rw is.number at seated)
-
-  -- one message of a client is taken
-  pub serves : (new : Kept A) (now : Pile)
-      → ((r : Resident) → IsSeated c (numbers_in (client_views rs)) d v pile d r
-      → (e : Desktop) × (q : Resident) × Serves served_now c d e × IsSeated c (numbers_in (client_views rs)) d new now e q)
-      → (e : Desktop) × Serves served_now c d e × Matches (view_of output (set rs k (Some new)) now) e
-  serves new now serve =
-      let n = serve out.0 out.2 in
-      (n.0, n.2, back new now n.0 n.1 n.3)
-
-  -- a client that is told something
-  pub changes : (R : Peer → Done → Option Peer → Type 0) (absent done : Done) (new : Kept A) (now : Pile) → IsChangedSo c R done v new pile now
-      → (e : Desktop) × Changes c R absent d done e × Matches (view_of output (set rs k (Some new)) now) e
-  changes R absent done new now changed =
-      let s = out in
-      let n = changed (numbers_in (client_views rs)) d d s.0 s.2 in (
-        left_so c s.0 (Some n.0) d,
-        subst (λ (o : Option Resident). ChangesAt R absent c o d done (left_so c s.0 (Some n.0) d)) (sym s.1) (Some n.0, n.2, refl),
-        back new now (left_so c s.0 (Some n.0) d) n.1 n.3,
-      )
-
-  -- ---- what is read
-
-  pub peer-here : (p : Peer) × (peer_at c d ≡ Some p) × IsPeer v.client p
-  peer-here = (out.0.peer, ap (λ (o : Option Resident). peer_of o) out.1, out.2.seat.peer)
-
-  -- ---- a number is given back
-
-  -- the client lives
-  pub unclosed : is_some v.client.ended ≡ false → (e : Desktop) × Changes c IsClosed (gave.Close false) d (gave.Close false) e × Matches (view_of output rs pile) e
-  unclosed alive =
-      let s = out in
-      let status : s.0.peer.status ≡ None = sym s.2.seat.peer.status ∙ lives-of v.client.ended alive in (
-        d,
-        subst (λ (o : Option Resident). ChangesAt IsClosed (gave.Close false) c o d (gave.Close false) d) (sym s.1) (
-          Some s.0.peer,
-          (sym (ap (λ (z : Option Cause). closed_by z s.0.peer) status), ap (λ (z : Option Cause). gave.Close (is_some z)) (sym status)),
-          sym (ap (λ (z : Option Cause). become_by z c s.0 s.0.peer d) status
-              ∙ (ap (λ (o : Option Resident). with_client c o d) (sym s.1) ∙ client-kept c d)),
-        ),
-        a,
-      )
-
-  -- the client ended: it goes, and its toplevels with their windows go with it
-  module _ (now : Pile) (over : is_some v.client.ended ≡ true) (orderly : Orderly d) where
-    abbrev after : Desktop
-    after = record d { clients = with_number c None d.clients; standing = without_client c d.standing }
-
-    ended : is_some out.0.peer.status ≡ true
-    ended = ap (λ (z : Option Cause). is_some z) (sym out.2.seat.peer.status) ∙ over
-
-    closes : Changes c IsClosed (gave.Close false) d (gave.Close true) after
-    closes =
-        subst (λ (o : Option Resident). ChangesAt IsClosed (gave.Close false) c o d (gave.Close true) after) (sym out.1)
-        (None, (sym (closed-none out.0.peer.status out.0.peer ended), ap (λ (b : Bool). gave.Close b) (sym ended)), refl)
-
-    pub closed : now.scene.standing ≡ without_client c pile.scene.standing → now.scene.next ≡ pile.scene.next → now.windows ≡ without_client_of c pile.windows
-        → (e : Desktop) × Changes c IsClosed (gave.Close false) d (gave.Close true) e × Matches (view_of output (set rs k None) now) e
-    closed standing next windows =
-        let us = client_views rs in
-        let s = out in
-        let happens = alters-whole (Close c) d after (gave.Close true) orderly closes in
-        let away = away-windowless c d orderly (inr (ap (λ (o : Option Resident). is_some (status_of o)) s.1 ∙ ended)) in
-        let shown : all_windows after ≡ all_windows d = still-windows d after (closed-still c (gave.Close true) d after orderly happens) in
-        let numbers = numbers_of (Some v.client) in
-        let scene = closed-scene c numbers (numbers_in us) d after pile.scene now.scene s.2.scene refl refl standing next in
-        let kept = subst (λ (ws : List Window). AreStacked (with_numbers c nothing (numbers_in us)) now.windows ws) (sym shown)
-        (closed-windows c numbers (numbers_in us) pile.windows now.windows (all_windows d) away s.2.windows windows) in (
-          after,
-          closes,
-          agrees-put (view_of output rs pile) k None None None (client_views (set rs k None)) (owned_views (set rs k None)) now d after a (clients-within rs k is.within)
-              (client-put rs k None is.within) (owned-put rs k None is.within) refl (rw is.number refl) tt
-              (subst (λ (n : ℕ). IsScene (with_numbers n nothing (numbers_in us)) now.scene after) is.number scene)
-              (subst (λ (n : ℕ). AreStacked (with_numbers n nothing (numbers_in us)) now.windows (all_windows after)) is.number kept)
-              (mapped_stays served_now (λ request left. left) (Close c) (gave.Close true) d after tt orderly a.mapped happens),
-        )
-
--- ---- nobody is there
-
-pub Changes-none : (R : Peer → Done → Option Peer → Type 0) (absent : Done) (w : DeskView) (d : Desktop) (c : ℕ) → client_at c d ≡ None → Matches w d
-    → (e : Desktop) × Changes c R absent d absent e × Matches w e
-Changes-none R absent w d c free a = (d, subst (λ (o : Option Resident). ChangesAt R absent c o d absent d) (sym free) (refl, refl), a)
-
-pub Kept-none : (piece : List ℕ) (w : DeskView) (d : Desktop) (c : ℕ) → client_at c d ≡ None → Matches w d → Matches w (kept_at c piece d)
-Kept-none piece w d c free a = subst (λ o. Matches w (kept_of c piece o d)) (sym free) a
-
-pub Idle-none : (w : DeskView) (d : Desktop) (c : ℕ) → client_at c d ≡ None → Matches w d → Matches w d × IsIdleIn c d
-Idle-none w d c free a = (a, subst IsIdleOf (sym free) tt)
-
-pub Ended-none : (cause : Cause) (w : DeskView) (d : Desktop) (c : ℕ) → client_at c d ≡ None → Matches w d → Matches w (ended_at c cause d)
-Ended-none cause w d c free a = subst (λ o. Matches w (ended_of c cause o d)) (sym free) a
-
--- ---- what is read of a client, by its number
-
-pub peer-read : {A : Type 0} (output : Output) (rs : List (Option (Kept A))) (pile : Pile) (damage : Damaged) (ws : List (Option (Kept A))) (w : MarkedDesk) (c : ℕ) (v : Kept A) (d : Desktop)
-    → ws ≡ rs → Some v ≡ resident_at ws c → marked (view_of output rs pile) damage ≡ w → Matches w.desk d → (p : Peer) × (peer_at c d ≡ Some p) × IsPeer v.client p
-peer-read {A} output rs pile damage ws w c v d same is view a =
-    let here = here-of rs c v (is ∙ ap (λ (xs : List (Option (Kept A))). resident_at xs c) same) in
-    peer-here output rs pile c here.0 v here.1 d (subst (λ (m : MarkedDesk). Matches m.desk d) (sym view) a)
-
--- ---- a client comes
-
-lowest-same : (us : List (Option ClientView)) (rs : List (Option Resident)) → length us ≡ length rs → ((k : ℕ) → is_some (at us k) ≡ is_some (place rs k)) → lowest us ≡ lowest rs
-lowest-same [] [] count same = refl
-lowest-same (None ∷ us) (None ∷ rs) count same = refl
-lowest-same (Some v ∷ us) (Some r ∷ rs) count same = ap (λ (o : Option ℕ). next_of o) (lowest-same us rs (omega (arith, count)) (λ k. same (suc k)))
-lowest-same (None ∷ us) (Some r ∷ rs) count same = absurd (differ (sym (same zero)))
-lowest-same (Some v ∷ us) (None ∷ rs) count same = absurd (differ (same zero))
-lowest-same [] (r ∷ rs) count same = absurd (omega (arith, count))
-lowest-same (v ∷ us) [] count same = absurd (omega (arith, count))
-
--- the lowest free number is free in both
-lowest-agrees : {A : Type 0} (output : Output) (rs : List (Option (Kept A))) (pile : Pile) (d : Desktop) → Matches (view_of output rs pile) d → lowest d.clients ≡ lowest rs
-lowest-agrees {A} output rs pile d a =
-    let w = view_of output rs pile in
-    sym (lowest-same w.clients d.clients a.count (λ k. place-some (at w.clients k) (at w.owned k) (place d.clients k) (a.clients k)))
-    ∙ lowest-map (λ (r : Kept A). r.client) rs
-
-pub Connects-full : {A : Type 0} (output : Output) (rs : List (Option (Kept A))) (pile : Pile) (d : Desktop) → None ≡ lowest rs → Matches (view_of output rs pile) d
-    → (e : Desktop) × ConnectsAt (lowest d.clients) d (gave.Connect (Err Full)) e × Matches (view_of output rs pile) e
-Connects-full output rs pile d none a = let free : lowest d.clients ≡ None = lowest-agrees output rs pile d a ∙ sym none in (d, rw free (refl, refl), a)
-
-pub Connects-refused : {A : Type 0} (output : Output) (rs : List (Option (Kept A))) (pile : Pile) (d : Desktop) (k : ℕ) → Some k ≡ lowest rs → Matches (view_of output rs pile) d
-    → (e : Desktop) × ConnectsAt (lowest d.clients) d (gave.Connect (Err Memory)) e × Matches (view_of output rs pile) e
-Connects-refused output rs pile d k found a =
-    let free : lowest d.clients ≡ Some k = lowest-agrees output rs pile d a ∙ sym found in (d, rw free (inl (refl, refl)), a)
-
-pub lowest-at : {X : Type 0} (xs : List (Option X)) (k : ℕ) → lowest xs ≡ Some k → at xs k ≡ None
-lowest-at [] k e = absurd (cc)
-lowest-at (None ∷ xs) zero e = refl
-lowest-at (None ∷ xs) (suc k) e = absurd (cc)
-lowest-at (Some x ∷ xs) k e = by (lowest xs) (lowest-at xs) e
+-- what isn't a client's arrival leaves the wl_pointers
+pub single-keeps : (act : Act) (done : Done) → act ≢ Connect → KeepsSeats (Single act done)
+single-keeps act done differ k = (λ e. message e, λ e. differ (acts e))
   where
-    by : (o : Option ℕ) → ((j : ℕ) → o ≡ Some j → at xs j ≡ None) → next_of o ≡ Some k → at (Some x ∷ xs) k ≡ None
-    by None later e = absurd (cc)
-    by (Some j) later e =
-        let next : suc j ≡ k = let same = some-same (j + 1) k e in omega (arith, same) in
-        subst (λ (n : ℕ). at (Some x ∷ xs) n ≡ None) next (later j refl)
+    message : Single act done ≡ Message k → ⊥
+    message e = absurd (cc)
 
--- a client's numbers come where it had none
-numbers-more : (c : ℕ) (new : ById ℕ) (others : ℕ → ById ℕ) (other surface n : ℕ) → with_numbers c nothing others other surface ≡ Some n → with_numbers c new others other surface ≡ Some n
-numbers-more c new others other surface n is = at (other == c) is
+    acts : Single act done ≡ Single Connect (gave.Connect (Ok k)) → act ≡ Connect
+    acts e = cc
+
+pub quiet-step : (act : Act) (done : Done) (old new : KeptDesk) (seats : List (List ℕ)) (p : Pointer) → is_quiet (Single act done) ≡ true → act ≢ Connect → KeptLeadsBy (Single act done) old new
+    → LeadsBy (Single act done) (desk_with old seats p) (desk_with new seats p)
+quiet-step act done old new seats p quiet differ leads d a =
+    let led = leads (unpointed d) a.kept in
+    quiet-leads (Single act done) d (desk_with old seats p) (desk_with new seats p) quiet a led refl
+    (seats-stay seats (Single act done) d led.path led.desktop (single-keeps act done differ) a.seats led.leads)
+
+pub marks-nothing : (old new : KeptDesk) (seats now : List (List ℕ)) (p q : Pointer) → KeptMarksNothing old new → MarksNothing (desk_with old seats p) (desk_with new now q)
+marks-nothing old new seats now p q nothing d a = nothing (unpointed d) a.kept
+
+abbrev came : ℕ → Result ℕ ConnectError
+came c = Ok c
+
+-- a client connects, and has no wl_pointers yet
+pub connects : (c : ℕ) (old after : KeptDesk) (seats : List (List ℕ)) (p : Pointer) (new : MarkedDesk) → KeptLeadsBy (Single Connect (gave.Connect (Ok c))) old after
+    → new.desk.kept ≡ after.desk → new.damage ≡ after.damage → new.desk.pointer ≡ p
+    → seat_of new.desk.seats c ≡ [] → ((k : ℕ) → k ≢ c → seat_of new.desk.seats k ≡ seat_of seats k) → LeadsBy (Single Connect (gave.Connect (Ok c))) (desk_with old seats p) new
+connects c old after seats p new leads kept damage pointer cleared others =
+    subst (λ (m : MarkedDesk). LeadsBy (Single Connect (gave.Connect (Ok c))) (desk_with old seats p) m) (sym same)
+    (λ d a. connects-lead (Ok c) d (desk_with old seats p) (desk_with after new.desk.seats p) a (leads (unpointed d) a.kept) refl
+    (λ k e. subst (λ (n : ℕ). (seat_of new.desk.seats n ≡ []) × ((j : ℕ) → j ≢ n → seat_of new.desk.seats j ≡ seat_of seats j)) (number c k e) (cleared, others))
+    (λ why e. absurd (never c why e)))
   where
-    at : (b : Bool) → (if b then nothing else others other) surface ≡ Some n → (if b then new else others other) surface ≡ Some n
-    at true is = absurd (cc)
-    at false is = is
+    same : new ≡ desk_with after new.desk.seats p
+    same =
+        ap (λ (k : KeptDesk). desk_with k new.desk.seats new.desk.pointer) (ap₂ (λ v w. record { desk = v; damage = w }) kept damage)
+        ∙ ap (λ (q : Pointer). desk_with after new.desk.seats q) pointer
 
--- the client that came has the place
-pub Connects-new : {A : Type 0} (output : Output) (rs : List (Option (Kept A))) (pile : Pile) (k : ℕ) (new : Kept A) (d : Desktop) → Some k ≡ lowest rs → k < length rs
-    → IsPeer new.client (newcomer (output_of output)) → IsBare new.owned → new.subsurfaces ≡ [] → Agrees (view_of output rs pile) d
-    → (e : Desktop) × ConnectsAt (lowest d.clients) d (gave.Connect (Ok (k + 1))) e × Matches (view_of output (set rs k (Some new)) pile) e
-Connects-new {A} output rs pile k new d found within is bare none agrees =
-    let a = agrees.matches in
-    let us = client_views rs in
-    let v = new.client in
-    let free : lowest d.clients ≡ Some k = lowest-agrees output rs pile d a ∙ sym found in
-    let next : IsPeer v (newcomer d.output) = subst (λ (o : Shown). IsPeer v (newcomer o)) a.output is in
-    let after = with_client (k + 1) (Some (arrival d.output)) d in
-    let connects : ConnectsAt (lowest d.clients) d (gave.Connect (Ok (k + 1))) after = rw free (inr (refl, refl)) in
-    let number : k + 1 ≡ suc k = omega arith in
-    let nobody : at us k ≡ None = at-map (λ (r : Kept A). r.client) rs k ∙ ap (λ (o : Option (Kept A)). option_map (λ (r : Kept A). r.client) o) (lowest-at rs k (sym found)) in
-    let scene = scene-out k None us pile.scene d nobody a.scene in
-    let windows = windows-out k None us pile.windows (all_windows d) nobody a.windows in
-    let shown : all_windows after ≡ all_windows d = still-windows d after (connects-still d after (gave.Connect (Ok (k + 1))) connects) in (
-      after,
-      connects,
-      agrees-put (view_of output rs pile) k (Some v) (Some (owned_view new)) (Some (arrival d.output)) (client_views (set rs k (Some new)))
-          (owned_views (set rs k (Some new))) pile d after a (clients-within rs k within) (client-put rs k (Some new) within) (owned-put rs k (Some new) within) refl
-          (ap (λ (n : ℕ). with_number n (Some (arrival d.output)) d.clients) number)
-          (seat-bare new (newcomer d.output) next (nameless-newcomer v d.output next) bare none)
-          (record {
-            standing = stack-by (with_numbers (suc k) nothing (numbers_in us)) (with_numbers (suc k) (numbers_of (Some v)) (numbers_in us)) pile.scene.standing d.standing
-                (numbers-by (suc k) nothing (numbers_of (Some v)) (numbers_in us) d.standing (λ surface n has e. absurd (cc))) scene.standing;
-            next = scene.next;
-          })
-          (subst (λ (ws : List Window). AreStacked (with_numbers (suc k) (numbers_of (Some v)) (numbers_in us)) pile.windows ws) (sym shown)
-          (stacked-by (with_numbers (suc k) nothing (numbers_in us)) (with_numbers (suc k) (numbers_of (Some v)) (numbers_in us)) pile.windows (all_windows d)
-          (numbers-more (suc k) (numbers_of (Some v)) (numbers_in us)) windows))
-          (mapped_stays served_now (λ request left. left) Connect (gave.Connect (Ok (k + 1))) d after tt agrees.orderly a.mapped connects),
-    )
+    number : (i j : ℕ) → came i ≡ came j → i ≡ j
+    number i j e = cc
 
--- ---- no client
+    never : (i : ℕ) (why : ConnectError) → came i ≡ Err why → ⊥
+    never i why e = absurd (cc)
 
-at-none : {X : Type 0} (n k : ℕ) → at {X = X} (replicate n None) k ≡ None
-at-none zero k = refl
-at-none (suc n) zero = refl
-at-none (suc n) (suc k) = at-none n k
-
-place-nobody : (n k : ℕ) → place (replicate n None) k ≡ None
-place-nobody zero k = refl
-place-nobody (suc n) zero = refl
-place-nobody (suc n) (suc k) = place-nobody n k
-
-pub Agrees-empty : {A : Type 0} (output : Output) (rs : List (Option (Kept A))) (pile : Pile) → rs ≡ replicate 32 None → pile.scene ≡ record { standing = []; next = 0 } → pile.windows ≡ []
-    → Matches (view_of output rs pile) (empty (output_of output))
-Agrees-empty {A} output rs pile nobody scene windows =
-    let here : (k : ℕ) → at rs k ≡ None = λ k. ap (λ (xs : List (Option (Kept A))). at xs k) nobody ∙ at-none 32 k in
-    record {
-      output = refl;
-      count = map-length (option_map (λ (r : Kept A). r.client)) rs ∙ ap (λ (xs : List (Option (Kept A))). length xs) nobody;
-      clients = λ k. each k (at (client_views rs) k) (at (owned_views rs) k)
-          (at-map (λ (r : Kept A). r.client) rs k ∙ ap (λ (o : Option (Kept A)). option_map (λ (r : Kept A). r.client) o) (here k))
-          (at-map (λ (r : Kept A). owned_view r) rs k ∙ ap (λ (o : Option (Kept A)). option_map (λ (r : Kept A). owned_view r) o) (here k));
-      scene = subst (λ (s : Stack). IsScene (numbers_in (client_views rs)) s (empty (output_of output))) (sym scene) (record { standing = tt; next = refl });
-      windows = subst (λ (ss : List Stacked). AreStacked (numbers_in (client_views rs)) ss []) (sym windows) tt;
-      mapped = empty_is_mapped (output_of output);
-    }
+pub connects-not : (why : ConnectError) (old after : KeptDesk) (seats : List (List ℕ)) (p : Pointer) → KeptLeadsBy (Single Connect (gave.Connect (Err why))) old after
+    → LeadsBy (Single Connect (gave.Connect (Err why))) (desk_with old seats p) (desk_with after seats p)
+connects-not why old after seats p leads d a =
+    connects-lead (Err why) d (desk_with old seats p) (desk_with after seats p) a (leads (unpointed d) a.kept) refl
+    (λ c e. absurd (never why c e)) (λ other e. refl)
   where
-    each : (k : ℕ) (x : Option ClientView) (o : Option OwnedView) → x ≡ None → o ≡ None → IsPlace x o (place (replicate 32 None) k)
-    each k x o e f = rw (e, f, place-nobody 32 k) tt
+    never : (why : ConnectError) (c : ℕ) → Err why ≡ came c → ⊥
+    never why c e = absurd (cc)
+
+-- ---- a client ends
+
+pub starves : (c : ℕ) (old after : KeptDesk) (seats : List (List ℕ)) (p q : Pointer) (new : MarkedDesk)
+    → ((d : Desktop) → KeptAgrees old.desk d → status_of (peer_at c d) ≡ Alive → Led (KeptAgrees after.desk) (Starve c) old.damage after.damage d)
+    → IsAsLarge old.damage after.damage → q ≡ pointer_without c p → Settles (desk_with after seats q) new
+    → (d : Desktop) → Agrees (desk_with old seats p).desk d → status_of (peer_at c d) ≡ Alive → Led (Agrees new.desk) (Starve c) old.damage new.damage d
+starves c old after seats p q new leads large left settles d a alive =
+    ends-lead c (Starve c) d (desk_with old seats p) (desk_with after seats q) new (inl refl) a (leads (unpointed d) a.kept alive) large refl left settles
+
+pub goes : (c : ℕ) (old after : KeptDesk) (seats : List (List ℕ)) (p q : Pointer) (new : MarkedDesk) → KeptLeadsBy (Single (Leave c) (gave.Gone true)) old after
+    → IsAsLarge old.damage after.damage → q ≡ pointer_without c p → Settles (desk_with after seats q) new
+    → LeadsBy (Single (Leave c) (gave.Gone true)) (desk_with old seats p) new
+goes c old after seats p q new leads large left settles d a =
+    ends-lead c (Single (Leave c) (gave.Gone true)) d (desk_with old seats p) (desk_with after seats q) new (inr refl) a (leads (unpointed d) a.kept) large refl left settles
+
+-- ---- a frame
+
+pub frames : (time : ℕ) (old after : KeptDesk) (seats : List (List ℕ)) (p : Pointer) (mid new : MarkedDesk) → KeptLeadsQuietly (Single (Tick time) gave.Tick) old after
+    → IsAsLarge old.damage after.damage → mid.desk.kept ≡ after.desk → mid.desk.seats ≡ seats → mid.damage ≡ after.damage
+    → ((d e : Desktop) → IsSettled d → IsFree d.pointer → EndedAreBare d → p ≡ d.pointer → KeptAgrees after.desk e → mid.desk.pointer ≡ pointer_left d e)
+    → Settles mid new → LeadsQuietly (Single (Tick time) gave.Tick) (desk_with old seats p) new
+frames time old after seats p mid new leads large kept same damage left settles d a =
+    let led = leads (unpointed d) a.kept in
+    let parts : mid ≡ desk_with after seats mid.desk.pointer =
+    ap₂ (λ (k : KeptDesk) (s : List (List ℕ)). desk_with k s mid.desk.pointer) (ap₂ (λ v w. record { desk = v; damage = w }) kept damage) same in
+    frames-lead time d (desk_with old seats p) (desk_with after seats mid.desk.pointer) new a led.0 led.1 large refl
+    (left d led.0.desktop a.settled a.free (ended-bare (unpointed d) a.kept.orderly) a.pointer led.0.agrees)
+    (subst (λ (m : MarkedDesk). Settles m new) parts settles)
+
+-- ---- a motion
+
+abbrev pub place_at : ℤ → ℤ → Place
+place_at i j = record { x = i; y = j }
+
+-- a point held within the output that is kept is held within that of the desktop
+pub point-held : (k : KeptDesk) (o : Sides) (x y i j : ℤ) → o ≡ k.desk.output → i ≡ within o.width x → j ≡ within o.height y → (d : Desktop) → KeptAgrees k.desk d
+    → place_at i j ≡ point_in d.output x y
+point-held k o x y i j same wide high d a =
+    let output : output_of o ≡ d.output = ap (λ (s : Sides). output_of s) same ∙ a.matches.output in
+    ap₂ place_at (wide ∙ ap (λ (b : Output). within b.width x) output) (high ∙ ap (λ (b : Output). within b.height y) output)
+
+pub moves : (time : ℕ) (x y : ℤ) (k : KeptDesk) (seats : List (List ℕ)) (p p1 p2 : Pointer) (at : Place) (hit : Option Target) (does : List PointerAction) (told new : MarkedDesk)
+    → ((d : Desktop) → KeptAgrees k.desk d → at ≡ point_in d.output x y) → p1 ≡ record p { place = Some at }
+    → ((m : Midstep) → IsTelling (desk_with k seats p1).desk m → hit ≡ hit_by m.desktop.pointer.place (all_windows m.desktop))
+    → ((ws : List Window) → IsSeen hit false p1 ws → does ≡ actions (Went time) p1 ws)
+    → ((ws : List Window) → IsSeen hit false p1 ws → p2 ≡ record p1 { focus = settled p1 ws })
+    → ((m : Midstep) → IsTelling (desk_with k seats p2).desk m → m.desktop.pointer.place ≢ None → Each (IsOfFocus (all_windows m.desktop)) does
+    → (n : Midstep) × AppliesAll (all_windows m.desktop) does m n × IsTelling told.desk n)
+    → told.desk.pointer ≡ p2 → told.damage ≡ k.damage → told.desk.kept.output ≡ k.desk.output → Settles told new
+    → LeadsBy (Single (Motion time x y) gave.Motion) (desk_with k seats p) new
+moves time x y k seats p p1 p2 at hit does told new place goes hits acts keeps tells same damage output settles d a =
+    let v : DeskView = (desk_with k seats p).desk in
+    let to : Pointer = pointer time x y d v a in
+    let windows : List Window = ws time x y d v a in
+    let start : Midstep = moved time x y d v a in
+    let first : p1 ≡ to = goes ∙ ap₂ (λ (q : Pointer) (b : Place). record q { place = Some b }) a.pointer (place (unpointed d) a.kept) in
+    let is-hit = hits start (is-telling time x y d v a (desk_with k seats p1).desk refl refl (ap (λ (q : Pointer). q.place) first)) in
+    let seen : IsSeen hit false p1 windows = subst (λ (q : Pointer). IsSeen hit false q windows) (sym first) (is-seen time x y d v a hit is-hit) in
+    let done : does ≡ actions (Went time) to windows = acts windows seen ∙ ap (λ (q : Pointer). actions (Went time) q windows) first in
+    let after : p2 ≡ record to { focus = settled to windows } = keeps windows seen ∙ ap (λ (q : Pointer). record q { focus = settled q windows }) first in
+    let t = tells start (is-telling time x y d v a (desk_with k seats p2).desk refl refl (ap (λ (q : Pointer). q.place) after))
+    (λ none. none-some (there time x y d v a) (sym none)) (subst (λ (xs : List PointerAction). Each (IsOfFocus windows) xs) (sym done) (is-each time x y d v a)) in
+    let went : PointerActs (Went time) start t.0 = subst (λ (xs : List PointerAction). AppliesAll windows xs start t.0) done t.1 in
+    let midway : IsMidway told.desk t.0 = is-midway time x y d v a told.desk t.0 went t.2 (same ∙ after) in
+    motion-leads time x y d v a (desk_with k seats p) told new t.0 went midway output damage (settles t.0 midway)

@@ -1,108 +1,188 @@
--- What telling one client of a frame leaves of the desktop: the others are as they were, and where it doesn't end so is all that is shown.
-use Rattle.std.proofs.Common.{◌≡◌, ◌≢◌, ℕ, Bool, true, List, Option, Some, None, refl, ap, subst, sym, ◌∙◌, inl, inr}
-use Rattle.std.specs.List.{list_any}
-use Rattle.std.specs.Prelude.{◌⊎◌, ◌==◌, is_some, not}
+-- Clients are told of the pointer where what is kept agrees with the middle of a step.
+use Rattle.std.proofs.Common.{◌≡◌, ℕ, List, [], ◌∷◌, Bool, true, false, Option, Some, None, refl, ap, ap₂, subst, sym, ◌∙◌}
+use Rattle.std.specs.Prelude.{ℤ, is_some}
+use Rattle.wl_client.specs.Pointers.{pointers_told, serial_after}
+use Rattle.wl_client.specs.declared.pointers.PointerEvent.{PointerEvent}
+use Rattle.wl_client.specs.declared.pointers.PointerEvent.TheVariants.{Enter, Leave, Motion}
 use Rattle.wl_peer.specs.declared.cause.Cause.{Cause}
-use Rattle.wl_stacking.specs.Windows.{Window}
-use Rattle.wl_plain.specs.Desktop.{Desktop, Resident, become_by, client_at, owned_of, status_in, status_of}
-use Rattle.wl_plain.specs.Framing.{FramesToldAt, FramesToldBy, done_due}
+use Rattle.wl_peer.specs.Told.{Said}
+use Rattle.wl_stacking.specs.Pointer.{Pointer, Target, first_pointer}
+use Rattle.wl_stacking.specs.Windows.{Place, Window}
+use Rattle.wl_surface.specs.Surfaces.{history_in}
+use Rattle.wl_plain.specs.Changing.{drawing}
+use Rattle.wl_plain.specs.Desktop.{Resident, client_at}
+use Rattle.wl_plain.specs.Pointing.{entered_surface, left_surface, motion_told}
+use Rattle.wl_plain.specs.Replies.{entered_at, focus_window}
 use Rattle.wl_plain.specs.Stacked.{all_windows}
-use Rattle.wl_laws.proofs.Marks.Stacks.{differ}
-use Rattle.wl_laws.proofs.Runs.Fates.{same-or}
-use Rattle.wl_laws.proofs.Runs.Following.{Owns}
-use Rattle.wl_laws.proofs.Runs.Places.{other-become, status-become}
-use Rattle.wl_laws.proofs.Soundness.ObjectsKeys.{any-of-filter}
-use Rattle.wl_invariants.specs.Orderly.{Orderly}
-use Rattle.wl_invariants.proofs.OrderlyClients.Clients.{orderly_has_no_popups}
-use Rattle.wl_changes.specs.Ways.{IsGone}
-use Rattle.wl_changes.proofs.MessageWays.Ends.{untold_is_gone}
-use Rattle.wl_changes.proofs.MessageWays.Gone.{gone_windows}
-use Rattle.wl_desk.proofs.Still.{IsStill, put-still, same-still, still-windows}
+use Rattle.wl_stacking.specs.PointerActions.{Leave as Left, Enter as Entered}
+use Rattle.wl_plain.specs.Settling.{Applies, Midstep, Tells, leave_drawn, told_drawn, with_focus}
+use Rattle.wl_clients.specs.Agreement.{numbers_in}
+use Rattle.wl_clients.specs.View.{DeskView as KeptView}
+use Rattle.wl_clients.specs.Midway.{IsMid}
+use Rattle.wl_clients.specs.Pointing.{IsTold, IsToldAt}
+use Rattle.wl_desk.specs.Agreeing.{AreSeats}
+use Rattle.wl_desk.specs.Midway.{IsTelling, IsToldOf, unpointed_mid}
+use Rattle.wl_desk.specs.View.{DeskView, seat_of}
+use Rattle.wl_desk.proofs.Events.{enters-new, entered-draws, entered-says, gone-draws, gone-says, left-draws, left-says, motion-draws, motion-says, new-draws, with_serial}
+use Rattle.wl_desk.specs.Points.{point_told}
+use Rattle.wl_desk.proofs.Points.{IsAt, point-at}
+use Rattle.wl_desk.proofs.Windows.{mid-names}
+use Rattle.wl_desk.proofs.Tells.{put, put-back, tells-apart, tells-nothing, tells-other, tells-pointer, tells-seats}
 
--- ---- the client that is told
+-- the focus is another, or the pointer
+pub telling-focus : (v : DeskView) (t : Option Target) (m : Midstep) → IsTelling v m → IsTelling v (with_focus t m)
+telling-focus v t m is = record { kept = is.kept; place = is.place; seats = is.seats }
 
--- where it doesn't end, each client owns what it did
-pub told-still : (time c : ℕ) (d e : Desktop) → FramesToldAt time c (client_at c d) d e → status_in c e ≡ None → IsStill d e
-told-still time c d e told alive = at (client_at c d) refl told
-  where
-    by : (s : Option Cause) (r : Resident) → client_at c d ≡ Some r → FramesToldBy s time c r d e → IsStill d e
-    by (Some cause) r is same = same-still d e same
-    by None r is h =
-        let status : h.0.status ≡ None = sym (status-become c (done_due r) h.0 d r is) ∙ sym (ap (λ (x : Desktop). status_in c x) h.2) ∙ alive in
-        subst (λ (x : Desktop). IsStill d x) (sym (h.2 ∙ ap (λ s. become_by s c (done_due r) h.0 d) status))
-        (put-still c (Some (record (done_due r) { peer = h.0 })) d (sym (ap owned_of is)))
+-- what is kept is the same but for the focus
+pub telling-same : (v w : DeskView) (m : Midstep) → w.kept ≡ v.kept → w.pointer.place ≡ v.pointer.place → w.seats ≡ v.seats → IsTelling v m → IsTelling w m
+telling-same v w m kept place seats is =
+    record {
+      kept = subst (λ k. IsMid k (unpointed_mid m)) (sym kept) is.kept;
+      place = place ∙ is.place;
+      seats = subst (λ (ss : List (List ℕ)). AreSeats ss m.desktop) (sym seats) is.seats;
+    }
 
-    at : (o : Option Resident) → client_at c d ≡ o → FramesToldAt time c o d e → IsStill d e
-    at None is same = same-still d e same
-    at (Some r) is h = by r.peer.status r is h
+-- what a desk keeps
+abbrev pub seen : KeptView → List (List ℕ) → Pointer → DeskView
+seen kept seats pointer = record { kept = kept; seats = seats; pointer = pointer }
 
--- so it is, or what the client had is gone
-pub told-fate : (time c : ℕ) (d e : Desktop) → Orderly d → FramesToldAt time c (client_at c d) d e → IsStill d e ⊎ IsGone c d e
-told-fate time c d e orderly told = at (status_in c e) refl
-  where
-    at : (s : Option Cause) → status_in c e ≡ s → IsStill d e ⊎ IsGone c d e
-    at None alive = inl (told-still time c d e told alive)
-    at (Some cause) over = inr (untold_is_gone time c d e orderly told (ap (λ (s : Option Cause). is_some s) over))
+-- ---- one client is told
 
--- one that ended is told nothing
-pub over-told : (time c : ℕ) (r : Resident) (d e : Desktop) → FramesToldAt time c (Some r) d e → is_some r.peer.status ≡ true → e ≡ d
-over-told time c r d e told over = by r.peer.status told over
-  where
-    by : (s : Option Cause) → FramesToldBy s time c r d e → is_some s ≡ true → e ≡ d
-    by None h over = absurd (differ over)
-    by (Some cause) h over = h
+-- what the clients promise of these wl_pointers of one that are told an event
+abbrev pub TellsThese : PointerEvent → List ℕ → ℕ → DeskView → DeskView → Type 0
+TellsThese event ps c old new =
+    (change : Resident → Resident) (events : Resident → List Said) (m : Midstep) → IsMid old.kept m → IsToldAt event ps change events (client_at c m.desktop)
+    → (n : Midstep) × Tells change events c m n × IsMid new.kept n
 
--- ---- the others
+module _ (event : PointerEvent) (ps : List ℕ) (c : ℕ) (old new : DeskView) (told : TellsThese event ps c old new) (seats : new.seats ≡ old.seats) (pointer : new.pointer ≡ old.pointer)
+    (change : Resident → Resident) (events : Resident → List Said) (m : Midstep) (telling : IsTelling old m)
+    (so : (r : Resident) → client_at c m.desktop ≡ Some r → r.peer.status ≡ None → IsTold event ps r (change r) (events r)) where
+  abbrev Found : Type 0
+  Found = (n : Midstep) × Tells change events c (unpointed_mid m) n × IsMid new.kept n
 
-pub told-others : (time c : ℕ) (o : Option Resident) (d e : Desktop) → FramesToldAt time c o d e → (k : ℕ) → c ≢ k → client_at k e ≡ client_at k d
-told-others time c None d e h k apart = ap (λ (x : Desktop). client_at k x) h
-told-others time c (Some r) d e h k apart = by r.peer.status h
-  where
-    by : (s : Option Cause) → FramesToldBy s time c r d e → client_at k e ≡ client_at k d
-    by (Some cause) h = ap (λ (x : Desktop). client_at k x) h
-    by None h = ap (λ (x : Desktop). client_at k x) h.2 ∙ other-become c k (done_due r) h.0 d apart
+  abbrev changed : Resident → Resident
+  changed r = with_serial (serial_after event ps r.peer.serial) r
 
--- who ended before stays ended
-pub told-over : (time c k : ℕ) (d e : Desktop) → FramesToldAt time c (client_at c d) d e → is_some (status_in k d) ≡ true → is_some (status_in k e) ≡ true
-told-over time c k d e told over = at (client_at c d) refl told
-  where
-    same : e ≡ d → is_some (status_in k e) ≡ true
-    same h = ap (λ (x : Desktop). is_some (status_in k x)) h ∙ over
+  abbrev said_so : Resident → List Said
+  said_so r = pointers_told event r.peer.serial ps
 
-    apart : (r : Resident) → client_at c d ≡ Some r → r.peer.status ≡ None → c ≢ k
-    apart r is alive same =
-        differ (sym (ap (λ (s : Option Cause). is_some s) (sym (ap (λ n. status_in n d) same) ∙ ap status_of is ∙ alive)) ∙ over)
+  -- one that ended is told nothing, whatever it were told
+  by-status : (r : Resident) → client_at c m.desktop ≡ Some r → (s : Option Cause) → r.peer.status ≡ s → Found
+  by-status r there None lives =
+      told change events (unpointed_mid m) telling.kept (subst (λ (o : Option Resident). IsToldAt event ps change events o) (sym there) (so r there lives))
+  by-status r there (Some cause) over =
+      let any : IsTold event ps r (changed r) (said_so r) = record { press = r.press; release = r.release; changes = refl; told = refl } in
+      let h = told changed said_so (unpointed_mid m) telling.kept (subst (λ (o : Option Resident). IsToldAt event ps changed said_so o) (sym there) any) in
+      (h.0, tells-other changed change said_so events c (unpointed_mid m) h.0 r there (ap (λ (s : Option Cause). is_some s) over) h.1, h.2)
 
-    by : (s : Option Cause) (r : Resident) → client_at c d ≡ Some r → r.peer.status ≡ s → FramesToldBy s time c r d e → is_some (status_in k e) ≡ true
-    by (Some cause) r is ended h = same h
-    by None r is alive h =
-        ap (λ (x : Desktop). is_some (status_in k x)) h.2 ∙ ap (λ (o : Option Resident). is_some (status_of o)) (other-become c k (done_due r) h.0 d (apart r is alive)) ∙ over
+  by-client : (o : Option Resident) → client_at c m.desktop ≡ o → Found
+  by-client None there = told change events (unpointed_mid m) telling.kept (subst (λ (o : Option Resident). IsToldAt event ps change events o) (sym there) tt)
+  by-client (Some r) there = by-status r there r.peer.status refl
 
-    at : (o : Option Resident) → client_at c d ≡ o → FramesToldAt time c o d e → is_some (status_in k e) ≡ true
-    at None is h = same h
-    at (Some r) is h = by r.peer.status r is refl h
+  with-pointer : Found → (n : Midstep) × Tells change events c m n × IsTelling new n
+  with-pointer h =
+      let n : Midstep = put m.desktop.pointer h.0 in
+      let tells : Tells change events c m n = tells-apart change events c m h.0 h.1 in
+      let apart : put first_pointer n ≡ h.0 = put-back m.desktop.pointer first_pointer h.0 (tells-pointer change events c (unpointed_mid m) h.0 h.1) in (
+        n,
+        tells,
+        record {
+          kept = subst (λ (x : Midstep). IsMid new.kept x) (sym apart) h.2;
+          place = ap (λ (p : Pointer). p.place) pointer ∙ telling.place;
+          seats = subst (λ (ss : List (List ℕ)). AreSeats ss n.desktop) (sym seats)
+              (tells-seats (seat_of old.seats) change events c m n (λ r there lives. ap (λ (x : Resident). x.pointers) (so r there lives).changes) telling.seats tells);
+        },
+      )
 
--- ---- what each owns, and the windows
+  pub tells-telling : (n : Midstep) × Tells change events c m n × IsTelling new n
+  tells-telling = with-pointer (by-client (client_at c m.desktop) refl)
 
--- each client owns what it did, or nothing any more
-pub fate-owns : (c : ℕ) (d e : Desktop) → IsStill d e ⊎ IsGone c d e → (k : ℕ) → Owns k d e
-fate-owns c d e (inl still) k = inl (still.owned k)
-fate-owns c d e (inr gone) k = at (same-or c k)
-  where
-    at : (c ≡ k) ⊎ (c ≢ k) → Owns k d e
-    at (inl same) = subst (λ n. Owns n d e) same (inr gone.nothing)
-    at (inr apart) = inl (gone.others k (λ same. apart (sym same)))
+-- its own wl_pointers are told
+pub told-own : (event : PointerEvent) (ps : List ℕ) (c : ℕ) (old : DeskView) → ps ≡ seat_of old.seats c → (change : Resident → Resident) (events : Resident → List Said) (m : Midstep)
+    → IsTelling old m → IsToldOf event change events (client_at c m.desktop)
+    → (r : Resident) → client_at c m.desktop ≡ Some r → r.peer.status ≡ None → IsTold event ps r (change r) (events r)
+told-own event ps c old own change events m telling so r there lives =
+    subst (λ (qs : List ℕ). IsTold event qs r (change r) (events r)) (sym (own ∙ telling.seats c r there lives))
+    (subst (λ (o : Option Resident). IsToldOf event change events o) there so lives)
 
-pub fate-output : (c : ℕ) (d e : Desktop) → IsStill d e ⊎ IsGone c d e → e.output ≡ d.output
-fate-output c d e (inl still) = still.output
-fate-output c d e (inr gone) = gone.output
+-- it is told so, whoever it is
+pub told-each : (event : PointerEvent) (change : Resident → Resident) (events : Resident → List Said) → ((r : Resident) → IsTold event r.pointers r (change r) (events r))
+    → (o : Option Resident) → IsToldOf event change events o
+told-each event change events so None = tt
+told-each event change events so (Some r) = λ lives. so r
 
--- each window of the one desktop is one of the other
-abbrev pub HasNoNew : Desktop → Desktop → Type 0
-HasNoNew d e = (p : Window → Bool) → list_any p (all_windows e) ≡ true → list_any p (all_windows d) ≡ true
+-- ---- what it is told
 
-pub fate-windows : (c : ℕ) (d e : Desktop) → Orderly d → Orderly e → IsStill d e ⊎ IsGone c d e → HasNoNew d e
-fate-windows c d e was is (inl still) p there = ap (λ (ws : List Window). list_any p ws) (sym (still-windows d e still)) ∙ there
-fate-windows c d e was is (inr gone) p there =
-    any-of-filter p (λ w. not (w.owner.client == c)) (all_windows d)
-    (ap (λ (ws : List Window). list_any p ws) (sym (gone_windows c d e (orderly_has_no_popups d was) (orderly_has_no_popups e is) gone)) ∙ there)
+pub told-entered : (surface : ℕ) (x y : ℤ) (at : Option Place) (w : Option Window) → IsAt surface x y at w → (r : Resident)
+    → IsTold (Enter surface x y) r.pointers r (told_drawn r) (entered_surface at w r)
+told-entered surface x y at w is r = record { press = r.press; release = r.release; changes = entered-draws surface x y r; told = entered-says surface x y at w is r }
+
+pub told-new : (surface : ℕ) (x y : ℤ) (at : Option Place) (w : Option Window) → IsAt surface x y at w → (pointer : ℕ) (r : Resident)
+    → IsTold (Enter surface x y) (pointer ∷ []) r (drawing true r) (entered_at pointer r.peer.serial at w)
+told-new surface x y at w is pointer r =
+    record { press = r.press; release = r.release; changes = new-draws surface x y pointer r; told = enters-new surface x y at w is r.peer.serial pointer }
+
+pub told-moved : (surface time : ℕ) (x y : ℤ) (at : Option Place) (w : Option Window) → IsAt surface x y at w → (r : Resident)
+    → IsTold (Motion time x y) r.pointers r r (motion_told time at w r)
+told-moved surface time x y at w is r = record { press = r.press; release = r.release; changes = motion-draws time x y r; told = motion-says surface time x y at w is r }
+
+-- a surface has a number as long as it is there
+module _ (v : DeskView) (c surface : ℕ) (m : Midstep) (telling : IsTelling v m) (there : Bool)
+    (is : is_some (numbers_in v.kept.clients c surface) ≡ there) where
+  history : (r : Resident) → client_at c m.desktop ≡ Some r → r.peer.status ≡ None → is_some (history_in surface r.owned.surfaces) ≡ there
+  history r here lives = sym (mid-names v.kept (unpointed_mid m) c surface r telling.kept here) ∙ is
+
+  left-client : there ≡ true → (o : Option Resident) → client_at c m.desktop ≡ o → IsToldOf (Leave surface) (leave_drawn surface) (left_surface surface) o
+  left-client so None here = tt
+  left-client so (Some r) here = λ lives. record {
+    press = r.press;
+    release = r.release;
+    changes = left-draws surface r (history r here lives ∙ so);
+    told = left-says surface r (history r here lives ∙ so);
+  }
+
+  pub told-left : there ≡ true → IsToldOf (Leave surface) (leave_drawn surface) (left_surface surface) (client_at c m.desktop)
+  told-left so = left-client so (client_at c m.desktop) refl
+
+  pub not-left : there ≡ false → Tells (leave_drawn surface) (left_surface surface) c m m
+  not-left so =
+      tells-nothing (leave_drawn surface) (left_surface surface) c m
+      (λ r here lives. (gone-draws surface r (history r here lives ∙ so), gone-says surface r (history r here lives ∙ so)))
+
+-- ---- by the point in a surface
+
+pub point-as : (v w x y : ℤ) (o : Option (ℤ × ℤ)) → v ≡ x → w ≡ y → Some (x, y) ≡ o → Some (v, w) ≡ o
+point-as v w x y o across down point = ap₂ (λ (a b : ℤ). Some (a, b)) across down ∙ point
+
+module _ (t : Target) (ws : List Window) (m : Midstep) (x y : ℤ) (same : ws ≡ all_windows m.desktop)
+    (point : Some (x, y) ≡ point_told m.desktop.pointer.place (focus_window (Some t) (all_windows m.desktop))) where
+  abbrev window : Option Window
+  window = focus_window (Some t) ws
+
+  at-point : IsAt t.surface x y m.desktop.pointer.place window
+  at-point = point-at t ws m.desktop.pointer.place x y
+      (subst (λ (vs : List Window). Some (x, y) ≡ point_told m.desktop.pointer.place (focus_window (Some t) vs)) (sym same) point)
+
+  pub enters-at : IsToldOf (Enter t.surface x y) told_drawn (entered_surface m.desktop.pointer.place window) (client_at t.client m.desktop)
+  enters-at =
+      told-each (Enter t.surface x y) told_drawn (entered_surface m.desktop.pointer.place window) (λ r. told-entered t.surface x y m.desktop.pointer.place window at-point r)
+      (client_at t.client m.desktop)
+
+  pub moves-at : (time : ℕ) → IsToldOf (Motion time x y) (λ r. r) (motion_told time m.desktop.pointer.place window) (client_at t.client m.desktop)
+  moves-at time =
+      told-each (Motion time x y) (λ r. r) (motion_told time m.desktop.pointer.place window) (λ r. told-moved t.surface time x y m.desktop.pointer.place window at-point r)
+      (client_at t.client m.desktop)
+
+  pub enters-new-at : (pointer : ℕ) (r : Resident) → IsTold (Enter t.surface x y) (pointer ∷ []) r (drawing true r) (entered_at pointer r.peer.serial m.desktop.pointer.place window)
+  enters-new-at pointer r = told-new t.surface x y m.desktop.pointer.place window at-point pointer r
+
+-- ---- one action
+
+pub left-applied : (ws : List Window) (t : Target) (new : DeskView) (m : Midstep) → ((n : Midstep) × Tells (leave_drawn t.surface) (left_surface t.surface) t.client m n × IsTelling new n)
+    → (n : Midstep) × Applies ws (Left t) m n × IsTelling new n
+left-applied ws t new m h = (with_focus None h.0, (h.0, h.1, refl), telling-focus new None h.0 h.2)
+
+pub entered-applied : (ws : List Window) (t : Target) (new : DeskView) (m : Midstep)
+    → ((n : Midstep) × Tells told_drawn (entered_surface m.desktop.pointer.place (focus_window (Some t) ws)) t.client m n × IsTelling new n)
+    → (n : Midstep) × Applies ws (Entered t) m n × IsTelling new n
+entered-applied ws t new m h = (with_focus (Some t) h.0, (h.0, h.1, refl), telling-focus new (Some t) h.0 h.2)

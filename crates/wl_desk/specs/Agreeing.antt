@@ -1,28 +1,52 @@
 -- A desk agrees with a desktop, and what its calls make of both.
-use Rattle.std.specs.Prelude.{ℕ, ◌≡◌, ◌<◌}
+use Rattle.std.specs.Prelude.{ℕ, ◌≡◌, ◌<◌, List, None, Some, []}
 use Rattle.wl_paint.specs.Damage.{has}
+use Rattle.wl_stacking.specs.Pointer.{Pointer}
 use Rattle.wl_plain.specs.declared.answers.Done.{Done}
-use Rattle.wl_plain.specs.Desktop.{Desktop}
-use Rattle.wl_plain.specs.LeftOut.{served_now}
-use Rattle.wl_invariants.specs.Orderly.{Orderly}
 use Rattle.wl_plain.specs.Act.{Act}
+use Rattle.wl_plain.specs.Desktop.{Desktop, Resident, client_at, unpointed}
+use Rattle.wl_plain.specs.Happenings.{Happening}
 use Rattle.wl_plain.specs.Happens.{Happens}
-use Rattle.wl_resident.specs.Agreement.{Matches}
-use Rattle.wl_resident.specs.Marking.{MarksAtLeast}
-use Rattle.wl_resident.specs.View.{DeskView, MarkedDesk}
+use Rattle.wl_plain.specs.LeftOut.{served_now}
+use Rattle.wl_laws.specs.Focus.{IsSettled}
+use Rattle.wl_clients.specs.Agreeing.{Agrees as KeptAgrees}
+use Rattle.wl_clients.specs.Framing.{MarksIfEnds}
+use Rattle.wl_clients.specs.Leading.{Led}
+use Rattle.wl_desk.specs.View.{DeskView, MarkedDesk, seat_of}
 
--- What is kept is what the desktop has, and what each client owns there is in order.
+-- No button is down, and nothing is held or moved; where the pointer isn't anywhere, it has no focus.
+pub record IsFree (p : Pointer) : Type 0 where
+  pub buttons : p.buttons ≡ []
+  pub hold : p.hold ≡ None
+  pub move : p.move ≡ None
+  pub nowhere : p.place ≡ None → p.focus ≡ None
+
+-- the wl_pointers are those of each client that lives
+abbrev pub AreSeats : List (List ℕ) → Desktop → Type 0
+AreSeats seats d = (c : ℕ) (r : Resident) → client_at c d ≡ Some r → r.peer.status ≡ None → seat_of seats c ≡ r.pointers
+
+-- What is kept of the clients is what the desktop has but for the pointer; and so are the pointer, whose focus is settled, and the
+-- wl_pointers.
 pub record Agrees (v : DeskView) (d : Desktop) : Type 0 where
-  pub matches : Matches v d
-  pub orderly : Orderly d
+  pub kept : KeptAgrees v.kept (unpointed d)
+  pub pointer : v.pointer ≡ d.pointer
+  pub free : IsFree d.pointer
+  pub seats : AreSeats v.seats d
+  pub settled : IsSettled d
 
 -- One step leads from old to new: whatever desktop agrees before, one to which the step leads agrees after.
 abbrev pub TakesStep : Act → Done → DeskView → DeskView → Type 0
 TakesStep act done old new = (d : Desktop) → Agrees old d → (e : Desktop) × Happens served_now act done d e × Agrees new e
 
--- A step marks what it has to.
-abbrev pub MarksStep : Act → Done → MarkedDesk → MarkedDesk → Type 0
-MarksStep act done old new = (d e : Desktop) → Agrees old.desk d → Happens served_now act done d e → MarksAtLeast d e old.damage new.damage
+-- One thing that happens leads from whatever desktop agrees before to one that agrees after, and marks what it has to on the way.
+abbrev pub LeadsBy : Happening → MarkedDesk → MarkedDesk → Type 0
+LeadsBy h old new = (d : Desktop) → Agrees old.desk d → Led (Agrees new.desk) h old.damage new.damage d
+
+-- The same, and nothing more is to be painted where no client ends.
+abbrev pub LeadsQuietly : Happening → MarkedDesk → MarkedDesk → Type 0
+LeadsQuietly h old new =
+    (d : Desktop) → Agrees old.desk d
+    → (led : Led (Agrees new.desk) h old.damage new.damage d) × MarksIfEnds d led.desktop old.damage new.damage
 
 -- A call marks nothing: the same points are to be painted again.
 abbrev pub MarksNothing : MarkedDesk → MarkedDesk → Type 0

@@ -1,128 +1,107 @@
-//! The desk: all clients, by number, with their toplevels and the windows of these.
+//! The desk: all clients, by number, with the windows that they show, and the pointer.
 
-ghost use Rattle.std.specs.Prelude.{◌≡◌, ◌≢◌, ◌↔◌, ◌&&◌, ◌||◌, ℕ, ◌+◌, ◌<◌, ◌≤◌, List, Option, length, pos, IfOk, IfSome, IfNone, IsErrOf, OnOk, OnErr, ◌⊎◌, false, true, Result, Ok, Err, None, Some};
+ghost use Rattle.std.specs.Prelude.{◌≡◌, ◌≢◌, ◌↔◌, ◌&&◌, ℕ, ◌<◌, IfOk, IfSome, IfNone, IsErrOf, OnOk, OnErr, None, [], false, true, length, pos, ◌+◌, ◌≤◌, ◌⊎◌, vec_len};
 ghost use Rattle.std.specs.Option.{option_copied};
 ghost use Rattle.wl_client.specs.Agreement.{output_of};
 ghost use Rattle.wl_paint.specs.Damage.{has};
 ghost use Rattle.wl_paint.specs.Frame.{color_at, is_side};
-ghost use Rattle.wl_plain.specs.Desktop.{Desktop, empty};
-ghost use Rattle.wl_plain.specs.Act.{Connect, Feed, Store, Leave, Tick, Send, Close, lowest, peer_at, unsent_of, status_of, store_size_of};
-ghost use Rattle.wl_desk.specs.NextStore.{next_store_of};
-ghost use Rattle.wl_desk.specs.Agreeing.{Agrees, MarksNothing, MarksStep, TakesStep};
-ghost use Rattle.wl_resident.specs.Marking.{MarksAtLeast, MarksAtMost, MarksMost, MarksThrough};
-ghost use Rattle.wl_desk.specs.Feeding.{Ends, IsIdleIn, kept_at, kept_while, rest_in, served_as, served_of};
 ghost use Rattle.wl_marking.specs.Marking.{IsAsLarge};
-ghost use Rattle.wl_desk.specs.Framing.{MarksIfEnds, WasTold};
-ghost use Rattle.wl_desk.specs.Residents.{resident_at};
 ghost use Rattle.wl_lending.specs.Painting.{IsOpaqueAsSaid};
+ghost use Rattle.wl_plain.specs.Act.{Connect, Store, Leave, Tick, Send, Close, Motion, peer_at, unsent_of, status_of, store_size_of};
+ghost use Rattle.wl_plain.specs.Desktop.{Desktop, empty, status_in};
+ghost use Rattle.wl_plain.specs.Happenings.{Message, Single, Starve};
+ghost use Rattle.wl_plain.specs.Happens.{within};
 ghost use Rattle.wl_plain.specs.Scratch.{scratch};
-ghost use Rattle.wl_plain.specs.LeftOut.{served_now};
-ghost use Rattle.wl_plain.specs.Happens.{Happens, Serves};
-ghost use Rattle.wl_plain.specs.Through.{ServesThrough};
-ghost use Rattle.wl_invariants.specs.Touching.{has_window_at};
+ghost use Rattle.wl_laws.specs.Focus.{EndedAreBare, IsSettled};
+ghost use Rattle.wl_pointed.specs.Happenings.{pointer_left};
+ghost use Rattle.wl_clients.specs.Agreeing.{Agrees as KeptAgrees};
+ghost use Rattle.wl_clients.specs.Feeding.{IsIdleIn, kept_at, rest_in, served_of};
+ghost use Rattle.wl_clients.specs.Leading.{Led};
+ghost use Rattle.wl_clients.specs.NextStore.{next_store_of};
+ghost use Rattle.wl_desk.specs.Agreeing.{Agrees, IsFree, LeadsBy, LeadsQuietly, MarksNothing};
+ghost use Rattle.wl_desk.specs.Following.{IsUnsettled, Took};
+ghost use Rattle.wl_desk.specs.View.{MarkedDesk, seat_of};
 
-use crate::windows::{Lent, resident_of};
+use crate::seating::{keep_asked, make_room};
 use std::alloc::{AllocError, Allocator};
 use std::marker::Model;
-use wl_client::{Cause, Client, Output, Served, StoreNo};
-use wl_geom::Region;
-use wl_paint::{Damage, FrameError, Framebuffer, MAX_SIDE};
-use wl_plain::{ClientNo, ConnectError, Done, Fed, Stored};
-use wl_requests::Resident;
-use wl_resident::{Screen, bare};
-use wl_subsurfaces::Subsurfaces;
+use wl_client::{Cause, Output, Served, StoreNo};
+use wl_clients::{ClientNo, Clients, ConnectError, Fed, PointerAsked, Stored, Taken};
+use wl_paint::{Damage, FrameError, Framebuffer};
+use wl_plain::Done;
+use wl_scene::{Focus, Point};
 
 /// How many clients there may be at once.
 const CLIENT_LIMIT: usize = 32;
 
-/// All clients with what each owns, the mapped toplevels with the windows of their trees, and which points of the output are to be painted again.
-/// It is seen as the output, what is kept of each client and of what it owns, by number from 1, and the pile of toplevels and windows; and that
-/// damage.
+/// All clients with the windows that they show, the wl_pointers of each, and the pointer. It is seen as what is kept of the clients, the
+/// wl_pointers of each client by number from 1, and the pointer; and which points of the output are to be painted again.
 #[derive(Drop)]
 pub struct Desk<A: Allocator> {
-    output: Output,
-    residents: Vec<Option<Resident<A>>, A>,
-    screen: Screen<A>,
-    nowhere: Region<A>,
+    pub(crate) clients: Clients<A>,
+    pub(crate) seats: Vec<Vec<u32, A>, A>,
+    pub(crate) pointer: Focus,
 }
 
 impl<A: Allocator> Model for Desk<A> {
-    ghost use Rattle.std.specs.Prelude.{◌≡◌, length};
-    ghost use Rattle.wl_resident.specs.View.{MarkedDesk, pile_of};
-    ghost use Rattle.wl_desk.specs.Residents.{client_views, owned_views};
+    ghost use Rattle.std.specs.Prelude.{◌≡◌, length, map};
+    ghost use Rattle.wl_desk.specs.View.{MarkedDesk};
 
     ghost Value = { MarkedDesk };
 
     ghost view = { λ d. record {
-      desk = record { output = d.output; clients = client_views d.residents.items; owned = owned_views d.residents.items; pile = pile_of d.screen };
-      damage = d.screen.damage;
+      desk = record { kept = d.clients.desk; seats = map (λ s. s.items) d.seats.items; pointer = d.pointer };
+      damage = d.clients.damage;
     } };
 
-    ghost invariant = { λ d. (length d.residents.items ≡ 32) × ((d.screen.damage.width ≡ d.output.width) × (d.screen.damage.height ≡ d.output.height)) };
+    ghost invariant = { λ d. length d.seats.items ≡ 32 };
 }
 
 impl<A: Allocator + Copy> Desk<A> {
-    /// A desk without clients, with this output: its sides are 1 to 4,096 pixels. Nothing is to be painted.
+    /// A desk without clients, with this output: its sides are 1 to 4,096 pixels. Nothing is to be painted, and the pointer isn't anywhere.
     pub fn new(alloc: A, output: Output) -> Result<Self, FrameError>
         ensures desk { IfOk result (λ v. Agrees v.desk (empty (output_of output))) }
-        ensures output { IfOk result (λ v. v.desk.output ≡ output) }
+        ensures output { IfOk result (λ v. v.desk.kept.output ≡ output) }
         ensures damage { IfOk result (λ v. (x y : ℕ) → has v.damage x y ≡ false) }
         ensures sides { IfOk result (λ v. (v.damage.width ≡ output.width) × (v.damage.height ≡ output.height)) }
         ensures bad { IsErrOf result FrameError.BadSize ↔ ((is_side output.width && is_side output.height) ≡ false) }
     {
-        if !is_side(output.width) || !is_side(output.height) {
-            return Err(FrameError::BadSize);
-        }
-        match Self::of_side(alloc, output) {
-            Ok(desk) => Ok(desk),
-            Err(AllocError) => Err(FrameError::Memory),
-        }
-    }
-
-    /// The same, where the sides are such.
-    fn of_side(alloc: A, output: Output) -> Result<Self, AllocError>
-        requires wide { output.width ≤ 4096 }
-        requires high { output.height ≤ 4096 }
-        ensures desk { IfOk result (λ v. Agrees v.desk (empty (output_of output))) }
-        ensures output { IfOk result (λ v. v.desk.output ≡ output) }
-        ensures damage { IfOk result (λ v. (x y : ℕ) → has v.damage x y ≡ false) }
-        ensures sides { IfOk result (λ v. (v.damage.width ≡ output.width) × (v.damage.height ≡ output.height)) }
-    {
-        let damage = Damage::new(alloc, output.width, output.height)?;
-        let mut residents = Vec::with_capacity(alloc, CLIENT_LIMIT)?;
-        for _ in 0..CLIENT_LIMIT {
-            residents.push(None)?;
-        }
+        let clients = Clients::new(alloc, output)?;
+        let Ok(seats) = seats_of(alloc) else {
+            return Err(FrameError::Memory);
+        };
         Ok(Desk {
-            output,
-            residents,
-            screen: Screen::new(alloc, damage),
-            nowhere: Region::new(alloc),
+            clients,
+            seats,
+            pointer: Focus::new(),
         })
     }
 
     /// A client connects. It gets the lowest free number.
     pub fn connect(&mut self) -> Result<ClientNo, ConnectError>
-        ensures step { TakesStep Connect (Done.Connect result) self.old.desk self.new.desk }
-        ensures marks { MarksStep Connect (Done.Connect result) self.old self.new }
+        ensures leads { LeadsBy (Single Connect (Done.Connect result)) self.old self.new }
         ensures unchanged { OnErr result (self.new ≡ self.old) }
         ensures sides { IsAsLarge self.old.damage self.new.damage }
         ensures nothing { MarksNothing self.old self.new }
-        ensures output { self.new.desk.output ≡ self.old.desk.output }
+        ensures output { self.new.desk.kept.output ≡ self.old.desk.kept.output }
     {
-        let Some(k) = free_place(&self.residents) else {
-            return Err(ConnectError::Full);
+        let client = self.clients.connect()?;
+        self.clear_seat(client);
+        Ok(client)
+    }
+
+    /// A client has no wl_pointers.
+    fn clear_seat(&mut self, client: ClientNo)
+        ensures cleared { seat_of self.new.desk.seats client ≡ [] }
+        ensures others { (c : ℕ) → c ≢ client → seat_of self.new.desk.seats c ≡ seat_of self.old.desk.seats c }
+        ensures kept { self.new.desk.kept ≡ self.old.desk.kept }
+        ensures pointer { self.new.desk.pointer ≡ self.old.desk.pointer }
+        ensures damage { self.new.damage ≡ self.old.damage }
+    {
+        let Some(k) = self.place_of(client) else {
+            return;
         };
-        let alloc = *self.residents.allocator();
-        let Ok(client) = Client::new(alloc, self.output) else {
-            return Err(ConnectError::Memory);
-        };
-        self.residents[k] = Some(Resident {
-            client,
-            owned: bare(alloc),
-            subsurfaces: Subsurfaces::new(alloc),
-        });
-        Ok(k as u32 + 1)
+        self.seats[k].clear();
     }
 
     /// A piece of a client's stream comes. It is kept behind what came before, and no message is taken. Nothing is kept for a client that
@@ -131,121 +110,165 @@ impl<A: Allocator + Copy> Desk<A> {
         ensures ok { OnOk result ((d : Desktop) → Agrees self.old.desk d → Agrees self.new.desk (kept_at client piece.now d)) }
         ensures err { OnErr result ((d : Desktop) → Agrees self.old.desk d → Agrees self.new.desk d × (status_of (peer_at client d) ≡ Fed.Alive)) }
         ensures damage { self.new.damage ≡ self.old.damage }
-        ensures output { self.new.desk.output ≡ self.old.desk.output }
+        ensures output { self.new.desk.kept.output ≡ self.old.desk.kept.output }
     {
-        let Some(k) = place_of(&self.residents, client) else {
-            return Ok(());
-        };
-        let Some(resident) = &mut self.residents[k] else {
-            return Ok(());
-        };
-        keep_in(resident, piece)
+        self.clients.keep(client, piece)
     }
 
-    /// Takes the first whole message of what came from a client that lives. `More` where there is none; then nothing is changed. What the message
-    /// changes is marked, and the windows of a client that ends by it.
+    /// Takes the first whole message of what came from a client that lives, and settles the focus of the pointer. `More` where there is none;
+    /// then nothing is changed. What the message changes is marked, and the windows of each client that ends.
     pub fn serve(&mut self, client: ClientNo) -> Served
-        ensures serves { result ≢ Served.More → (d : Desktop) → Agrees self.old.desk d → (e : Desktop) × Serves served_now client d e × Agrees self.new.desk e }
+        ensures leads { result ≢ Served.More → LeadsBy (Message client) self.old self.new }
         ensures told { result ≢ Served.More → (d : Desktop) → Agrees self.new.desk d → result ≡ served_of (status_of (peer_at client d)) }
-        ensures marks { result ≢ Served.More → (d e : Desktop) → Agrees self.old.desk d → Serves served_now client d e → Agrees self.new.desk e
-            → MarksAtLeast d e self.old.damage self.new.damage }
-        ensures within { result ≢ Served.More → (d e : Desktop) → Agrees self.old.desk d → Serves served_now client d e → Agrees self.new.desk e
-            → MarksAtMost client d e self.old.damage self.new.damage }
-        ensures through { result ≢ Served.More → (d : Desktop) → Agrees self.old.desk d
-            → (e : Desktop) × (path : List Desktop) × ServesThrough served_now client d path e × Agrees self.new.desk e × MarksThrough d path self.old.damage self.new.damage }
         ensures more { result ≡ Served.More → (d : Desktop) → Agrees self.old.desk d → Agrees self.new.desk d × IsIdleIn client d }
         ensures rests { result ≡ Served.More → self.new.damage ≡ self.old.damage }
         ensures sides { IsAsLarge self.old.damage self.new.damage }
-        ensures less { result ≢ Served.More → length (rest_in client self.new.desk) < length (rest_in client self.old.desk) }
-        ensures output { self.new.desk.output ≡ self.old.desk.output }
+        ensures less { result ≢ Served.More → length (rest_in client self.new.desk.kept) < length (rest_in client self.old.desk.kept) }
+        ensures output { self.new.desk.kept.output ≡ self.old.desk.kept.output }
     {
-        let alloc = *self.residents.allocator();
-        let Some(k) = place_of(&self.residents, client) else {
+        let taken = self.take(client);
+        if taken.served == Served::More {
             return Served::More;
-        };
-        let Some(resident) = &mut self.residents[k] else {
-            return Served::More;
-        };
-        let taken = self.screen.serve(resident, client, alloc);
-        served_of(taken, resident.client.ended())
+        }
+        self.follow(client, taken.pointer);
+        self.settle();
+        served_of(self.clients.status(client))
     }
 
-    /// A client ends by this, where it lives. It is told nothing. No more than its own windows is marked.
-    pub fn end(&mut self, client: ClientNo, cause: Cause)
-        ensures ends { (d : Desktop) → Agrees self.old.desk d → (e : Desktop) × Ends client cause d e × Agrees self.new.desk e }
-        ensures marks { (d e : Desktop) → Agrees self.old.desk d → Ends client cause d e → MarksAtLeast d e self.old.damage self.new.damage }
-        ensures within { (d : Desktop) → Agrees self.old.desk d → (x y : ℕ) → x < self.old.damage.width → y < self.old.damage.height
-            → has self.new.damage x y ≡ true → (has self.old.damage x y || has_window_at client (pos x) (pos y) d) ≡ true }
-        ensures most { (d e : Desktop) → Agrees self.old.desk d → Ends client cause d e → Agrees self.new.desk e → MarksMost d e self.old.damage self.new.damage }
+    /// Takes the first whole message of what came from a client that lives; a wl_pointer that it asks for is kept. The pointer stays as it is.
+    fn take(&mut self, client: ClientNo) -> Taken
+        ensures took { result.served ≢ Served.More → (d : Desktop) → Agrees self.old.desk d → Took client result.pointer self.old self.new d }
+        ensures more { result.served ≡ Served.More → (d : Desktop) → Agrees self.old.desk d → Agrees self.new.desk d × IsIdleIn client d }
+        ensures rests { result.served ≡ Served.More → self.new.damage ≡ self.old.damage }
         ensures sides { IsAsLarge self.old.damage self.new.damage }
-        ensures output { self.new.desk.output ≡ self.old.desk.output }
+        ensures less { result.served ≢ Served.More → length (rest_in client self.new.desk.kept) < length (rest_in client self.old.desk.kept) }
+        ensures output { self.new.desk.kept.output ≡ self.old.desk.kept.output }
     {
-        let alloc = *self.residents.allocator();
-        let Some(k) = place_of(&self.residents, client) else {
+        let has_room = make_room(&mut self.seats, client);
+        let taken = self.clients.take(client, has_room);
+        if taken.served == Served::More {
+            return taken;
+        }
+        keep_asked(&mut self.seats, client, taken.pointer, has_room);
+        taken
+    }
+
+    /// The pointer leaves a client that ended by a message. Where the message asked for a wl_pointer, that one is told of the focus where its
+    /// client has it (wayland.xml, wl_pointer.enter).
+    fn follow(&mut self, client: ClientNo, asked: PointerAsked)
+        ensures follows { (old : MarkedDesk) (d : Desktop) → Took client asked old self.old d → IsUnsettled (Message client) old self.new d }
+        ensures sides { IsAsLarge self.old.damage self.new.damage }
+        ensures rests { (c : ℕ) → length (rest_in c self.new.desk.kept) ≤ length (rest_in c self.old.desk.kept) }
+        ensures output { self.new.desk.kept.output ≡ self.old.desk.kept.output }
+    {
+        if let Fed::Ended(_) = self.clients.status(client) {
+            self.pointer.forget(client);
+            return;
+        }
+        let PointerAsked::NewPointer(id) = asked else {
             return;
         };
-        let Some(resident) = &mut self.residents[k] else {
+        self.tell_new(client, id);
+    }
+
+    /// A new wl_pointer of a client that lives is told of the focus, where its client has it. The client ends where that isn't queued.
+    fn tell_new(&mut self, client: ClientNo, id: u32)
+        ensures tells { (old : MarkedDesk) (d : Desktop) → (took : Took client (PointerAsked.NewPointer id) old self.old d)
+            → status_in client took.desktop ≡ None → IsUnsettled (Message client) old self.new d }
+        ensures sides { IsAsLarge self.old.damage self.new.damage }
+        ensures rests { (c : ℕ) → length (rest_in c self.new.desk.kept) ≤ length (rest_in c self.old.desk.kept) }
+        ensures output { self.new.desk.kept.output ≡ self.old.desk.kept.output }
+    {
+        let Some(focus) = self.pointer.focus() else {
             return;
         };
-        self.screen.end(resident, client, cause, alloc);
+        if focus.client != client {
+            return;
+        }
+        if self.enter_new(focus, id) {
+            return;
+        }
+        self.end_refused(client);
+    }
+
+    /// Memory is wanting for a client that lives, and it ends by that; the focus of the pointer is settled. The windows of each client that
+    /// ends are marked.
+    pub fn starve(&mut self, client: ClientNo)
+        ensures leads { (d : Desktop) → Agrees self.old.desk d → status_of (peer_at client d) ≡ Fed.Alive
+            → Led (Agrees self.new.desk) (Starve client) self.old.damage self.new.damage d }
+        ensures sides { IsAsLarge self.old.damage self.new.damage }
+        ensures output { self.new.desk.kept.output ≡ self.old.desk.kept.output }
+    {
+        self.clients.starve(client);
+        self.pointer.forget(client);
+        self.settle();
     }
 
     /// A frame was shown at this time, in milliseconds: the clients in rising number are told that their frame callbacks that are due are done
-    /// (wayland.xml, wl_surface.frame). One to which an event isn't queued ends, and its windows are marked. Where none ends, nothing more is to
-    /// be painted.
+    /// (wayland.xml, wl_surface.frame). One to which an event isn't queued ends, and its windows are marked; then the focus of the pointer is
+    /// settled. Where none ends, nothing more is to be painted.
     pub fn frames(&mut self, time: u32)
-        ensures shows { (d : Desktop) → Agrees self.old.desk d → (e : Desktop) × Happens served_now (Tick time) Done.Tick d e × Agrees self.new.desk e
-            × MarksAtLeast d e self.old.damage self.new.damage × MarksMost d e self.old.damage self.new.damage
-            × MarksIfEnds d e self.old.damage self.new.damage }
+        ensures leads { LeadsQuietly (Single (Tick time) Done.Tick) self.old self.new }
         ensures sides { IsAsLarge self.old.damage self.new.damage }
-        ensures output { self.new.desk.output ≡ self.old.desk.output }
+        ensures output { self.new.desk.kept.output ≡ self.old.desk.kept.output }
     {
-        for before in 0..CLIENT_LIMIT {
-            self.tell_frames(before as u32 + 1, time);
-        }
+        self.clients.frames(time);
+        self.forget_ended();
+        self.settle();
     }
 
-    /// A client is told of a frame.
-    fn tell_frames(&mut self, client: ClientNo, time: u32)
-        ensures tells { (d : Desktop) → Agrees self.old.desk d → (e : Desktop) × WasTold time client self.old self.new d e }
-        ensures sides { IsAsLarge self.old.damage self.new.damage }
-        ensures output { self.new.desk.output ≡ self.old.desk.output }
+    /// The pointer leaves what it has of a client that ended.
+    fn forget_ended(&mut self)
+        ensures left { (d e : Desktop) → IsSettled d → IsFree d.pointer → EndedAreBare d → self.old.desk.pointer ≡ d.pointer → KeptAgrees self.old.desk.kept e
+            → self.new.desk.pointer ≡ pointer_left d e }
+        ensures kept { self.new.desk.kept ≡ self.old.desk.kept }
+        ensures seats { self.new.desk.seats ≡ self.old.desk.seats }
+        ensures damage { self.new.damage ≡ self.old.damage }
     {
-        let alloc = *self.residents.allocator();
-        let Some(k) = place_of(&self.residents, client) else {
+        let Some(focus) = self.pointer.focus() else {
             return;
         };
-        let Some(resident) = &mut self.residents[k] else {
+        let Fed::Ended(_) = self.clients.status(focus.client) else {
             return;
         };
-        self.screen.tell_frames(resident, client, time, alloc);
+        self.pointer.forget(focus.client);
+    }
+
+    /// The pointer goes to a point of the output in pixels, held within it, at a time in milliseconds. The surface that keeps the focus is
+    /// told of the motion; where the focus moves, the one that had it is left and the other entered (wayland.xml, wl_pointer.motion, leave
+    /// and enter). The windows of each client that can't be told, and so ends, are marked.
+    pub fn motion(&mut self, time: u32, x: i32, y: i32)
+        ensures leads { LeadsBy (Single (Motion time x y) Done.Motion) self.old self.new }
+        ensures sides { IsAsLarge self.old.damage self.new.damage }
+        ensures output { self.new.desk.kept.output ≡ self.old.desk.kept.output }
+    {
+        let output = self.clients.output();
+        let place = Point {
+            x: within(output.width, x),
+            y: within(output.height, y),
+        };
+        self.pointer.motion(place);
+        let hit = self.hit();
+        let actions = self.pointer.went(time, hit, false);
+        self.apply_all(&actions);
+        self.settle();
     }
 
     /// Puts bytes into a client's store.
     pub fn store(&mut self, client: ClientNo, store: StoreNo, at: u32, bytes: &[u8]) -> Stored
-        ensures step { TakesStep (Store client store at bytes.now) (Done.Store result) self.old.desk self.new.desk }
-        ensures marks { MarksStep (Store client store at bytes.now) (Done.Store result) self.old self.new }
+        ensures leads { LeadsBy (Single (Store client store at bytes.now) (Done.Store result)) self.old self.new }
         ensures sides { IsAsLarge self.old.damage self.new.damage }
         ensures nothing { MarksNothing self.old self.new }
-        ensures output { self.new.desk.output ≡ self.old.desk.output }
+        ensures output { self.new.desk.kept.output ≡ self.old.desk.kept.output }
     {
-        let Some(k) = place_of(&self.residents, client) else {
-            return Stored::NoClient;
-        };
-        let Some(resident) = &mut self.residents[k] else {
-            return Stored::NoClient;
-        };
-        wl_resident::store(resident, store, at, bytes)
+        self.clients.store(client, store, at, bytes)
     }
 
     /// How many bytes a client's store has.
     pub fn store_size(&self, client: ClientNo, store: StoreNo) -> Option<u32>
         ensures { (d : Desktop) → Agrees self.now.desk d → result ≡ store_size_of store (peer_at client d) }
     {
-        let Some(resident) = resident_of(&self.residents, client) else {
-            return None;
-        };
-        resident.client.store_size(store)
+        self.clients.store_size(client, store)
     }
 
     /// The least number of a client's live store that is above this one.
@@ -253,115 +276,78 @@ impl<A: Allocator + Copy> Desk<A> {
         ensures next { (d : Desktop) → Agrees self.now.desk d → result ≡ next_store_of number (peer_at client d) }
         ensures rises { IfSome result (λ next. number < next) }
     {
-        let Some(resident) = resident_of(&self.residents, client) else {
-            return None;
-        };
-        resident.client.next_store(number)
+        self.clients.next_store(client, number)
     }
 
-    /// A client goes. True where it was alive. No more than its own windows is marked.
+    /// A client goes, and the focus of the pointer is settled. True where it was alive. The windows of each client that ends are marked.
     pub fn gone(&mut self, client: ClientNo) -> bool
-        ensures step { TakesStep (Leave client) (Done.Gone result) self.old.desk self.new.desk }
-        ensures marks { MarksStep (Leave client) (Done.Gone result) self.old self.new }
-        ensures within { (d : Desktop) → Agrees self.old.desk d → (x y : ℕ) → x < self.old.damage.width → y < self.old.damage.height
-            → has self.new.damage x y ≡ true → (has self.old.damage x y || has_window_at client (pos x) (pos y) d) ≡ true }
-        ensures most { (d e : Desktop) → Agrees self.old.desk d → Happens served_now (Leave client) (Done.Gone result) d e → Agrees self.new.desk e
-            → MarksMost d e self.old.damage self.new.damage }
+        ensures leads { LeadsBy (Single (Leave client) (Done.Gone result)) self.old self.new }
         ensures sides { IsAsLarge self.old.damage self.new.damage }
-        ensures output { self.new.desk.output ≡ self.old.desk.output }
+        ensures output { self.new.desk.kept.output ≡ self.old.desk.kept.output }
     {
-        let alloc = *self.residents.allocator();
-        let Some(k) = place_of(&self.residents, client) else {
+        if !self.clients.gone(client) {
             return false;
-        };
-        let Some(resident) = &mut self.residents[k] else {
-            return false;
-        };
-        self.screen.gone(resident, client, alloc)
+        }
+        self.pointer.forget(client);
+        self.settle();
+        true
     }
 
     /// So many of a client's unsent bytes were sent. False and unchanged where there are fewer.
     pub fn sent(&mut self, client: ClientNo, count: usize) -> bool
-        ensures step { TakesStep (Send client count) (Done.Sent result) self.old.desk self.new.desk }
-        ensures marks { MarksStep (Send client count) (Done.Sent result) self.old self.new }
+        ensures leads { LeadsBy (Single (Send client count) (Done.Sent result)) self.old self.new }
         ensures sides { IsAsLarge self.old.damage self.new.damage }
         ensures nothing { MarksNothing self.old self.new }
-        ensures output { self.new.desk.output ≡ self.old.desk.output }
+        ensures output { self.new.desk.kept.output ≡ self.old.desk.kept.output }
     {
-        let Some(k) = place_of(&self.residents, client) else {
-            return false;
-        };
-        let Some(resident) = &mut self.residents[k] else {
-            return false;
-        };
-        wl_resident::sent(resident, count)
+        self.clients.sent(client, count)
     }
 
     /// Frees the number of a client that ended. True where it had.
     pub fn close(&mut self, client: ClientNo) -> bool
-        ensures step { TakesStep (Close client) (Done.Close result) self.old.desk self.new.desk }
-        ensures marks { MarksStep (Close client) (Done.Close result) self.old self.new }
+        ensures leads { LeadsBy (Single (Close client) (Done.Close result)) self.old self.new }
         ensures sides { IsAsLarge self.old.damage self.new.damage }
         ensures nothing { MarksNothing self.old self.new }
-        ensures output { self.new.desk.output ≡ self.old.desk.output }
+        ensures output { self.new.desk.kept.output ≡ self.old.desk.kept.output }
     {
-        let Some(k) = place_of(&self.residents, client) else {
-            return false;
-        };
-        let Some(resident) = &self.residents[k] else {
-            return false;
-        };
-        if !resident.client.has_ended() {
-            return false;
-        }
-        self.residents[k] = None;
-        self.screen.scene.unmap_all(client);
-        self.screen.stacked.remove_client(client);
-        true
+        self.clients.close(client)
     }
 
     /// The unsent bytes of a client.
     pub fn out(&self, client: ClientNo) -> Option<&[u8]>
         ensures { (d : Desktop) → Agrees self.now.desk d → option_copied result ≡ unsent_of (peer_at client d) }
     {
-        let Some(resident) = resident_of(&self.residents, client) else {
-            return None;
-        };
-        Some(resident.client.unsent())
+        self.clients.out(client)
     }
 
     /// How a client is.
     pub fn status(&self, client: ClientNo) -> Fed
         ensures { (d : Desktop) → Agrees self.now.desk d → result ≡ status_of (peer_at client d) }
     {
-        let Some(resident) = resident_of(&self.residents, client) else {
-            return Fed::NoClient;
-        };
-        Fed::of(resident.client.ended())
+        self.clients.status(client)
     }
 
     /// Which points of the output are to be painted again.
     pub fn damage(&self) -> &Damage<A>
         ensures same { result.now ≡ self.now.damage }
-        ensures wide { result.now.width ≡ self.now.desk.output.width }
-        ensures high { result.now.height ≡ self.now.desk.output.height }
+        ensures wide { result.now.width ≡ self.now.desk.kept.output.width }
+        ensures high { result.now.height ≡ self.now.desk.kept.output.height }
     {
-        &self.screen.damage
+        self.clients.damage()
     }
 
     /// Hands over which points of the output are to be painted again, and begins with none. What is handed in has the output's sides.
     pub fn take_damage(&mut self, painted: &mut Damage<A>)
-        requires wide { painted.old.width ≡ self.old.desk.output.width }
-        requires high { painted.old.height ≡ self.old.desk.output.height }
+        requires wide { painted.old.width ≡ self.old.desk.kept.output.width }
+        requires high { painted.old.height ≡ self.old.desk.kept.output.height }
         ensures taken { painted.new ≡ self.old.damage }
         ensures none { (x y : ℕ) → has self.new.damage x y ≡ false }
         ensures sides { IsAsLarge self.old.damage self.new.damage }
         ensures desk { self.new.desk ≡ self.old.desk }
-        ensures width { painted.new.width ≡ self.old.desk.output.width }
-        ensures height { painted.new.height ≡ self.old.desk.output.height }
+        ensures width { painted.new.width ≡ self.old.desk.kept.output.width }
+        ensures height { painted.new.height ≡ self.old.desk.kept.output.height }
     {
-        painted.clear();
-        std::mem::swap(painted, &mut self.screen.damage);
+        self.clients.take_damage(painted);
     }
 
     /// Paints what is to be painted again: each of those points from nothing, the background and over it the windows from bottom to top. The
@@ -370,8 +356,8 @@ impl<A: Allocator + Copy> Desk<A> {
     /// The image has the output's sides. Where a window isn't opaque at a point that its opaque region holds, it is free what such a point gets
     /// (wayland.xml, wl_surface.set_opaque_region).
     pub fn paint(&self, framebuffer: &mut Framebuffer<A>)
-        requires wide { framebuffer.old.width ≡ self.now.desk.output.width }
-        requires high { framebuffer.old.height ≡ self.now.desk.output.height }
+        requires wide { framebuffer.old.width ≡ self.now.desk.kept.output.width }
+        requires high { framebuffer.old.height ≡ self.now.desk.kept.output.height }
         ensures painted { (d : Desktop) → Agrees self.now.desk d → (x y : ℕ) → x < framebuffer.old.width → y < framebuffer.old.height → has self.now.damage x y ≡ true
             → IsOpaqueAsSaid d (pos x) (pos y) → color_at framebuffer.new x y ≡ scratch framebuffer.old.background d (pos x) (pos y) }
         ensures kept { (x y : ℕ) → x < framebuffer.old.width → y < framebuffer.old.height → has self.now.damage x y ≡ false
@@ -380,68 +366,48 @@ impl<A: Allocator + Copy> Desk<A> {
         ensures height { framebuffer.new.height ≡ framebuffer.old.height }
         ensures background { framebuffer.new.background ≡ framebuffer.old.background }
     {
-        let lent = Lent {
-            stacked: self.screen.stacked.windows(),
-            residents: &self.residents,
-            nowhere: &self.nowhere,
-        };
-        framebuffer.paint(&self.screen.damage, &lent);
+        self.clients.paint(framebuffer);
     }
-}
 
-/// Whether an output may have this side.
-fn is_side(side: u32) -> bool
-    ensures { result ≡ is_side side }
-{
-    1 <= side && side <= MAX_SIDE
-}
-
-/// A piece is kept of a client that lives.
-fn keep_in<A: Allocator + Copy>(resident: &mut Resident<A>, piece: &[u8]) -> Result<(), AllocError>
-    ensures ok { OnOk result (resident.new ≡ record resident.old { client = kept_while piece.now resident.old.client.ended resident.old.client }) }
-    ensures err { OnErr result ((resident.new ≡ resident.old) × (resident.old.client.ended ≡ None)) }
-{
-    if resident.client.has_ended() {
-        return Ok(());
-    }
-    resident.client.keep(piece)
-}
-
-/// What became of a client's first message, if there was one, by how the client ended, if it did. That it lacked memory it is told as an error
-/// of wl_display; one that was too slow is told nothing.
-fn served_of(taken: bool, ended: Option<Cause>) -> Served
-    ensures { result ≡ served_as taken ended }
-{
-    if !taken {
-        return Served::More;
-    }
-    match ended {
-        Some(Cause::Protocol { object, code }) => Served::Refused { object, code },
-        Some(Cause::Memory) => Served::Refused { object: 1, code: 2 },
-        Some(Cause::Slow) | Some(Cause::Gone) | None => Served::Done,
-    }
-}
-
-/// Where the client of this number stands, if it is the number of a place.
-fn place_of<A: Allocator>(residents: &[Option<Resident<A>>], client: ClientNo) -> Option<usize>
-    ensures some { IfSome result (λ k. (client ≡ k + 1) × (k < length residents.now)) }
-    ensures none { IfNone result (resident_at residents.now client ≡ None) }
-{
-    if client == 0 || client as usize > residents.len() {
-        return None;
-    }
-    Some(client as usize - 1)
-}
-
-/// The lowest place that is free.
-fn free_place<A: Allocator>(residents: &[Option<Resident<A>>]) -> Option<usize>
-    ensures lowest { result ≡ lowest residents.now }
-    ensures within { IfSome result (λ k. k < length residents.now) }
-{
-    for (k, slot) in residents.iter().enumerate() {
-        if slot.is_none() {
-            return Some(k);
+    /// Where what is kept of the client of this number stands, if it is the number of a place.
+    pub(crate) fn place_of(&self, client: ClientNo) -> Option<usize>
+        ensures some { IfSome result (λ k. (client ≡ k + 1) × (k < 32)) }
+        ensures none { IfNone result ((client ≡ 0) ⊎ (32 < client)) }
+    {
+        if client == 0 || client as usize > CLIENT_LIMIT {
+            return None;
         }
+        Some(client as usize - 1)
     }
-    None
+}
+
+/// No wl_pointers of as many clients as there may be.
+fn seats_of<A: Allocator + Copy>(alloc: A) -> Result<Vec<Vec<u32, A>, A>, AllocError>
+    ensures { IfOk result (λ seats. vec_len seats ≡ 32) }
+{
+    let mut seats = Vec::with_capacity(alloc, CLIENT_LIMIT)?;
+    for _ in 0..CLIENT_LIMIT {
+        seats.push(Vec::new(alloc))?;
+    }
+    Ok(seats)
+}
+
+/// A coordinate held within a side of the output.
+fn within(side: u32, at: i32) -> i32
+    ensures { result ≡ within side at }
+{
+    let last = side.saturating_sub(1);
+    last.min(at.max(0) as u32) as i32
+}
+
+/// What became of a client's message, by how the client is then. That it lacked memory it is told as an error of wl_display; one that was too
+/// slow is told nothing.
+fn served_of(fed: Fed) -> Served
+    ensures { result ≡ served_of fed }
+{
+    match fed {
+        Fed::Ended(Cause::Protocol { object, code }) => Served::Refused { object, code },
+        Fed::Ended(Cause::Memory) => Served::Refused { object: 1, code: 2 },
+        Fed::NoClient | Fed::Alive | Fed::Ended(Cause::Slow | Cause::Gone) => Served::Done,
+    }
 }

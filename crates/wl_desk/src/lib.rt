@@ -1,8 +1,10 @@
-//! The desk: all clients by number, and the windows that they show.
+//! The desk: all clients with the windows that they show, and the pointer over them.
 #![tactic(auto)]
 
 mod desks;
-mod windows;
+mod pointing;
+mod seating;
+mod seats;
 
 pub use desks::Desk;
-pub use wl_plain::{ClientNo, ConnectError, Done, Fed, Stored};
+pub use wl_clients::{ClientNo, ConnectError, Done, Fed, Stored};

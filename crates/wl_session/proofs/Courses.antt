@@ -1,47 +1,71 @@
 -- The events that a session's steps are.
 use Rattle.std.proofs.Common.{◌≡◌, ℕ, zero, suc, Bool, true, false, List, [], ◌∷◌, ◌++◌, Option, Some, None, refl, ap, sym, subst, ◌∙◌, inl, inr}
-use Rattle.std.specs.Prelude.{replicate, ◌<◌, ◌||◌, pos}
-use Rattle.std.proofs.lemmas.Bool.{or_left, or_right}
+use Rattle.std.specs.Prelude.{ℤ, replicate, ◌<◌, ◌||◌, pos}
+use Rattle.std.proofs.lemmas.Bool.{or_left}
 use Rattle.std.proofs.lemmas.List.{map-append}
 use Rattle.wl_peer.specs.declared.cause.Cause.{Cause}
-use Rattle.wl_peer.specs.declared.cause.Cause.TheVariants as cause
-use Rattle.wl_peer.specs.Peer.{ended, with_rest}
+use Rattle.wl_peer.specs.Peer.{with_rest}
 use Rattle.wl_paint.specs.Damage.{Damaged, has}
 use Rattle.wl_paint.specs.Frame.{Image}
-use Rattle.wl_plain.specs.Act.{Act, Feed, Tick, peer_at, peer_of, status_of, fed_of}
+use Rattle.wl_plain.specs.Act.{Act, Feed, Motion, Tick}
 use Rattle.wl_plain.specs.declared.answers.Done.{Done}
-use Rattle.wl_plain.specs.declared.answers.Fed.TheVariants as fed
-use Rattle.wl_plain.specs.Desktop.{Desktop, Resident, client_at, with_client, status_in}
-use Rattle.wl_plain.specs.Happenings.{Happening, Leads, Message, Receive, ReceivesAt, Single, Starve, StarvesAt}
-use Rattle.wl_plain.specs.Happens.{Happens, Reaches, Serves, ServesThen}
+use Rattle.wl_plain.specs.declared.answers.Done.TheVariants as gave
+use Rattle.wl_plain.specs.Desktop.{Desktop, Resident, client_at, unpointed, with_client}
+use Rattle.wl_plain.specs.Happenings.{Happening, Leads, Message, Receive, ReceivesAt, Single, Starve}
+use Rattle.wl_plain.specs.Happens.{Happens, Serves}
 use Rattle.wl_plain.specs.LeftOut.{served_now}
-use Rattle.wl_plain.specs.Settling.{EndsAndSettles, becomes, unstruck}
-use Rattle.wl_plain.specs.Step.{with_peer}
-use Rattle.wl_plain.specs.Through.{ServesThrough, raised_in}
-use Rattle.wl_laws.specs.Through.{IsSingle}
+use Rattle.wl_plain.specs.Marks.{AreDistinct}
+use Rattle.wl_plain.specs.Moments.{marks_at_least, marks_at_most_through}
 use Rattle.wl_plain.specs.Stacked.{all_windows}
-use Rattle.wl_plain.specs.Moments.{marks_at_least, marks_at_most, marks_at_most_through}
-use Rattle.wl_laws.proofs.Marks.Through.{marked_through}
+use Rattle.wl_plain.specs.Step.{with_peer}
+use Rattle.wl_plain.specs.Through.{raised_in}
 use Rattle.wl_laws.proofs.Lists.Keys.{differ}
-use Rattle.wl_laws.proofs.Runs.Through.{happens_leads_through, messages_lead_through, settling-with}
+use Rattle.wl_laws.proofs.Marks.Through.{marked_through}
+use Rattle.wl_laws.proofs.Runs.Through.{happens_leads_through, messages_lead_through}
 use Rattle.wl_marking.specs.Marking.{IsAsLarge as HasItsSides}
-use Rattle.wl_desk.specs.Marking.{MarksAtLeast, MarksMost, MarksThrough}
-use Rattle.wl_desk.specs.View.{MarkedDesk}
-use Rattle.wl_desk.specs.Agreeing.{Agrees, MarksNothing, MarksStep, TakesStep}
-use Rattle.wl_desk.specs.Feeding.{Ends, EndsBy, EndsOf, kept_at, kept_by, kept_of}
-use Rattle.wl_desk.proofs.Agreed.{agrees-apart, kept-unmarked}
+use Rattle.wl_clients.proofs.Agreed.{agrees-apart}
+use Rattle.wl_clients.proofs.Steps.{kept-still}
+use Rattle.wl_clients.proofs.Still.{IsStill, still-unmarked}
+use Rattle.wl_desk.specs.Agreeing.{Agrees, LeadsBy, LeadsQuietly, MarksNothing, TakesStep}
+use Rattle.wl_desk.specs.Feeding.{kept_at, kept_by, kept_of}
+use Rattle.wl_desk.specs.Leading.{Led}
+use Rattle.wl_desk.specs.Marking.{MarksThrough}
+use Rattle.wl_desk.specs.View.{DeskView, MarkedDesk}
 use Rattle.wl_session.specs.Course.{AreParts, Course, TakesCourse, Took, happenings, moment}
-use Rattle.wl_session.specs.Events.{AreApart, AreEvents, Event, IsMarked, MarksFew, Moment, PaintsIf, is_quiet_act, is_tick}
+use Rattle.wl_session.specs.Events.{AreApart, AreEvents, Event, IsAsDamaged, IsMarked, MarksFew, Moment, PaintsIf, is_frame, is_quiet, is_quiet_act, is_tick, raised_by}
 use Rattle.wl_session.specs.Liars.{AreLiars, IsRightBut}
 use Rattle.wl_session.specs.Run.{IsNextFrame}
 use Rattle.wl_session.specs.View.{SessionView}
-use Rattle.wl_session.proofs.EachEnd.{is_losing_act, orderly-bare, unmarked-each, unmarked-one, unmarked-starving}
-use Rattle.wl_session.proofs.Most.{most-through}
+use Rattle.wl_session.proofs.Feeding.{no-message-ended, no-message-none}
 use Rattle.wl_session.proofs.Stays.{stays_right}
 
 -- what of a session its desk has
 abbrev pub marked : SessionView → MarkedDesk
 marked v = record { desk = v.desk; damage = v.damage }
+
+-- ---- what is so of each desktop that a desk agrees with
+
+-- no surface has two windows
+pub apart-at : (v : DeskView) (d : Desktop) → Agrees v d → AreDistinct (all_windows d)
+apart-at v d a = agrees-apart v.kept (unpointed d) a.kept
+
+-- where a piece is kept, nothing is marked
+kept-unmarked : (v : DeskView) (c : ℕ) (piece : List ℕ) (d : Desktop) → Agrees v d → (x y : ℕ) → marks_at_least d (kept_at c piece d) (pos x) (pos y) ≡ false
+kept-unmarked v c piece d a x y =
+    let same : IsStill d (kept_at c piece d) = kept-still c piece d in
+    let still : IsStill (unpointed d) (kept_at c piece d) = record { output = same.output; standing = same.standing; owned = same.owned } in
+    still-unmarked (unpointed d) (kept_at c piece d) a.kept.orderly a.kept.matches.mapped still (pos x) (pos y)
+
+-- ---- one step
+
+-- what leads to a desktop is a step to it
+pub led-happens : (act : Act) (done : Done) (P : Desktop → Type 0) (before after : Damaged) (d : Desktop) → (led : Led P (Single act done) before after d) → Happens served_now act done d led.desktop
+led-happens act done P before after d led = (happens_leads_through served_now act done d led.desktop).0 led.path led.leads
+
+pub leads-step : (act : Act) (done : Done) (old new : MarkedDesk) → LeadsBy (Single act done) old new → TakesStep act done old.desk new.desk
+leads-step act done old new leads = λ d a.
+    let led = leads d a in
+    (led.desktop, led-happens act done (Agrees new.desk) old.damage new.damage d led, led.agrees)
 
 -- ---- one event
 
@@ -49,14 +73,27 @@ right-so : (old new : SessionView) (d e : Desktop) (events : List Event) → Are
     → (liars last : ℕ → Bool) → AreLiars liars events last → IsRightBut liars (moment d old) → IsRightBut last (moment e new)
 right-so old new d e events apart leads liars last broke right = stays_right served_now (moment d old) (moment e new) events liars last apart leads broke right
 
-pub course-of : (act : Act) (done : Done) (old new : SessionView) (d e : Desktop) → IsSingle act → AreParts act done (Single act done ∷ []) → Agrees old.desk d → Happens served_now act done d e
-    → Agrees new.desk e
-    → ((path : List Desktop) → Leads served_now (Single act done) d path e → PaintsIf (is_tick act) (Single act done) (moment d old) path (moment e new)) → Course act done old new d
-course-of act done old new d e single parts a happens b paints =
-    let through = (happens_leads_through served_now act done d e).1 single happens in
-    let event : Event = record { happening = Single act done; before = moment d old; path = through.0; after = moment e new } in
-    let leads : AreEvents served_now (moment d old) (event ∷ []) (moment e new) = (refl, record { leads = through.1; paints = paints through.0 through.1 }, refl) in
-    let apart : AreApart (event ∷ []) = (agrees-apart old.desk d a, agrees-apart new.desk e b, tt) in
+-- It marks what it has to and what it may.
+led-marks : (h : Happening) (old new : SessionView) (d : Desktop) → Agrees old.desk d → (led : Led (Agrees new.desk) h old.damage new.damage d) → new.frame ≡ old.frame
+    → HasItsSides old.damage new.damage → raised_by h d ≡ None → (is_quiet h ≡ true → IsAsDamaged old.damage new.damage) → IsMarked h (moment d old) led.path (moment led.desktop new)
+led-marks h old new d a led frame sides raised quiet = record {
+  frame = frame;
+  sides = sides;
+  marks = λ x y wide high clean.
+      let unmarked = (led.marks x y wide high).0 clean in
+      (unmarked.0, marked_through served_now h d led.path led.desktop (pos x) (pos y) (apart-at old.desk d a) led.leads unmarked.1);
+  each = λ x y wide high clean. ((led.marks x y wide high).0 clean).1;
+  most = subst (λ (r : Option (ℕ × ℕ)). MarksFew r d led.path old.damage new.damage) (sym raised) (λ x y wide high again. (led.marks x y wide high).1 again);
+  quiet = quiet;
+}
+
+-- It is a step by itself.
+event-course : (act : Act) (done : Done) (h : Happening) (old new : SessionView) (d e : Desktop) (path : List Desktop) → Agrees old.desk d → Agrees new.desk e → Happens served_now act done d e
+    → AreParts act done (h ∷ []) → Leads served_now h d path e → PaintsIf (is_frame h) h (moment d old) path (moment e new) → Course act done old new d
+event-course act done h old new d e path a b happens parts led paints =
+    let event : Event = record { happening = h; before = moment d old; path = path; after = moment e new } in
+    let leads : AreEvents served_now (moment d old) (event ∷ []) (moment e new) = (refl, record { leads = led; paints = paints }, refl) in
+    let apart : AreApart (event ∷ []) = (apart-at old.desk d a, apart-at new.desk e b, tt) in
     record {
       desktop = e;
       events = event ∷ [];
@@ -68,66 +105,51 @@ course-of act done old new d e single parts a happens b paints =
       agrees = b;
     }
 
--- no more is marked than may be from the first desktop to the last
-abbrev pub MarksNoMore : Act → Done → MarkedDesk → MarkedDesk → Type 0
-MarksNoMore act done old new =
-    (d e : Desktop) → Agrees old.desk d → Happens served_now act done d e → Agrees new.desk e → MarksMost d e old.damage new.damage
-
--- that is so where nothing is
-pub nothing-more : (act : Act) (done : Done) (old new : MarkedDesk) → MarksNothing old new → MarksNoMore act done old new
-nothing-more act done old new nothing = λ d e a step b x y wide high again.
-    ap (λ t. t || marks_at_most d e None (pos x) (pos y)) (sym (nothing d a x y wide high) ∙ again)
-
--- where it is no more from the first to the last, it is no more along the desktops between
-few-through : (h : Happening) (old new : MarkedDesk) (d e : Desktop) (path : List Desktop) (raised : Option (ℕ × ℕ)) → Agrees old.desk d → Agrees new.desk e → Leads served_now h d path e
-    → MarksMost d e old.damage new.damage
-    → MarksFew raised d path old.damage new.damage
-few-through h old new d e path raised a b leads most = λ x y wide high again. at x y (has old.damage x y) refl (most x y wide high again)
-  where
-    at : (x y : ℕ) (t : Bool) → has old.damage x y ≡ t → (t || marks_at_most d e None (pos x) (pos y)) ≡ true
-        → (has old.damage x y || marks_at_most_through all_windows raised d path (pos x) (pos y)) ≡ true
-    at x y true was either = or_left (has old.damage x y) _ was
-    at x y false was either =
-        or_right (has old.damage x y) _ (most-through (pos x) (pos y) served_now h d path e raised (agrees-apart old.desk d a) leads either)
-
 -- what shows no frame
-pub marked-course : (act : Act) (done : Done) (old new : SessionView) → is_tick act ≡ false → is_losing_act act ≡ true → IsSingle act → AreParts act done (Single act done ∷ []) → new.frame ≡ old.frame
-    → HasItsSides old.damage new.damage
-    → TakesStep act done old.desk new.desk → MarksStep act done (marked old) (marked new) → MarksNoMore act done (marked old) (marked new)
+pub marked-course : (act : Act) (done : Done) (old new : SessionView) → is_tick act ≡ false → ((d : Desktop) → raised_in act d ≡ None) → AreParts act done (Single act done ∷ [])
+    → new.frame ≡ old.frame → HasItsSides old.damage new.damage → LeadsBy (Single act done) (marked old) (marked new)
     → (is_quiet_act act ≡ true → MarksNothing (marked old) (marked new)) → TakesCourse act done old new
-marked-course act done old new tick losing single parts frame sides step marks most quiet = λ d a.
-    let e = step d a in
-    course-of act done old new d e.0 single parts a e.1 e.2
-    (λ path leads. subst (λ b. PaintsIf b (Single act done) (moment d old) path (moment e.0 new)) (sym tick) (record {
-      frame = frame;
-      sides = sides;
-      marks = marks d e.0 a e.1;
-      each = λ x y wide high clean.
-          unmarked-each served_now act done d path e.0 (pos x) (pos y) losing (orderly-bare d a.orderly) (agrees-apart old.desk d a) leads (marks d e.0 a e.1 x y wide high clean).1;
-      most = few-through (Single act done) (marked old) (marked new) d e.0 path (raised_in act d) a e.2 leads (most d e.0 a e.1 e.2);
-      quiet = λ is. quiet is d a;
-    }))
+marked-course act done old new tick raised parts frame sides leads quiet = λ d a.
+    let led = leads d a in
+    event-course act done (Single act done) old new d led.desktop led.path a led.agrees (led-happens act done (Agrees new.desk) old.damage new.damage d led) parts led.leads
+    (subst (λ b. PaintsIf b (Single act done) (moment d old) led.path (moment led.desktop new)) (sym tick)
+    (led-marks (Single act done) old new d a led frame sides (raised d) (λ is. quiet is d a)))
 
--- a frame
-pub tick-course : (time : ℕ) (done : Done) (old new : SessionView) → HasItsSides old.damage new.damage
-    → ((d : Desktop) → Agrees old.desk d
-    → (e : Desktop) × Happens served_now (Tick time) done d e × Agrees new.desk e
-    × ((x y : ℕ) → x < old.damage.width → y < old.damage.height → has new.damage x y ≡ false → marks_at_least d e (pos x) (pos y) ≡ false)
-    × ((x y : ℕ) → x < old.damage.width → y < old.damage.height → has new.damage x y ≡ true → marks_at_most d e None (pos x) (pos y) ≡ true)
-    × (((c : ℕ) → status_in c e ≡ status_in c d) → (x y : ℕ) → x < old.damage.width → y < old.damage.height → has new.damage x y ≡ false))
-    → ((d : Desktop) → Agrees old.desk d → IsNextFrame d old.frame new.frame (has old.damage)) → TakesCourse (Tick time) done old new
-tick-course time done old new sides shows next = λ d a.
-    let s = shows d a in
-    course-of (Tick time) done old new d s.0 (λ c piece e. absurd (cc)) refl a s.1 s.2
-    (λ path leads. record {
+-- there was no memory to keep a piece, and nothing was marked by that
+pub starved-course : (client : ℕ) (piece : List ℕ) (done : Done) (old new : SessionView) (before : Damaged) (d : Desktop) → before ≡ old.damage → new.frame ≡ old.frame
+    → HasItsSides before new.damage → Agrees old.desk d
+    → (led : Led (Agrees new.desk) (Starve client) before new.damage d) → Happens served_now (Feed client piece) done d led.desktop → Course (Feed client piece) done old new d
+starved-course client piece done old new before d same frame sides a led happens =
+    let from : Led (Agrees new.desk) (Starve client) old.damage new.damage d = record {
+      path = led.path;
+      desktop = led.desktop;
+      leads = led.leads;
+      agrees = led.agrees;
+      marks = subst (λ (m : Damaged). MarksThrough d led.path m new.damage) same led.marks;
+    } in
+    event-course (Feed client piece) done (Starve client) old new d led.desktop led.path a led.agrees happens (inr (inl refl)) led.leads
+    (led-marks (Starve client) old new d a from frame (subst (λ (m : Damaged). HasItsSides m new.damage) same sides) refl (λ no. absurd (differ (sym no))))
+
+-- A frame: what was to be painted was handed over, and nothing was to be painted then.
+pub tick-course : (time : ℕ) (old new : SessionView) (none : Damaged) → ((x y : ℕ) → has none x y ≡ false) → HasItsSides old.damage none → HasItsSides none new.damage
+    → LeadsQuietly (Single (Tick time) gave.Tick) (record { desk = old.desk; damage = none }) (marked new)
+    → ((d : Desktop) → Agrees old.desk d → IsNextFrame d old.frame new.frame (has old.damage)) → TakesCourse (Tick time) gave.Tick old new
+tick-course time old new none bare sides more leads next = λ d a.
+    let quietly = leads d a in
+    let led = quietly.0 in
+    let wide : (x : ℕ) → x < old.damage.width → x < none.width = λ x is. rw sides.width is in
+    let high : (y : ℕ) → y < old.damage.height → y < none.height = λ y is. rw sides.height is in
+    event-course (Tick time) gave.Tick (Single (Tick time) gave.Tick) old new d led.desktop led.path a led.agrees
+    (led-happens (Tick time) gave.Tick (Agrees new.desk) none new.damage d led) refl led.leads (record {
       frame = next d a;
-      sides = sides;
-      none = s.5;
-      marks = s.3;
-      each = λ x y wide high clean.
-          unmarked-each served_now (Tick time) done d path s.0 (pos x) (pos y) refl (orderly-bare d a.orderly) (agrees-apart old.desk d a) leads (s.3 x y wide high clean);
-      most = λ x y wide high again.
-          most-through (pos x) (pos y) served_now (Single (Tick time) done) d path s.0 None (agrees-apart old.desk d a) leads (s.4 x y wide high again);
+      sides = record { width = more.width ∙ sides.width; height = more.height ∙ sides.height };
+      none = λ stays x y w h. quietly.1 stays x y (wide x w) (high y h) ∙ bare x y;
+      marks = λ x y w h clean.
+          marked_through served_now (Single (Tick time) gave.Tick) d led.path led.desktop (pos x) (pos y) (apart-at old.desk d a) led.leads
+          ((led.marks x y (wide x w) (high y h)).0 clean).1;
+      each = λ x y w h clean. ((led.marks x y (wide x w) (high y h)).0 clean).1;
+      most = λ x y w h again.
+          sym (ap (λ b. b || marks_at_most_through all_windows None d led.path (pos x) (pos y)) (bare x y)) ∙ (led.marks x y (wide x w) (high y h)).1 again;
     })
 
 -- ---- events one after another
@@ -151,30 +173,14 @@ pub served-none : (client : ℕ) (v : SessionView) (d : Desktop) → Agrees v.de
 served-none client v d a = record { count = zero; desktop = d; events = []; reaches = refl; parts = refl; leads = refl; apart = tt; agrees = a }
 
 -- one more
-pub served-more : (client : ℕ) (old mid new : SessionView) (d e : Desktop) → (s : Took client old mid d) → new.frame ≡ mid.frame → HasItsSides mid.damage new.damage → (path : List Desktop)
-    → ServesThrough served_now client s.desktop path e → Agrees new.desk e
-    → MarksThrough s.desktop path mid.damage new.damage → Took client old new d
-served-more client old mid new d e s frame sides path through agrees marks =
-    let serves : Serves served_now client s.desktop e = (messages_lead_through served_now client s.desktop e).0 path through in
-    let distinct = agrees-apart mid.desk s.desktop s.agrees in
-    let event : Event = record { happening = Message client; before = moment s.desktop mid; path = path; after = moment e new } in
-    let last : AreEvents served_now (moment s.desktop mid) (event ∷ []) (moment e new) = (
-      refl,
-      record {
-        leads = through;
-        paints = record {
-          frame = frame;
-          sides = sides;
-          marks = λ x y wide high clean.
-              let unmarked = (marks x y wide high).0 clean in
-              (unmarked.0, marked_through served_now (Message client) s.desktop path e (pos x) (pos y) distinct through unmarked.1);
-          each = λ x y wide high clean. ((marks x y wide high).0 clean).1;
-          most = λ x y wide high again. (marks x y wide high).1 again;
-          quiet = λ no. absurd (differ (sym no));
-        };
-      },
-      refl,
-    ) in
+pub served-more : (client : ℕ) (old mid new : SessionView) (d : Desktop) → (s : Took client old mid d) → new.frame ≡ mid.frame → HasItsSides mid.damage new.damage
+    → (led : Led (Agrees new.desk) (Message client) mid.damage new.damage s.desktop) → Took client old new d
+served-more client old mid new d s frame sides led =
+    let e : Desktop = led.desktop in
+    let serves : Serves served_now client s.desktop e = (messages_lead_through served_now client s.desktop e).0 led.path led.leads in
+    let event : Event = record { happening = Message client; before = moment s.desktop mid; path = led.path; after = moment e new } in
+    let marks : IsMarked (Message client) (moment s.desktop mid) led.path (moment e new) = led-marks (Message client) mid new s.desktop s.agrees led frame sides refl (λ no. absurd (differ (sym no))) in
+    let last : AreEvents served_now (moment s.desktop mid) (event ∷ []) (moment e new) = (refl, record { leads = led.leads; paints = marks }, refl) in
     record {
       count = suc s.count;
       desktop = e;
@@ -182,8 +188,8 @@ served-more client old mid new d e s frame sides path through agrees marks =
       reaches = (s.desktop, s.reaches, serves);
       parts = map-append (λ (x : Event). x.happening) s.events (event ∷ []) ∙ (ap (λ hs. hs ++ Message client ∷ []) s.parts ∙ replicate-more s.count (Message client));
       leads = events-then (moment d old) (moment s.desktop mid) (moment e new) s.events (event ∷ []) s.leads last;
-      apart = apart-then s.events (event ∷ []) s.apart (agrees-apart mid.desk s.desktop s.agrees, agrees-apart new.desk e agrees, tt);
-      agrees = agrees;
+      apart = apart-then s.events (event ∷ []) s.apart (apart-at mid.desk s.desktop s.agrees, apart-at new.desk e led.agrees, tt);
+      agrees = led.agrees;
     }
 
 -- the same, where what is kept besides changed
@@ -207,22 +213,6 @@ took-then client old mid new d s damage frame agrees =
     )
 
 -- ---- a piece
-
--- a client that isn't there, or ended, takes no message
-no-message-none : (c n : ℕ) (d new : Desktop) → client_at c d ≡ None → Reaches served_now c n d new → (n ≡ zero) × (new ≡ d)
-no-message-none c zero d new none h = (refl, h)
-no-message-none c (suc n) d new none h =
-    let same = (no-message-none c n d h.0 none h.1).1 in
-    absurd (subst (λ (o : Option Resident). ServesThen served_now c o h.0 (λ mid. EndsAndSettles mid new)) (ap (λ (x : Desktop). client_at c x) same ∙ none) h.2)
-
-no-message-ended : (c n : ℕ) (s : Cause) (r : Resident) (d new : Desktop) → client_at c d ≡ Some r → r.peer.status ≡ Some s → Reaches served_now c n d new → (n ≡ zero) × (new ≡ d)
-no-message-ended c zero s r d new there over h = (refl, h)
-no-message-ended c (suc n) s r d new there over h =
-    let same = (no-message-ended c n s r d h.0 there over h.1).1 in
-    let served : ServesThen served_now c (Some r) h.0 (λ mid. EndsAndSettles mid new) =
-    subst (λ (o : Option Resident). ServesThen served_now c o h.0 (λ mid. EndsAndSettles mid new)) (ap (λ (x : Desktop). client_at c x) same ∙ there) h.2 in
-    let clash : Some s ≡ None = sym over ∙ served.0 in
-    absurd (cc)
 
 -- a piece that was kept, and then so many messages
 pub fed-course : (client : ℕ) (piece : List ℕ) (done : Done) (old kept new : SessionView) (d : Desktop) → kept.frame ≡ old.frame → kept.damage ≡ old.damage → Agrees old.desk d
@@ -258,12 +248,12 @@ fed-course client piece done old kept new d frame damage a s happens b = at (cli
           frame = frame;
           sides = record { width = ap (λ (m : Damaged). m.width) damage; height = ap (λ (m : Damaged). m.height) damage };
           marks = λ x y w h clean. (ap (λ (m : Damaged). has m x y) (sym damage) ∙ clean, kept-unmarked old.desk client piece d a x y);
-          each = λ x y w h clean. unmarked-one d (kept_at client piece d) (kept_at client piece d ∷ []) (pos x) (pos y) refl (kept-unmarked old.desk client piece d a x y);
+          each = λ x y w h clean. ap (λ b. b || false) (kept-unmarked old.desk client piece d a x y);
           most = λ x y w h again. or_left (has old.damage x y) _ (ap (λ (m : Damaged). has m x y) (sym damage) ∙ again);
           quiet = λ _ x y w h. ap (λ (m : Damaged). has m x y) damage;
         } in
         let leads : AreEvents served_now (moment d old) (event ∷ s.events) (moment s.desktop new) = (refl, record { leads = received; paints = marks }, s.leads) in
-        let apart : AreApart (event ∷ s.events) = (agrees-apart old.desk d a, agrees-apart kept.desk (kept_at client piece d) b, s.apart) in
+        let apart : AreApart (event ∷ s.events) = (apart-at old.desk d a, apart-at kept.desk (kept_at client piece d) b, s.apart) in
         record {
           desktop = s.desktop;
           events = event ∷ s.events;
@@ -281,45 +271,17 @@ fed-course client piece done old kept new d frame damage a s happens b = at (cli
         none-at (no-message-none client s.count (kept_at client piece d) s.desktop (ap (λ x. client_at client x) same ∙ none) s.reaches) same
     at (Some r) there = by r.peer.status r there refl
 
--- there was no memory to keep it
-pub lacking-course : (client : ℕ) (piece : List ℕ) (done : Done) (old new : SessionView) (d e : Desktop) → new.frame ≡ old.frame → HasItsSides old.damage new.damage → Agrees old.desk d
-    → status_of (peer_at client d) ≡ fed.Alive
-    → Ends client cause.Memory d e → MarksAtLeast d e old.damage new.damage → MarksMost d e old.damage new.damage → Happens served_now (Feed client piece) done d e → Agrees new.desk e
-    → Course (Feed client piece) done old new d
-lacking-course client piece done old new d e frame sides a alive ends marks most happens b = at (client_at client d) refl
-  where
-    by : (t : Option Cause) (r : Resident) → client_at client d ≡ Some r → r.peer.status ≡ t → Course (Feed client piece) done old new d
-    by (Some cause) r there over =
-        let clash : fed.Ended cause ≡ fed.Alive = sym (ap (λ o. status_of (peer_of o)) there ∙ ap (λ t. fed_of t) over) ∙ alive in
-        absurd (cc)
-    by None r there lives =
-        let over : EndsBy client cause.Memory None r d e = subst (λ t. EndsBy client cause.Memory t r d e) lives (subst (λ o. EndsOf client cause.Memory o d e) there ends) in
-        let through = settling-with e (unstruck (becomes client r (ended cause.Memory r.peer) d)) over in
-        let event : Event = record { happening = Starve client; before = moment d old; path = through.0; after = moment e new } in
-        let starves : Leads served_now (Starve client) d through.0 e = subst (λ o. StarvesAt client o d through.0 e) (sym there) (lives, through.1) in
-        let marks_along : IsMarked (Starve client) (moment d old) through.0 (moment e new) = record {
-          frame = frame;
-          sides = sides;
-          marks = marks;
-          each = λ x y wide high clean. unmarked-starving client (client_at client d) d through.0 e (pos x) (pos y) (agrees-apart old.desk d a) starves (marks x y wide high clean).1;
-          most = few-through (Starve client) (marked old) (marked new) d e through.0 None a b starves most;
-          quiet = λ no. absurd (differ (sym no));
-        } in
-        let leads : AreEvents served_now (moment d old) (event ∷ []) (moment e new) = (refl, record { leads = starves; paints = marks_along }, refl) in
-        let apart : AreApart (event ∷ []) = (agrees-apart old.desk d a, agrees-apart new.desk e b, tt) in
-        record {
-          desktop = e;
-          events = event ∷ [];
-          happens = happens;
-          parts = inr (inl refl);
-          leads = leads;
-          apart = apart;
-          right = right-so old new d e (event ∷ []) apart leads;
-          agrees = b;
-        }
+-- ---- a motion to one point is one to another that is the same
 
-    at : (o : Option Resident) → client_at client d ≡ o → Course (Feed client piece) done old new d
-    at None none =
-        let clash : fed.NoClient ≡ fed.Alive = sym (ap (λ o. status_of (peer_of o)) none) ∙ alive in
-        absurd (cc)
-    at (Some r) there = by r.peer.status r there refl
+module _ (time : ℕ) (x y u v : ℤ) (e : u ≡ x) (f : v ≡ y) where
+  same-motion : (P : Act → Type 0) → P (Motion time u v) → P (Motion time x y)
+  same-motion P h = subst (λ (z : ℤ). P (Motion time x z)) f (subst (λ (z : ℤ). P (Motion time z v)) e h)
+
+  pub motion-leads : (old new : MarkedDesk) → LeadsBy (Single (Motion time u v) gave.Motion) old new → LeadsBy (Single (Motion time x y) gave.Motion) old new
+  motion-leads old new h = same-motion (λ act. LeadsBy (Single act gave.Motion) old new) h
+
+  pub motion-steps : (old new : DeskView) → TakesStep (Motion time u v) gave.Motion old new → TakesStep (Motion time x y) gave.Motion old new
+  motion-steps old new h = same-motion (λ act. TakesStep act gave.Motion old new) h
+
+  pub motion-courses : (old new : SessionView) → TakesCourse (Motion time u v) gave.Motion old new → TakesCourse (Motion time x y) gave.Motion old new
+  motion-courses old new h = same-motion (λ act. TakesCourse act gave.Motion old new) h

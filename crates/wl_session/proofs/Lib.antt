@@ -1,3 +1,4 @@
+pub mod There
 pub mod Feeding
 pub mod Reported
 pub mod Runs
@@ -6,6 +7,4 @@ pub mod StoreWrites
 pub mod Seen
 pub mod Promised
 pub mod Courses
-pub mod Most
 pub mod Stays
-pub mod EachEnd

@@ -31,7 +31,7 @@ use Rattle.wl_laws.proofs.Lists.Keys.{none-some}
 use Rattle.wl_laws.proofs.Runs.Places.{number-same}
 use Rattle.wl_laws.proofs.Marks.ShownWindows.{IsShown as ShowsBuffer, all-shown}
 use Rattle.wl_laws.proofs.Marks.Stacks.{and-left, and-right, differ, each-map, or-left, or-right, same-number, unless}
-use Rattle.wl_desk.proofs.Away.{within-output}
+use Rattle.wl_clients.proofs.Away.{within-output}
 use Rattle.wl_session.specs.Events.{Event, IsEvent, IsMarked, IsShown, Moment, PaintsIf, is_frame}
 use Rattle.wl_session.specs.Liars.{HoldsLiars, IsRightBut, closes, gives_back, was_closed}
 use Rattle.wl_session.specs.Promises.{KeepsIn, KeepsOpaque, is_clear_in}

@@ -8,7 +8,7 @@ ghost use Rattle.std.specs.Vec.{vec_capacity};
 ghost use Rattle.wl_paint.specs.Damage.{has};
 ghost use Rattle.wl_plain.specs.Desktop.{Desktop, empty};
 ghost use Rattle.wl_paint.specs.Frame.{color_at, filled, is_side};
-ghost use Rattle.wl_plain.specs.Act.{Connect, Feed, Store, Leave, Tick, Send, Close, peer_at, unsent_of, status_of, store_size_of};
+ghost use Rattle.wl_plain.specs.Act.{Connect, Feed, Store, Leave, Tick, Send, Close, Motion, peer_at, unsent_of, status_of, store_size_of};
 ghost use Rattle.wl_desk.specs.NextStore.{next_store_of};
 ghost use Rattle.wl_desk.specs.Feeding.{IsIdleIn};
 ghost use Rattle.wl_session.specs.Run.{AreRuns};
@@ -21,7 +21,7 @@ use crate::steps::{RunError, Step};
 use std::alloc::{AllocError, Allocator};
 use std::marker::Model;
 use wl_blend::Rgb;
-use wl_client::{Cause, Output, Served, StoreNo};
+use wl_client::{Output, Served, StoreNo};
 use wl_desk::{ClientNo, ConnectError, Desk, Done, Fed, Stored};
 use wl_paint::{Damage, FrameError, Framebuffer};
 
@@ -54,8 +54,8 @@ impl<A: Allocator> Model for Session<A> {
 
     ghost view = { λ s. record { desk = s.desk.desk; damage = s.desk.damage; frame = s.framebuffer; painted = s.painted } };
 
-    ghost invariant = { λ s. (s.framebuffer.width ≡ s.desk.desk.output.width) × (s.framebuffer.height ≡ s.desk.desk.output.height)
-        × (s.painted.width ≡ s.desk.desk.output.width) × (s.painted.height ≡ s.desk.desk.output.height) };
+    ghost invariant = { λ s. (s.framebuffer.width ≡ s.desk.desk.kept.output.width) × (s.framebuffer.height ≡ s.desk.desk.kept.output.height)
+        × (s.painted.width ≡ s.desk.desk.kept.output.width) × (s.painted.height ≡ s.desk.desk.kept.output.height) };
 }
 
 impl<A: Allocator + Copy> Session<A> {
@@ -113,7 +113,7 @@ impl<A: Allocator + Copy> Session<A> {
     {
         match self.desk.keep(client, piece) {
             Ok(()) => self.serve_all(client),
-            Err(AllocError) => self.desk.end(client, Cause::Memory),
+            Err(AllocError) => self.desk.starve(client),
         }
         self.status(client)
     }
@@ -223,6 +223,17 @@ impl<A: Allocator + Copy> Session<A> {
         }
     }
 
+    /// The pointer goes to a point of the output in pixels, held within it, at a time in milliseconds. The surface that keeps the focus is
+    /// told of the motion; where the focus moves, the one that had it is left and the other entered (wayland.xml, wl_pointer.motion, leave
+    /// and enter). A client that can't be told ends.
+    pub fn motion(&mut self, time: u32, x: i32, y: i32)
+        ensures step { TakesStep (Motion time x y) Done.Motion self.old.desk self.new.desk }
+        ensures course { TakesCourse (Motion time x y) Done.Motion self.old self.new }
+        ensures frame { self.new.frame ≡ self.old.frame }
+    {
+        self.desk.motion(time, x, y);
+    }
+
     /// Any one step. A tick's frame isn't given back.
     pub fn step(&mut self, step: &Step) -> Done
         ensures step { TakesStep (act_of step.now) result self.old.desk self.new.desk }
@@ -244,6 +255,10 @@ impl<A: Allocator + Copy> Session<A> {
             }
             Step::Sent { client, count } => Done::Sent(self.sent(client, count)),
             Step::Close { client } => Done::Close(self.close(client)),
+            Step::Motion { time, x, y } => {
+                self.motion(time, x, y);
+                Done::Motion
+            }
         }
     }
 
@@ -287,7 +302,8 @@ impl<A: Allocator + Copy> Session<A> {
             | Step::Store { .. }
             | Step::Gone { .. }
             | Step::Sent { .. }
-            | Step::Close { .. } => {
+            | Step::Close { .. }
+            | Step::Motion { .. } => {
                 self.step(step);
                 true
             }

@@ -38,6 +38,12 @@ pub enum Step<'a> {
     Close {
         client: ClientNo,
     },
+    /// The pointer goes to a point of the output, in pixels and held within it. `time` is in milliseconds, from any start.
+    Motion {
+        time: u32,
+        x: i32,
+        y: i32,
+    },
 }
 
 /// Why a run stopped.

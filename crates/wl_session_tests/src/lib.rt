@@ -21,6 +21,8 @@ mod drawing;
 #[cfg(test)]
 mod frames;
 #[cfg(test)]
+mod hovering;
+#[cfg(test)]
 mod memory;
 #[cfg(test)]
 mod painter;

@@ -302,6 +302,10 @@ fn called(session: &mut Session<Global>, step: &Step) -> Done {
         }
         Step::Sent { client, count } => Done::Sent(session.sent(client, count)),
         Step::Close { client } => Done::Close(session.close(client)),
+        Step::Motion { time, x, y } => {
+            session.motion(time, x, y);
+            Done::Motion
+        }
     }
 }
 

@@ -1,75 +1,24 @@
-use Rattle.std.proofs.Common.{false, ap, refl, sym, ◌∙◌}
-use Rattle.std.proofs.lemmas.List.{length-set}
-use Rattle.wl_plain.specs.Act.{Close, IsClosed}
+use Rattle.std.proofs.Common.{◌≡◌, ℕ, map, refl}
 use Rattle.wl_plain.specs.declared.answers.Done.TheVariants as gave
-use Rattle.wl_resident.specs.View.{MarkedDesk, Pile, pile_of}
-use Rattle.wl_desk.proofs.Calls.{Changes-none, closed, unclosed}
-use Rattle.wl_desk.proofs.Marks.{steps-still}
-use Rattle.wl_desk.proofs.Steps.{steps-nobody, steps-whole}
-use Rattle.wl_desk.proofs.Seats.{as-large, empty-slot, found, missing, none-marked}
-use Rattle.wl_desk.proofs.Still.{closed-still}
+use Rattle.wl_plain.specs.Act.{Connect, Close}
+use Rattle.wl_desk.proofs.Calls.{marks-nothing, quiet-step}
 use Rattle.wl_desk.proofs.desks.Desk.close.Goals as goal
 
-pub returns-in_default-clause-step : goal.returns-in_default-clause-step
-returns-in_default-clause-step g c =
-    let pile = pile_of c.self.inside.screen in
-    steps-nobody c.args.client c.args.self.now c.args.self.now (missing c.self.inside.output c.self.inside.residents.items pile c.self.inside.screen.damage _ _ _
-    c.deref.ensures.value c.in_default.ensures.none c.self.view_is) refl (Close c.args.client) tt (gave.Close false)
-    (λ d free a. Changes-none IsClosed (gave.Close false) _ d _ free a)
+differs : (client : ℕ) → Close client ≡ Connect → ⊥
+differs client e = absurd (cc)
 
-pub returns-in_default-clause-marks : goal.returns-in_default-clause-marks
-returns-in_default-clause-marks g c =
-    steps-still c.args.self.now.desk c.args.self.now.damage c.args.self.now.damage refl
-    (Close c.args.client) _ (closed-still c.args.client _)
-
-pub returns-in_default-index-clause-step : goal.returns-in_default-index-clause-step
-returns-in_default-index-clause-step g c =
-    let pile = pile_of c.self.inside.screen in
-    steps-nobody c.args.client c.args.self.now c.args.self.now
-    (missing c.self.inside.output c.self.inside.residents.items pile c.self.inside.screen.damage _ _ _ refl (empty-slot _ _ _ _ _ c.deref.ensures.value
-    c.in-Some.ensures.some c.index.ensures c.in_default-index.is).0 c.self.view_is) refl (Close c.args.client) tt (gave.Close false)
-    (λ d free a. Changes-none IsClosed (gave.Close false) _ d _ free a)
-
-pub returns-in_default-index-clause-marks : goal.returns-in_default-index-clause-marks
-returns-in_default-index-clause-marks g c =
-    steps-still c.args.self.now.desk c.args.self.now.damage c.args.self.now.damage refl
-    (Close c.args.client) _ (closed-still c.args.client _)
-
-pub returns-then-not-has_ended-clause-step : goal.returns-then-not-has_ended-clause-step
-returns-then-not-has_ended-clause-step g c =
-    let pile = pile_of c.self.inside.screen in
-    steps-whole (Close c.args.client) tt _ _ _ (λ d a. rw (← c.self.view_is)
-    (unclosed c.self.inside.output c.self.inside.residents.items pile c.args.client c.in-Some.k c.in-Some-index.resident
-    (found _ _ _ _ _ _ c.deref.ensures.value c.in-Some.ensures.some c.index.ensures c.in-Some-index.is)
-    d (rw (← c.self.view_is) at a.matches) (sym c.has_ended.ensures ∙ c.if-not-has_ended.true)))
-
-pub returns-then-not-has_ended-clause-marks : goal.returns-then-not-has_ended-clause-marks
-returns-then-not-has_ended-clause-marks g c =
-    steps-still c.args.self.now.desk c.args.self.now.damage c.args.self.now.damage refl
-    (Close c.args.client) _ (closed-still c.args.client _)
-
-pub returns-clause-step : goal.returns-clause-step
-returns-clause-step g c =
-    let pile = pile_of c.self.inside.screen in
-    let now : Pile = record { scene = c.unmap_all.new.self; windows = c.remove_client.new.self.windows } in
-    steps-whole (Close c.args.client) tt _ _ _ (λ d a.
-    closed c.self.inside.output c.self.inside.residents.items pile c.args.client c.in-Some.k c.in-Some-index.resident
-    (found _ _ _ _ _ _ c.deref.ensures.value c.in-Some.ensures.some c.index.ensures c.in-Some-index.is) d (rw (← c.self.view_is) at a.matches)
-    now (sym c.has_ended.ensures ∙ c.if-not-has_ended.false) a.orderly c.unmap_all.ensures.standing c.unmap_all.ensures.next c.remove_client.ensures.windows)
-
-pub returns-clause-marks : goal.returns-clause-marks
-returns-clause-marks g c =
-    steps-still c.args.self.now.desk c.args.self.now.damage c.self.inside.screen.damage (ap (λ (m : MarkedDesk). m.damage) c.self.view_is)
-    (Close c.args.client) _ (closed-still c.args.client _)
-
-pub returns-clause-sides : goal.returns-clause-sides
-returns-clause-sides g c = as-large _ _ c.self.view_is
+pub returns-clause-leads : goal.returns-clause-leads
+returns-clause-leads g c =
+    rw (← c.self.view_is) (quiet-step (Close c.args.client) (gave.Close c.close.result) c.self.inside.clients c.close.new.self (map (λ s. s.items) c.self.inside.seats.items)
+    c.self.inside.pointer refl (differs c.args.client) c.close.ensures.leads)
 
 pub returns-clause-nothing : goal.returns-clause-nothing
-returns-clause-nothing g c = none-marked _ _ c.self.view_is
+returns-clause-nothing g c =
+    let seats = map (λ s. s.items) c.self.inside.seats.items in
+    rw (← c.self.view_is) (marks-nothing c.self.inside.clients c.close.new.self seats seats c.self.inside.pointer c.self.inside.pointer c.close.ensures.nothing)
+
+pub returns-clause-sides : goal.returns-clause-sides
+returns-clause-sides g c = rw (← c.self.view_is) c.close.ensures.sides
 
 pub returns-clause-output : goal.returns-clause-output
-returns-clause-output g c = ap (λ (m : MarkedDesk). m.desk.output) c.self.view_is
-
-pub invariant_of-self : goal.invariant_of-self
-invariant_of-self g c = (length-set _ _ _ ∙ c.self.invariant.0, c.self.invariant.1)
+returns-clause-output g c = rw (← c.self.view_is) c.close.ensures.output

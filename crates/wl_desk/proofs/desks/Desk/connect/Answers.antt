@@ -1,60 +1,30 @@
-use Rattle.std.proofs.Common.{ap, refl, ◌∙◌}
-use Rattle.std.proofs.lemmas.List.{length-set}
-use Rattle.wl_plain.specs.Act.{Connect, lowest}
-use Rattle.wl_resident.specs.View.{MarkedDesk, pile_of}
-use Rattle.wl_desk.proofs.Calls.{Connects-full, Connects-new, Connects-refused}
-use Rattle.wl_desk.proofs.Marks.{steps-still}
-use Rattle.wl_desk.proofs.Steps.{steps-whole}
-use Rattle.wl_desk.proofs.Seats.{as-large, none-marked}
-use Rattle.wl_desk.proofs.Still.{connects-still}
+use Rattle.std.proofs.Common.{ap, map, subst, sym, ◌∙◌}
+use Rattle.std.proofs.lemmas.Result.{err_from_is_err_and}
+use Rattle.wl_paint.specs.Damage.{Damaged, has}
+use Rattle.wl_marking.specs.Marking.{IsAsLarge}
+use Rattle.wl_plain.specs.Desktop.{unpointed}
+use Rattle.wl_clients.specs.View.{DeskView}
+use Rattle.wl_desk.proofs.Calls.{connects, connects-not}
 use Rattle.wl_desk.proofs.desks.Desk.connect.Goals as goal
 
-pub returns-in_default-clause-step : goal.returns-in_default-clause-step
-returns-in_default-clause-step g c =
-    let pile = pile_of c.self.inside.screen in
-    steps-whole Connect tt _ _ _ (λ d a. rw (← c.self.view_is)
-    (Connects-full c.self.inside.output c.self.inside.residents.items pile d (c.in_default.ensures.lowest ∙ ap (λ xs. lowest xs) c.deref.ensures.value) (rw (←
-    c.self.view_is) at a.matches)))
+pub returns-in_err-client-clause-leads : goal.returns-in_err-client-clause-leads
+returns-in_err-client-clause-leads g c =
+    let p = err_from_is_err_and c.from_residual.result c.from_residual.ensures.1 in
+    rw (p.1, p.2, ← c.self.view_is) (connects-not c.in_err-client.field-0.0 c.self.inside.clients c.connect.new.self (map (λ s. s.items) c.self.inside.seats.items) c.self.inside.pointer
+    c.in_err-client.ensures.leads)
 
-pub returns-in_default-new-clause-step : goal.returns-in_default-new-clause-step
-returns-in_default-new-clause-step g c =
-    let pile = pile_of c.self.inside.screen in
-    steps-whole Connect tt _ _ _ (λ d a. rw (← c.self.view_is)
-    (Connects-refused c.self.inside.output c.self.inside.residents.items pile d _ (c.in-Some.ensures.lowest ∙ ap (λ xs. lowest xs) c.deref.ensures.value) (rw (←
-    c.self.view_is) at a.matches)))
-
-pub returns-clause-step : goal.returns-clause-step
-returns-clause-step g c =
-    let pile = pile_of c.self.inside.screen in
-    steps-whole Connect tt _ _ _ (λ d a.
-    Connects-new c.self.inside.output c.self.inside.residents.items pile c.in-Some.k
-    (record { client = c.in-Ok.client; owned = c.bare.result; subsurfaces = c.new-2.result }) d
-    (c.in-Some.ensures.lowest ∙ ap (λ xs. lowest xs) c.deref.ensures.value) (rw (← c.deref.ensures.value) c.in-Some.ensures.within) c.in-Ok.ensures c.bare.ensures c.new-2.ensures
-    (rw (← c.self.view_is) at a))
-
-pub returns-in_default-clause-marks : goal.returns-in_default-clause-marks
-returns-in_default-clause-marks g c =
-    steps-still c.args.self.now.desk c.args.self.now.damage c.args.self.now.damage refl
-    Connect _ (λ d e orderly step. connects-still d e _ step)
-
-pub returns-in_default-new-clause-marks : goal.returns-in_default-new-clause-marks
-returns-in_default-new-clause-marks g c =
-    steps-still c.args.self.now.desk c.args.self.now.damage c.args.self.now.damage refl
-    Connect _ (λ d e orderly step. connects-still d e _ step)
-
-pub returns-clause-marks : goal.returns-clause-marks
-returns-clause-marks g c =
-    steps-still c.args.self.now.desk c.args.self.now.damage c.self.inside.screen.damage (ap (λ (m : MarkedDesk). m.damage) c.self.view_is)
-    Connect _ (λ d e orderly step. connects-still d e _ step)
-
-pub returns-clause-sides : goal.returns-clause-sides
-returns-clause-sides g c = as-large _ _ c.self.view_is
+pub returns-clause-leads : goal.returns-clause-leads
+returns-clause-leads g c =
+    rw (← c.self.view_is) (connects c.in_ok-client.client c.self.inside.clients c.connect.new.self (map (λ s. s.items) c.self.inside.seats.items) c.self.inside.pointer c.clear_seat.new.self
+    c.in_ok-client.ensures.leads c.clear_seat.ensures.kept c.clear_seat.ensures.damage c.clear_seat.ensures.pointer c.clear_seat.ensures.cleared c.clear_seat.ensures.others)
 
 pub returns-clause-nothing : goal.returns-clause-nothing
-returns-clause-nothing g c = none-marked _ _ c.self.view_is
+returns-clause-nothing g c =
+    rw (← c.self.view_is) (λ d a x y wide high. ap (λ (w : Damaged). has w x y) c.clear_seat.ensures.damage ∙ c.in_ok-client.ensures.nothing (unpointed d) a.kept x y wide high)
+
+pub returns-clause-sides : goal.returns-clause-sides
+returns-clause-sides g c =
+    rw (← c.self.view_is) (subst (λ (w : Damaged). IsAsLarge c.self.inside.clients.damage w) (sym c.clear_seat.ensures.damage) c.in_ok-client.ensures.sides)
 
 pub returns-clause-output : goal.returns-clause-output
-returns-clause-output g c = ap (λ (m : MarkedDesk). m.desk.output) c.self.view_is
-
-pub invariant_of-self : goal.invariant_of-self
-invariant_of-self g c = (length-set _ _ _ ∙ c.self.invariant.0, c.self.invariant.1)
+returns-clause-output g c = rw (← c.self.view_is) (ap (λ (v : DeskView). v.output) c.clear_seat.ensures.kept ∙ c.in_ok-client.ensures.output)

@@ -1,104 +1,30 @@
-use Rattle.std.proofs.Common.{false, ap, refl, ◌∙◌}
-use Rattle.std.proofs.lemmas.List.{length-set}
-use Rattle.wl_plain.specs.Act.{Leave, IsLeft}
+use Rattle.std.proofs.Common.{◌≡◌, ℕ, Bool, true, false, refl, map, subst, ◌∙◌}
 use Rattle.wl_plain.specs.declared.answers.Done.TheVariants as gave
-use Rattle.wl_resident.specs.View.{MarkedDesk, pile_of}
-use Rattle.wl_desk.proofs.Calls.{Changes-none, changes}
-use Rattle.wl_desk.proofs.Marks.{adds-within, leaves-marked, nobody-adds, own-adds, own-most, sized}
-use Rattle.wl_desk.proofs.Steps.{leaves-away, steps-nobody, steps-whole}
-use Rattle.wl_desk.proofs.Seats.{as-large, empty-slot, found, missing, still, was-marked}
+use Rattle.wl_plain.specs.Act.{Connect, Leave}
+use Rattle.wl_plain.specs.Happenings.{Single}
+use Rattle.wl_clients.specs.Leading.{LeadsBy}
+use Rattle.wl_clients.specs.View.{MarkedDesk as KeptDesk}
+use Rattle.wl_desk.proofs.Calls.{goes, large-on, quiet-step}
 use Rattle.wl_desk.proofs.desks.Desk.gone.Goals as goal
 
-pub returns-in_default-clause-step : goal.returns-in_default-clause-step
-returns-in_default-clause-step g c =
-    let pile = pile_of c.self.inside.screen in
-    steps-nobody c.args.client c.args.self.now c.args.self.now (missing c.self.inside.output c.self.inside.residents.items pile c.self.inside.screen.damage _ _ _
-    c.deref.ensures.value c.in_default.ensures.none c.self.view_is) refl (Leave c.args.client) tt (gave.Gone false)
-    (λ d free a. Changes-none IsLeft (gave.Gone false) _ d _ free a)
+differs : (client : ℕ) → Leave client ≡ Connect → ⊥
+differs client e = absurd (cc)
 
-pub returns-in_default-clause-marks : goal.returns-in_default-clause-marks
-returns-in_default-clause-marks g c =
-    let pile = pile_of c.self.inside.screen in
-    leaves-marked c.args.client _ c.args.self.now.desk c.args.self.now.damage c.args.self.now.damage
-    (nobody-adds c.args.client c.args.self.now
-    (missing c.self.inside.output c.self.inside.residents.items pile c.self.inside.screen.damage _ _ _ c.deref.ensures.value c.in_default.ensures.none c.self.view_is)
-    c.args.self.now.damage refl)
+went : (client : ℕ) (lived was : Bool) (old new : KeptDesk) → lived ≡ was → LeadsBy (Single (Leave client) (gave.Gone lived)) old new → LeadsBy (Single (Leave client) (gave.Gone was)) old new
+went client lived was old new is leads = subst (λ (b : Bool). LeadsBy (Single (Leave client) (gave.Gone b)) old new) is leads
 
-pub returns-in_default-index_mut-clause-step : goal.returns-in_default-index_mut-clause-step
-returns-in_default-index_mut-clause-step g c =
-    let pile = pile_of c.self.inside.screen in
-    let e = (empty-slot _ _ _ _ _ c.deref.ensures.value c.in-Some.ensures.some c.index_mut.ensures.value c.in_default-index_mut.is) in
-    steps-nobody c.args.client _ _ (missing c.self.inside.output c.self.inside.residents.items pile c.self.inside.screen.damage _ _ _ refl e.0 c.self.view_is) (still
-    c.self.inside.output c.self.inside.residents.items pile c.self.inside.screen.damage _ _ e.1 c.self.view_is)
-    (Leave c.args.client) tt (gave.Gone false) (λ d free a. Changes-none IsLeft (gave.Gone false) _ d _ free a)
+pub returns-then-not-gone-clause-leads : goal.returns-then-not-gone-clause-leads
+returns-then-not-gone-clause-leads g c =
+    rw (← c.self.view_is) (quiet-step (Leave c.args.client) (gave.Gone false) c.self.inside.clients c.gone.new.self (map (λ s. s.items) c.self.inside.seats.items) c.self.inside.pointer refl
+    (differs c.args.client) (went c.args.client c.gone.result false c.self.inside.clients c.gone.new.self c.if-not-gone.true c.gone.ensures.leads))
 
-pub returns-in_default-index_mut-clause-marks : goal.returns-in_default-index_mut-clause-marks
-returns-in_default-index_mut-clause-marks g c =
-    let pile = pile_of c.self.inside.screen in
-    let e = (empty-slot _ _ _ _ _ c.deref.ensures.value c.in-Some.ensures.some c.index_mut.ensures.value c.in_default-index_mut.is) in
-    leaves-marked c.args.client _ c.args.self.now.desk c.args.self.now.damage c.self.inside.screen.damage
-    (nobody-adds c.args.client c.args.self.now
-    (missing c.self.inside.output c.self.inside.residents.items pile c.self.inside.screen.damage _ _ _ refl e.0 c.self.view_is)
-    c.self.inside.screen.damage (ap (λ (m : MarkedDesk). m.damage) c.self.view_is))
-
-pub returns-in_default-clause-within : goal.returns-in_default-clause-within
-returns-in_default-clause-within g c = λ d a x y wide high marked. was-marked c.args.self.now c.args.self.now _ x y refl marked
-
-pub returns-in_default-clause-most : goal.returns-in_default-clause-most
-returns-in_default-clause-most g c = λ d e a step b x y wide high marked. was-marked c.args.self.now c.args.self.now _ x y refl marked
-
-pub returns-in_default-index_mut-clause-within : goal.returns-in_default-index_mut-clause-within
-returns-in_default-index_mut-clause-within g c = λ d a x y wide high marked. was-marked _ _ _ x y c.self.view_is marked
-
-pub returns-in_default-index_mut-clause-most : goal.returns-in_default-index_mut-clause-most
-returns-in_default-index_mut-clause-most g c = λ d e a step b x y wide high marked. was-marked _ _ _ x y c.self.view_is marked
-
-pub returns-in_default-index_mut-clause-sides : goal.returns-in_default-index_mut-clause-sides
-returns-in_default-index_mut-clause-sides g c = as-large _ _ c.self.view_is
-
-pub returns-in_default-index_mut-clause-output : goal.returns-in_default-index_mut-clause-output
-returns-in_default-index_mut-clause-output g c = ap (λ (m : MarkedDesk). m.desk.output) c.self.view_is
-
-pub returns-clause-step : goal.returns-clause-step
-returns-clause-step g c =
-    let pile = pile_of c.self.inside.screen in
-    steps-whole (Leave c.args.client) tt _ _ _ (λ d a.
-    changes c.self.inside.output c.self.inside.residents.items pile c.args.client c.in-Some.k c.in-Some-index_mut.resident
-    (found _ _ _ _ _ _ c.deref.ensures.value c.in-Some.ensures.some c.index_mut.ensures.value c.in-Some-index_mut.is) d (rw (← c.self.view_is) at a.matches)
-    IsLeft (gave.Gone false) (gave.Gone c.gone.result) c.gone.new.resident (pile_of c.gone.new.self) c.gone.ensures.changes)
-
-pub returns-clause-marks : goal.returns-clause-marks
-returns-clause-marks g c =
-    let pile = pile_of c.self.inside.screen in
-    leaves-marked c.args.client _ c.args.self.now.desk c.args.self.now.damage c.gone.new.self.damage (λ d a.
-    rw (← c.self.view_is) (own-adds c.self.inside.output c.self.inside.residents.items pile c.args.client c.in-Some.k c.in-Some-index_mut.resident
-    (found _ _ _ _ _ _ c.deref.ensures.value c.in-Some.ensures.some c.index_mut.ensures.value c.in-Some-index_mut.is) d (rw (← c.self.view_is) at a)
-    c.self.inside.screen.damage c.gone.new.self.damage c.gone.ensures.marks))
-
-pub returns-clause-within : goal.returns-clause-within
-returns-clause-within g c =
-    let pile = pile_of c.self.inside.screen in
-    λ d a.
-    rw (← c.self.view_is) (adds-within c.args.client d c.self.inside.screen.damage c.gone.new.self.damage
-    (own-adds c.self.inside.output c.self.inside.residents.items pile c.args.client c.in-Some.k c.in-Some-index_mut.resident
-    (found _ _ _ _ _ _ c.deref.ensures.value c.in-Some.ensures.some c.index_mut.ensures.value c.in-Some-index_mut.is) d (rw (← c.self.view_is) at a)
-    c.self.inside.screen.damage c.gone.new.self.damage c.gone.ensures.marks))
-
-pub returns-clause-most : goal.returns-clause-most
-returns-clause-most g c =
-    λ d e a step b.
-    own-most c.args.client c.args.self.now _ d e c.gone.new.self.damage a b (sized _ _ d c.self.view_is c.self.invariant.1 a)
-    (leaves-away c.args.client (gave.Gone c.gone.result) d e a.orderly step) (returns-clause-within g c d a)
+pub returns-clause-leads : goal.returns-clause-leads
+returns-clause-leads g c =
+    rw (← c.self.view_is) (goes c.args.client c.self.inside.clients c.gone.new.self (map (λ s. s.items) c.self.inside.seats.items) c.self.inside.pointer c.forget.new.self c.settle.new.self
+    (went c.args.client c.gone.result true c.self.inside.clients c.gone.new.self c.if-not-gone.false c.gone.ensures.leads) c.gone.ensures.sides c.forget.ensures c.settle.ensures.settles)
 
 pub returns-clause-sides : goal.returns-clause-sides
-returns-clause-sides g c = rw (← c.self.view_is) c.gone.ensures.marks.0
+returns-clause-sides g c = rw (← c.self.view_is) (large-on c.self.inside.clients.damage c.gone.new.self.damage c.settle.new.self.damage c.gone.ensures.sides c.settle.ensures.sides)
 
 pub returns-clause-output : goal.returns-clause-output
-returns-clause-output g c = ap (λ (m : MarkedDesk). m.desk.output) c.self.view_is
-
-pub invariant_of-self-2 : goal.invariant_of-self-2
-invariant_of-self-2 g c =
-    (length-set _ _ _ ∙ c.self.invariant.0, (c.gone.ensures.marks.0.width ∙ c.self.invariant.1.0, c.gone.ensures.marks.0.height ∙ c.self.invariant.1.1))
-
-pub invariant_of-self : goal.invariant_of-self
-invariant_of-self g c = (length-set _ _ _ ∙ c.self.invariant.0, c.self.invariant.1)
+returns-clause-output g c = rw (← c.self.view_is) (c.settle.ensures.output ∙ c.gone.ensures.output)

@@ -1,57 +1,26 @@
-use Rattle.std.proofs.Common.{ap, refl, ◌∙◌}
-use Rattle.std.proofs.lemmas.List.{length-set}
-use Rattle.wl_resident.specs.View.{MarkedDesk, pile_of}
-use Rattle.wl_desk.proofs.Kept.{err-then, keeps, lives-there, ok-then, stays}
-use Rattle.wl_desk.proofs.Steps.{keeps-nobody, keeps-whole, stays-whole}
-use Rattle.wl_desk.proofs.Seats.{empty-slot, found, missing, still}
+use Rattle.std.proofs.Common.{map, refl}
+use Rattle.wl_plain.specs.Desktop.{unpointed}
+use Rattle.wl_clients.proofs.Kept.{err-then, ok-then}
+use Rattle.wl_desk.proofs.Calls.{desk_with}
+use Rattle.wl_desk.proofs.Keeping.{agrees-still, keeps}
 use Rattle.wl_desk.proofs.desks.Desk.keep.Goals as goal
-
-pub returns-in_default-clause-ok : goal.returns-in_default-clause-ok
-returns-in_default-clause-ok g c =
-    let pile = pile_of c.self.inside.screen in
-    keeps-nobody c.args.client c.args.self.now c.args.self.now (missing c.self.inside.output c.self.inside.residents.items pile c.self.inside.screen.damage _ _ _
-    c.deref.ensures.value c.in_default.ensures.none c.self.view_is) refl c.args.piece.now
-
-pub returns-in_default-index_mut-clause-ok : goal.returns-in_default-index_mut-clause-ok
-returns-in_default-index_mut-clause-ok g c =
-    let pile = pile_of c.self.inside.screen in
-    let e = (empty-slot _ _ _ _ _ c.deref.ensures.value c.in-Some.ensures.some c.index_mut.ensures.value c.in_default-index_mut.is) in
-    keeps-nobody c.args.client _ _ (missing c.self.inside.output c.self.inside.residents.items pile c.self.inside.screen.damage _ _ _ refl e.0 c.self.view_is) (still
-    c.self.inside.output c.self.inside.residents.items pile c.self.inside.screen.damage _ _ e.1 c.self.view_is) c.args.piece.now
-
-pub returns-in_default-index_mut-clause-damage : goal.returns-in_default-index_mut-clause-damage
-returns-in_default-index_mut-clause-damage g c = ap (λ (m : MarkedDesk). m.damage) c.self.view_is
-
-pub returns-in_default-index_mut-clause-output : goal.returns-in_default-index_mut-clause-output
-returns-in_default-index_mut-clause-output g c = ap (λ (m : MarkedDesk). m.desk.output) c.self.view_is
 
 pub returns-clause-ok : goal.returns-clause-ok
 returns-clause-ok g c =
-    let pile = pile_of c.self.inside.screen in
-    ok-then c.keep_in.result (λ same. keeps-whole c.args.client c.args.piece.now _ _ (λ d a.
-    keeps c.self.inside.output c.self.inside.residents.items pile c.args.client c.in-Some.k c.in-Some-index_mut.resident
-    (found _ _ _ _ _ _ c.deref.ensures.value c.in-Some.ensures.some c.index_mut.ensures.value c.in-Some-index_mut.is) d (rw (← c.self.view_is) at a.matches) c.args.piece.now
-    c.keep_in.new.resident same)) c.keep_in.ensures.ok
+    let seats = map (λ s. s.items) c.self.inside.seats.items in
+    rw (← c.self.view_is) (ok-then c.keep.result (λ kept d a.
+    keeps c.args.client c.args.piece.now (desk_with c.self.inside.clients seats c.self.inside.pointer).desk (desk_with c.keep.new.self seats c.self.inside.pointer).desk d a refl refl
+    (kept (unpointed d) a.kept)) c.keep.ensures.ok)
 
 pub returns-clause-err : goal.returns-clause-err
 returns-clause-err g c =
-    let pile = pile_of c.self.inside.screen in
-    err-then c.keep_in.result (λ kept d a. (
-      stays-whole _ _ (λ d a. stays c.self.inside.output c.self.inside.residents.items pile c.args.client c.in-Some.k c.in-Some-index_mut.resident
-          (found _ _ _ _ _ _ c.deref.ensures.value c.in-Some.ensures.some c.index_mut.ensures.value c.in-Some-index_mut.is) d (rw (← c.self.view_is) at a)
-          c.keep_in.new.resident pile kept.0 refl) d a,
-      lives-there c.self.inside.output c.self.inside.residents.items pile c.args.client c.in-Some.k c.in-Some-index_mut.resident
-          (found _ _ _ _ _ _ c.deref.ensures.value c.in-Some.ensures.some c.index_mut.ensures.value c.in-Some-index_mut.is) d (rw (← c.self.view_is) at a.matches) kept.1,
-    )) c.keep_in.ensures.err
+    let seats = map (λ s. s.items) c.self.inside.seats.items in
+    rw (← c.self.view_is) (err-then c.keep.result (λ kept d a.
+    let k = kept (unpointed d) a.kept in
+    (agrees-still (desk_with c.self.inside.clients seats c.self.inside.pointer).desk (desk_with c.keep.new.self seats c.self.inside.pointer).desk d a refl refl k.0, k.1)) c.keep.ensures.err)
 
 pub returns-clause-damage : goal.returns-clause-damage
-returns-clause-damage g c = ap (λ (m : MarkedDesk). m.damage) c.self.view_is
+returns-clause-damage g c = rw (← c.self.view_is) c.keep.ensures.damage
 
 pub returns-clause-output : goal.returns-clause-output
-returns-clause-output g c = ap (λ (m : MarkedDesk). m.desk.output) c.self.view_is
-
-pub invariant_of-self : goal.invariant_of-self
-invariant_of-self g c = (length-set _ _ _ ∙ c.self.invariant.0, c.self.invariant.1)
-
-pub invariant_of-self-2 : goal.invariant_of-self-2
-invariant_of-self-2 g c = (length-set _ _ _ ∙ c.self.invariant.0, c.self.invariant.1)
+returns-clause-output g c = rw (← c.self.view_is) c.keep.ensures.output

@@ -1,73 +1,24 @@
-use Rattle.wl_plain.specs.Act.{Send, IsSent}
-use Rattle.std.proofs.Common.{ap, refl, false, ◌∙◌}
-use Rattle.std.proofs.lemmas.List.{length-set}
+use Rattle.std.proofs.Common.{◌≡◌, ℕ, map, refl}
 use Rattle.wl_plain.specs.declared.answers.Done.TheVariants as gave
-use Rattle.wl_resident.specs.View.{MarkedDesk, pile_of}
-use Rattle.wl_desk.proofs.Calls.{Changes-none, changes}
-use Rattle.wl_desk.proofs.Marks.{steps-still}
-use Rattle.wl_desk.proofs.Steps.{steps-nobody, steps-whole}
-use Rattle.wl_desk.proofs.Seats.{as-large, empty-slot, found, missing, none-marked, still}
-use Rattle.wl_desk.proofs.Still.{sent-still}
+use Rattle.wl_plain.specs.Act.{Connect, Send}
+use Rattle.wl_desk.proofs.Calls.{marks-nothing, quiet-step}
 use Rattle.wl_desk.proofs.desks.Desk.sent.Goals as goal
 
-pub returns-in_default-clause-step : goal.returns-in_default-clause-step
-returns-in_default-clause-step g c =
-    let pile = pile_of c.self.inside.screen in
-    steps-nobody c.args.client c.args.self.now c.args.self.now (missing c.self.inside.output c.self.inside.residents.items pile c.self.inside.screen.damage _ _ _
-    c.deref.ensures.value c.in_default.ensures.none c.self.view_is) refl (Send c.args.client c.args.count) tt (gave.Sent false)
-    (λ d free a. Changes-none (IsSent c.args.count) (gave.Sent false) _ d _ free a)
+differs : (client count : ℕ) → Send client count ≡ Connect → ⊥
+differs client count e = absurd (cc)
 
-pub returns-in_default-clause-marks : goal.returns-in_default-clause-marks
-returns-in_default-clause-marks g c =
-    steps-still c.args.self.now.desk c.args.self.now.damage c.args.self.now.damage refl
-    (Send c.args.client c.args.count) _ (sent-still c.args.client c.args.count _)
-
-pub returns-in_default-index_mut-clause-step : goal.returns-in_default-index_mut-clause-step
-returns-in_default-index_mut-clause-step g c =
-    let pile = pile_of c.self.inside.screen in
-    let e = (empty-slot _ _ _ _ _ c.deref.ensures.value c.in-Some.ensures.some c.index_mut.ensures.value c.in_default-index_mut.is) in
-    steps-nobody c.args.client _ _ (missing c.self.inside.output c.self.inside.residents.items pile c.self.inside.screen.damage _ _ _ refl e.0 c.self.view_is) (still
-    c.self.inside.output c.self.inside.residents.items pile c.self.inside.screen.damage _ _ e.1 c.self.view_is)
-    (Send c.args.client c.args.count) tt (gave.Sent false) (λ d free a. Changes-none (IsSent c.args.count) (gave.Sent false) _ d _ free a)
-
-pub returns-in_default-index_mut-clause-marks : goal.returns-in_default-index_mut-clause-marks
-returns-in_default-index_mut-clause-marks g c =
-    steps-still c.args.self.now.desk c.args.self.now.damage c.self.inside.screen.damage (ap (λ (m : MarkedDesk). m.damage) c.self.view_is)
-    (Send c.args.client c.args.count) _ (sent-still c.args.client c.args.count _)
-
-pub returns-in_default-index_mut-clause-sides : goal.returns-in_default-index_mut-clause-sides
-returns-in_default-index_mut-clause-sides g c = as-large _ _ c.self.view_is
-
-pub returns-in_default-index_mut-clause-nothing : goal.returns-in_default-index_mut-clause-nothing
-returns-in_default-index_mut-clause-nothing g c = none-marked _ _ c.self.view_is
-
-pub returns-in_default-index_mut-clause-output : goal.returns-in_default-index_mut-clause-output
-returns-in_default-index_mut-clause-output g c = ap (λ (m : MarkedDesk). m.desk.output) c.self.view_is
-
-pub returns-clause-step : goal.returns-clause-step
-returns-clause-step g c =
-    let pile = pile_of c.self.inside.screen in
-    steps-whole (Send c.args.client c.args.count) tt _ _ _ (λ d a.
-    changes c.self.inside.output c.self.inside.residents.items pile c.args.client c.in-Some.k c.in-Some-index_mut.resident
-    (found _ _ _ _ _ _ c.deref.ensures.value c.in-Some.ensures.some c.index_mut.ensures.value c.in-Some-index_mut.is) d (rw (← c.self.view_is) at a.matches)
-    (IsSent c.args.count) (gave.Sent false) (gave.Sent c.sent.result) c.sent.new.resident pile (c.sent.ensures.changes c.args.client pile))
-
-pub returns-clause-marks : goal.returns-clause-marks
-returns-clause-marks g c =
-    steps-still c.args.self.now.desk c.args.self.now.damage c.self.inside.screen.damage (ap (λ (m : MarkedDesk). m.damage) c.self.view_is)
-    (Send c.args.client c.args.count) _ (sent-still c.args.client c.args.count _)
-
-pub returns-clause-sides : goal.returns-clause-sides
-returns-clause-sides g c = as-large _ _ c.self.view_is
+pub returns-clause-leads : goal.returns-clause-leads
+returns-clause-leads g c =
+    rw (← c.self.view_is) (quiet-step (Send c.args.client c.args.count) (gave.Sent c.sent.result) c.self.inside.clients c.sent.new.self (map (λ s. s.items) c.self.inside.seats.items)
+    c.self.inside.pointer refl (differs c.args.client c.args.count) c.sent.ensures.leads)
 
 pub returns-clause-nothing : goal.returns-clause-nothing
-returns-clause-nothing g c = none-marked _ _ c.self.view_is
+returns-clause-nothing g c =
+    let seats = map (λ s. s.items) c.self.inside.seats.items in
+    rw (← c.self.view_is) (marks-nothing c.self.inside.clients c.sent.new.self seats seats c.self.inside.pointer c.self.inside.pointer c.sent.ensures.nothing)
+
+pub returns-clause-sides : goal.returns-clause-sides
+returns-clause-sides g c = rw (← c.self.view_is) c.sent.ensures.sides
 
 pub returns-clause-output : goal.returns-clause-output
-returns-clause-output g c = ap (λ (m : MarkedDesk). m.desk.output) c.self.view_is
-
-pub invariant_of-self : goal.invariant_of-self
-invariant_of-self g c = (length-set _ _ _ ∙ c.self.invariant.0, c.self.invariant.1)
-
-pub invariant_of-self-2 : goal.invariant_of-self-2
-invariant_of-self-2 g c = (length-set _ _ _ ∙ c.self.invariant.0, c.self.invariant.1)
+returns-clause-output g c = rw (← c.self.view_is) c.sent.ensures.output

@@ -1,22 +1,5 @@
-use Rattle.std.proofs.Common.{ap, length, sym, ◌∙◌}
-use Rattle.std.specs.Option.{option_map}
-use Rattle.wl_store.specs.Stores.{store_at}
-use Rattle.wl_plain.specs.Act.{peer_of, store_size_of}
-use Rattle.wl_resident.specs.View.{pile_of}
-use Rattle.wl_desk.proofs.Calls.{peer-read}
-use Rattle.wl_desk.proofs.Seats.{missing}
+use Rattle.wl_plain.specs.Desktop.{unpointed}
 use Rattle.wl_desk.proofs.desks.Desk.store_size.Goals as goal
 
-pub returns-in_default : goal.returns-in_default
-returns-in_default g c =
-    let pile = pile_of c.self.inside.screen in
-    λ d a. sym (ap (λ o. store_size_of c.args.store o) (ap (λ o. peer_of o) (missing c.self.inside.output c.self.inside.residents.items pile c.self.inside.screen.damage _ _ _
-    c.deref.ensures.value (sym c.in_default.ensures) c.self.view_is d a.matches)))
-
 pub returns : goal.returns
-returns g c =
-    let pile = pile_of c.self.inside.screen in
-    λ d a.
-    let p = peer-read c.self.inside.output c.self.inside.residents.items pile c.self.inside.screen.damage _ _ c.args.client c.in-Some.resident.now d c.deref.ensures.value
-    c.in-Some.ensures c.self.view_is a.matches in
-    rw p.1 (c.store_size.ensures ∙ ap (λ stores. option_map (λ s. length s.bytes) (store_at c.args.store stores)) p.2.stores)
+returns g c = rw (← c.self.view_is) (λ d a. c.store_size.ensures (unpointed d) a.kept)

@@ -1,13 +1,12 @@
-use Rattle.std.proofs.Common.{refl, rules}
+use Rattle.std.proofs.Common.{refl}
 use Rattle.wl_plain.specs.Act.{Leave}
 use Rattle.wl_plain.specs.declared.answers.Done.TheVariants as gave
-use Rattle.wl_session.proofs.Courses.{marked-course}
+use Rattle.wl_session.proofs.Courses.{leads-step, marked-course}
 use Rattle.wl_session.proofs.sessions.Session.gone.Goals as goal
 
 pub returns-clause-step : goal.returns-clause-step
-returns-clause-step g c = search rules
+returns-clause-step g c = rw (← c.self.view_is) (leads-step (Leave c.args.client) (gave.Gone c.gone.result) _ _ c.gone.ensures.leads)
 
 pub returns-clause-course : goal.returns-clause-course
 returns-clause-course g c =
-    rw (← c.self.view_is) (marked-course (Leave c.args.client) (gave.Gone c.gone.result) _ _ refl refl (λ client piece e. absurd (cc)) refl refl c.gone.ensures.sides c.gone.ensures.step
-    c.gone.ensures.marks c.gone.ensures.most (λ e. absurd (cc)))
+    rw (← c.self.view_is) (marked-course (Leave c.args.client) (gave.Gone c.gone.result) _ _ refl (λ d. refl) refl refl c.gone.ensures.sides c.gone.ensures.leads (λ e. absurd (cc)))

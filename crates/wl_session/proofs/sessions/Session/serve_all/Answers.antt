@@ -12,8 +12,7 @@ loop-self-preserved g c =
     record {
       taken = λ d a.
           let m = c.loop-self.invariant.taken d a in
-          let next = c.serve.ensures.through other m.desktop m.agrees in
-          served-more c.args.client _ _ _ d next.0 m refl c.serve.ensures.sides next.1 next.2 next.3 next.4;
+          served-more c.args.client _ _ _ d m refl c.serve.ensures.sides (c.serve.ensures.leads other m.desktop m.agrees);
       frame = c.loop-self.invariant.frame;
       output = c.serve.ensures.output ∙ c.loop-self.invariant.output;
       painted = c.loop-self.invariant.painted;

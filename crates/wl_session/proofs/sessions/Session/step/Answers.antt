@@ -1,3 +1,7 @@
+use Rattle.std.proofs.Common.{rules, w32}
+use Rattle.std.proofs.lemmas.Int.{to_z-of_z}
+use Rattle.std.specs.Prelude.{FitsSigned}
+use Rattle.wl_session.proofs.Courses.{motion-courses, motion-steps}
 use Rattle.wl_session.proofs.sessions.Session.step.Goals as goal
 
 pub returns-in-Tick-clause-step : goal.returns-in-Tick-clause-step
@@ -41,3 +45,17 @@ returns-in-Close-clause-step g c = rw c.in-Close.is c.close.ensures.step
 
 pub returns-in-Close-clause-course : goal.returns-in-Close-clause-course
 returns-in-Close-clause-course g c = rw c.in-Close.is c.close.ensures.course
+
+pub returns-in-Motion-clause-step : goal.returns-in-Motion-clause-step
+returns-in-Motion-clause-step g c =
+    let x : FitsSigned w32 c.in-Motion.x = search rules in
+    let y : FitsSigned w32 c.in-Motion.y = search rules in
+    rw c.in-Motion.is
+    (motion-steps c.in-Motion.time c.in-Motion.x c.in-Motion.y _ _ (to_z-of_z w32 c.in-Motion.x x) (to_z-of_z w32 c.in-Motion.y y) _ _ c.motion.ensures.step)
+
+pub returns-in-Motion-clause-course : goal.returns-in-Motion-clause-course
+returns-in-Motion-clause-course g c =
+    let x : FitsSigned w32 c.in-Motion.x = search rules in
+    let y : FitsSigned w32 c.in-Motion.y = search rules in
+    rw c.in-Motion.is
+    (motion-courses c.in-Motion.time c.in-Motion.x c.in-Motion.y _ _ (to_z-of_z w32 c.in-Motion.x x) (to_z-of_z w32 c.in-Motion.y y) _ _ c.motion.ensures.course)

@@ -1,0 +1,153 @@
+-- What a call marks from the first desktop to the last is marked along the desktops between.
+use Rattle.std.proofs.Common.{◌≡◌, ℕ, Bool, true, false, List, Option, Some, None, refl, ap, subst, sym, ◌∙◌}
+use Rattle.std.specs.Prelude.{◌<◌, ◌||◌, pos}
+use Rattle.std.proofs.lemmas.Bool.{or_left, or_right}
+use Rattle.wl_peer.specs.declared.cause.Cause.{Cause}
+use Rattle.wl_peer.specs.declared.cause.Cause.TheVariants as cause
+use Rattle.wl_peer.specs.Peer.{ended}
+use Rattle.wl_paint.specs.Damage.{Damaged, has}
+use Rattle.wl_plain.specs.Act.{Act, Tick, fed_of, peer_at, peer_of, status_of}
+use Rattle.wl_plain.specs.declared.answers.Done.{Done}
+use Rattle.wl_plain.specs.declared.answers.Done.TheVariants as gave
+use Rattle.wl_plain.specs.declared.answers.Fed.TheVariants as fed
+use Rattle.wl_plain.specs.Desktop.{Desktop, Resident, client_at}
+use Rattle.wl_plain.specs.Happenings.{Happening, Leads, Message, Single, Starve, StarvesAt}
+use Rattle.wl_plain.specs.Happens.{Happens}
+use Rattle.wl_plain.specs.LeftOut.{served_now}
+use Rattle.wl_plain.specs.Moments.{marks_at_most, marks_at_most_through}
+use Rattle.wl_plain.specs.Settling.{becomes, unstruck}
+use Rattle.wl_plain.specs.Stacked.{all_windows}
+use Rattle.wl_plain.specs.Through.{ServesThrough}
+use Rattle.wl_laws.specs.Through.{IsSingle}
+use Rattle.wl_laws.proofs.Runs.Through.{happens_leads_through, settling-with}
+use Rattle.wl_resident.specs.Marking.{MarksAtLeast, MarksMost, MarksThrough}
+use Rattle.wl_resident.specs.View.{DeskView}
+use Rattle.wl_clients.specs.Agreeing.{Agrees, TakesStep}
+use Rattle.wl_clients.specs.Feeding.{Ends, EndsBy, EndsOf}
+use Rattle.wl_clients.specs.Framing.{MarksIfEnds}
+use Rattle.wl_clients.specs.Leading.{Led}
+use Rattle.wl_clients.proofs.Agreed.{agrees-apart}
+use Rattle.wl_clients.proofs.EachEnd.{is_losing_act, orderly-bare, unmarked-each, unmarked-starving}
+use Rattle.wl_clients.proofs.Most.{most-through}
+
+-- ---- no more is marked than may be
+
+-- from the first desktop of a step to the last
+abbrev pub MarksNoMore : Act → Done → DeskView → DeskView → Damaged → Damaged → Type 0
+MarksNoMore act done old new before after =
+    (d e : Desktop) → Agrees old d → Happens served_now act done d e → Agrees new e → MarksMost d e before after
+
+-- that is so where nothing is
+pub nothing-more : (act : Act) (done : Done) (old new : DeskView) (before after : Damaged)
+    → ((d : Desktop) → Agrees old d → (x y : ℕ) → x < before.width → y < before.height → has after x y ≡ has before x y) → MarksNoMore act done old new before after
+nothing-more act done old new before after nothing = λ d e a step b x y wide high again.
+    ap (λ t. t || marks_at_most d e None (pos x) (pos y)) (sym (nothing d a x y wide high) ∙ again)
+
+-- what is no more from the first desktop to the last is no more along those between
+most-along : (h : Happening) (v : DeskView) (d e : Desktop) (path : List Desktop) (before after : Damaged) → Agrees v d → Leads served_now h d path e → MarksMost d e before after
+    → (x y : ℕ) → x < before.width → y < before.height → has after x y ≡ true
+    → (has before x y || marks_at_most_through all_windows None d path (pos x) (pos y)) ≡ true
+most-along h v d e path before after a leads most x y wide high again = at (has before x y) refl (most x y wide high again)
+  where
+    at : (t : Bool) → has before x y ≡ t → (t || marks_at_most d e None (pos x) (pos y)) ≡ true
+        → (has before x y || marks_at_most_through all_windows None d path (pos x) (pos y)) ≡ true
+    at true was either = or_left (has before x y) _ was
+    at false was either = or_right (has before x y) _ (most-through (pos x) (pos y) served_now h d path e None (agrees-apart v d a) leads either)
+
+-- ---- a step
+
+-- it marks along the desktops between what it has to, and no more than it may
+act-marks : (act : Act) (done : Done) (v : DeskView) (d e : Desktop) (path : List Desktop) (before after : Damaged) → is_losing_act act ≡ true → Agrees v d
+    → Leads served_now (Single act done) d path e → MarksAtLeast d e before after → MarksMost d e before after → MarksThrough d path before after
+act-marks act done v d e path before after losing a leads marks most = λ x y wide high. (
+  λ clean.
+      let unmarked = marks x y wide high clean in
+      (unmarked.0, unmarked-each served_now act done d path e (pos x) (pos y) losing (orderly-bare d a.orderly) (agrees-apart v d a) leads unmarked.1),
+  most-along (Single act done) v d e path before after a leads most x y wide high,
+)
+
+pub steps-led : (act : Act) → is_losing_act act ≡ true → IsSingle act → (done : Done) (old new : DeskView) (before after : Damaged) → TakesStep act done old new
+    → ((d e : Desktop) → Agrees old d → Happens served_now act done d e → MarksAtLeast d e before after) → MarksNoMore act done old new before after
+    → (d : Desktop) → Agrees old d → Led (Agrees new) (Single act done) before after d
+steps-led act losing single done old new before after step marks most d a =
+    let e = step d a in
+    let through = (happens_leads_through served_now act done d e.0).1 single e.1 in
+    record {
+      path = through.0;
+      desktop = e.0;
+      leads = through.1;
+      agrees = e.2;
+      marks = act-marks act done old d e.0 through.0 before after losing a through.1 (marks d e.0 a e.1) (most d e.0 a e.1 e.2);
+    }
+
+-- where the same points are to be painted again
+pub still-led : (act : Act) → is_losing_act act ≡ true → IsSingle act → (done : Done) (old new : DeskView) (before after : Damaged) → after ≡ before → TakesStep act done old new
+    → ((d e : Desktop) → Agrees old d → Happens served_now act done d e → MarksAtLeast d e before after) → (d : Desktop) → Agrees old d → Led (Agrees new) (Single act done) before after d
+still-led act losing single done old new before after same step marks =
+    steps-led act losing single done old new before after step marks
+    (nothing-more act done old new before after (λ d a x y wide high. ap (λ (m : Damaged). has m x y) same))
+
+-- a frame
+pub frames-led : (time : ℕ) (old new : DeskView) (before after : Damaged)
+    → ((d : Desktop) → Agrees old d → (e : Desktop) × Happens served_now (Tick time) gave.Tick d e × Agrees new e × MarksAtLeast d e before after × MarksMost d e before after
+    × MarksIfEnds d e before after)
+    → (d : Desktop) → Agrees old d → (led : Led (Agrees new) (Single (Tick time) gave.Tick) before after d) × MarksIfEnds d led.desktop before after
+frames-led time old new before after shows d a =
+    let e = shows d a in
+    let through = (happens_leads_through served_now (Tick time) gave.Tick d e.0).1 (λ c piece same. absurd (cc)) e.1 in (
+      record {
+        path = through.0;
+        desktop = e.0;
+        leads = through.1;
+        agrees = e.2;
+        marks = act-marks (Tick time) gave.Tick old d e.0 through.0 before after refl a through.1 e.3 e.4;
+      },
+      e.5,
+    )
+
+-- ---- a message
+
+pub message-led : (c : ℕ) (old new : DeskView) (before after : Damaged)
+    → ((d : Desktop) → Agrees old d → (e : Desktop) × (path : List Desktop) × ServesThrough served_now c d path e × Agrees new e × MarksThrough d path before after)
+    → (d : Desktop) → Agrees old d → Led (Agrees new) (Message c) before after d
+message-led c old new before after through d a =
+    let n = through d a in
+    record { path = n.1; desktop = n.0; leads = n.2; agrees = n.3; marks = n.4 }
+
+-- ---- memory is wanting
+
+starve-marks : (c : ℕ) (v : DeskView) (d e : Desktop) (path : List Desktop) (before after : Damaged) → Agrees v d → Leads served_now (Starve c) d path e → MarksAtLeast d e before after
+    → MarksMost d e before after → MarksThrough d path before after
+starve-marks c v d e path before after a leads marks most = λ x y wide high. (
+  λ clean.
+      let unmarked = marks x y wide high clean in
+      (unmarked.0, unmarked-starving c (client_at c d) d path e (pos x) (pos y) (agrees-apart v d a) leads unmarked.1),
+  most-along (Starve c) v d e path before after a leads most x y wide high,
+)
+
+-- a client that lives ends by that
+pub starves-led : (c : ℕ) (old new : DeskView) (before after : Damaged) (d e : Desktop) → Agrees old d → status_of (peer_at c d) ≡ fed.Alive → Ends c cause.Memory d e → Agrees new e
+    → MarksAtLeast d e before after → MarksMost d e before after → Led (Agrees new) (Starve c) before after d
+starves-led c old new before after d e a alive ends b marks most = at (client_at c d) refl
+  where
+    by : (t : Option Cause) (r : Resident) → client_at c d ≡ Some r → r.peer.status ≡ t → Led (Agrees new) (Starve c) before after d
+    by (Some cause) r there over =
+        let clash : fed.Ended cause ≡ fed.Alive = sym (ap (λ o. status_of (peer_of o)) there ∙ ap (λ t. fed_of t) over) ∙ alive in
+        absurd (cc)
+    by None r there lives =
+        let over : EndsBy c cause.Memory None r d e = subst (λ t. EndsBy c cause.Memory t r d e) lives (subst (λ o. EndsOf c cause.Memory o d e) there ends) in
+        let through = settling-with e (unstruck (becomes c r (ended cause.Memory r.peer) d)) over in
+        let starves : Leads served_now (Starve c) d through.0 e = subst (λ o. StarvesAt c o d through.0 e) (sym there) (lives, through.1) in
+        record {
+          path = through.0;
+          desktop = e;
+          leads = starves;
+          agrees = b;
+          marks = starve-marks c old d e through.0 before after a starves marks most;
+        }
+
+    at : (o : Option Resident) → client_at c d ≡ o → Led (Agrees new) (Starve c) before after d
+    at None none =
+        let clash : fed.NoClient ≡ fed.Alive = sym (ap (λ o. status_of (peer_of o)) none) ∙ alive in
+        absurd (cc)
+    at (Some r) there = by r.peer.status r there refl

@@ -1,0 +1,29 @@
+-- What one thing that happens leads to, and what it marks on the way.
+use Rattle.std.specs.Prelude.{List}
+use Rattle.wl_paint.specs.Damage.{Damaged}
+use Rattle.wl_plain.specs.Desktop.{Desktop}
+use Rattle.wl_plain.specs.Happenings.{Happening, Leads}
+use Rattle.wl_plain.specs.LeftOut.{served_now}
+use Rattle.wl_resident.specs.Marking.{MarksThrough}
+use Rattle.wl_resident.specs.View.{MarkedDesk}
+use Rattle.wl_clients.specs.Agreeing.{Agrees}
+use Rattle.wl_clients.specs.Framing.{MarksIfEnds}
+
+-- It leads from a desktop through others to one with which what is kept agrees. What has to be marked by its own change, by each end and by
+-- each settling in turn is, and nothing else than what may be.
+pub record Led (AgreesAfter : Desktop → Type 0) (h : Happening) (old new : Damaged) (d : Desktop) : Type 0 where
+  pub path : List Desktop
+  pub desktop : Desktop
+  pub leads : Leads served_now h d path desktop
+  pub agrees : AgreesAfter desktop
+  pub marks : MarksThrough d path old new
+
+-- So it does from whatever desktop agrees before.
+abbrev pub LeadsBy : Happening → MarkedDesk → MarkedDesk → Type 0
+LeadsBy h old new = (d : Desktop) → Agrees old.desk d → Led (Agrees new.desk) h old.damage new.damage d
+
+-- The same, and nothing more is to be painted where no client ends.
+abbrev pub LeadsQuietly : Happening → MarkedDesk → MarkedDesk → Type 0
+LeadsQuietly h old new =
+    (d : Desktop) → Agrees old.desk d
+    → (led : Led (Agrees new.desk) h old.damage new.damage d) × MarksIfEnds d led.desktop old.damage new.damage

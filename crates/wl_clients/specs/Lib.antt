@@ -1,0 +1,13 @@
+pub mod Agreeing
+pub mod Feeding
+pub mod Framing
+pub mod Leading
+pub mod Lent
+pub mod Midway
+pub mod NextStore
+pub mod Pointing
+pub mod Residents
+pub use Rattle.wl_resident.specs.Agreement
+pub use Rattle.wl_resident.specs.Marking
+pub use Rattle.wl_resident.specs.Seats
+pub use Rattle.wl_resident.specs.View

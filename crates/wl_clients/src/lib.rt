@@ -1,0 +1,12 @@
+//! All clients by number, and the windows that they show: a desktop where nobody points.
+#![tactic(auto)]
+
+mod clients;
+mod pointing;
+mod windows;
+
+pub use clients::{Clients, Taken};
+pub use pointing::{mid_begins_and_ends, mid_is_numbered_once, mid_names_surfaces};
+pub use wl_client::PointerEvent;
+pub use wl_plain::{ClientNo, ConnectError, Done, Fed, Stored};
+pub use wl_requests::PointerAsked;

@@ -1,0 +1,212 @@
+-- From a message that was taken with the pointer put aside to where the focus is settled.
+use Rattle.std.proofs.Common.{◌≡◌, ◌≢◌, ℕ, List, [], ◌∷◌, ◌++◌, map, true, Option, Some, None, refl, ap, subst, sym, ◌∙◌, append_assoc, ◌⊎◌, inl, inr, eq-eqb}
+use Rattle.std.specs.Prelude.{is_some}
+use Rattle.wl_marking.specs.Marking.{IsAsLarge}
+use Rattle.wl_paint.specs.Damage.{Damaged}
+use Rattle.wl_peer.specs.declared.cause.Cause.{Cause}
+use Rattle.wl_stacking.specs.Pointer.{Pointer, Target, is_stacked}
+use Rattle.wl_stacking.specs.Windows.{Window}
+use Rattle.wl_plain.specs.Changing.{drawing, has_focus}
+use Rattle.wl_plain.specs.Demand.{GetPointer}
+use Rattle.wl_plain.specs.Desktop.{Desktop, Resident, status_in, unpointed}
+use Rattle.wl_plain.specs.Happenings.{Happening, Leads, Message}
+use Rattle.wl_plain.specs.LeftOut.{served_now}
+use Rattle.wl_plain.specs.Marks.{AreDistinct}
+use Rattle.wl_plain.specs.Moments.{marks_at_least_through, marks_at_most_through}
+use Rattle.wl_plain.specs.Replies.{entered_at, focus_window}
+use Rattle.wl_plain.specs.Settling.{Midstep, Strike, Tells, ended_by, unstruck}
+use Rattle.wl_plain.specs.Stacked.{all_windows}
+use Rattle.wl_plain.specs.Through.{ServesThrough}
+use Rattle.wl_laws.proofs.Lists.Keys.{differ}
+use Rattle.wl_pointed.specs.Apart.{SettlesOn}
+use Rattle.wl_pointed.specs.Entering.{TellsNew, new_entered}
+use Rattle.wl_pointed.specs.Pointed.{asked, pointed, pointer_after, pointer_if, put_back}
+use Rattle.wl_pointed.proofs.Marking.{last-marks-nothing, marks-apart}
+use Rattle.wl_pointed.proofs.Rounds.{rounds-settle}
+use Rattle.wl_pointed.proofs.Unshown.{new-pointer-shows-nothing}
+use Rattle.wl_requests.specs.declared.pointer_asked.PointerAsked.{PointerAsked}
+use Rattle.wl_requests.specs.declared.pointer_asked.PointerAsked.TheVariants.{NewPointer}
+use Rattle.wl_clients.specs.Agreeing.{Agrees as KeptAgrees}
+use Rattle.wl_clients.specs.Leading.{Led}
+use Rattle.wl_clients.specs.Marking.{MarksThrough}
+use Rattle.wl_clients.specs.View.{DeskView as ClientsView}
+use Rattle.wl_clients.proofs.Agreed.{agrees-apart}
+use Rattle.wl_clients.proofs.Midway.{mid_begins_and_ends}
+use Rattle.wl_desk.specs.Agreeing.{Agrees, AreSeats, IsFree}
+use Rattle.wl_desk.specs.Following.{IsUnsettled, Took}
+use Rattle.wl_desk.specs.Midway.{IsMidway, IsTelling, SettlesDown}
+use Rattle.wl_desk.specs.View.{DeskView, MarkedDesk}
+use Rattle.wl_desk.proofs.Asking.{on-queued, on-refused, refused-ends, told-marks, told-still}
+use Rattle.wl_desk.proofs.Focused.{focus-placed, focus-stacked}
+use Rattle.wl_desk.proofs.Forgotten.{free-left, free-stands, pointer-left}
+use Rattle.wl_desk.proofs.Leading.{kept-aside, midway-agrees}
+use Rattle.wl_desk.proofs.Onward.{last-at, marks-as, marks-then, marks-to, none-more}
+use Rattle.wl_desk.proofs.Seated.{asks-by}
+
+-- ---- the rounds that follow
+
+-- from where the focus isn't settled the rounds lead on to where it is
+pub settled-down : (h : Happening) (d : Desktop) (old mid new : MarkedDesk) (u : IsUnsettled h old mid d) → SettlesDown mid new (unstruck u.start)
+    → Led (Agrees new.desk) h old.damage new.damage d
+settled-down h d old mid new u down =
+    let start : Desktop = u.start in
+    let settles = rounds-settle down.count 33 (unstruck start) down.mid down.last down.rounds down.few down.each down.settles down.over in
+    let later : List Desktop = down.rounds ++ down.last.desktop ∷ [] in
+    record {
+      path = u.path ++ later;
+      desktop = down.last.desktop;
+      leads = u.leads later down.last.desktop settles.0;
+      agrees = midway-agrees new.desk down.last down.midway down.over settles.1;
+      marks = marks-then d start u.path later old.damage mid.damage new.damage u.sides u.last u.marks
+          (marks-as start start later down.rounds mid.damage new.damage
+          (λ x y. last-marks-nothing down.count (unstruck start) down.mid down.last down.rounds x y down.distinct down.each down.settles) down.marks);
+    }
+
+-- ---- the pointer is put back
+
+pub midway-at : (v : DeskView) (e : Desktop) (p : Pointer) → KeptAgrees v.kept e → AreSeats v.seats e → v.pointer ≡ p → IsFree p → IsMidway v (unstruck (pointed p e))
+midway-at v e p kept seats is free =
+    record {
+      telling = record {
+        kept = (mid_begins_and_ends v.kept (unpointed (pointed p e))).0 (kept-aside v.kept p e kept);
+        place = ap (λ (q : Pointer). q.place) is;
+        seats = seats;
+      };
+      pointer = is;
+      free = free;
+      nowhere = λ none. refl;
+    }
+
+pub from-aside : (h : Happening) (p : Desktop → Pointer) (d e : Desktop) (aside : List Desktop) (old new : MarkedDesk)
+    → SettlesOn (λ a. pointed (p a) a) (Leads served_now h d) aside e → AreDistinct (all_windows e) → MarksThrough (unpointed d) aside old.damage new.damage
+    → IsAsLarge old.damage new.damage → IsMidway new.desk (unstruck (pointed (p e) e)) → IsUnsettled h old new d
+from-aside h p d e aside old new on apart marks sides midway =
+    let before : List Desktop = map (λ a. pointed (p a) a) on.0 in
+    let start : Desktop = pointed (p e) e in
+    record {
+      path = before ++ start ∷ [];
+      start = start;
+      last = last-at d start before;
+      leads = λ later last settles.
+          subst (λ (way : List Desktop). Leads served_now h d way last) (sym (append_assoc before (start ∷ []) later)) (on.2 later last settles);
+      midway = midway;
+      sides = sides;
+      marks = marks-as d (unpointed d) (before ++ start ∷ []) aside old.damage new.damage
+          (λ x y.
+          let both = marks-apart p None d e on.0 [] x y apart in (
+            both.0 ∙ none-more (marks_at_least_through all_windows (unpointed d) (on.0 ++ e ∷ e ∷ []) x y)
+                ∙ ap (λ (xs : List Desktop). marks_at_least_through all_windows (unpointed d) xs x y) (sym on.1),
+            both.1 ∙ none-more (marks_at_most_through all_windows None (unpointed d) (on.0 ++ e ∷ e ∷ []) x y)
+                ∙ ap (λ (xs : List Desktop). marks_at_most_through all_windows None (unpointed d) xs x y) (sym on.1),
+          )) marks;
+    }
+
+larger : (old mid new : Damaged) → IsAsLarge old mid → IsAsLarge mid new → IsAsLarge old new
+larger old mid new first next = record { width = next.width ∙ first.width; height = next.height ∙ first.height }
+
+-- ---- nobody is told
+
+pub followed : (c : ℕ) (request : PointerAsked) (old mid new : MarkedDesk) (d : Desktop) (took : Took c request old mid d)
+    → SettlesOn (put_back served_now c d) (ServesThrough served_now c d) took.path took.desktop → new.desk.kept ≡ mid.desk.kept → new.desk.seats ≡ mid.desk.seats
+    → new.desk.pointer ≡ pointer_if (status_in c took.desktop) c mid.desk.pointer → new.damage ≡ mid.damage → IsUnsettled (Message c) old new d
+followed c request old mid new d took on kept seats pointer damage =
+    let e : Desktop = took.desktop in
+    let p : Pointer = pointer_if (status_in c e) c d.pointer in
+    let midway : IsMidway new.desk (unstruck (pointed p e)) =
+    midway-at new.desk e p (subst (λ (k : ClientsView). KeptAgrees k e) (sym kept) took.kept) (subst (λ (s : List (List ℕ)). AreSeats s e) (sym seats) took.seats)
+    (pointer ∙ ap (pointer_if (status_in c e) c) took.pointer) (free-left (status_in c e) c d.pointer took.free) in
+    from-aside (Message c) (pointer_after served_now c d) d e took.path old new on (agrees-apart mid.desk.kept e took.kept)
+    (marks-to (unpointed d) took.path old.damage mid.damage new.damage damage took.marks)
+    (subst (λ (v : Damaged). IsAsLarge old.damage v) (sym damage) took.sides)
+    (subst (λ (q : Pointer). IsMidway new.desk (unstruck (pointed q e))) (sym (pointer-left served_now c d e took.free)) midway)
+
+-- ---- a new wl_pointer is told
+
+module _ (c id : ℕ) (old mid : MarkedDesk) (d : Desktop) (took : Took c (NewPointer id) old mid d) (alive : status_in c took.desktop ≡ None)
+    (t : Target) (has : d.pointer.focus ≡ Some t) (own : t.client ≡ c) where
+  abbrev pub put : Desktop
+  put = pointed d.pointer took.desktop
+
+  get : (version : ℕ) × (asked served_now c d ≡ Some (GetPointer id version))
+  get = by (asks-by (asked served_now c d) (NewPointer id) took.numbers id took.asks refl)
+    where
+      by : ((asked served_now c d ≡ None) ⊎ ((version : ℕ) × (asked served_now c d ≡ Some (GetPointer id version)))) → (version : ℕ) × (asked served_now c d ≡ Some (GetPointer id version))
+      by (inl none) =
+          absurd (differ (sym (refused-ends served_now c d took.path took.desktop none took.leads) ∙ ap (λ (s : Option Cause). is_some s) alive))
+      by (inr is) = is
+
+  has-focus : has_focus c d.pointer.focus ≡ true
+  has-focus = ap (has_focus c) has ∙ eq-eqb t.client c own
+
+  put-is : put_back served_now c d took.desktop ≡ put
+  put-is =
+      ap (λ (p : Pointer). pointed p took.desktop)
+      (pointer-left served_now c d took.desktop took.free ∙ ap (λ (s : Option Cause). pointer_if s c d.pointer) alive)
+
+  pub put-midway : IsMidway mid.desk (unstruck put)
+  put-midway = midway-at mid.desk took.desktop d.pointer took.kept took.seats took.pointer took.free
+
+  pub put-stacked : is_stacked t (all_windows put) ≡ true
+  put-stacked =
+      subst (λ (ws : List Window). is_stacked t ws ≡ true) (sym (new-pointer-shows-nothing served_now c id get.0 (unpointed d) took.path took.desktop refl get.1 took.leads alive))
+      (focus-stacked d.pointer (all_windows d) t took.free.buttons took.settled has)
+
+  pub put-placed : put.pointer.place ≢ None
+  put-placed = focus-placed d.pointer t took.free.nowhere has
+
+  module _ (n : Midstep)
+      (tells : Tells (drawing true) (λ (r : Resident). entered_at id r.peer.serial put.pointer.place (focus_window (Some t) (all_windows put))) t.client (unstruck put) n)
+      (told : MarkedDesk) (telling : IsTelling told.desk n) (pointer : told.desk.pointer ≡ mid.desk.pointer) (damage : told.damage ≡ mid.damage) where
+    tells-new : TellsNew id c (put_back served_now c d took.desktop) n
+    tells-new =
+        subst (λ (x : Desktop). TellsNew id c x n) (sym put-is)
+        (subst (λ (k : ℕ). Tells (drawing true) (new_entered id put) k (unstruck put) n) own
+        (subst (λ (f : Option Target). Tells (drawing true) (λ (r : Resident). entered_at id r.peer.serial put.pointer.place (focus_window f (all_windows put))) t.client (unstruck put) n) (sym has) tells))
+
+    still : n.desktop.pointer ≡ d.pointer
+    still = (told-still (drawing true) (λ (r : Resident). entered_at id r.peer.serial put.pointer.place (focus_window (Some t) (all_windows put))) t.client put n tells).0
+
+    pub to-end : (n.struck ≡ []) ⊎ ((s : Strike) × (s.client ≡ t.client) × (n.struck ≡ s ∷ []))
+    to-end = (told-still (drawing true) (λ (r : Resident). entered_at id r.peer.serial put.pointer.place (focus_window (Some t) (all_windows put))) t.client put n tells).1
+
+    pub told-midway : IsMidway told.desk n
+    told-midway = record {
+      telling = telling;
+      pointer = pointer ∙ took.pointer ∙ sym still;
+      free = subst IsFree (sym still) took.free;
+      nowhere = λ none. absurd (put-placed (sym (ap (λ (p : Pointer). p.place) still) ∙ none));
+    }
+
+    first : MarksThrough d (n.desktop ∷ []) old.damage told.damage
+    first =
+        marks-to d (n.desktop ∷ []) old.damage mid.damage told.damage damage
+        (marks-as d (unpointed d) (n.desktop ∷ []) took.path old.damage mid.damage
+        (told-marks served_now c id get.0 d took.path took.desktop n (free-stands d took.free) get.1 has-focus took.leads tells-new (agrees-apart mid.desk.kept took.desktop took.kept)) took.marks)
+
+    sides : IsAsLarge old.damage told.damage
+    sides = subst (λ (v : Damaged). IsAsLarge old.damage v) (sym damage) took.sides
+
+    pub followed-told : n.struck ≡ [] → IsUnsettled (Message c) old told d
+    followed-told none = record {
+      path = n.desktop ∷ [];
+      start = n.desktop;
+      last = refl;
+      leads = λ later last settles.
+          on-queued served_now c id get.0 d took.path took.desktop n (free-stands d took.free) get.1 has-focus took.leads tells-new none later last settles;
+      midway = subst (λ (ss : List Strike). IsMidway told.desk (record { desktop = n.desktop; struck = ss })) none told-midway;
+      marks = first;
+      sides = sides;
+    }
+
+    pub followed-ended : (new : MarkedDesk) (s : Strike) → n.struck ≡ s ∷ [] → IsMidway new.desk (unstruck (ended_by s n.desktop))
+        → MarksThrough n.desktop (ended_by s n.desktop ∷ []) told.damage new.damage → IsAsLarge told.damage new.damage → IsUnsettled (Message c) old new d
+    followed-ended new s one midway marks large = record {
+      path = n.desktop ∷ ended_by s n.desktop ∷ [];
+      start = ended_by s n.desktop;
+      last = refl;
+      leads = λ later last settles.
+          on-refused served_now c id get.0 d took.path took.desktop n (free-stands d took.free) get.1 has-focus took.leads tells-new s one later last settles;
+      midway = midway;
+      marks = marks-then d n.desktop (n.desktop ∷ []) (ended_by s n.desktop ∷ []) old.damage told.damage new.damage sides refl first marks;
+      sides = larger old.damage told.damage new.damage sides large;
+    }

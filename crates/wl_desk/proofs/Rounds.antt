@@ -1,0 +1,394 @@
+-- The focus is settled, and clients end, round by round.
+use Rattle.std.proofs.Common.{◌≡◌, ◌≢◌, ℕ, zero, suc, ◌<◌, ◌≤◌, List, [], ◌∷◌, ◌++◌, Bool, true, false, Option, Some, None, refl, ap, subst, sym, ◌∙◌}
+use Rattle.std.proofs.Common.{length, map, drop, drop-cons, get_or, arith, inl, inr}
+use Rattle.std.specs.Prelude.{◌⊎◌, ◌||◌, pos}
+use Rattle.std.proofs.lemmas.List.{drop_all}
+use Rattle.wl_paint.specs.Damage.{Damaged, has}
+use Rattle.wl_marking.specs.Marking.{IsAsLarge}
+use Rattle.wl_peer.specs.Told.{Said}
+use Rattle.wl_stacking.specs.Pointer.{Pointer, Target, hit_by, settled}
+use Rattle.wl_stacking.specs.PointerActions.{PointerAction, Leave, Enter, Motion, Button, Raise, MoveWindow, Dismiss, Settle, actions}
+use Rattle.wl_stacking.specs.Windows.{Place, Window}
+use Rattle.wl_plain.specs.Changing.{drawing}
+use Rattle.wl_plain.specs.Desktop.{Desktop, Resident, client_at}
+use Rattle.wl_plain.specs.Marks.{AreDistinct}
+use Rattle.wl_plain.specs.Moments.{marks_at_least_of, marks_at_least_through, marks_at_most_of, marks_at_most_through}
+use Rattle.wl_plain.specs.Settling.{Applies, AppliesAll, Midstep, Settles, Strike, Tells, TellsAt, TellsUnless, ended_at, ended_by, with_focus}
+use Rattle.wl_plain.specs.Stacked.{all_windows}
+use Rattle.wl_laws.specs.Focus.{IsSettled}
+use Rattle.wl_laws.proofs.Marks.Stacks.{Each}
+use Rattle.wl_laws.proofs.Runs.Fates.{number-long}
+use Rattle.wl_laws.proofs.Runs.Focus.{settles-keeps}
+use Rattle.wl_laws.proofs.Runs.Settled.{HasFocus, has-settled, same-windows}
+use Rattle.wl_pointed.specs.Rounds.{AreRounds, IsRound}
+use Rattle.wl_pointed.proofs.Rounds.{rounds-are-few, settles-idly}
+use Rattle.wl_pointed.proofs.Marking.{rounds-mark-in-turn}
+use Rattle.wl_clients.specs.Marking.{MarksThrough}
+use Rattle.wl_clients.proofs.Agreed.{agrees-apart}
+use Rattle.wl_clients.specs.Midway.{first_struck, opened_desk}
+use Rattle.wl_clients.specs.View.{DeskView as KeptView}
+use Rattle.wl_desk.specs.Agreeing.{IsFree}
+use Rattle.wl_desk.specs.Midway.{IsMidway, IsOfFocus, IsTelling, SettlesDown, unpointed_mid}
+use Rattle.wl_desk.specs.View.{DeskView, MarkedDesk}
+use Rattle.wl_scene.specs.Focus.{IsSeen, action_of}
+use Rattle.wl_scene.specs.declared.actions.Action.{Action}
+use Rattle.wl_desk.proofs.Telling.{seen}
+use Rattle.wl_desk.proofs.Ended.{first-of, mid-long, midway-to-end, none-first}
+use Rattle.wl_desk.proofs.Points.{settled-hit, settles-each}
+use Rattle.wl_desk.proofs.Rests.{IsLeft, left-all}
+use Rattle.wl_desk.proofs.Tells.{tells-pointer, tells-shows}
+
+-- ---- one action of the focus
+
+drawing-owned : (b : Bool) (r : Resident) → (drawing b r).owned ≡ r.owned
+drawing-owned true r = refl
+drawing-owned false r = refl
+
+-- the windows stay, and so does the place
+pub record StaysThere (m n : Midstep) : Type 0 where
+  pub windows : all_windows n.desktop ≡ all_windows m.desktop
+  pub place : n.desktop.pointer.place ≡ m.desktop.pointer.place
+
+tells-there : (change : Resident → Resident) (events : Resident → List Said) → ((r : Resident) → (change r).owned ≡ r.owned) → (c : ℕ) (m n : Midstep) → Tells change events c m n → StaysThere m n
+tells-there change events same c m n h =
+    record {
+      windows = same-windows m.desktop n.desktop (tells-shows change events same c m n h);
+      place = ap (λ (p : Pointer). p.place) (tells-pointer change events c m n h);
+    }
+
+focused-there : (t : Option Target) (m told n : Midstep) → n ≡ with_focus t told → StaysThere m told → StaysThere m n
+focused-there t m told n e there =
+    subst (λ (x : Midstep). StaysThere m x) (sym e) (record { windows = there.windows; place = there.place })
+
+pub applies-there : (ws : List Window) (action : PointerAction) (m n : Midstep) → IsOfFocus ws action → Applies ws action m n → StaysThere m n
+applies-there ws (Leave t) m n of h = focused-there None m h.0 n h.2 (tells-there _ _ (λ r. drawing-owned _ r) t.client m h.0 h.1)
+applies-there ws (Enter t) m n of h = focused-there (Some t) m h.0 n h.2 (tells-there _ _ (λ r. drawing-owned _ r) t.client m h.0 h.1)
+applies-there ws (Motion time t) m n of h = tells-there (λ r. r) _ (λ r. refl) t.client m n h
+applies-there ws (Button time button pressed t) m n of h = absurd of
+applies-there ws (Raise t) m n of h = absurd of
+applies-there ws (MoveWindow t x y) m n of h = absurd of
+applies-there ws (Dismiss c) m n of h = absurd of
+
+pub there-on : (l m n : Midstep) → StaysThere l m → StaysThere m n → StaysThere l n
+there-on l m n first second = record { windows = second.windows ∙ first.windows; place = second.place ∙ first.place }
+
+pub there-first : (m : Midstep) → StaysThere m m
+there-first m = record { windows = refl; place = refl }
+
+-- ---- actions, one after another
+
+each-at : (P : PointerAction → Type 0) (actions : List Action) (k : ℕ) (d : Action) → k < length actions → Each P (map action_of actions) → P (action_of (get_or actions k d))
+each-at P [] k d less all = absurd (omega (arith, less))
+each-at P (x ∷ xs) zero d less all = all.0
+each-at P (x ∷ xs) (suc k) d less all = each-at P xs k d (omega (arith, less)) all.1
+
+-- So many of these were done, and what is left leads where all of them lead.
+pub record AreApplied (k : ℕ) (actions : List Action) (old now : DeskView) : Type 0 where
+  pub told : (m : Midstep) → IsTelling old m → m.desktop.pointer.place ≢ None → Each (IsOfFocus (all_windows m.desktop)) (map action_of actions)
+      → (mid : Midstep) × IsTelling now mid × StaysThere m mid
+      × ((q : Midstep) → AppliesAll (all_windows m.desktop) (map action_of (drop k actions)) mid q → AppliesAll (all_windows m.desktop) (map action_of actions) m q)
+
+pub none-applied : (actions : List Action) (old : DeskView) → AreApplied 0 actions old old
+none-applied actions old = record { told = λ m telling some each. (m, telling, there-first m, λ q h. h) }
+
+pub more-applied : (k n : ℕ) (actions : List Action) (d : Action) (old now new : DeskView) → k < length actions → n ≡ suc k
+    → ((ws : List Window) (m : Midstep) → IsTelling now m → m.desktop.pointer.place ≢ None → ws ≡ all_windows m.desktop → IsOfFocus ws (action_of (get_or actions k d))
+    → (x : Midstep) × Applies ws (action_of (get_or actions k d)) m x × IsTelling new x)
+    → AreApplied k actions old now → AreApplied n actions old new
+more-applied k n actions d old now new less next applies before =
+    record {
+      told = λ m telling some each.
+          let ws : List Window = all_windows m.desktop in
+          let at = before.told m telling some each in
+          let of : IsOfFocus ws (action_of (get_or actions k d)) = each-at (IsOfFocus ws) actions k d less each in
+          let here = applies ws at.0 at.1 (λ none. some (sym at.2.place ∙ none)) (sym at.2.windows) of in (
+            here.0,
+            here.2,
+            there-on m at.0 here.0 at.2 (applies-there ws (action_of (get_or actions k d)) at.0 here.0 of here.1),
+            λ q later.
+                at.3 q (subst (λ (xs : List Action). AppliesAll ws (map action_of xs) at.0 q) (sym (drop-cons actions k d less))
+                (here.0, here.1, subst (λ (j : ℕ). AppliesAll ws (map action_of (drop j actions)) here.0 q) next later)),
+          );
+    }
+
+pub all-applied : (k : ℕ) (actions : List Action) (old now : DeskView) → length actions ≤ k → AreApplied k actions old now
+    → (m : Midstep) → IsTelling old m → m.desktop.pointer.place ≢ None → Each (IsOfFocus (all_windows m.desktop)) (map action_of actions)
+    → (n : Midstep) × AppliesAll (all_windows m.desktop) (map action_of actions) m n × IsTelling now n
+all-applied k actions old now past applied m telling some each =
+    let at = applied.told m telling some each in (
+      at.0,
+      at.3 at.0 (subst (λ (xs : List Action). AppliesAll (all_windows m.desktop) (map action_of xs) at.0 at.0) (sym (drop_all k actions past)) refl),
+      at.1,
+    )
+
+-- ---- the focus is settled once
+
+-- what the settling does is of the focus
+pub settles-of : (p : Pointer) (ws : List Window) → p.buttons ≡ [] → Each (IsOfFocus ws) (actions Settle p ws)
+settles-of p ws free = settles-each (IsOfFocus ws) p ws free (λ t. (tt, tt)) (λ t stacked. (stacked, tt))
+
+focused-free : (p : Pointer) (t : Option Target) → IsFree p → p.place ≢ None → IsFree (record p { focus = t })
+focused-free p t free some = record { buttons = free.buttons; hold = free.hold; move = free.move; nowhere = λ e. absurd (some e) }
+
+pub settled-midway : (old new : DeskView) (m n : Midstep) → IsMidway old m → m.desktop.pointer.place ≢ None → Settles m n → IsTelling new n
+    → new.pointer ≡ record old.pointer { focus = settled old.pointer (all_windows m.desktop) } → IsMidway new n
+settled-midway old new m n midway some settles telling pointer =
+    let has : HasFocus (settled m.desktop.pointer (all_windows m.desktop)) m n = has-settled m n settles in
+    record {
+      telling = telling;
+      pointer = pointer ∙ ap (λ (p : Pointer). record p { focus = settled p (all_windows m.desktop) }) midway.pointer ∙ sym has.pointer;
+      free = subst IsFree (sym has.pointer) (focused-free m.desktop.pointer (settled m.desktop.pointer (all_windows m.desktop)) midway.free some);
+      nowhere = λ e. absurd (some (sym (ap (λ (p : Pointer). p.place) has.pointer) ∙ e));
+    }
+
+-- by what the pointer does, and what is promised of that
+module _ (kept : KeptView) (seats : List (List ℕ)) (p q : Pointer) (hit : Option Target) (acts : List PointerAction) (new : DeskView)
+    (hits : (m : Midstep) → IsTelling (seen kept seats p) m → hit ≡ hit_by m.desktop.pointer.place (all_windows m.desktop))
+    (does : (ws : List Window) → IsSeen hit false p ws → acts ≡ actions Settle p ws)
+    (keeps : (ws : List Window) → IsSeen hit false p ws → q ≡ record p { focus = settled p ws })
+    (tells : (m : Midstep) → IsTelling (seen kept seats q) m → m.desktop.pointer.place ≢ None → Each (IsOfFocus (all_windows m.desktop)) acts
+    → (n : Midstep) × AppliesAll (all_windows m.desktop) acts m n × IsTelling new n)
+    (pointer : new.pointer ≡ q) (m : Midstep) (midway : IsMidway (seen kept seats p) m) (some : m.desktop.pointer.place ≢ None) where
+  abbrev shown : List Window
+  shown = all_windows m.desktop
+
+  is-seen : IsSeen hit false p shown
+  is-seen =
+      record {
+        free = λ none. ap (λ (at : Option Place). hit_by at shown) midway.telling.place ∙ sym (hits m midway.telling);
+        pressed = λ down t e. absurd (down (ap (λ (r : Pointer). r.buttons) midway.pointer ∙ midway.free.buttons));
+      }
+
+  acts-so : acts ≡ actions Settle m.desktop.pointer shown
+  acts-so = does shown is-seen ∙ ap (λ (r : Pointer). actions Settle r shown) midway.pointer
+
+  telling-on : IsTelling (seen kept seats q) m
+  telling-on = record { kept = midway.telling.kept; place = ap (λ (r : Pointer). r.place) (keeps shown is-seen) ∙ midway.telling.place; seats = midway.telling.seats }
+
+  turned : (n : Midstep) × AppliesAll shown acts m n × IsTelling new n
+  turned = tells m telling-on some (subst (λ (xs : List PointerAction). Each (IsOfFocus shown) xs) (sym acts-so) (settles-of m.desktop.pointer shown midway.free.buttons))
+
+  pub settled-once : (n : Midstep) × Settles m n × IsMidway new n
+  settled-once =
+      let settles : Settles m turned.0 = subst (λ (xs : List PointerAction). AppliesAll shown xs m turned.0) acts-so turned.1 in (
+        turned.0,
+        settles,
+        settled-midway (seen kept seats p) new m turned.0 midway some settles turned.2 (pointer ∙ keeps shown is-seen),
+      )
+
+-- ---- as many clients
+
+abbrev Long : Midstep → Midstep → Type 0
+Long m n = length n.desktop.clients ≡ length m.desktop.clients
+
+tells-long : (change : Resident → Resident) (events : Resident → List Said) (c : ℕ) (m n : Midstep) → Tells change events c m n → Long m n
+tells-long change events c m n h = at (client_at c m.desktop) h
+  where
+    unless : (b : Bool) (r : Resident) → TellsUnless b change events c r m n → Long m n
+    unless true r h = ap (λ (x : Midstep). length x.desktop.clients) h
+    unless false r h = ap (λ (x : Midstep). length x.desktop.clients) h.3 ∙ number-long m.desktop.clients c (Some (record (change r) { peer = h.0 }))
+
+    at : (o : Option Resident) → TellsAt change events c o m n → Long m n
+    at None h = ap (λ (x : Midstep). length x.desktop.clients) h
+    at (Some r) h = unless _ r h
+
+settles-long : (m n : Midstep) → Settles m n → Long m n
+settles-long m n h = settles-keeps (λ (x : Midstep). Long m x) left entered m n refl h
+  where
+    left : (ws : List Window) (t : Target) (a b : Midstep) → Long m a → Applies ws (Leave t) a b → Long m b
+    left ws t a b known h = ap (λ (x : Midstep). length x.desktop.clients) h.2 ∙ tells-long _ _ t.client a h.0 h.1 ∙ known
+
+    entered : (ws : List Window) (t : Target) (a b : Midstep) → Long m a → Applies ws (Enter t) a b → Long m b
+    entered ws t a b known h = ap (λ (x : Midstep). length x.desktop.clients) h.2 ∙ tells-long _ _ t.client a h.0 h.1 ∙ known
+
+ended-long : (s : Strike) (d : Desktop) → length (ended_by s d).clients ≡ length d.clients
+ended-long s d = at (client_at s.client d)
+  where
+    at : (o : Option Resident) → length (ended_at s.client s.cause o d).clients ≡ length d.clients
+    at None = refl
+    at (Some r) = number-long d.clients s.client _
+
+rounds-long : (k : ℕ) (m n : Midstep) (path : List Desktop) → AreRounds k m path n → Long m n
+rounds-long zero m n path rounds = ap (λ (x : Midstep). length x.desktop.clients) rounds.1
+rounds-long (suc k) m n path rounds =
+    let round = rounds.4 in
+    ap (λ (x : Midstep). length x.desktop.clients) round.6 ∙ ended-long round.1 round.0.desktop ∙ settles-long rounds.1 round.0 round.3 ∙ rounds-long k m rounds.1 rounds.0 rounds.3
+
+-- ---- what is marked
+
+or-false : (a b : Bool) → a ≡ false → b ≡ false → (a || b) ≡ false
+or-false true b e f = e
+or-false false b e f = f
+
+or-left-none : (b : Bool) → (b || false) ≡ false → b ≡ false
+or-left-none true e = e
+or-left-none false e = refl
+
+-- a point that is to be painted was before, or was marked on the way
+or-chain : (a b c d : Bool) → ((c ≡ true) → (a || b) ≡ true) → (c || (d || false)) ≡ true → (a || (b || d)) ≡ true
+or-chain true b c d before now = refl
+or-chain false b true d before now = or-first b d (before refl)
+  where
+    or-first : (x y : Bool) → x ≡ true → (x || y) ≡ true
+    or-first true y e = refl
+    or-first false y e = absurd (cc)
+or-chain false true false d before now = refl
+or-chain false false false true before now = refl
+or-chain false false false false before now = now
+
+pub marks-more : (m mid new : Midstep) (path later : List Desktop) (k : ℕ) (old now then : Damaged) → AreDistinct (all_windows mid.desktop) → AreRounds k m path mid → (round : IsRound mid later new)
+    → IsAsLarge old now → MarksThrough m.desktop path old now → MarksThrough round.0.desktop (new.desktop ∷ []) now then → MarksThrough m.desktop (path ++ later) old then
+marks-more m mid new path later k old now then apart rounds round large before last = λ x y left above.
+    let turn = rounds-mark-in-turn k m mid new path later (pos x) (pos y) apart rounds round in
+    let first = before x y left above in
+    let second = last x y (omega (arith, large.width, left)) (omega (arith, large.height, above)) in (
+      λ none.
+          let here = second.0 none in
+          let was = first.0 here.0 in (
+            was.0,
+            turn.0 ∙ or-false (marks_at_least_through all_windows m.desktop path (pos x) (pos y)) (marks_at_least_of all_windows round.0.desktop new.desktop (pos x) (pos y)) was.1
+                (or-left-none (marks_at_least_of all_windows round.0.desktop new.desktop (pos x) (pos y)) here.1),
+          ),
+      λ some.
+          ap (λ (b : Bool). has old x y || b) turn.1
+          ∙ or-chain (has old x y) (marks_at_most_through all_windows None m.desktop path (pos x) (pos y)) (has now x y)
+          (marks_at_most_of all_windows round.0.desktop new.desktop None (pos x) (pos y)) first.1 (second.1 some),
+    )
+
+-- no surface has two windows
+pub midway-apart : (v : DeskView) (m : Midstep) → IsMidway v m → AreDistinct (all_windows m.desktop)
+midway-apart v m midway = agrees-apart (opened_desk v.kept) (unpointed_mid m).desktop midway.telling.kept.agrees
+
+ended-there : (s : Strike) (d : Desktop) → (ended_by s d).pointer.place ≡ d.pointer.place
+ended-there s d = at (client_at s.client d)
+  where
+    at : (o : Option Resident) → (ended_at s.client s.cause o d).pointer.place ≡ d.pointer.place
+    at None = refl
+    at (Some r) = refl
+
+-- ---- so many rounds
+
+-- So many rounds were done.
+pub record AreDone (k : ℕ) (old now : MarkedDesk) (m : Midstep) : Type 0 where
+  pub rounds : List Desktop
+  pub mid : Midstep
+  pub each : AreRounds k m rounds mid
+  pub midway : IsMidway now.desk mid
+  pub there : mid.desktop.pointer.place ≡ m.desktop.pointer.place
+  pub marks : MarksThrough m.desktop rounds old.damage now.damage
+
+marks-none : (d : Desktop) (old : Damaged) → MarksThrough d [] old old
+marks-none d old = λ x y left above. (λ none. (none, refl), λ some. ap (λ (b : Bool). b || false) some)
+
+pub none-done : (old : MarkedDesk) (m : Midstep) → IsMidway old.desk m → AreDone 0 old old m
+none-done old m midway = record { rounds = []; mid = m; each = (refl, refl); midway = midway; there = refl; marks = marks-none m.desktop old.damage }
+
+-- one more
+pub more-done : (k n : ℕ) (old now then : MarkedDesk) (m settled : Midstep) (s : Strike) (ss : List Strike) (done : AreDone k old now m) → n ≡ suc k
+    → IsAsLarge old.damage now.damage → Settles done.mid settled
+    → settled.struck ≡ s ∷ ss → IsMidway then.desk (record { desktop = ended_by s settled.desktop; struck = ss })
+    → MarksThrough settled.desktop (ended_by s settled.desktop ∷ []) now.damage then.damage → AreDone n old then m
+more-done k n old now then m settled s ss done next large settles struck midway marks =
+    let new : Midstep = record { desktop = ended_by s settled.desktop; struck = ss } in
+    let later : List Desktop = settled.desktop ∷ ended_by s settled.desktop ∷ [] in
+    let round : IsRound done.mid later new = (settled, s, ss, settles, struck, refl, refl) in
+    let each : AreRounds (suc k) m (done.rounds ++ later) new = (done.rounds, done.mid, later, done.each, round, refl) in
+    record {
+      rounds = done.rounds ++ later;
+      mid = new;
+      each = subst (λ (j : ℕ). AreRounds j m (done.rounds ++ later) new) (sym next) each;
+      midway = midway;
+      there = ended-there s settled.desktop ∙ ap (λ (p : Pointer). p.place) (has-settled done.mid settled settles).pointer ∙ done.there;
+      marks = marks-more m done.mid new done.rounds later k old.damage now.damage then.damage (midway-apart now.desk done.mid done.midway) done.each round large done.marks marks;
+    }
+
+-- there are few
+pub few-done : (k : ℕ) (old now : MarkedDesk) (m : Midstep) → IsMidway old.desk m → length m.desktop.clients ≡ 32 → AreDone k old now m → k ≤ 32
+few-done k old now m midway long done =
+    let short : length m.desktop.clients ≤ 32 = omega (arith, long) in
+    (rounds-are-few k m done.mid done.rounds short (midway-to-end old.desk m midway) done.each).0
+
+-- where a client is to end, 32 are kept
+pub long-done : (k : ℕ) (old now : MarkedDesk) (m n : Midstep) (v : DeskView) (done : AreDone k old now m) → Settles done.mid n → IsMidway v n → length v.kept.clients ≡ 32
+    → length m.desktop.clients ≡ 32
+long-done k old now m n v done settles midway long =
+    sym (rounds-long k m done.mid done.rounds done.each) ∙ sym (settles-long done.mid n settles) ∙ sym (mid-long v.kept (unpointed_mid n) midway.telling.kept) ∙ long
+
+-- nobody is to end any more
+pub settles-down : (k : ℕ) (old now new : MarkedDesk) (m last : Midstep) (done : AreDone k old now m) → k < 33 → Settles done.mid last → last.struck ≡ [] → IsMidway new.desk last
+    → new.damage ≡ now.damage → SettlesDown old new m
+settles-down k old now new m last done few settles over midway same =
+    record {
+      count = k;
+      few = few;
+      rounds = done.rounds;
+      mid = done.mid;
+      last = last;
+      each = done.each;
+      settles = settles;
+      over = over;
+      midway = midway;
+      marks = subst (λ (dmg : Damaged). MarksThrough m.desktop done.rounds old.damage dmg) (sym same) done.marks;
+      distinct = midway-apart now.desk done.mid done.midway;
+    }
+
+-- where the pointer isn't anywhere nothing is done
+pub idle-down : (old : MarkedDesk) (m : Midstep) → IsMidway old.desk m → None ≡ old.desk.pointer.place → SettlesDown old old m
+unfolding none-done
+idle-down old m midway none =
+    let p : Pointer = m.desktop.pointer in
+    let ws : List Window = all_windows m.desktop in
+    let nowhere : p.place ≡ None = sym (none ∙ midway.telling.place) in
+    let is : IsSettled m.desktop = midway.free.nowhere nowhere ∙ sym (settled-hit p ws midway.free.buttons ∙ ap (λ (at : Option Place). hit_by at ws) nowhere) in
+    settles-down 0 old old old m m (none-done old m midway) (omega arith) (settles-idly m is).0 (midway.nowhere nowhere) midway refl
+
+-- ---- the loop
+
+-- So many rounds were done, whatever the middle of the step; where there was one, there are 32 clients.
+pub record AreSettled (k : ℕ) (old now : MarkedDesk) : Type 0 where
+  pub done : (m : Midstep) → IsMidway old.desk m → AreDone k old now m × ((k ≡ 0) ⊎ (length m.desktop.clients ≡ 32))
+  pub there : old.desk.pointer.place ≢ None
+  pub sides : IsAsLarge old.damage now.damage
+  pub rests : IsLeft old.desk.kept now.desk.kept
+  pub output : now.desk.kept.output ≡ old.desk.kept.output
+
+pub none-settled : (old : MarkedDesk) → old.desk.pointer.place ≢ None → AreSettled 0 old old
+none-settled old there =
+    record { done = λ m midway. (none-done old m midway, inl refl); there = there; sides = record { width = refl; height = refl }; rests = left-all old.desk.kept; output = refl }
+
+module _ (k : ℕ) (old now : MarkedDesk) (settled : AreSettled k old now) where
+  somewhere : (m : Midstep) (midway : IsMidway old.desk m) (done : AreDone k old now m) → done.mid.desktop.pointer.place ≢ None
+  somewhere m midway done none = settled.there (midway.telling.place ∙ sym done.there ∙ none)
+
+  -- the loop never comes to its end
+  pub settled-over : 32 < k → (new : MarkedDesk) (m : Midstep) → IsMidway old.desk m → SettlesDown old new m
+  settled-over past new m midway = by (settled.done m midway)
+    where
+      by : AreDone k old now m × ((k ≡ 0) ⊎ (length m.desktop.clients ≡ 32)) → SettlesDown old new m
+      by (done, inl none) = absurd (omega (arith, none, past))
+      by (done, inr long) = let few = few-done k old now m midway long done in absurd (omega (arith, few, past))
+
+  module _ (once : MarkedDesk) (settles : (m : Midstep) → IsMidway now.desk m → m.desktop.pointer.place ≢ None → (n : Midstep) × Settles m n × IsMidway once.desk n)
+      (damage : once.damage ≡ now.damage) where
+    -- nobody is to end
+    pub settled-last : k < 33 → ((m : Midstep) → IsTelling once.desk m → None ≡ first_struck m.struck) → (m : Midstep) → IsMidway old.desk m → SettlesDown old once m
+    settled-last few none m midway =
+        let done = (settled.done m midway).0 in
+        let turn = settles done.mid done.midway (somewhere m midway done) in
+        settles-down k old now once m turn.0 done few turn.1 (none-first turn.0.struck (none turn.0 turn.2.telling)) turn.2 damage
+
+    -- or the first does
+    module _ (client : ℕ) (first : (m : Midstep) → IsTelling once.desk m → Some client ≡ first_struck m.struck) (count : length once.desk.kept.clients ≡ 32) (new : MarkedDesk)
+        (ends : (s : Strike) (ss : List Strike) (m : Midstep) → s.client ≡ client → m.struck ≡ s ∷ ss → IsMidway once.desk m
+        → IsMidway new.desk (record { desktop = ended_by s m.desktop; struck = ss }))
+        (marks : (s : Strike) (ss : List Strike) (m : Midstep) → s.client ≡ client → m.struck ≡ s ∷ ss → IsMidway once.desk m
+        → MarksThrough m.desktop (ended_by s m.desktop ∷ []) once.damage new.damage) where
+      pub settled-next : (n : ℕ) → n ≡ suc k → (m : Midstep) → IsMidway old.desk m → AreDone n old new m × ((n ≡ 0) ⊎ (length m.desktop.clients ≡ 32))
+      settled-next n next m midway =
+          let done = (settled.done m midway).0 in
+          let turn = settles done.mid done.midway (somewhere m midway done) in
+          let it = first-of turn.0.struck client (first turn.0 turn.2.telling) in (
+            more-done k n old now new m turn.0 it.0 it.1 done next settled.sides turn.1 it.2 (ends it.0 it.1 turn.0 it.3 it.2 turn.2)
+                (subst (λ (dmg : Damaged). MarksThrough turn.0.desktop (ended_by it.0 turn.0.desktop ∷ []) dmg new.damage) damage (marks it.0 it.1 turn.0 it.3 it.2 turn.2)),
+            inr (long-done k old now m turn.0 once.desk done turn.1 turn.2 count),
+          )

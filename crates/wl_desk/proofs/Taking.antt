@@ -1,0 +1,111 @@
+-- What comes of taking a message, by what is kept of the clients then, and of the wl_pointers.
+use Rattle.std.proofs.Common.{◌≡◌, ◌≢◌, ℕ, List, Bool, true, false, length, Vec, Option, Some, None, refl, ap, subst, sym, ◌∙◌}
+use Rattle.std.specs.Prelude.{is_some}
+use Rattle.std.specs.Vec.{with_items}
+use Rattle.std.proofs.lemmas.List.{with_items_is}
+use Rattle.wl_marking.specs.Marking.{IsAsLarge}
+use Rattle.wl_peer.specs.declared.cause.Cause.{Cause}
+use Rattle.wl_peer.specs.Objects.{ById}
+use Rattle.wl_stacking.specs.Pointer.{Pointer}
+use Rattle.wl_plain.specs.declared.answers.Fed.{Fed}
+use Rattle.wl_plain.specs.declared.answers.Fed.TheVariants.{Ended}
+use Rattle.wl_plain.specs.Act.{fed_of, peer_at, peer_of, status_of as status_fed}
+use Rattle.wl_plain.specs.Desktop.{Desktop, Resident, client_at, status_in, status_of, unpointed}
+use Rattle.wl_plain.specs.Happenings.{Message}
+use Rattle.wl_plain.specs.LeftOut.{served_now}
+use Rattle.wl_pointed.specs.Pointed.{asked}
+use Rattle.wl_requests.specs.declared.pointer_asked.PointerAsked.{PointerAsked}
+use Rattle.wl_requests.specs.declared.pointer_asked.PointerAsked.TheVariants.{NewPointer}
+use Rattle.wl_clients.specs.Agreeing.{Agrees as KeptAgrees}
+use Rattle.wl_clients.specs.Agreement.{numbers_in}
+use Rattle.wl_clients.specs.Feeding.{IsIdleIn}
+use Rattle.wl_clients.specs.Leading.{LeadsBy as KeptLeadsBy, Led}
+use Rattle.wl_clients.specs.Pointing.{AsksOfPointer}
+use Rattle.wl_clients.specs.View.{MarkedDesk as KeptDesk}
+use Rattle.wl_desk.specs.Agreeing.{Agrees, AreSeats}
+use Rattle.wl_desk.specs.Following.{Took}
+use Rattle.wl_desk.specs.Seating.{seats_after}
+use Rattle.wl_desk.specs.View.{MarkedDesk}
+use Rattle.wl_desk.proofs.Seated.{IsPlaced, seats-keep}
+
+pub taken : (c : ℕ) (request : PointerAsked) (room : Bool) (numbers : ById ℕ) (old new : MarkedDesk) (d : Desktop) → Agrees old.desk d
+    → Led (KeptAgrees new.desk.kept) (Message c) old.damage new.damage (unpointed d) → AsksOfPointer numbers (asked served_now c d) request
+    → ((id : ℕ) → request ≡ NewPointer id → room ≡ false → (e : Desktop) → KeptAgrees new.desk.kept e → is_some (status_in c e) ≡ true)
+    → IsAsLarge old.damage new.damage → (room ≡ true → IsPlaced c old.desk.seats) → new.desk.seats ≡ seats_after room request c old.desk.seats
+    → new.desk.pointer ≡ old.desk.pointer → Took c request old new d
+taken c request room numbers old new d a led asks no_room large placed seats pointer = record {
+  path = led.path;
+  desktop = led.desktop;
+  leads = led.leads;
+  kept = led.agrees;
+  marks = led.marks;
+  sides = large;
+  numbers = numbers;
+  asks = asks;
+  seats = subst (λ (s : List (List ℕ)). AreSeats s led.desktop) (sym seats)
+      (seats-keep c request room numbers old.desk.seats d led.desktop led.path a.seats led.leads asks (λ id is none. no_room id is none led.desktop led.agrees) placed);
+  pointer = pointer ∙ a.pointer;
+  free = a.free;
+  settled = a.settled;
+}
+
+-- where there was no message
+pub rested : (old new : MarkedDesk) (d : Desktop) → Agrees old.desk d → KeptAgrees new.desk.kept (unpointed d) → new.desk.seats ≡ old.desk.seats → new.desk.pointer ≡ old.desk.pointer
+    → Agrees new.desk d
+rested old new d a kept seats pointer = record {
+  kept = kept;
+  pointer = pointer ∙ a.pointer;
+  free = a.free;
+  seats = subst (λ (s : List (List ℕ)). AreSeats s d) (sym seats) a.seats;
+  settled = a.settled;
+}
+
+-- ---- of a whole desk
+
+abbrev pub desk_with : KeptDesk → List (List ℕ) → Pointer → MarkedDesk
+desk_with k seats p = record { desk = record { kept = k.desk; seats = seats; pointer = p }; damage = k.damage }
+
+pub rested-whole : (c : ℕ) (k now : KeptDesk) (seats is : List (List ℕ)) (p : Pointer) (old : MarkedDesk) → desk_with k seats p ≡ old → is ≡ seats
+    → ((d : Desktop) → KeptAgrees k.desk d → KeptAgrees now.desk d × IsIdleIn c d) → (d : Desktop) → Agrees old.desk d → Agrees (desk_with now is p).desk d × IsIdleIn c d
+rested-whole c k now seats is p old view same idle d a =
+    let was : Agrees (desk_with k seats p).desk d = subst (λ (m : MarkedDesk). Agrees m.desk d) (sym view) a in
+    let h = idle (unpointed d) was.kept in
+    (rested (desk_with k seats p) (desk_with now is p) d was h.0 same refl, h.1)
+
+pub took-whole : (c : ℕ) (request : PointerAsked) (room : Bool) (k now : KeptDesk) (seats is : List (List ℕ)) (p : Pointer) (old : MarkedDesk) → desk_with k seats p ≡ old
+    → is ≡ seats_after room request c seats → (room ≡ true → IsPlaced c seats) → KeptLeadsBy (Message c) k now
+    → ((d : Desktop) → KeptAgrees k.desk d → AsksOfPointer (numbers_in k.desk.clients c) (asked served_now c d) request)
+    → ((id : ℕ) → request ≡ NewPointer id → room ≡ false → (e : Desktop) → KeptAgrees now.desk e → is_some (status_in c e) ≡ true) → IsAsLarge k.damage now.damage
+    → (d : Desktop) → Agrees old.desk d → Took c request old (desk_with now is p) d
+took-whole c request room k now seats is p old view same placed leads asks no_room large d a =
+    let was : Agrees (desk_with k seats p).desk d = subst (λ (m : MarkedDesk). Agrees m.desk d) (sym view) a in
+    subst (λ (m : MarkedDesk). Took c request m (desk_with now is p) d) view
+    (taken c request room (numbers_in k.desk.clients c) (desk_with k seats p) (desk_with now is p) d was (leads (unpointed d) was.kept) (asks (unpointed d) was.kept) no_room large placed same refl)
+
+-- what was written to the wl_pointers of all is there
+pub written : {V Z : Type 0} (v : Vec V Z) (xs now : List V) → length xs ≡ length now → now ≡ v.items → (with_items v xs).items ≡ xs
+written v xs now same is = with_items_is v xs (same ∙ ap length is ∙ sym v.ok.0)
+
+-- ---- how a client is
+
+fed-status : (s : Option Cause) (why : Cause) → Ended why ≡ fed_of s → s ≡ Some why
+fed-status None why e = absurd (cc)
+fed-status (Some other) why e = cc
+
+pub ended-status : (c : ℕ) (e : Desktop) (fed : Fed) (why : Cause) → fed ≡ status_fed (peer_at c e) → fed ≡ Ended why → status_in c e ≡ Some why
+ended-status c e fed why is ended = at (client_at c e) (sym ended ∙ is)
+  where
+    at : (o : Option Resident) → Ended why ≡ status_fed (peer_of o) → status_of o ≡ Some why
+    at None is = absurd (cc)
+    at (Some r) is = fed-status r.peer.status why is
+
+pub lives-status : (c : ℕ) (e : Desktop) (fed : Fed) → fed ≡ status_fed (peer_at c e) → ((why : Cause) → fed ≢ Ended why) → status_in c e ≡ None
+lives-status c e fed is lives = at (client_at c e) is
+  where
+    by : (s : Option Cause) → fed ≡ fed_of s → s ≡ None
+    by None is = refl
+    by (Some why) is = absurd (lives why is)
+
+    at : (o : Option Resident) → fed ≡ status_fed (peer_of o) → status_of o ≡ None
+    at None is = refl
+    at (Some r) is = by r.peer.status is

@@ -1,6 +1,0 @@
-use Rattle.std.proofs.Common.{◌≡◌, take, None}
-use Rattle.wl_plain.specs.Act.{lowest}
-use Rattle.wl_desk.proofs.desks.free_place.Given as goal
-
-abbrev pub invariant-loop-k : goal.invariant-loop-k
-invariant-loop-k g l = lowest (take l.k l.residents) ≡ None

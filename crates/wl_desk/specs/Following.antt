@@ -1,0 +1,46 @@
+-- What a message does before the focus is settled: it is taken with the pointer put aside, and then the pointer follows it.
+use Rattle.std.specs.Prelude.{ℕ, ◌≡◌, ◌++◌, List}
+use Rattle.wl_marking.specs.Marking.{IsAsLarge}
+use Rattle.wl_peer.specs.Objects.{ById}
+use Rattle.wl_plain.specs.Desktop.{Desktop, unpointed}
+use Rattle.wl_plain.specs.Happenings.{Happening, Leads, Message}
+use Rattle.wl_plain.specs.LeftOut.{served_now}
+use Rattle.wl_plain.specs.Settling.{unstruck}
+use Rattle.wl_plain.specs.Through.{SettlesAllThrough}
+use Rattle.wl_laws.specs.Focus.{IsSettled}
+use Rattle.wl_pointed.specs.Marking.{last_of}
+use Rattle.wl_pointed.specs.Pointed.{asked}
+use Rattle.wl_requests.specs.declared.pointer_asked.PointerAsked.{PointerAsked}
+use Rattle.wl_clients.specs.Agreeing.{Agrees as KeptAgrees}
+use Rattle.wl_clients.specs.Marking.{MarksThrough}
+use Rattle.wl_clients.specs.Pointing.{AsksOfPointer}
+use Rattle.wl_desk.specs.Agreeing.{AreSeats, IsFree}
+use Rattle.wl_desk.specs.Midway.{IsMidway}
+use Rattle.wl_desk.specs.View.{MarkedDesk}
+
+-- The first message of a client was taken with the pointer put aside, and asked this of the pointer, which is still as it was. What is kept
+-- of the clients is what it led to, and so are the wl_pointers.
+pub record Took (c : ℕ) (request : PointerAsked) (old new : MarkedDesk) (d : Desktop) : Type 0 where
+  pub path : List Desktop
+  pub desktop : Desktop
+  pub leads : Leads served_now (Message c) (unpointed d) path desktop
+  pub kept : KeptAgrees new.desk.kept desktop
+  pub marks : MarksThrough (unpointed d) path old.damage new.damage
+  pub sides : IsAsLarge old.damage new.damage
+  pub numbers : ById ℕ
+  pub asks : AsksOfPointer numbers (asked served_now c d) request
+  pub seats : AreSeats new.desk.seats desktop
+  pub pointer : new.desk.pointer ≡ d.pointer
+  pub free : IsFree d.pointer
+  pub settled : IsSettled d
+
+-- What happens led through these desktops to the last of them, and on to wherever the focus is settled from there. The desk agrees with that
+-- one, and what was marked is what is to be marked on the way.
+pub record IsUnsettled (h : Happening) (old new : MarkedDesk) (d : Desktop) : Type 0 where
+  pub path : List Desktop
+  pub start : Desktop
+  pub last : last_of d path ≡ start
+  pub leads : (later : List Desktop) (e : Desktop) → SettlesAllThrough 33 (unstruck start) later e → Leads served_now h d (path ++ later) e
+  pub midway : IsMidway new.desk (unstruck start)
+  pub marks : MarksThrough d path old.damage new.damage
+  pub sides : IsAsLarge old.damage new.damage

@@ -1,0 +1,61 @@
+-- The middle of a step: the focus isn't settled yet, and clients are to end.
+use Rattle.std.specs.Prelude.{ℕ, ◌≡◌, ◌<◌, true, Option, Some, None, List, []}
+use Rattle.wl_client.specs.declared.pointers.PointerEvent.{PointerEvent}
+use Rattle.wl_peer.specs.Told.{Said}
+use Rattle.wl_stacking.specs.Pointer.{is_stacked}
+use Rattle.wl_stacking.specs.PointerActions.{PointerAction, Leave, Enter, Motion}
+use Rattle.wl_stacking.specs.Windows.{Window}
+use Rattle.wl_plain.specs.Desktop.{Desktop, Resident, unpointed}
+use Rattle.wl_plain.specs.Marks.{AreDistinct}
+use Rattle.wl_plain.specs.Settling.{Midstep, Settles}
+use Rattle.wl_plain.specs.Stacked.{all_windows}
+use Rattle.wl_pointed.specs.Rounds.{AreRounds}
+use Rattle.wl_clients.specs.Marking.{MarksThrough}
+use Rattle.wl_clients.specs.Midway.{IsMid}
+use Rattle.wl_clients.specs.Pointing.{IsTold}
+use Rattle.wl_desk.specs.Agreeing.{AreSeats, IsFree}
+use Rattle.wl_desk.specs.View.{DeskView, MarkedDesk}
+
+-- the middle of a step, where nobody has pointed yet
+abbrev pub unpointed_mid : Midstep → Midstep
+unpointed_mid m = record m { desktop = unpointed m.desktop }
+
+-- What is kept of the clients agrees with it but for the pointer, and so do the wl_pointers, and where the pointer is.
+pub record IsTelling (v : DeskView) (m : Midstep) : Type 0 where
+  pub kept : IsMid v.kept (unpointed_mid m)
+  pub place : v.pointer.place ≡ m.desktop.pointer.place
+  pub seats : AreSeats v.seats m.desktop
+
+-- So does the pointer.
+pub record IsMidway (v : DeskView) (m : Midstep) : Type 0 where
+  pub telling : IsTelling v m
+  pub pointer : v.pointer ≡ m.desktop.pointer
+  pub free : IsFree m.desktop.pointer
+  -- where it isn't anywhere, nobody is to end
+  pub nowhere : m.desktop.pointer.place ≡ None → m.struck ≡ []
+
+-- this is what each wl_pointer of a client that lives is told by an event, and what it makes of the client
+abbrev pub IsToldOf : PointerEvent → (Resident → Resident) → (Resident → List Said) → Option Resident → Type 0
+IsToldOf event change events None = Unit {0}
+IsToldOf event change events (Some r) = r.peer.status ≡ None → IsTold event r.pointers r (change r) (events r)
+
+-- a surface is told of the pointer, and one that it enters or moves over has a window
+abbrev pub IsOfFocus : List Window → PointerAction → Type 0
+IsOfFocus ws (Leave t) = Unit {0}
+IsOfFocus ws (Enter t) = is_stacked t ws ≡ true
+IsOfFocus ws (Motion time t) = is_stacked t ws ≡ true
+IsOfFocus ws action = ⊥
+
+-- The focus was settled, and clients ended, round by round, until none was to end: these rounds, and a settling at last.
+pub record SettlesDown (old new : MarkedDesk) (m : Midstep) : Type 0 where
+  pub count : ℕ
+  pub few : count < 33
+  pub rounds : List Desktop
+  pub mid : Midstep
+  pub last : Midstep
+  pub each : AreRounds count m rounds mid
+  pub settles : Settles mid last
+  pub over : last.struck ≡ []
+  pub midway : IsMidway new.desk last
+  pub marks : MarksThrough m.desktop rounds old.damage new.damage
+  pub distinct : AreDistinct (all_windows mid.desktop)

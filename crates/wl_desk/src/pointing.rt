@@ -1,0 +1,298 @@
+//! What the pointer does at the desk: what it hits, what clients are told of it, and how its focus is settled.
+
+ghost use Rattle.std.specs.Prelude.{ℕ, ◌≡◌, ◌≢◌, ◌≤◌, ◌∷◌, [], List, Some, None, true, false, length, map};
+ghost use Rattle.wl_peer.specs.Told.{Said};
+ghost use Rattle.wl_stacking.specs.Pointer.{hit_by, is_stacked};
+ghost use Rattle.wl_stacking.specs.Windows.{Window};
+ghost use Rattle.wl_scene.specs.Focus.{action_of, target_of, target_or_none};
+ghost use Rattle.wl_marking.specs.Marking.{IsAsLarge};
+ghost use Rattle.wl_plain.specs.Changing.{drawing};
+ghost use Rattle.wl_plain.specs.Desktop.{Resident, client_at};
+ghost use Rattle.wl_plain.specs.Pointing.{entered_surface, left_surface, motion_told};
+ghost use Rattle.wl_plain.specs.Replies.{entered_at, focus_window};
+ghost use Rattle.wl_plain.specs.Settling.{Applies, AppliesAll, Midstep, Settles, Strike, Tells, ended_by, leave_drawn, told_drawn};
+ghost use Rattle.wl_plain.specs.Stacked.{all_windows};
+ghost use Rattle.wl_lending.specs.Hit.{IsStackedOrNone};
+ghost use Rattle.wl_laws.proofs.Marks.Stacks.{Each};
+ghost use Rattle.wl_clients.specs.Agreement.{numbers_in};
+ghost use Rattle.wl_clients.specs.Marking.{MarksThrough};
+ghost use Rattle.wl_clients.specs.Feeding.{rest_in};
+ghost use Rattle.wl_clients.specs.Midway.{first_struck};
+ghost use Rattle.wl_desk.specs.Midway.{IsMidway, IsOfFocus, IsTelling, IsToldOf, SettlesDown};
+ghost use Rattle.wl_desk.specs.Points.{point_told};
+
+use crate::desks::Desk;
+use crate::seats::seat_of;
+use std::alloc::Allocator;
+use wl_clients::{ClientNo, PointerEvent};
+use wl_scene::{Action, Actions, Target, fixed};
+use wl_stacked::Stacked;
+
+/// How often the focus may have to be settled in a step: each time but the last ends a client, of 32.
+const SETTLINGS: usize = 33;
+
+impl<A: Allocator + Copy> Desk<A> {
+    /// The surface that the pointer hits, if it is anywhere.
+    pub(crate) fn hit(&self) -> Option<Target>
+        ensures { (m : Midstep) → IsTelling self.now.desk m → target_or_none result ≡ hit_by m.desktop.pointer.place (all_windows m.desktop) }
+    {
+        let place = self.pointer.place()?;
+        let window = self.clients.hit(place.x, place.y)?;
+        if let Some(focus) = self.pointer.focus() {
+            if self.is_of(&window, focus) {
+                return Some(focus);
+            }
+        }
+        let surface = self
+            .clients
+            .surface_id(window.client, window.window.surface)?;
+        Some(Target {
+            client: window.client,
+            surface,
+        })
+    }
+
+    /// Whether a window is that of this surface.
+    fn is_of(&self, window: &Stacked, target: Target) -> bool
+        ensures { result ≡ true → (window.now.client ≡ target.client)
+            × (numbers_in self.now.desk.kept.clients target.client target.surface ≡ Some window.now.window.surface) }
+    {
+        window.client == target.client
+            && self.clients.surface_number(target.client, target.surface)
+                == Some(window.window.surface)
+    }
+
+    /// The window of this surface, if it has one.
+    fn window_of(&self, target: Target) -> Option<Stacked>
+        ensures { (m : Midstep) → IsTelling self.now.desk m
+            → IsStackedOrNone (numbers_in self.now.desk.kept.clients) result (focus_window (Some (target_of target)) (all_windows m.desktop)) }
+    {
+        let number = self.clients.surface_number(target.client, target.surface)?;
+        self.clients.window(target.client, number)
+    }
+
+    /// Where the pointer is, as a surface is told it that has this window: from the upper left corner, in 256ths of a pixel.
+    fn point_in(&self, target: Target) -> Option<(i32, i32)>
+        ensures { (m : Midstep) → IsTelling self.now.desk m
+            → result ≡ point_told m.desktop.pointer.place (focus_window (Some (target_of target)) (all_windows m.desktop)) }
+    {
+        let place = self.pointer.place()?;
+        let window = self.window_of(target)?.window;
+        Some((fixed(place.x, window.x), fixed(place.y, window.y)))
+    }
+
+    /// A surface is told that it is entered (wayland.xml, wl_pointer.enter).
+    fn enter(&mut self, target: Target)
+        ensures tells { (ws : List Window) (m : Midstep) → IsTelling self.old.desk m → ws ≡ all_windows m.desktop
+            → is_stacked (target_of target) ws ≡ true → m.desktop.pointer.place ≢ None
+            → (n : Midstep) × Tells told_drawn (entered_surface m.desktop.pointer.place (focus_window (Some (target_of target)) ws)) target.client m n
+            × IsTelling self.new.desk n }
+        ensures pointer { self.new.desk.pointer ≡ self.old.desk.pointer }
+        ensures seats { self.new.desk.seats ≡ self.old.desk.seats }
+        ensures damage { self.new.damage ≡ self.old.damage }
+        ensures rests { (c : ℕ) → length (rest_in c self.new.desk.kept) ≤ length (rest_in c self.old.desk.kept) }
+        ensures output { self.new.desk.kept.output ≡ self.old.desk.kept.output }
+    {
+        let Some((x, y)) = self.point_in(target) else {
+            return;
+        };
+        let surface = target.surface;
+        self.tell(target.client, PointerEvent::Enter { surface, x, y });
+    }
+
+    /// A new wl_pointer of the client that has the focus, and it alone, is told that the surface is entered. False where a client is to end
+    /// then, as where that wasn't queued.
+    pub(crate) fn enter_new(&mut self, target: Target, pointer: u32) -> bool
+        ensures tells { (m : Midstep) → IsTelling self.old.desk m → is_stacked (target_of target) (all_windows m.desktop) ≡ true
+            → m.desktop.pointer.place ≢ None
+            → (n : Midstep) × Tells (drawing true) (λ r. entered_at pointer r.peer.serial m.desktop.pointer.place
+            (focus_window (Some (target_of target)) (all_windows m.desktop))) target.client m n × IsTelling self.new.desk n }
+        ensures nobody { result ≡ true → (n : Midstep) → IsTelling self.new.desk n → n.struck ≡ [] }
+        ensures refused { result ≡ false → (n : Midstep) → IsTelling self.new.desk n → n.struck ≢ [] }
+        ensures pointer { self.new.desk.pointer ≡ self.old.desk.pointer }
+        ensures seats { self.new.desk.seats ≡ self.old.desk.seats }
+        ensures damage { self.new.damage ≡ self.old.damage }
+        ensures rests { (c : ℕ) → length (rest_in c self.new.desk.kept) ≤ length (rest_in c self.old.desk.kept) }
+        ensures output { self.new.desk.kept.output ≡ self.old.desk.kept.output }
+    {
+        self.enter_alone(target, pointer);
+        self.first_refused().is_none()
+    }
+
+    /// A new wl_pointer, and it alone, is told so.
+    fn enter_alone(&mut self, target: Target, pointer: u32)
+        ensures tells { (m : Midstep) → IsTelling self.old.desk m → is_stacked (target_of target) (all_windows m.desktop) ≡ true
+            → m.desktop.pointer.place ≢ None
+            → (n : Midstep) × Tells (drawing true) (λ r. entered_at pointer r.peer.serial m.desktop.pointer.place
+            (focus_window (Some (target_of target)) (all_windows m.desktop))) target.client m n × IsTelling self.new.desk n }
+        ensures pointer { self.new.desk.pointer ≡ self.old.desk.pointer }
+        ensures seats { self.new.desk.seats ≡ self.old.desk.seats }
+        ensures damage { self.new.damage ≡ self.old.damage }
+        ensures rests { (c : ℕ) → length (rest_in c self.new.desk.kept) ≤ length (rest_in c self.old.desk.kept) }
+        ensures output { self.new.desk.kept.output ≡ self.old.desk.kept.output }
+    {
+        let Some((x, y)) = self.point_in(target) else {
+            return;
+        };
+        let surface = target.surface;
+        let event = PointerEvent::Enter { surface, x, y };
+        self.clients.tell(target.client, &[pointer], event);
+    }
+
+    /// A surface that is there is told that it is left (wayland.xml, wl_pointer.leave).
+    fn leave(&mut self, target: Target)
+        ensures tells { (m : Midstep) → IsTelling self.old.desk m
+            → (n : Midstep) × Tells (leave_drawn target.surface) (left_surface target.surface) target.client m n × IsTelling self.new.desk n }
+        ensures pointer { self.new.desk.pointer ≡ self.old.desk.pointer }
+        ensures seats { self.new.desk.seats ≡ self.old.desk.seats }
+        ensures damage { self.new.damage ≡ self.old.damage }
+        ensures rests { (c : ℕ) → length (rest_in c self.new.desk.kept) ≤ length (rest_in c self.old.desk.kept) }
+        ensures output { self.new.desk.kept.output ≡ self.old.desk.kept.output }
+    {
+        let surface = target.surface;
+        if self
+            .clients
+            .surface_number(target.client, surface)
+            .is_some()
+        {
+            self.tell(target.client, PointerEvent::Leave { surface });
+        }
+    }
+
+    /// A surface is told of a motion at this time (wayland.xml, wl_pointer.motion).
+    fn move_over(&mut self, target: Target, time: u32)
+        ensures tells { (ws : List Window) (m : Midstep) → IsTelling self.old.desk m → ws ≡ all_windows m.desktop
+            → is_stacked (target_of target) ws ≡ true → m.desktop.pointer.place ≢ None
+            → (n : Midstep) × Tells (λ r. r) (motion_told time m.desktop.pointer.place (focus_window (Some (target_of target)) ws)) target.client m n
+            × IsTelling self.new.desk n }
+        ensures pointer { self.new.desk.pointer ≡ self.old.desk.pointer }
+        ensures seats { self.new.desk.seats ≡ self.old.desk.seats }
+        ensures damage { self.new.damage ≡ self.old.damage }
+        ensures rests { (c : ℕ) → length (rest_in c self.new.desk.kept) ≤ length (rest_in c self.old.desk.kept) }
+        ensures output { self.new.desk.kept.output ≡ self.old.desk.kept.output }
+    {
+        let Some((x, y)) = self.point_in(target) else {
+            return;
+        };
+        self.tell(target.client, PointerEvent::Motion { time, x, y });
+    }
+
+    /// The wl_pointers of a client are told an event.
+    fn tell(&mut self, client: ClientNo, event: PointerEvent)
+        ensures tells { (change : Resident → Resident) (events : Resident → List Said) (m : Midstep) → IsTelling self.old.desk m
+            → IsToldOf event change events (client_at client m.desktop)
+            → (n : Midstep) × Tells change events client m n × IsTelling self.new.desk n }
+        ensures pointer { self.new.desk.pointer ≡ self.old.desk.pointer }
+        ensures seats { self.new.desk.seats ≡ self.old.desk.seats }
+        ensures damage { self.new.damage ≡ self.old.damage }
+        ensures rests { (c : ℕ) → length (rest_in c self.new.desk.kept) ≤ length (rest_in c self.old.desk.kept) }
+        ensures output { self.new.desk.kept.output ≡ self.old.desk.kept.output }
+    {
+        self.clients
+            .tell(client, seat_of(&self.seats, client), event);
+    }
+
+    /// What the pointer does as its focus is settled and as it moves is done: surfaces are left, entered and told of a motion.
+    fn apply(&mut self, action: Action)
+        ensures tells { (ws : List Window) (m : Midstep) → IsTelling self.old.desk m → m.desktop.pointer.place ≢ None → ws ≡ all_windows m.desktop
+            → IsOfFocus ws (action_of action) → (n : Midstep) × Applies ws (action_of action) m n × IsTelling self.new.desk n }
+        ensures pointer { self.new.desk.pointer ≡ self.old.desk.pointer }
+        ensures seats { self.new.desk.seats ≡ self.old.desk.seats }
+        ensures damage { self.new.damage ≡ self.old.damage }
+        ensures rests { (c : ℕ) → length (rest_in c self.new.desk.kept) ≤ length (rest_in c self.old.desk.kept) }
+        ensures output { self.new.desk.kept.output ≡ self.old.desk.kept.output }
+    {
+        match action {
+            Action::Leave(target) => self.leave(target),
+            Action::Enter(target) => self.enter(target),
+            Action::Motion(time, target) => self.move_over(target, time),
+            Action::Button(..) | Action::Raise(_) | Action::MoveWindow(..) | Action::Dismiss(_) =>
+                {}
+        }
+    }
+
+    /// So are these, one after another.
+    fn apply_each(&mut self, actions: &[Action])
+        ensures tells { (m : Midstep) → IsTelling self.old.desk m → m.desktop.pointer.place ≢ None
+            → Each (IsOfFocus (all_windows m.desktop)) (map action_of actions.now)
+            → (n : Midstep) × AppliesAll (all_windows m.desktop) (map action_of actions.now) m n × IsTelling self.new.desk n }
+        ensures pointer { self.new.desk.pointer ≡ self.old.desk.pointer }
+        ensures seats { self.new.desk.seats ≡ self.old.desk.seats }
+        ensures damage { self.new.damage ≡ self.old.damage }
+        ensures rests { (c : ℕ) → length (rest_in c self.new.desk.kept) ≤ length (rest_in c self.old.desk.kept) }
+        ensures output { self.new.desk.kept.output ≡ self.old.desk.kept.output }
+    {
+        for action in actions {
+            self.apply(*action);
+        }
+    }
+
+    /// What the pointer does is done, one after another.
+    pub(crate) fn apply_all(&mut self, actions: &Actions)
+        ensures tells { (m : Midstep) → IsTelling self.old.desk m → m.desktop.pointer.place ≢ None
+            → Each (IsOfFocus (all_windows m.desktop)) (map action_of actions.now.items)
+            → (n : Midstep) × AppliesAll (all_windows m.desktop) (map action_of actions.now.items) m n × IsTelling self.new.desk n }
+        ensures pointer { self.new.desk.pointer ≡ self.old.desk.pointer }
+        ensures seats { self.new.desk.seats ≡ self.old.desk.seats }
+        ensures damage { self.new.damage ≡ self.old.damage }
+        ensures rests { (c : ℕ) → length (rest_in c self.new.desk.kept) ≤ length (rest_in c self.old.desk.kept) }
+        ensures output { self.new.desk.kept.output ≡ self.old.desk.kept.output }
+    {
+        self.apply_each(actions.as_slice());
+    }
+
+    /// The focus is settled once: where it moves, the surface that had it is left, and the one that the pointer hits is entered.
+    fn settle_once(&mut self)
+        ensures settles { (m : Midstep) → IsMidway self.old.desk m → m.desktop.pointer.place ≢ None
+            → (n : Midstep) × Settles m n × IsMidway self.new.desk n }
+        ensures damage { self.new.damage ≡ self.old.damage }
+        ensures rests { (c : ℕ) → length (rest_in c self.new.desk.kept) ≤ length (rest_in c self.old.desk.kept) }
+        ensures output { self.new.desk.kept.output ≡ self.old.desk.kept.output }
+    {
+        let hit = self.hit();
+        let actions = self.pointer.settle(hit, false);
+        self.apply_all(&actions);
+    }
+
+    /// The focus is settled, and each client that can't be told of it ends, one after another, and the focus is settled again. The windows
+    /// of those that end are marked, and no more.
+    pub(crate) fn settle(&mut self)
+        ensures settles { (m : Midstep) → IsMidway self.old.desk m → SettlesDown self.old self.new m }
+        ensures sides { IsAsLarge self.old.damage self.new.damage }
+        ensures rests { (c : ℕ) → length (rest_in c self.new.desk.kept) ≤ length (rest_in c self.old.desk.kept) }
+        ensures output { self.new.desk.kept.output ≡ self.old.desk.kept.output }
+    {
+        if self.pointer.place().is_none() {
+            return;
+        }
+        for _ in 0..SETTLINGS {
+            self.settle_once();
+            let Some(client) = self.first_refused() else {
+                return;
+            };
+            self.end_refused(client);
+        }
+    }
+
+    /// The least number of a client that is to end since an event for it wasn't queued.
+    fn first_refused(&self) -> Option<ClientNo>
+        ensures first { (m : Midstep) → IsTelling self.now.desk m → result ≡ first_struck m.struck }
+        ensures count { length self.now.desk.kept.clients ≡ 32 }
+    {
+        self.clients.first_refused()
+    }
+
+    /// The client that is to end first does, since an event for it wasn't queued, and the pointer leaves it.
+    pub(crate) fn end_refused(&mut self, client: ClientNo)
+        ensures ends { (s : Strike) (ss : List Strike) (m : Midstep) → s.client ≡ client → m.struck ≡ s ∷ ss → IsMidway self.old.desk m
+            → IsMidway self.new.desk (record { desktop = ended_by s m.desktop; struck = ss }) }
+        ensures marks { (s : Strike) (ss : List Strike) (m : Midstep) → s.client ≡ client → m.struck ≡ s ∷ ss → IsMidway self.old.desk m
+            → MarksThrough m.desktop (ended_by s m.desktop ∷ []) self.old.damage self.new.damage }
+        ensures sides { IsAsLarge self.old.damage self.new.damage }
+        ensures rests { (c : ℕ) → length (rest_in c self.new.desk.kept) ≤ length (rest_in c self.old.desk.kept) }
+        ensures output { self.new.desk.kept.output ≡ self.old.desk.kept.output }
+    {
+        self.clients.end_refused(client);
+        self.pointer.forget(client);
+    }
+}
