@@ -1,13 +1,13 @@
 //! The pointer: what it does over one window, over another's, and while a toplevel is moved.
 
-use wl_scene::{Action, Actions, Focus, Point, Surface, fixed};
+use wl_scene::{Action, Actions, Focus, Point, Target, fixed};
 
-const BELOW: Surface = Surface {
+const BELOW: Target = Target {
     client: 1,
     surface: 6,
 };
 
-const ABOVE: Surface = Surface {
+const ABOVE: Target = Target {
     client: 2,
     surface: 4,
 };
@@ -19,7 +19,7 @@ fn does(actions: &Actions, wanted: &[Action]) -> bool {
 }
 
 // Goes to a point at this time, where this is hit: what is done before the focus is settled, and then.
-fn goes(focus: &mut Focus, time: u32, x: i32, y: i32, hit: Option<Surface>) -> (Actions, Actions) {
+fn goes(focus: &mut Focus, time: u32, x: i32, y: i32, hit: Option<Target>) -> (Actions, Actions) {
     let before = focus.motion(Point { x, y });
     let then = focus.went(time, hit, true);
     (before, then)

@@ -1,5 +1,5 @@
 -- What is served, by what its parts answer.
-use Rattle.std.proofs.Common.{◌≡◌, ◌⊎◌, ◌+◌, ◌∙◌, ap, inl, inr, refl, subst, ℕ, List, [], Option, Result, Ok, Err}
+use Rattle.std.proofs.Common.{◌≡◌, ◌⊎◌, ◌+◌, ◌∙◌, ap, inl, inr, refl, subst, ℕ, false, List, [], Option, Result, Ok, Err}
 use Rattle.std.specs.Prelude.{◌<◌, ⊤, is_some}
 use Rattle.std.specs.Result.{IfErr, OnOk}
 use Rattle.wl_plain.specs.Desktop.{empty}
@@ -12,6 +12,7 @@ use Rattle.wl_server.specs.Seats.{Seated, nobody as unconnected}
 use Rattle.wl_server.specs.Ways.{Serving, Ways, serving}
 use Rattle.wl_server.specs.declared.seat.Seat.{Seat}
 use Rattle.wl_recording.specs.Side.{Files}
+use Rattle.wl_recording.specs.declared.pointer.PointerLine.{PointerLine}
 use Rattle.mio.specs.declared.net.uds.stream.UnixStream.{UnixStream}
 use Rattle.wl_options.specs.Folder.{FolderView, folder_files, new_folder}
 use Rattle.wl_server.specs.Acting.{InTurn, IsServed, Stretch, Takes, Then}
@@ -85,12 +86,13 @@ turns-begun w files rate turns n time from between to old mid new x y i j fewer 
     (λ d e a es ad ae runs then. (n, fewer, then))
 
 -- turns of a new session are turns of a desktop without clients
-turns-taken : (serve : Serve) (to : Serving ℕ UnixStream FolderView) (first old new : SessionView) (report told images imaged : Option (List ℕ)) → old ≡ first
+turns-taken : (serve : Serve) (lines : List PointerLine) (to : Serving ℕ UnixStream FolderView) (first old new : SessionView) (report told images imaged : Option (List ℕ)) → old ≡ first
     → Agrees first.desk (empty (record { width = serve.size.width; height = serve.size.height })) → IsRightBut nobody (moment_of serve.size first)
     → IsFirst (output_of serve.size) (stage_of serve.size first)
-    → Tells (AreTurns socket_ways folder_files serve.rate serve.turns (begun_of serve) to) old new report told images imaged → ServedTurns serve report told
-turns-taken serve to first old new report told images imaged same agrees right begins takes =
-    let P = AreTurns socket_ways folder_files serve.rate serve.turns (begun_of serve) to in
+    → (is_some serve.pointer ≡ false → lines ≡ [])
+    → Tells (AreTurns socket_ways folder_files serve.rate serve.turns (begun_of serve lines) to) old new report told images imaged → ServedTurns serve report told
+turns-taken serve lines to first old new report told images imaged same agrees right begins unpointed takes =
+    let P = AreTurns socket_ways folder_files serve.rate serve.turns (begun_of serve lines) to in
     let from_first : Tells P first new report told images imaged = subst (λ (v : SessionView). Tells P v new report told images imaged) same takes in
     let s = served-as P (IsToldOf report told images imaged) first new from_first
     (empty (record { width = serve.size.width; height = serve.size.height })) agrees in
@@ -99,33 +101,37 @@ turns-taken serve to first old new report told images imaged same agrees right b
       acts = s.0;
       events = s.1.events;
       last = moment s.1.desktop new;
+      lines = lines;
       to = to;
       images = images;
       imaged = imaged;
       begins = begins;
+      unpointed = unpointed;
       turns = s.2;
       runs = s.1.runs;
       shows = s.4 nobody right;
       tells = s.3;
     }
 
-pub begun-as : (serve : Serve) (hub : ℕ) (connections : Seated (Seat UnixStream)) (side : FolderView) → hub ≡ 0 → connections ≡ unconnected → side ≡ new_folder serve.dir.now
-    → serving hub connections side ≡ begun_of serve
-begun-as serve hub connections side none nobody_yet unopened =
-    ap (λ (h : ℕ). serving h connections side) none
-    ∙ (ap (λ (s : Seated (Seat UnixStream)). serving 0 s side) nobody_yet ∙ ap (λ (f : FolderView). serving 0 unconnected f) unopened)
+pub begun-as : (serve : Serve) (hub : ℕ) (connections : Seated (Seat UnixStream)) (side : FolderView) (waiting lines : List PointerLine) → hub ≡ 0 → connections ≡ unconnected
+    → side ≡ new_folder serve.dir.now → waiting ≡ lines → serving hub connections side waiting ≡ begun_of serve lines
+begun-as serve hub connections side waiting lines none nobody_yet unopened untaken =
+    ap (λ (h : ℕ). serving h connections side waiting) none
+    ∙ (ap (λ (s : Seated (Seat UnixStream)). serving 0 s side waiting) nobody_yet
+    ∙ (ap (λ (f : FolderView). serving 0 unconnected f waiting) unopened ∙ ap (λ (l : List PointerLine). begun_of serve l) untaken))
 
-pub turns-ok : {T : Type 0} (r : Result T Fault) (serve : Serve) (rate : Option paced.Rate) (turns : Option ℕ) (from to : Serving ℕ UnixStream FolderView) (first old new : SessionView)
-    (report told images imaged : Option (List ℕ)) → old ≡ first
+pub turns-ok : {T : Type 0} (r : Result T Fault) (serve : Serve) (lines : List PointerLine) (rate : Option paced.Rate) (turns : Option ℕ) (from to : Serving ℕ UnixStream FolderView)
+    (first old new : SessionView) (report told images imaged : Option (List ℕ)) → old ≡ first
     → Agrees first.desk (empty (record { width = serve.size.width; height = serve.size.height })) → IsRightBut nobody (moment_of serve.size first)
-    → IsFirst (output_of serve.size) (stage_of serve.size first) → rate ≡ serve.rate → turns ≡ serve.turns → from ≡ begun_of serve
+    → IsFirst (output_of serve.size) (stage_of serve.size first) → (is_some serve.pointer ≡ false → lines ≡ [])
+    → rate ≡ serve.rate → turns ≡ serve.turns → from ≡ begun_of serve lines
     → OnOk r (Tells (AreTurns socket_ways folder_files rate turns from to) old new report told images imaged) → OnOk r (ServedTurns serve report told)
-turns-ok (Ok x) serve rate turns from to first old new report told images imaged same agrees right begins same_rate same_turns same_from takes =
+turns-ok (Ok x) serve lines rate turns from to first old new report told images imaged same agrees right begins unpointed same_rate same_turns same_from takes =
     let at_rate = subst (λ (u : Option paced.Rate). Tells (AreTurns socket_ways folder_files u turns from to) old new report told images imaged) same_rate takes in
     let so_many = subst (λ (n : Option ℕ). Tells (AreTurns socket_ways folder_files serve.rate n from to) old new report told images imaged) same_turns at_rate in
     let over = subst (λ (f : Serving ℕ UnixStream FolderView). Tells (AreTurns socket_ways folder_files serve.rate serve.turns f to) old new report told images imaged) same_from so_many in
-    turns-taken serve to first old new report told images imaged same agrees right begins over
-turns-ok (Err e) serve rate turns from to first old new report told images imaged same agrees right begins same_rate same_turns same_from takes = tt
+    turns-taken serve lines to first old new report told images imaged same agrees right begins unpointed over
+turns-ok (Err e) serve lines rate turns from to first old new report told images imaged same agrees right begins unpointed same_rate same_turns same_from takes = tt
 
 -- what fails to be written is a fault of serving
 pub write-fails : {T : Type 0} (r : Result T Fault) (serve : Serve) (report reported : Option (List ℕ)) → IfErr r (λ fault. fault ≡ Write)

@@ -1,8 +1,9 @@
 -- What is served: turns of the plain desktop, one after another.
-use Rattle.std.specs.Prelude.{◌≡◌, ◌<◌, ◌+◌, ⊤, ℕ, Bool, true, List, [], Option}
+use Rattle.std.specs.Prelude.{◌≡◌, ◌<◌, ◌+◌, ⊤, ℕ, Bool, true, false, is_some, List, [], Option}
 use Rattle.mio.specs.declared.net.uds.stream.UnixStream.{UnixStream}
 use Rattle.wl_hub.specs.Sockets.{MayAccept, MayClose, MayMove}
 use Rattle.wl_recording.specs.Side.{Files}
+use Rattle.wl_recording.specs.declared.pointer.PointerLine.{PointerLine}
 use Rattle.wl_options.specs.Folder.{FolderView, folder_files, new_folder}
 use Rattle.wl_options.specs.declared.command.Serve.{Serve}
 use Rattle.wl_options.specs.declared.fault.Fault.{Fault}
@@ -51,23 +52,26 @@ BeginsTurns w files rate turns from to start acts events end =
 abbrev pub socket_ways : Ways ℕ UnixStream
 socket_ways = ways MayAccept MayMove MayMove MayClose (λ faults. faults)
 
--- a socket to which nobody has connected, and a folder of which no side file is open
-abbrev pub begun_of : Serve → Serving ℕ UnixStream FolderView
-begun_of serve = serving 0 unconnected (new_folder serve.dir.now)
+-- a socket to which nobody has connected, a folder of which no side file is open, and all lines of the pointer's file
+abbrev pub begun_of : Serve → List PointerLine → Serving ℕ UnixStream FolderView
+begun_of serve lines = serving 0 unconnected (new_folder serve.dir.now) lines
 
 -- On an output of the size that is asked, from a desktop without clients on, the turns 1 to the last that is asked were taken over the
--- socket and the folder, one after another, each at its time, event by event. Each frame that was shown was the desktop painted from nothing
+-- socket, the folder and the lines of the pointer's file, of which there are none where none is named, one after another, each at its time,
+-- event by event. Each frame that was shown was the desktop painted from nothing
 -- where each client kept its promises. The report goes on from what was there by the lines of these events, and some images by their pictures.
 pub record ServedTurns (serve : Serve) (report told : Option (List ℕ)) : Type 0 where
   pub first : Stage
   pub acts : List Act
   pub events : List Event
   pub last : Moment
+  pub lines : List PointerLine
   pub to : Serving ℕ UnixStream FolderView
   pub images : Option (List ℕ)
   pub imaged : Option (List ℕ)
   pub begins : IsFirst (output_of serve.size) first
-  pub turns : AreTurns socket_ways folder_files serve.rate serve.turns (begun_of serve) to first.now acts events last
+  pub unpointed : is_some serve.pointer ≡ false → lines ≡ []
+  pub turns : AreTurns socket_ways folder_files serve.rate serve.turns (begun_of serve lines) to first.now acts events last
   pub runs : Runs served_now first.now acts events last
   pub shows : ShowsScratch nobody events
   pub tells : IsToldOf report told images imaged events

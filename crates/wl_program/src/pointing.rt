@@ -1,6 +1,6 @@
 //! The pointer's file.
 
-ghost use Rattle.std.specs.Prelude.{◌≡◌, ◌⊎◌, IfErr, is_some, true};
+ghost use Rattle.std.specs.Prelude.{◌≡◌, ◌⊎◌, [], IfErr, IfOk, is_some, false, true};
 ghost use Rattle.wl_program.specs.Serving.{IsOfPointer};
 
 use std::alloc::Allocator;
@@ -19,7 +19,8 @@ pub(crate) fn read_pointer<F: Files + AllocGlobal, A: Allocator + Copy>(
     alloc: A,
     path: Option<&str>,
 ) -> Result<Vec<PointerLine, A>, Fault>
-    ensures { IfErr result (IsOfPointer (is_some path.entry)) }
+    ensures unpointed { is_some path.entry ≡ false → IfOk result (λ lines. lines.items ≡ []) }
+    ensures failed { IfErr result (IsOfPointer (is_some path.entry)) }
 {
     match path {
         Some(path) => read_file(files, alloc, path),

@@ -109,11 +109,11 @@ fn take_turn<A: Allocator + Copy, H: Hub, S: SideFiles, W: Write, P: Write>(
     ppm: &mut Option<P>,
 ) -> Result<(), Fault>
     ensures taken { OnOk result (Tells (IsTurn (ways H.accepts H.reads H.writes H.closes H.fault_count) (files_of S.opens S.gives S.fault_count) time
-        (serving service.old.hub connections.old service.old.side) (serving service.new.hub connections.new service.new.side))
+        (serving service.old.hub connections.old service.old.side service.old.waiting) (serving service.new.hub connections.new service.new.side service.new.waiting))
         service.old.session service.new.session (W.contents report.old) (W.contents report.new)
         (images_in P.contents ppm.old) (images_in P.contents ppm.new)) }
     ensures begun { Takes (StartsTurn (ways H.accepts H.reads H.writes H.closes H.fault_count) (files_of S.opens S.gives S.fault_count) time
-        (serving service.old.hub connections.old service.old.side) (serving service.new.hub connections.new service.new.side))
+        (serving service.old.hub connections.old service.old.side service.old.waiting) (serving service.new.hub connections.new service.new.side service.new.waiting))
         service.old.session service.new.session }
     ensures failed { IfErr result (λ fault. fault ≡ Fault.Write) }
 {
@@ -138,11 +138,11 @@ pub fn serve_on<C: Clock, A: Allocator + Copy, H: Hub, S: SideFiles, W: Write, P
     ppm: &mut Option<P>,
 ) -> Result<(), Fault>
     ensures taken { OnOk result (Tells (AreTurns (ways H.accepts H.reads H.writes H.closes H.fault_count) (files_of S.opens S.gives S.fault_count) pace.rate pace.turns
-        (serving service.old.hub connections.old service.old.side) (serving service.new.hub connections.new service.new.side))
+        (serving service.old.hub connections.old service.old.side service.old.waiting) (serving service.new.hub connections.new service.new.side service.new.waiting))
         service.old.session service.new.session (W.contents report.old) (W.contents report.new)
         (images_in P.contents ppm.old) (images_in P.contents ppm.new)) }
     ensures begun { OnErr result (Takes (BeginsTurns (ways H.accepts H.reads H.writes H.closes H.fault_count) (files_of S.opens S.gives S.fault_count) pace.rate pace.turns
-        (serving service.old.hub connections.old service.old.side) (serving service.new.hub connections.new service.new.side))
+        (serving service.old.hub connections.old service.old.side service.old.waiting) (serving service.new.hub connections.new service.new.side service.new.waiting))
         service.old.session service.new.session) }
     ensures failed { IfErr result (λ fault. fault ≡ Fault.Write) }
 {

@@ -3,6 +3,7 @@
 mod cursors;
 mod faults;
 mod files;
+mod hovering;
 mod limits;
 mod pools;
 mod positioners;

@@ -1,5 +1,5 @@
 -- What a line of a recording asks. Here a line stands without its line feed.
-use Rattle.std.specs.Prelude.{ℕ, ◌+◌, ◌-◌, ◌*◌, ◌^◌, Bool, false, ◌==◌, ◌&&◌, ◌||◌, not, nat_le, nat_lt, if◌then◌else◌, List, [], ◌∷◌}
+use Rattle.std.specs.Prelude.{ℕ, ℤ, pos, neg_ℤ, ◌+◌, ◌-◌, ◌*◌, ◌^◌, Bool, false, ◌==◌, ◌&&◌, ◌||◌, not, nat_le, nat_lt, if◌then◌else◌, List, [], ◌∷◌}
 use Rattle.std.specs.Prelude.{length, drop, fold, slice_index, codes, Option, Some, None}
 use Rattle.std.specs.List.{prefix_len, take_while, list_all}
 use Rattle.std.specs.Option.{option_and_then, option_map}
@@ -40,6 +40,21 @@ number_of word =
 abbrev pub only_number : List ℕ → Option ℕ
 only_number text = if is_blank (after_word text) then number_of (first_word text) else None
 
+-- A coordinate is a number, with a `-` before it where it is negative, from -2^31 to 2^31 - 1.
+abbrev pub natural_of : ℕ → Option ℤ
+natural_of n = if nat_lt n (2 ^ 31) then Some (pos n) else None
+
+abbrev pub negative_of : ℕ → Option ℤ
+negative_of n = if nat_le n (2 ^ 31) then Some (neg_ℤ (pos n)) else None
+
+abbrev pub has_minus : List ℕ → Bool
+has_minus [] = false
+has_minus (b ∷ word) = b == 45
+
+abbrev pub signed_of : List ℕ → Option ℤ
+signed_of word =
+    if has_minus word then option_and_then negative_of (number_of (drop 1 word)) else option_and_then natural_of (number_of word)
+
 -- the value of a hex digit in either case
 abbrev pub hex_value : ℕ → Option ℕ
 hex_value b =
@@ -70,6 +85,10 @@ some_bytes (b ∷ bytes) = Some (b ∷ bytes)
 abbrev pub hex_in : List ℕ → Option (List ℕ)
 hex_in text = option_and_then some_bytes (bytes_in text)
 
+-- what stands behind the first three words of a text
+abbrev pub after_three : List ℕ → List ℕ
+after_three text = after_word (after_word (after_word text))
+
 -- a place in a store, by three numbers: the client, the store, and the byte
 abbrev pub place_at : Option ℕ → Option ℕ → Option ℕ → Option Place
 place_at client store at =
@@ -82,7 +101,7 @@ place_in text =
     (number_of (first_word (after_word (after_word text))))
 
 abbrev pub after_place : List ℕ → List ℕ
-after_place text = after_word (after_word (after_word text))
+after_place text = after_three text
 
 -- an ASCII letter
 abbrev pub is_letter : ℕ → Bool
@@ -108,6 +127,7 @@ pub data Asked : Type 0 where
   Store : Place → List ℕ → Asked
   File : Place → List ℕ → Asked
   Gone : ℕ → Asked
+  Motion : ℕ → ℤ → ℤ → Asked
   Tick : ℕ → Asked
   Nothing : Asked
 
@@ -121,6 +141,18 @@ asked_store text = option_and_then (λ place. option_map (λ bytes. Store place 
 abbrev pub asked_file : List ℕ → Option Asked
 asked_file text = option_and_then (λ place. option_map (λ name. File place name) (name_in (after_place text))) (place_in text)
 
+-- a motion of the pointer by its words: the time, and the two coordinates of a point
+abbrev pub asked_motion_by : List ℕ → List ℕ → List ℕ → Option Asked
+asked_motion_by time x y =
+    option_and_then (λ t. option_and_then (λ a. option_map (λ b. Motion t a b) (signed_of y)) (signed_of x)) (number_of time)
+
+-- those are the only words of a text
+abbrev pub asked_motion : List ℕ → Option Asked
+asked_motion text =
+    if is_blank (after_three text) then asked_motion_by (first_word text) (first_word (after_word text))
+    (first_word (after_word (after_word text)))
+    else None
+
 -- a line by its first word and what follows it
 abbrev pub asked_with : List ℕ → List ℕ → Option Asked
 asked_with word rest =
@@ -130,6 +162,7 @@ asked_with word rest =
     else if bytes_eq word (codes "store") then asked_store rest
     else if bytes_eq word (codes "file") then asked_file rest
     else if bytes_eq word (codes "gone") then option_map (λ client. Gone client) (only_number rest)
+    else if bytes_eq word (codes "motion") then asked_motion rest
     else if bytes_eq word (codes "tick") then option_map (λ time. Tick time) (only_number rest)
     else None
 
@@ -149,5 +182,6 @@ meaning piece (line.Bytes client) = Bytes client piece
 meaning piece (line.Store place) = Store place piece
 meaning piece (line.File place name) = File place name.now
 meaning piece (line.Gone client) = Gone client
+meaning piece (line.Motion time x y) = Motion time x y
 meaning piece (line.Tick time) = Tick time
 meaning piece line.Nothing = Nothing

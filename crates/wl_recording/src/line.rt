@@ -2,11 +2,11 @@
 
 ghost use Rattle.std.specs.Prelude.{◌≡◌, ℕ, List, IfOk, Ok, Some, None, true, false};
 ghost use Rattle.std.specs.Option.{option_map};
-ghost use Rattle.wl_recording.specs.Line.{asked_by, asked_file, asked_piece, asked_store, asked_with, hex_in, is_comment, meaning, only_number};
+ghost use Rattle.wl_recording.specs.Line.{asked_by, asked_file, asked_motion, asked_motion_by, asked_piece, asked_store, asked_with, hex_in, is_comment, meaning, only_number};
 
 use crate::hex::decode;
 use crate::name::last_name;
-use crate::numbers::number;
+use crate::numbers::{number, signed};
 use crate::place::{Place, next_place};
 use crate::word::{is_blank, next_word};
 use std::alloc::{AllocError, Allocator};
@@ -22,6 +22,8 @@ pub enum Line<'a> {
     /// The bytes of a side file come into a store.
     File { place: Place, name: &'a str },
     Gone { client: u32 },
+    /// The pointer moves to this point of the output. `time` is in milliseconds; `x` and `y` are in pixels from the left top corner.
+    Motion { time: u32, x: i32, y: i32 },
     Tick { time: u32 },
     /// A comment, or no words.
     Nothing,
@@ -72,6 +74,8 @@ fn parse_words<'a, A: Allocator>(
         Ok(parse_file(rest))
     } else if word == b"gone".as_slice() {
         Ok(last_number(rest).map(|client| Line::Gone { client }))
+    } else if word == b"motion".as_slice() {
+        Ok(parse_motion(rest))
     } else if word == b"tick".as_slice() {
         Ok(last_number(rest).map(|time| Line::Tick { time }))
     } else {
@@ -116,6 +120,29 @@ fn parse_file(rest: &[u8]) -> Option<Line<'_>>
     let (place, rest) = next_place(rest)?;
     let name = last_name(rest)?;
     Some(Line::File { place, name })
+}
+
+/// The motion whose three words are the only ones of a text.
+fn parse_motion(rest: &[u8]) -> Option<Line<'static>>
+    ensures { (piece : List ℕ) → option_map (meaning piece) result ≡ asked_motion rest.now }
+{
+    let (time, rest) = next_word(rest);
+    let (x, rest) = next_word(rest);
+    let (y, rest) = next_word(rest);
+    if is_blank(rest) {
+        motion_by(time, x, y)
+    } else {
+        None
+    }
+}
+
+fn motion_by(time: &[u8], x: &[u8], y: &[u8]) -> Option<Line<'static>>
+    ensures { (piece : List ℕ) → option_map (meaning piece) result ≡ asked_motion_by time.now x.now y.now }
+{
+    let time = number(time)?;
+    let x = signed(x)?;
+    let y = signed(y)?;
+    Some(Line::Motion { time, x, y })
 }
 
 /// Puts the bytes that a text spells into `piece`, at least one. False where it spells none.

@@ -1,7 +1,7 @@
-//! Decimal numbers.
+//! Decimal numbers, and coordinates.
 
 ghost use Rattle.std.specs.Prelude.{◌≡◌};
-ghost use Rattle.wl_recording.specs.Line.{number_of};
+ghost use Rattle.wl_recording.specs.Line.{has_minus, natural_of, negative_of, number_of, signed_of};
 
 /// The number that a word of decimal digits spells, where it fits 32 bits. Leading zeros are free.
 pub fn number(word: &[u8]) -> Option<u32>
@@ -21,4 +21,33 @@ pub fn number(word: &[u8]) -> Option<u32>
         }
     }
     Some(value as u32)
+}
+
+/// The coordinate that a word spells: a number, with a `-` before it where it is negative.
+pub(crate) fn signed(word: &[u8]) -> Option<i32>
+    ensures { result ≡ signed_of word.now }
+{
+    if has_minus(word) {
+        negative(number(&word[1..])?)
+    } else {
+        natural(number(word)?)
+    }
+}
+
+fn has_minus(word: &[u8]) -> bool
+    ensures { result ≡ has_minus word.now }
+{
+    !word.is_empty() && word[0] == b'-'
+}
+
+fn natural(number: u32) -> Option<i32>
+    ensures { result ≡ natural_of number }
+{
+    i32::try_from(number).ok()
+}
+
+fn negative(number: u32) -> Option<i32>
+    ensures { result ≡ negative_of number }
+{
+    i32::try_from(-i64::from(number)).ok()
 }

@@ -1,10 +1,10 @@
 //! The lines of a pointer file.
 
 ghost use Rattle.std.specs.Prelude.{◌≡◌};
-ghost use Rattle.wl_recording.specs.Pointer.{button_by, button_in, has_minus, motion_by, motion_in, natural_of, negative_of, pointer_by, pressed_of, signed_of};
+ghost use Rattle.wl_recording.specs.Pointer.{button_by, button_in, motion_by, motion_in, pointer_by, pressed_of};
 
 use crate::line::is_comment;
-use crate::numbers::number;
+use crate::numbers::{number, signed};
 use crate::word::{is_blank, next_word};
 
 /// What a line of a pointer file asks.
@@ -98,33 +98,4 @@ fn pressed_of(word: &[u8]) -> Option<bool>
         1 => Some(true),
         _ => None,
     }
-}
-
-/// The coordinate that a word spells: a number, with a `-` before it where it is negative.
-fn signed(word: &[u8]) -> Option<i32>
-    ensures { result ≡ signed_of word.now }
-{
-    if has_minus(word) {
-        negative(number(&word[1..])?)
-    } else {
-        natural(number(word)?)
-    }
-}
-
-fn has_minus(word: &[u8]) -> bool
-    ensures { result ≡ has_minus word.now }
-{
-    !word.is_empty() && word[0] == b'-'
-}
-
-fn natural(number: u32) -> Option<i32>
-    ensures { result ≡ natural_of number }
-{
-    i32::try_from(number).ok()
-}
-
-fn negative(number: u32) -> Option<i32>
-    ensures { result ≡ negative_of number }
-{
-    i32::try_from(-i64::from(number)).ok()
 }

@@ -97,6 +97,10 @@ fn take_step<A: Allocator + Copy, W: Write, P: Write, S: SideFiles>(
             gone(session, client, writer)?;
             Ok(NOTHING)
         }
+        Line::Motion { time, x, y } => {
+            session.motion(time, x, y);
+            Ok(NOTHING)
+        }
         Line::Tick { time } => {
             tick(session, time, writer, ppm)?;
             Ok(Shown {

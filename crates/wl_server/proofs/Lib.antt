@@ -2,6 +2,7 @@ pub mod Frames
 pub mod Joining
 pub mod Pieces
 pub mod Places
+pub mod PointedLines
 pub mod FedPieces
 pub mod SentBytes
 pub mod Taking

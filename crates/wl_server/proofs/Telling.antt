@@ -19,8 +19,11 @@ use Rattle.wl_session.specs.View.{SessionView}
 use Rattle.std.proofs.Common.{None, Some}
 use Rattle.wl_server.specs.declared.seat.Seat.{Seat}
 use Rattle.wl_recording.specs.Side.{Files}
+use Rattle.wl_recording.specs.declared.pointer.PointerLine.{PointerLine}
+use Rattle.wl_recording.specs.declared.pointer.PointerLine.TheVariants as line
 use Rattle.wl_server.specs.Acting.{InTurn, Stretch, Takes}
-use Rattle.wl_server.specs.Phases.{Accepts, AcceptsAll, AtSeat, Closes, ClosesIf, EndsReading, Fills, FillsIf, FillsSeat, FillsUpTo, IfSeated, Link, Place, PutsIf, PutsSized, Reads, ReadsClient, StopsReading, Writes, WritesClient, WritesSome, leaves_if, puts_from}
+use Rattle.wl_server.specs.Due.{motions_of}
+use Rattle.wl_server.specs.Phases.{Accepts, AcceptsAll, AtSeat, Closes, ClosesIf, EndsReading, Fills, FillsIf, FillsSeat, FillsUpTo, IfSeated, Link, Place, Points, PutsIf, PutsSized, Reads, ReadsClient, StopsReading, Writes, WritesClient, WritesSome, leaves_if, puts_from}
 use Rattle.wl_server.specs.Ways.{Ways}
 use Rattle.wl_server.specs.Telling.{Reports, Telling, Tells, gathered, if_painted, pictured, reported}
 use Rattle.wl_server.proofs.Taking.{Joins, Weakens, went-none, went-one, went-then}
@@ -198,6 +201,19 @@ if-seated-pass quiet P each (hub, Some seat) to start end acts events some = eac
 at-seat-pass : {H C : Type 0} (quiet : Act → Bool) (Own : ℕ → Place H C → Place H C → Stretch) → ((k : ℕ) (from to : Place H C) → PassesAll quiet (Own k from to))
     → (k : ℕ) (from to : H × List (Option (Seat C))) → PassesAll quiet (AtSeat Own k from to)
 at-seat-pass quiet Own each k from to start end acts events some = each k _ _ start end acts events some.1
+
+-- pointing
+
+motions-pass : (lines : List PointerLine) → AllPass has_no_line (motions_of lines)
+unfolding has_no_line
+motions-pass [] = All-nil (λ a. has_no_line a ≡ true)
+motions-pass (line.Motion time x y ∷ lines) = All-cons (λ a. has_no_line a ≡ true) (Motion time x y) (motions_of lines) refl (motions-pass lines)
+motions-pass (line.Button time code pressed ∷ lines) = motions-pass lines
+motions-pass (line.Skip ∷ lines) = motions-pass lines
+motions-pass (line.Bad ∷ lines) = motions-pass lines
+
+pub points-pass : (lines : List PointerLine) → PassesAll has_no_line (Points lines)
+points-pass lines start end acts events are = subst (AllPass has_no_line) (sym are) (motions-pass lines)
 
 -- reading
 

@@ -1,6 +1,8 @@
--- Which lines of a pointer file a turn takes.
-use Rattle.std.specs.Prelude.{ℕ, nat_le, Bool, true, List, drop}
+-- Which lines of a pointer file a turn takes, and what a session does with them.
+use Rattle.std.specs.Prelude.{ℕ, ◌≡◌, nat_le, Bool, true, List, [], ◌∷◌, take, drop, Option, Some, None}
 use Rattle.std.specs.List.{prefix_len}
+use Rattle.wl_plain.specs.Act as act
+use Rattle.wl_plain.specs.Act.{Act}
 use Rattle.wl_recording.specs.declared.pointer.PointerLine.{PointerLine}
 use Rattle.wl_recording.specs.declared.pointer.PointerLine.TheVariants.{Motion, Button, Skip, Bad}
 
@@ -11,6 +13,23 @@ is_due time (Button due code pressed) = nat_le due time
 is_due time Skip = true
 is_due time Bad = true
 
+-- the lines that are taken: those before the first that isn't due
+abbrev pub due_at : ℕ → List PointerLine → List PointerLine
+due_at time lines = take (prefix_len (is_due time) lines) lines
+
 -- the lines that are left: those from the first on that isn't due
 abbrev pub left_at : ℕ → List PointerLine → List PointerLine
 left_at time lines = drop (prefix_len (is_due time) lines) lines
+
+-- The first line is due, and is taken; or it isn't, or there is none, and all stay.
+abbrev pub TakesDue : ℕ → Option PointerLine → List PointerLine → List PointerLine → Type 0
+TakesDue time (Some line) old new = (old ≡ line ∷ new) × (is_due time line ≡ true)
+TakesDue time None old new = (new ≡ old) × (due_at time old ≡ [])
+
+-- The motions among lines, in their order, each at its own time. A button has no effect yet.
+abbrev pub motions_of : List PointerLine → List Act
+motions_of [] = []
+motions_of (Motion time x y ∷ lines) = act.Motion time x y ∷ motions_of lines
+motions_of (Button time code pressed ∷ lines) = motions_of lines
+motions_of (Skip ∷ lines) = motions_of lines
+motions_of (Bad ∷ lines) = motions_of lines

@@ -11,13 +11,21 @@ use Rattle.wl_plain.specs.declared.answers.Done.TheVariants as gave
 use Rattle.wl_plain.specs.declared.answers.Fed.{Fed}
 use Rattle.wl_plain.specs.declared.answers.Fed.TheVariants.{Alive, Ended, NoClient}
 use Rattle.wl_recording.specs.Side.{Files}
+use Rattle.wl_recording.specs.declared.pointer.PointerLine.{PointerLine}
 use Rattle.wl_session.specs.Course.{Runs, happenings}
 use Rattle.wl_session.specs.Events.{Event, Moment}
 use Rattle.wl_session.specs.NextStore.{next_store_of}
 use Rattle.wl_server.specs.declared.seat.Seat.{Seat}
 use Rattle.wl_server.specs.Acting.{Idle, InTurn, Stretch, Then}
+use Rattle.wl_server.specs.Due.{due_at, left_at, motions_of}
 use Rattle.wl_server.specs.Seats.{Seated, seat_of, with_seat}
 use Rattle.wl_server.specs.Ways.{Serving, Ways}
+
+-- ---- the pointer's lines are taken
+
+-- the pointer goes where the motions among these lines say
+abbrev pub Points : List PointerLine → Stretch
+Points lines start acts events end = acts ≡ motions_of lines
 
 -- ---- connections are accepted
 
@@ -311,15 +319,21 @@ AtSeat {H} {C} Own client from to start acts events end =
     (next : Option (Seat C)) × Own client (from.0, seat_of client from.1) (to.0, next) start acts events end
     × (to.1 ≡ with_seat client next from.1)
 
+-- Of the pointer's lines those that are due are taken, each once and in their order, up to the first that isn't.
+abbrev pub Pointing : {H C S : Type 0} → ℕ → Serving H C S → Serving H C S → Stretch
+Pointing time from to start acts events end =
+    Points (due_at time from.waiting) start acts events end × (to ≡ record from { waiting = left_at time from.waiting })
+
 abbrev pub Accepting : {H C S : Type 0} → Ways H C → Serving H C S → Serving H C S → Stretch
 Accepting w from to start acts events end =
     AcceptsAll w (from.hub, from.connections) (to.hub, to.connections) start acts events end × (to.side ≡ from.side)
+    × (to.waiting ≡ from.waiting)
 
 -- the clients are served one after another
 abbrev pub ForEach : {H C S : Type 0} → (ℕ → Place H C → Place H C → Stretch) → ℕ → Serving H C S → Serving H C S → Stretch
 ForEach Own n from to start acts events end =
     InTurn (AtSeat Own) n (from.hub, from.connections.seats) (to.hub, to.connections.seats) start acts events end
-    × (to.connections.accepted ≡ from.connections.accepted) × (to.side ≡ from.side)
+    × (to.connections.accepted ≡ from.connections.accepted) × (to.side ≡ from.side) × (to.waiting ≡ from.waiting)
 
 abbrev pub Filling : {H C S : Type 0} → Files S → Serving H C S → Serving H C S → Stretch
 Filling files from to start acts events end =
@@ -337,13 +351,23 @@ UpToFrame w files time = Then (Accepting w) (Then (ForEach (Reads w) 32) (Then (
 abbrev pub FromFrame : {H C S : Type 0} → Ways H C → ℕ → Serving H C S → Serving H C S → Stretch
 FromFrame w n = Then (ForEach (Writes w) 32) (ForEach (Closes w) n)
 
-abbrev pub IsTurn : {H C S : Type 0} → Ways H C → Files S → ℕ → Serving H C S → Serving H C S → Stretch
-IsTurn w files time = Then (UpToFrame w files time) (FromFrame w 32)
+-- the clients are served, up to the frame and from it on
+abbrev pub Serves : {H C S : Type 0} → Ways H C → Files S → ℕ → ℕ → Serving H C S → Serving H C S → Stretch
+Serves w files time n = Then (UpToFrame w files time) (FromFrame w n)
 
--- A turn begins so: connections are accepted, and no more; or it is taken up to the frame; or it goes on until some of the clients are
+-- First the pointer goes where it is to, and then all clients are served.
+abbrev pub IsTurn : {H C S : Type 0} → Ways H C → Files S → ℕ → Serving H C S → Serving H C S → Stretch
+IsTurn w files time = Then (Pointing time) (Serves w files time 32)
+
+-- The clients begin to be served so: connections are accepted, and no more; or it is gone on up to the frame; or until some of the clients are
 -- closed.
-abbrev pub StartsTurn : {H C S : Type 0} → Ways H C → Files S → ℕ → Serving H C S → Serving H C S → Stretch
-StartsTurn w files time from to start acts events end =
-    (BeginsAccepting w (from.hub, from.connections) (to.hub, to.connections) start acts events end × (to.side ≡ from.side))
+abbrev pub StartsServing : {H C S : Type 0} → Ways H C → Files S → ℕ → Serving H C S → Serving H C S → Stretch
+StartsServing w files time from to start acts events end =
+    (BeginsAccepting w (from.hub, from.connections) (to.hub, to.connections) start acts events end × (to.side ≡ from.side)
+    × (to.waiting ≡ from.waiting))
     ⊎ (UpToFrame w files time from to start acts events end
-    ⊎ ((n : ℕ) × (n ≤ 32) × Then (UpToFrame w files time) (FromFrame w n) from to start acts events end))
+    ⊎ ((n : ℕ) × (n ≤ 32) × Serves w files time n from to start acts events end))
+
+-- A turn begins so: the pointer goes where it is to, and the clients begin to be served.
+abbrev pub StartsTurn : {H C S : Type 0} → Ways H C → Files S → ℕ → Serving H C S → Serving H C S → Stretch
+StartsTurn w files time = Then (Pointing time) (StartsServing w files time)

@@ -1,17 +1,19 @@
 -- What a server works on beside its session, and what its hub may do.
-use Rattle.std.specs.Prelude.{ℕ, Option}
+use Rattle.std.specs.Prelude.{ℕ, List, Option}
 use Rattle.wl_hub.specs.Moves.{Moves}
+use Rattle.wl_recording.specs.declared.pointer.PointerLine.{PointerLine}
 use Rattle.wl_server.specs.declared.seat.Seat.{Seat}
 use Rattle.wl_server.specs.Seats.{Seated}
 
--- the hub, the clients' connections, and the side files
+-- the hub, the clients' connections, the side files, and the pointer lines that weren't taken yet
 pub record Serving (H C S : Type 0) : Type 0 where
   pub hub : H
   pub connections : Seated (Seat C)
   pub side : S
+  pub waiting : List PointerLine
 
-abbrev pub serving : {H C S : Type 0} → H → Seated (Seat C) → S → Serving H C S
-serving hub connections side = record { hub = hub; connections = connections; side = side }
+abbrev pub serving : {H C S : Type 0} → H → Seated (Seat C) → S → List PointerLine → Serving H C S
+serving hub connections side waiting = record { hub = hub; connections = connections; side = side; waiting = waiting }
 
 -- Which connection an accept may give, which bytes a read may give and a write may take, what closing does, and how many faults were
 -- counted, as a hub itself tells it.

@@ -7,6 +7,7 @@ mod accepting;
 mod closing;
 mod error;
 mod filling;
+mod pointing;
 mod reading;
 mod seat;
 mod service;

@@ -4,7 +4,7 @@ ghost use Rattle.std.specs.Prelude.{◌≡◌, ⊤, OnOk};
 ghost use Rattle.wl_recording.specs.Side.{files_of};
 ghost use Rattle.wl_server.specs.Acting.{IsServed, Takes};
 ghost use Rattle.wl_server.specs.Due.{left_at};
-ghost use Rattle.wl_server.specs.Phases.{IsTurn, StartsTurn};
+ghost use Rattle.wl_server.specs.Phases.{IsTurn, Serves, StartsServing, StartsTurn};
 ghost use Rattle.wl_server.specs.Telling.{IsToldOf, Tells, images_in};
 ghost use Rattle.wl_server.specs.Ways.{serving, ways};
 
@@ -12,6 +12,7 @@ use crate::accepting::accept_all;
 use crate::closing::close_all;
 use crate::error::TurnError;
 use crate::filling::fill_all;
+use crate::pointing::point_all;
 use crate::reading::read_all;
 use crate::seat::Connections;
 use crate::showing::show;
@@ -37,7 +38,8 @@ pub struct Service<A: Allocator, H, S> {
 }
 
 impl<A: Allocator, H, S> Service<A, H, S> {
-    /// A session before its first turn. It takes no memory. Of the pointer lines those that are skipped or bad are passed over.
+    /// A session before its first turn. It takes no memory. Of the pointer lines those that are skipped or bad ask nothing; buttons have no effect
+    /// yet.
     pub fn new(session: Session<A>, hub: H, side: S, lines: Vec<PointerLine, A>) -> Service<A, H, S>
         ensures session { result.session ≡ session }
         ensures hub { result.hub ≡ hub }
@@ -53,11 +55,11 @@ impl<A: Allocator, H, S> Service<A, H, S> {
     }
 }
 
-/// Takes one turn of a session with its clients' connections at this time: pointer lines that are due are taken, which have no effect yet;
-/// connections that wait are accepted, 32 at most, each a client's or closed at once; clients are read, one after another, 16 times each at most,
-/// and fed what each read gave; for those that sent bytes each live store gets its side file, from its start up to the store's size; a frame is
-/// shown; clients are written to, one after another, and the hub's answer is what was sent; and those that ended are closed, with their
-/// connections, once their bytes went out or a write failed.
+/// Takes one turn of a session with its clients' connections at this time: of the pointer's lines those that are due are taken, in their order up
+/// to the first that isn't, and the pointer goes where each motion says, at the motion's own time; connections that wait are accepted, 32 at most,
+/// each a client's or closed at once; clients are read, one after another, 16 times each at most, and fed what each read gave; for those that sent
+/// bytes each live store gets its side file, from its start up to the store's size; a frame is shown; clients are written to, one after another, and
+/// the hub's answer is what was sent; and those that ended are closed, with their connections, once their bytes went out or a write failed.
 ///
 /// What it takes are steps of a session, event by event: the frame that it shows is the desktop as the frame began, painted from nothing, at
 /// each point that no window covers of a client that broke its promises (wayland.xml, wl_surface.damage and wl_buffer.release). Told are each client
@@ -73,19 +75,19 @@ pub fn turn<A: Allocator + Copy, H: Hub, S: SideFiles, W: Write, P: Write>(
     ppm: &mut Option<P>,
 ) -> Result<(), TurnError>
     ensures taken { OnOk result (IsServed (IsTurn (ways H.accepts H.reads H.writes H.closes H.fault_count) (files_of S.opens S.gives S.fault_count) time
-        (serving service.old.hub connections.old service.old.side) (serving service.new.hub connections.new service.new.side))
+        (serving service.old.hub connections.old service.old.side service.old.waiting) (serving service.new.hub connections.new service.new.side service.new.waiting))
         (IsToldOf (W.contents report.old) (W.contents report.new) (images_in P.contents ppm.old) (images_in P.contents ppm.new))
         service.old.session service.new.session) }
     ensures begun { IsServed (StartsTurn (ways H.accepts H.reads H.writes H.closes H.fault_count) (files_of S.opens S.gives S.fault_count) time
-        (serving service.old.hub connections.old service.old.side) (serving service.new.hub connections.new service.new.side))
+        (serving service.old.hub connections.old service.old.side service.old.waiting) (serving service.new.hub connections.new service.new.side service.new.waiting))
         (λ events. ⊤) service.old.session service.new.session }
     ensures waiting { service.new.waiting ≡ left_at time service.old.waiting }
 {
-    service.waiting.take(time);
+    point_all(&mut service.session, &mut service.waiting, time);
     take_phases(service, connections, time, report, ppm)
 }
 
-/// The phases of a turn, but that of the pointer lines.
+/// Serves the clients: the phases of a turn, but that of the pointer's lines.
 fn take_phases<A: Allocator + Copy, H: Hub, S: SideFiles, W: Write, P: Write>(
     service: &mut Service<A, H, S>,
     connections: &mut Connections<H::Conn>,
@@ -93,12 +95,12 @@ fn take_phases<A: Allocator + Copy, H: Hub, S: SideFiles, W: Write, P: Write>(
     report: &mut W,
     ppm: &mut Option<P>,
 ) -> Result<(), TurnError>
-    ensures taken { OnOk result (Tells (IsTurn (ways H.accepts H.reads H.writes H.closes H.fault_count) (files_of S.opens S.gives S.fault_count) time
-        (serving service.old.hub connections.old service.old.side) (serving service.new.hub connections.new service.new.side))
+    ensures taken { OnOk result (Tells (Serves (ways H.accepts H.reads H.writes H.closes H.fault_count) (files_of S.opens S.gives S.fault_count) time 32
+        (serving service.old.hub connections.old service.old.side service.old.waiting) (serving service.new.hub connections.new service.new.side service.new.waiting))
         service.old.session service.new.session (W.contents report.old) (W.contents report.new)
         (images_in P.contents ppm.old) (images_in P.contents ppm.new)) }
-    ensures begun { Takes (StartsTurn (ways H.accepts H.reads H.writes H.closes H.fault_count) (files_of S.opens S.gives S.fault_count) time
-        (serving service.old.hub connections.old service.old.side) (serving service.new.hub connections.new service.new.side))
+    ensures begun { Takes (StartsServing (ways H.accepts H.reads H.writes H.closes H.fault_count) (files_of S.opens S.gives S.fault_count) time
+        (serving service.old.hub connections.old service.old.side service.old.waiting) (serving service.new.hub connections.new service.new.side service.new.waiting))
         service.old.session service.new.session }
     ensures waiting { service.new.waiting ≡ service.old.waiting }
 {

@@ -1,13 +1,13 @@
 //! The pointer lines that weren't taken yet.
 
-ghost use Rattle.std.specs.Prelude.{◌≡◌, ◌≤◌, drop, length};
-ghost use Rattle.wl_server.specs.Due.{is_due, left_at};
+ghost use Rattle.std.specs.Prelude.{◌≡◌};
+ghost use Rattle.wl_server.specs.Due.{TakesDue, is_due};
 
 use std::alloc::Allocator;
 use std::marker::Model;
 use wl_recording::PointerLine;
 
-/// Lines of a pointer file, of which some were taken or passed over. It is seen as those that are left.
+/// Lines of a pointer file, of which some were taken. It is seen as those that are left.
 #[derive(Drop)]
 pub struct Waiting<A: Allocator> {
     lines: Vec<PointerLine, A>,
@@ -33,25 +33,20 @@ impl<A: Allocator> Waiting<A> {
         Waiting { lines, taken: 0 }
     }
 
-    /// Takes those that are due at this time, in their order, and passes over those that ask nothing.
-    pub(crate) fn take(&mut self, time: u32)
-        ensures { self.new ≡ left_at time self.old }
+    /// Takes the next line, if it is due at this time.
+    pub(crate) fn next_due(&mut self, time: u32) -> Option<PointerLine>
+        ensures { TakesDue time result self.old self.new }
     {
-        self.taken = after_due(&self.lines, self.taken, time);
+        if self.taken == self.lines.len() {
+            return None;
+        }
+        let line = self.lines[self.taken];
+        if !is_due(&line, time) {
+            return None;
+        }
+        self.taken += 1;
+        Some(line)
     }
-}
-
-/// How many lines are taken where those from this one on that are due at this time are too.
-fn after_due(lines: &[PointerLine], from: usize, time: u32) -> usize
-    requires { from ≤ length lines.now }
-    ensures within { result ≤ length lines.now }
-    ensures left { drop result lines.now ≡ left_at time (drop from lines.now) }
-{
-    let mut taken = from;
-    while taken < lines.len() && is_due(&lines[taken], time) {
-        taken += 1;
-    }
-    taken
 }
 
 /// Whether a line's time has come, or it has none.

@@ -5,6 +5,8 @@
 mod hub;
 pub mod memory;
 #[cfg(test)]
+mod motions;
+#[cfg(test)]
 mod own;
 #[cfg(test)]
 mod pointer;

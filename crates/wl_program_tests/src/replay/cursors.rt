@@ -1,7 +1,6 @@
 //! A client that has a wl_pointer and makes cursors of its surfaces.
 
-use crate::replay::support::played;
-use std::alloc::Global;
+use crate::replay::support::{SMALL, first_missed};
 
 /// get_registry(2), and binds of wl_compositor as 3, wl_seat as 4, xdg_wm_base as 5 and wl_subcompositor as 6; then get_pointer(7) and
 /// create_surface(8).
@@ -89,33 +88,7 @@ bytes 1 06000000 01001400 0a000000 08000000 09000000
     ),
 ];
 
-/// Whether lines behind those of the pointer are played to their end, and this is reported of them.
-fn is_reported(alloc: Global, lines: &[u8], report: &[u8]) -> bool {
-    let (_, before) = played(alloc, POINTER);
-    let mut recording = Vec::new(alloc);
-    if recording.extend_from_slice(POINTER).is_err()
-        || recording.extend_from_slice(lines).is_err()
-    {
-        return false;
-    }
-    let (played, written) = played(alloc, recording.as_slice());
-    match written.as_slice().strip_prefix(before.as_slice()) {
-        Some(own) => played.is_ok() && own == report,
-        None => false,
-    }
-}
-
-/// The place of the first lines that aren't played to their end, or have another report.
-fn first_missed(alloc: Global, rows: &[(&[u8], &[u8])]) -> Option<usize> {
-    for (place, &(lines, report)) in rows.iter().enumerate() {
-        if !is_reported(alloc, lines, report) {
-            return Some(place);
-        }
-    }
-    None
-}
-
 #[test]
 fn a_surface_with_another_role_is_no_cursor(rt: HostRuntime) {
-    assert_eq!(rt; first_missed(rt.alloc(), ROWS), None);
+    assert_eq!(rt; first_missed(rt.alloc(), SMALL, POINTER, ROWS), None);
 }

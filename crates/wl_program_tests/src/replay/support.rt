@@ -117,6 +117,13 @@ pub(crate) const SMALL: Config = Config {
     background: Rgb { r: 0, g: 0, b: 0 },
 };
 
+/// An output of 64 by 64 black pixels.
+pub(crate) const SQUARE: Config = Config {
+    width: 64,
+    height: 64,
+    background: Rgb { r: 0, g: 0, b: 0 },
+};
+
 /// Plays a recording on the small output.
 pub(crate) fn play<A: Allocator + Copy, R: BufRead, W: Write, P: Write>(
     alloc: A,
@@ -138,11 +145,64 @@ pub(crate) fn play_with<A: Allocator + Copy, R: BufRead, W: Write, S: SideFiles>
     replay(alloc, SMALL, reader, writer, &mut none, side)
 }
 
-/// How a recording is played without side files and images, and its report.
+/// How a recording is played on the small output without side files and images, and its report.
 pub(crate) fn played(alloc: Global, recording: &[u8]) -> (Result<Summary, ReplayError>, Vec<u8>) {
+    played_on(alloc, SMALL, recording)
+}
+
+/// The same on any output.
+fn played_on(
+    alloc: Global,
+    config: Config,
+    recording: &[u8],
+) -> (Result<Summary, ReplayError>, Vec<u8>) {
     let mut reader = recording;
     let mut written = Vec::new(alloc);
     let mut none = None::<Vec<u8>>;
-    let played = play(alloc, &mut reader, &mut written, &mut none);
+    let played = replay(
+        alloc,
+        config,
+        &mut reader,
+        &mut written,
+        &mut none,
+        &mut NoFiles,
+    );
     (played, written)
+}
+
+/// Whether lines behind those of a beginning are played to their end, and this is reported of them.
+fn is_reported(
+    alloc: Global,
+    config: Config,
+    beginning: &[u8],
+    lines: &[u8],
+    report: &[u8],
+) -> bool {
+    let (_, before) = played_on(alloc, config, beginning);
+    let mut recording = Vec::new(alloc);
+    if recording.extend_from_slice(beginning).is_err()
+        || recording.extend_from_slice(lines).is_err()
+    {
+        return false;
+    }
+    let (played, written) = played_on(alloc, config, recording.as_slice());
+    match written.as_slice().strip_prefix(before.as_slice()) {
+        Some(own) => played.is_ok() && own == report,
+        None => false,
+    }
+}
+
+/// The place of the first lines behind those of a beginning that aren't played to their end, or have another report.
+pub(crate) fn first_missed(
+    alloc: Global,
+    config: Config,
+    beginning: &[u8],
+    rows: &[(&[u8], &[u8])],
+) -> Option<usize> {
+    for (place, &(lines, report)) in rows.iter().enumerate() {
+        if !is_reported(alloc, config, beginning, lines, report) {
+            return Some(place);
+        }
+    }
+    None
 }

@@ -6,8 +6,10 @@ use Rattle.wl_program.proofs.serving.serve.Goals as goal
 
 pub returns-clause-served : goal.returns-clause-served
 returns-clause-served g c =
-    turns-ok c.serve_on.result c.args.serve _ _ _ _ _ _ _ _ _ _ _ c.new-service.ensures.session c.in_ok-session.ensures.desk c.in_ok-session.ensures.right c.in_ok-session.ensures.first refl refl
-    (begun-as c.args.serve _ _ _ (c.new-service.ensures.hub ∙ c.in_ok-hub.ensures.bound) c.new-connections.ensures (c.new-service.ensures.side ∙ c.new-side.ensures))
+    turns-ok c.serve_on.result c.args.serve c.in_ok-lines.lines.items _ _ _ _ _ _ _ _ _ _ _ c.new-service.ensures.session c.in_ok-session.ensures.desk c.in_ok-session.ensures.right
+    c.in_ok-session.ensures.first c.in_ok-lines.ensures.unpointed refl refl
+    (begun-as c.args.serve _ _ _ _ _ (c.new-service.ensures.hub ∙ c.in_ok-hub.ensures.bound) c.new-connections.ensures
+    (c.new-service.ensures.side ∙ c.new-side.ensures) c.new-service.ensures.waiting)
     c.serve_on.ensures.taken
 
 pub returns-in_err-ppm-clause-failed : goal.returns-in_err-ppm-clause-failed
@@ -18,7 +20,7 @@ returns-in_err-ppm-clause-failed g c =
 pub returns-in_err-lines-clause-failed : goal.returns-in_err-lines-clause-failed
 returns-in_err-lines-clause-failed g c =
     let p = err_from_is_err_and c.from_residual-in_err-lines.result c.from_residual-in_err-lines.ensures.1 in
-    rw (p.1, p.2) (pointer-fails c.args.serve _ _ c.in_err-lines.ensures)
+    rw (p.1, p.2) (pointer-fails c.args.serve _ _ c.in_err-lines.ensures.failed)
 
 pub returns-in_err-hub-clause-failed : goal.returns-in_err-hub-clause-failed
 returns-in_err-hub-clause-failed g c =

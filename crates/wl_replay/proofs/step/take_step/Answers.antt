@@ -1,9 +1,12 @@
-use Rattle.std.proofs.Common.{refl}
-use Rattle.wl_replay.specs.Report.{TellsBytes, TellsConnect, TellsGone, TellsNothing, TellsTick}
+use Rattle.std.proofs.Common.{refl, rules, w32}
+use Rattle.std.proofs.lemmas.Int.{to_z-of_z}
+use Rattle.std.specs.Prelude.{FitsSigned}
+use Rattle.wl_session.proofs.Courses.{motion-courses}
+use Rattle.wl_replay.specs.Report.{TellsBytes, TellsConnect, TellsGone, TellsMotion, TellsNothing, TellsTick}
 use Rattle.wl_recording.specs.Side.{files_of}
 use Rattle.wl_replay.specs.Storing.{TellsFile, TellsStore}
 use Rattle.wl_recording.specs.declared.line.Line.TheVariants as line
-use Rattle.wl_replay.proofs.Leading.{Counts-silent, Leads-at, Leads-nothing}
+use Rattle.wl_replay.proofs.Leading.{Counts-silent, Leads-at, Leads-motion, Leads-nothing}
 use Rattle.wl_replay.proofs.step.take_step.Goals as goal
 
 pub returns-in_ok-feed-in-Bytes-clause-told : goal.returns-in_ok-feed-in-Bytes-clause-told
@@ -23,6 +26,17 @@ returns-in_ok-gone-in-Gone-clause-told g c =
     Leads-at (files_of g.S.SideFiles.opens g.S.SideFiles.gives g.S.SideFiles.fault_count) c.args.side.now c.args.side.now c.args.asked.line (line.Gone c.in-Gone.client) c.args.asked.piece.now
     (TellsGone c.in-Gone.client) _ _ _ _ _ _ c.in-Gone.is
     (λ old new told tells. (tells, refl)) (Counts-silent _ 0) c.in_ok-gone-in-Gone.ensures.told
+
+pub returns-in-Motion-clause-told : goal.returns-in-Motion-clause-told
+returns-in-Motion-clause-told g c =
+    let m = c.in-Motion in
+    let x : FitsSigned w32 m.x = search rules in
+    let y : FitsSigned w32 m.y = search rules in
+    Leads-at (files_of g.S.SideFiles.opens g.S.SideFiles.gives g.S.SideFiles.fault_count) c.args.side.now c.args.side.now c.args.asked.line (line.Motion m.time m.x m.y) c.args.asked.piece.now
+    (TellsMotion m.time m.x m.y) _ _ _ _ _ _ m.is
+    (λ old new told tells. (tells, refl)) (λ told counts. counts)
+    (Leads-motion m.time m.x m.y c.args.session.now c.motion.new.self (g.W.Write.contents c.args.writer.now) _
+    (motion-courses m.time m.x m.y _ _ (to_z-of_z w32 m.x x) (to_z-of_z w32 m.y y) _ _ c.motion.ensures.course))
 
 pub returns-in-Nothing-clause-told : goal.returns-in-Nothing-clause-told
 returns-in-Nothing-clause-told g c =

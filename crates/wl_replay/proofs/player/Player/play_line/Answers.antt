@@ -1,4 +1,4 @@
-use Rattle.std.proofs.Common.{ℕ, List, Ok, Some, inr, refl, sym, ap, ◌∙◌}
+use Rattle.std.proofs.Common.{ℕ, List, Ok, Err, Some, inr, refl, sym, ap, ◌∙◌}
 use Rattle.wl_recording.specs.Line.{asked_by, meaning}
 use Rattle.wl_replay.proofs.player.Player.play_line.Goals as goal
 
@@ -25,4 +25,23 @@ returns-in_default-clause-failed g c =
         ap asked_by (sym c.deref.ensures.value) ∙ sym none,
       ),
       (refl, refl, refl),
+    )
+
+pub returns-in-Err-Side-clause-failed : goal.returns-in-Err-Side-clause-failed
+returns-in-Err-Side-clause-failed g c =
+    let asks = rw c.in-Some.is at c.in_ok-line.ensures in
+    let lacks = c.in-Err-Side.ensures.lacking (ap Err c.in-Err-Side.field-0-is) in (
+      refl,
+      (
+        lacks.0,
+        lacks.1,
+        λ d agrees. (
+          c.read_text.new.text.items,
+          meaning c.deref-2.result.now c.in-Some.line,
+          g.R.Read.remaining c.read_text.new.reader,
+          c.in_ok-read_text.ensures.taken (ap Ok c.if-not-branch.false),
+          ap asked_by (sym c.deref.ensures.value) ∙ sym asks ∙ ap (λ (piece : List ℕ). Some (meaning piece c.in-Some.line)) (sym c.deref-2.ensures.value),
+          lacks.2 d agrees,
+        ),
+      ),
     )

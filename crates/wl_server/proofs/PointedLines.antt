@@ -1,0 +1,87 @@
+-- Lines of the pointer, taken one after another.
+use Rattle.std.proofs.Common.{◌≡◌, ℕ, suc, ℤ, ◌+◌, Bool, true, List, [], ◌∷◌, ◌++◌, refl, ap, sym, ◌∙◌, arith, append-nil, append_assoc, take-append-drop}
+use Rattle.std.specs.Prelude.{if◌then◌else◌, drop, take}
+use Rattle.std.specs.List.{prefix_len}
+use Rattle.wl_plain.specs.Act as act
+use Rattle.wl_plain.specs.Act.{Act}
+use Rattle.wl_plain.specs.declared.answers.Done.TheVariants as gave
+use Rattle.wl_recording.specs.declared.pointer.PointerLine.{PointerLine}
+use Rattle.wl_recording.specs.declared.pointer.PointerLine.TheVariants.{Motion, Button, Skip, Bad}
+use Rattle.wl_session.specs.Course.{TakesCourse}
+use Rattle.wl_session.specs.View.{SessionView}
+use Rattle.wl_server.specs.Acting.{Stretch, Takes}
+use Rattle.wl_server.specs.Due.{due_at, is_due, left_at, motions_of}
+use Rattle.wl_server.specs.Phases.{Points}
+use Rattle.wl_server.proofs.Taking.{Takes-none, Takes-one, Takes-then, Takes-weaker}
+
+-- ---- which lines are due
+
+take-more : (n : ℕ) (line : PointerLine) (lines : List PointerLine) → take (1 + n) (line ∷ lines) ≡ line ∷ take n lines
+take-more n line lines =
+    let one : 1 + n ≡ suc n = omega arith in
+    ap (λ (k : ℕ). take k (line ∷ lines)) one
+
+drop-more : (n : ℕ) (line : PointerLine) (lines : List PointerLine) → drop (1 + n) (line ∷ lines) ≡ drop n lines
+drop-more n line lines =
+    let one : 1 + n ≡ suc n = omega arith in
+    ap (λ (k : ℕ). drop k (line ∷ lines)) one
+
+due-more : (time : ℕ) (line : PointerLine) (lines : List PointerLine) → is_due time line ≡ true → due_at time (line ∷ lines) ≡ line ∷ due_at time lines
+due-more time line lines due =
+    let n = prefix_len (is_due time) lines in
+    ap (λ (b : Bool). take (if b then 1 + n else 0) (line ∷ lines)) due ∙ take-more n line lines
+
+pub left-more : (time : ℕ) (line : PointerLine) (lines : List PointerLine) → is_due time line ≡ true → left_at time (line ∷ lines) ≡ left_at time lines
+left-more time line lines due =
+    let n = prefix_len (is_due time) lines in
+    ap (λ (b : Bool). drop (if b then 1 + n else 0) (line ∷ lines)) due ∙ drop-more n line lines
+
+pub left-none : (time : ℕ) (lines : List PointerLine) → due_at time lines ≡ [] → left_at time lines ≡ lines
+left-none time lines none =
+    let n = prefix_len (is_due time) lines in
+    sym (ap (λ (front : List PointerLine). front ++ drop n lines) none) ∙ take-append-drop n lines
+
+-- ---- the motions among lines
+
+motions-then : (first next : List PointerLine) → motions_of (first ++ next) ≡ motions_of first ++ motions_of next
+motions-then [] next = refl
+motions-then (Motion time x y ∷ first) next = ap (λ (acts : List Act). act.Motion time x y ∷ acts) (motions-then first next)
+motions-then (Button time code pressed ∷ first) next = motions-then first next
+motions-then (Skip ∷ first) next = motions-then first next
+motions-then (Bad ∷ first) next = motions-then first next
+
+-- ---- line after line
+
+-- of the lines that are due at this time those before these were taken
+abbrev pub PointedTo : ℕ → List PointerLine → List PointerLine → Stretch
+PointedTo time from left start acts events end =
+    (lines : List PointerLine) × (due_at time from ≡ lines ++ due_at time left) × Points lines start acts events end
+
+pub pointed-none : (time : ℕ) (lines : List PointerLine) (v : SessionView) → Takes (PointedTo time lines lines) v v
+pointed-none time lines v = Takes-none (PointedTo time lines lines) v v refl (λ d agrees. ([], refl, refl))
+
+pub pointed-more : (time : ℕ) (from mid to : List PointerLine) (line : PointerLine) (old between new : SessionView) → mid ≡ line ∷ to → is_due time line ≡ true
+    → Takes (PointedTo time from mid) old between → Takes (Points (line ∷ [])) between new → Takes (PointedTo time from to) old new
+pointed-more time from mid to line old between new is due first next =
+    Takes-then (PointedTo time from mid) (Points (line ∷ [])) (PointedTo time from to) old between new first next
+    (λ start d e a b es fs ad ae leads goes p q. (
+      p.0 ++ line ∷ [],
+      p.1 ∙ (ap (λ (lines : List PointerLine). p.0 ++ due_at time lines) is ∙ (ap (λ (lines : List PointerLine). p.0 ++ lines) (due-more time line to due)
+          ∙ sym (append_assoc p.0 (line ∷ []) (due_at time to)))),
+      ap (λ (front : List Act). front ++ b) p.2 ∙ (ap (λ (back : List Act). motions_of p.0 ++ back) q ∙ sym (motions-then p.0 (line ∷ []))),
+    ))
+
+pub pointed-all : (time : ℕ) (from to : List PointerLine) (old new : SessionView) → due_at time to ≡ [] → Takes (PointedTo time from to) old new → Takes (Points (due_at time from)) old new
+pointed-all time from to old new none takes =
+    Takes-weaker (PointedTo time from to) (Points (due_at time from)) old new takes
+    (λ d e a es ad ae runs p.
+    let all : due_at time from ≡ p.0 = p.1 ∙ (ap (λ (lines : List PointerLine). p.0 ++ lines) none ∙ append-nil p.0) in
+    p.2 ∙ ap motions_of (sym all))
+
+-- ---- one line
+
+pub point-motion : (line : PointerLine) (time : ℕ) (x y : ℤ) (old new : SessionView) → line ≡ Motion time x y → TakesCourse (act.Motion time x y) gave.Motion old new
+    → Takes (Points (line ∷ [])) old new
+point-motion line time x y old new is course =
+    Takes-one (Points (line ∷ [])) (act.Motion time x y) gave.Motion old new course
+    (λ d e events agrees parts. ap (λ (l : PointerLine). motions_of (l ∷ [])) (sym is))
