@@ -13,7 +13,7 @@ from wayland_wire import message, spell
 
 # The versions that clients are shown, where the server offers an earlier one.
 SHOWN = {"wl_compositor": 4, "wl_output": 3, "wl_seat": 7, "xdg_wm_base": 2}
-# What a seat can do by the server's word and not yet by its deeds: it has no events of a pointer and no popups. Once it has, this is 0, and a row is wanted
+# What a seat can do by the server's word and not yet by its deeds: its pointer has no buttons, and there are no popups. Once there are, this is 0, and a row is wanted
 # for wl_pointer.frame, which a seat of version 5 and later owes behind what belongs together.
 HIDDEN_CAPABILITIES = INTERFACES["wl_seat"].enums["capability"].values["pointer"]
 # A global of the bridge's own, with a name that no server gives.
@@ -175,8 +175,8 @@ REWRITINGS = (
         "wl_seat.capabilities",
         "event",
         "takes the pointer off the capabilities",
-        "the server says that there is a pointer, but it never moves, and there are no popups yet",
-        "yes: nobody points; a client that asks for a pointer all the same gets one that tells nothing",
+        "the server's pointer has no buttons yet, and there are no popups, which toolkits ask for where it rests (tooltips)",
+        "as for a client that nobody points at; one that asks for a pointer all the same is told of motions as the server tells them, without wl_pointer.frame",
         hide_capabilities,
     ),
     Rewriting(
