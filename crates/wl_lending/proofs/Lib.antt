@@ -8,3 +8,4 @@ pub mod Lent
 pub mod Standing
 pub mod Hits
 pub mod Numbered
+pub mod Raised

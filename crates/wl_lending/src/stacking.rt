@@ -1,6 +1,6 @@
 //! How what is kept of the windows of the output goes on standing for those of the desktop.
 
-ghost use Rattle.wl_lending.specs.StackedLaws.{BothAreStacked, FirstAreStacked, StackedAreTold, StackedClientGone, StackedPushed, StackedRemoved, StackedRenumbered, StackedReplaced, StackedTreeGone, TreeIsStacked, TreeIsThere};
+ghost use Rattle.wl_lending.specs.StackedLaws.{BothAreStacked, FirstAreStacked, StackedAreTold, StackedClientGone, StackedPushed, StackedRaised, StackedRemoved, StackedRenumbered, StackedReplaced, StackedTreeGone, StackedTreeRaised, TreeIsStacked, TreeIsThere};
 
 /// Of what stands for windows one above another, the first stand for the first and the others for the others.
 pub fn first_are_stacked()
@@ -55,4 +55,14 @@ pub fn stacked_tree_gone()
 /// It goes on standing for the windows where those of a client go.
 pub fn stacked_client_gone()
     ensures { StackedClientGone }
+{}
+
+/// It does where the windows of a tree come on top of the others.
+pub fn stacked_tree_raised()
+    ensures { StackedTreeRaised }
+{}
+
+/// It does where a toplevel comes to the top of the others, and its windows on top of theirs.
+pub fn stacked_raised()
+    ensures { StackedRaised }
 {}

@@ -20,6 +20,10 @@ tree_of client root all = filter (λ s. is_of client root s) all
 abbrev pub without_tree : ℕ → ℕ → List Stacked → List Stacked
 without_tree client root all = filter (λ s. not (is_of client root s)) all
 
+-- Those of the tree of this root come on top: the others keep their order, and so do they.
+abbrev pub raised : ℕ → ℕ → List Stacked → List Stacked
+raised client root all = without_tree client root all ++ tree_of client root all
+
 abbrev pub without_client : ℕ → List Stacked → List Stacked
 without_client client all = filter (λ s. not (s.client == client)) all
 
@@ -86,3 +90,7 @@ ReplacesNothing =
 -- the last so many before the others
 abbrev pub last_first : ℕ → List Stacked → List Stacked
 last_first count xs = drop (length xs - count) xs ++ take (length xs - count) xs
+
+-- the first so many behind the others
+abbrev pub first_last : ℕ → List Stacked → List Stacked
+first_last count xs = drop count xs ++ take count xs

@@ -3,7 +3,7 @@
 ghost use Rattle.std.specs.Prelude.{◌≡◌, ◌++◌, ◌+◌, ◌≤◌, IsOk, OnErr, OnOk, MatchOption, drop, false, length, map, position, take};
 ghost use Rattle.std.specs.List.{list_any};
 ghost use Rattle.std.specs.Vec.{vec_capacity, vec_len};
-ghost use Rattle.wl_stacked.specs.Stacked.{AreTogether, IsRun, is_of, last_first, replaced, stacked, tree_of};
+ghost use Rattle.wl_stacked.specs.Stacked.{AreTogether, IsRun, first_last, is_of, last_first, raised, replaced, stacked, tree_of};
 
 use crate::stacked::{Stacked, add_all, is_of_tree};
 use std::alloc::{AllocError, Allocator};
@@ -97,4 +97,25 @@ pub(crate) fn replace_in<A: Allocator>(
     take_out(all, run);
     put_below(all, run.start, windows.len());
     Ok(())
+}
+
+/// The lowest windows from `start` on, so many of them, come above the others.
+fn put_above(all: &mut [Stacked], start: usize, count: usize)
+    requires { start + count ≤ length all.old }
+    ensures len { length all.new ≡ length all.old }
+    ensures put { all.new ≡ take start all.old ++ first_last count (drop start all.old) }
+{
+    all[start..].rotate_left(count);
+}
+
+/// The windows of the tree of a root come on top of the others. Nothing changes where it has none.
+pub(crate) fn raise_in(all: &mut [Stacked], client: u32, root: SurfaceNo)
+    requires { AreTogether all.old }
+    ensures len { length all.new ≡ length all.old }
+    ensures raised { all.new ≡ raised client root all.old }
+{
+    let Some(run) = run_of(all, client, root) else {
+        return;
+    };
+    put_above(all, run.start, run.count);
 }

@@ -2,9 +2,9 @@
 
 ghost use Rattle.std.specs.Prelude.{◌≡◌, ◌++◌, ◌≤◌, [], IsOk, OnErr, OnOk, false, length, map};
 ghost use Rattle.std.specs.List.{list_any};
-ghost use Rattle.wl_stacked.specs.Stacked.{AreTogether, is_of, replaced, stacked, tree_of, without_client, without_tree};
+ghost use Rattle.wl_stacked.specs.Stacked.{AreTogether, is_of, raised, replaced, stacked, tree_of, without_client, without_tree};
 
-use crate::runs::{replace_in, tree_in};
+use crate::runs::{raise_in, replace_in, tree_in};
 use crate::stacked::{Stacked, add_all, is_of_client, is_of_tree};
 use std::alloc::{AllocError, Allocator};
 use std::marker::Model;
@@ -111,6 +111,14 @@ impl<A: Allocator> StackedWindows<A> {
         ensures succeeds { length windows.now ≤ self.old.room → IsOk result }
     {
         replace_in(&mut self.windows, client, root, windows)
+    }
+
+    /// The windows of the tree of a root come on top of the others: it is raised. Nothing changes where no window of it is there.
+    pub fn raise(&mut self, client: u32, root: SurfaceNo)
+        ensures windows { self.new.windows ≡ raised client root self.old.windows }
+        ensures room { self.old.room ≤ self.new.room }
+    {
+        raise_in(&mut self.windows, client, root);
     }
 
     /// The windows of the tree of a root go.
