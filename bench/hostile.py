@@ -56,13 +56,16 @@ class Hostile:
     def __init__(self, chance, number, folder):
         self.chance, self.number, self.folder, self.files = chance, number, folder, []
 
-    def put_file(self, pool):
-        """The memory of its pool of this number is there from now on. Without a folder there is none."""
+    def put_file(self, pool, size=None):
+        """The memory of its pool of this number is there from now on: random bytes, or so many zeros. Without a folder there is none."""
         if self.folder is None:
             return
         path = self.folder / f"{self.number}.{pool}"
-        with contextlib.suppress(FileExistsError):
+        if size is None:
             os.link(self.folder / MEMORY, path)
+        else:
+            path.touch()
+            os.truncate(path, size)
         self.files.append(path)
 
     def end(self):
@@ -188,9 +191,11 @@ def large(mine):
     size = mine.chance.choice([MOST_POOLS, MOST_POOLS - 4096, 1 << 27])
     if mine.chance.random() < 0.5:
         yield (message(SHM, 0, FIRST, size) + message(FIRST, 1)) * 1000, 2000
+    else:
+        mine.put_file(1, size)
     yield message(SHM, 0, FIRST, size) + message(1, 0, FIRST + 1), 2
     for _ in range(200):
-        yield b"", 0
+        yield message(1, 0, FIRST + 1), 1
     yield message(SHM, 0, FIRST + 2, mine.chance.choice([MOST_POOLS, 0x7FFFFFFF, 0, -1, 1 << 27])), 1
 
 
@@ -264,6 +269,16 @@ def windows(mine):
         yield b"".join(requests), len(requests)
 
 
+def pointers(mine):
+    """A window and 7,000 wl_pointers, all of which are told what the pointer does over it."""
+    pool, buffer, surface, side = FIRST, FIRST + 1, FIRST + 2, 4 * SIDE
+    yield BEGIN + message(SHM, 0, pool, 4 * side * side) + message(pool, 0, buffer, 0, side, side, 4 * side, 1) + shown(surface, 1, buffer), BEGUN + 9
+    for ids in range(FIRST + 5, FIRST + 7005, 1000):
+        yield b"".join(message(SEAT, 0, it) for it in range(ids, ids + 1000)), 1000
+    for _ in range(mine.chance.randint(0, 1000)):
+        yield b"", 0
+
+
 def regions(mine):
     """Regions of 510 changes that leave as many rectangles as they can, as what a surface takes of the input and has opaque."""
     yield BEGIN + message(COMPOSITOR, 0, FIRST), BEGUN + 1
@@ -274,7 +289,7 @@ def regions(mine):
         yield message(FIRST, 4, region) + message(FIRST, 5, region) + message(FIRST, 6), 3
 
 
-KINDS = {it.__name__: it for it in (noise, mutated, flood, comes, pools, large, titles, windows, regions)}
+KINDS = {it.__name__: it for it in (noise, mutated, flood, comes, pools, large, titles, windows, pointers, regions)}
 
 
 class Place:
