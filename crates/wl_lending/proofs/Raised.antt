@@ -134,7 +134,7 @@ module _ (client surface : ℕ) where
       ∙ (ap (λ ws. windows_at owned s ++ ws) (all-left owned ss (or-right (is_standing client surface s) (list_any (is_standing client surface) ss) none))
       ∙ sym (windows-first owned s ss)))
 
-  pub raised-windows : (owned : ℕ → Owned) (ss : List Standing) → stands_once client surface ss ≡ true
+  raised-windows : (owned : ℕ → Owned) (ss : List Standing) → stands_once client surface ss ≡ true
       → windows_on owned (raised_standing client surface ss) ≡ filter other (windows_on owned ss) ++ filter its (windows_on owned ss)
   raised-windows owned [] once = refl
   raised-windows owned (s ∷ ss) once = at (is_standing client surface s) refl (raised-windows owned ss) once
