@@ -8,15 +8,15 @@ pub mod Leaving
 pub mod Living
 pub mod Made
 pub mod Marked
-pub mod Moving
 pub mod Parting
 pub mod Placed
 pub mod Raised
-pub mod Raising
 pub mod Restacking
+pub mod Rising
 pub mod Scenes
 pub mod Served
 pub mod Serving
+pub mod Shifting
 pub mod Sitting
 pub mod Standings
 pub mod Taking

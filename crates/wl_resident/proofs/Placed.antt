@@ -1,10 +1,13 @@
 -- The windows of a tree by the corner of its root: they are the very same where that stays, and others where it is elsewhere.
 use Rattle.std.proofs.Common.{◌≡◌, ℕ, zero, suc, Bool, true, false, cond, Option, Some, None, List, [], ◌∷◌, ◌++◌, flat_map, length, refl, ap, ap₂, sym, subst, ◌∙◌, arith}
-use Rattle.std.specs.Prelude.{ℤ, ◌&&◌, ◌||◌}
-use Rattle.std.specs.List.{list_any}
+use Rattle.std.specs.Prelude.{ℤ, ◌+ℤ◌, ◌&&◌}
+use Rattle.std.specs.Option.{option_map}
 use Rattle.std.proofs.lemmas.Int.{ints}
 use Rattle.wl_state.specs.Request.{Buffer, Child, Itself, Member}
-use Rattle.wl_state.specs.State.{History, Values, applied, counting, order}
+use Rattle.wl_state.specs.State.{History, Values, applied, counting, order, within_bounds}
+use Rattle.wl_state.specs.Surface.{Surface}
+use Rattle.wl_state.specs.declared.state.Current.{Current}
+use Rattle.wl_surface.specs.Slots.{IsCurrentAt}
 use Rattle.wl_surface.specs.Surfaces.{Link, Surfaces, history_in, link_at}
 use Rattle.wl_stacking.specs.Stacking.{shows_buffer}
 use Rattle.wl_stacking.specs.Windows.{Owner, Place, Window, child_windows, corner_at, member_windows, shown_windows, surface_windows, tree, window_showing, window_with}
@@ -118,3 +121,27 @@ module _ (long : MovedTreesAreAsLong) (n : ℕ) (owner : Owner) (all : Surfaces)
           → AreSame (surface_windows next owner all surface p o) (surface_windows next owner all surface q o) → ⊥
       at None shows other same = differ shows
       at (Some h) shows other same = by h (applied h).buffer refl shows other same
+
+-- ---- by what is kept of the root
+
+-- The corner is the same from two places where the offset that is kept leads from both to one point.
+pub corner-told : {A : Type 0} (current : Current A) (told : Option (Current A)) (p q : Place) (s : Option Surface) → IsCurrentAt told s → told ≡ Some current → (a b : Bool)
+    → a ≡ int_eq (within_bounds (p.x +ℤ current.offset.x)) (within_bounds (q.x +ℤ current.offset.x))
+    → b ≡ int_eq (within_bounds (p.y +ℤ current.offset.y)) (within_bounds (q.y +ℤ current.offset.y))
+    → (a && b) ≡ is_same_corner (option_map (λ (s : Surface). s.history) s) p q
+corner-told {A} current told p q s is there a b across down = by s (subst (λ (o : Option (Current A)). IsCurrentAt o s) there is)
+  where
+    by : (s : Option Surface) → IsCurrentAt (Some current) s → (a && b) ≡ is_same_corner (option_map (λ (s : Surface). s.history) s) p q
+    by None is = absurd is
+    by (Some s) is =
+        ap₂ (λ m n. m && n) (across ∙ ap (λ z. int_eq (within_bounds (p.x +ℤ z)) (within_bounds (q.x +ℤ z))) is.offset.0)
+        (down ∙ ap (λ z. int_eq (within_bounds (p.y +ℤ z)) (within_bounds (q.y +ℤ z))) is.offset.1)
+
+-- that of a surface that isn't there
+pub corner-untold : {A : Type 0} (told : Option (Current A)) (p q : Place) (s : Option Surface) → IsCurrentAt told s → told ≡ None
+    → true ≡ is_same_corner (option_map (λ (s : Surface). s.history) s) p q
+corner-untold {A} told p q s is none = by s (subst (λ (o : Option (Current A)). IsCurrentAt o s) none is)
+  where
+    by : (s : Option Surface) → IsCurrentAt {A = A} None s → true ≡ is_same_corner (option_map (λ (s : Surface). s.history) s) p q
+    by None is = refl
+    by (Some s) is = absurd is

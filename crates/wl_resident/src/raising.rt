@@ -5,7 +5,8 @@ ghost use Rattle.std.specs.List.{list_any};
 ghost use Rattle.wl_marking.specs.Marking.{IsAsLarge};
 ghost use Rattle.wl_paint.specs.Damage.{has};
 ghost use Rattle.wl_repaint.specs.Repaint.{window_has};
-ghost use Rattle.wl_stacking.specs.Stacking.{raised};
+ghost use Rattle.wl_scene.specs.Kept.{standing_of};
+ghost use Rattle.wl_stacking.specs.Stacking.{is_of, raised};
 ghost use Rattle.wl_stacked.specs.Stacked.{raised as raised_windows};
 ghost use Rattle.wl_plain.specs.Through.{is_topmost};
 ghost use Rattle.wl_resident.specs.Raising.{IsRaised, MarksRaised, MarksRaisedMost};
@@ -14,17 +15,26 @@ ghost use Rattle.wl_resident.specs.Screens.{tree_kept};
 use crate::screens::Screen;
 use std::alloc::Allocator;
 use wl_plain::ClientNo;
-use wl_scene::{Scene, Surface};
+use wl_scene::{Scene, Surface, Toplevel};
 use wl_surface::SurfaceNo;
+
+/// Whether a toplevel is that of this surface.
+fn is_of_surface(toplevel: &Toplevel, surface: Surface) -> bool
+    ensures { result ≡ is_of surface.client surface.surface (standing_of toplevel.now) }
+{
+    toplevel.surface == surface
+}
 
 /// Whether no toplevel stands above that of this surface.
 fn is_topmost<A: Allocator>(scene: &Scene<A>, surface: Surface) -> bool
     ensures { result ≡ is_topmost surface.client surface.surface scene.now.standing }
 {
-    match scene.toplevels().last() {
-        Some(toplevel) => toplevel.surface == surface,
-        None => false,
+    let toplevels = scene.toplevels();
+    let count = toplevels.len();
+    if count == 0 {
+        return false;
     }
+    is_of_surface(&toplevels[count - 1], surface)
 }
 
 impl<A: Allocator + Copy> Screen<A> {

@@ -65,8 +65,8 @@ use Rattle.wl_resident.specs.Seats.{IsSeated}
 use Rattle.wl_resident.specs.View.{Pile}
 use Rattle.wl_resident.proofs.Finding.{IsFoundAs, found-as, told-on}
 use Rattle.wl_resident.proofs.Placed.{other-tree, same-tree}
-use Rattle.wl_resident.proofs.Raising as raising
-use Rattle.wl_resident.proofs.Raising.{tree-has}
+use Rattle.wl_resident.proofs.Rising as rising
+use Rattle.wl_resident.proofs.Rising.{inside-so, tree-has}
 use Rattle.wl_resident.proofs.Scenes.{AreOnce, number-is, numbers-same}
 use Rattle.wl_resident.proofs.Serving.{length-mapped}
 use Rattle.wl_resident.proofs.Standings.{based-still, mapped-still, seated-same, trees-still, undamaged-still, unmarked-same}
@@ -91,16 +91,17 @@ moved-among c surface place (r ∷ rs) s above none is =
 found-moved : (c surface : ℕ) (place : Place) (ss : List Standing) (s : Standing) → find (is_of c surface) ss ≡ Some s
     → find (is_of c surface) (moved_to c surface place ss) ≡ Some (record s { place = place })
 found-moved c surface place [] s e = absurd (cc)
-found-moved c surface place (t ∷ ts) s e = at (is_of c surface t) refl e
+found-moved c surface place (t ∷ ts) s e = at (is_of c surface t) refl e (found-moved c surface place ts s)
   where
     placed : Option Standing → Option Standing
     placed None = None
     placed (Some r) = Some (record r { place = place })
 
     at : (b : Bool) → is_of c surface t ≡ b → cond b (Some t) (find (is_of c surface) ts) ≡ Some s
+        → (find (is_of c surface) ts ≡ Some s → find (is_of c surface) (moved_to c surface place ts) ≡ Some (record s { place = place }))
         → find (is_of c surface) (cond b (record t { place = place } ∷ ts) (t ∷ moved_to c surface place ts)) ≡ Some (record s { place = place })
-    at true its e = ap (λ b. cond b (Some (record t { place = place })) (find (is_of c surface) ts)) its ∙ ap placed e
-    at false other e = ap (λ b. cond b (Some t) (find (is_of c surface) (moved_to c surface place ts))) other ∙ found-moved c surface place ts s e
+    at true its e later = ap (λ b. cond b (Some (record t { place = place })) (find (is_of c surface) ts)) its ∙ ap placed e
+    at false other e later = ap (λ b. cond b (Some t) (find (is_of c surface) (moved_to c surface place ts))) other ∙ later e
 
 stack-moved : (numbers : ℕ → ById ℕ) (c surface n : ℕ) (place : Place) → AreOnce (numbers c) → numbers c surface ≡ Some n → (ks ss : List Standing) → IsStack numbers ks ss
     → IsStack numbers (moved_to c n place ks) (moved_to c surface place ss)
@@ -119,11 +120,11 @@ stack-moved numbers c surface n place once named (k ∷ ks) (s ∷ ss) is =
 
 apart-moved : (c surface : ℕ) (place : Place) (ss : List Standing) → AreApart ss → AreApart (moved_to c surface place ss)
 apart-moved c surface place [] apart = tt
-apart-moved c surface place (s ∷ ss) apart = at (is_of c surface s)
+apart-moved c surface place (s ∷ ss) apart = at (is_of c surface s) (apart-moved c surface place ss apart.1)
   where
-    at : (b : Bool) → AreApart (cond b (record s { place = place } ∷ ss) (s ∷ moved_to c surface place ss))
-    at true = apart
-    at false = (any-moved (is_of s.client s.surface) (λ t to. refl) c surface place ss ∙ apart.0, apart-moved c surface place ss apart.1)
+    at : (b : Bool) → AreApart (moved_to c surface place ss) → AreApart (cond b (record s { place = place } ∷ ss) (s ∷ moved_to c surface place ss))
+    at true rest = apart
+    at false rest = (any-moved (is_of s.client s.surface) (λ t to. refl) c surface place ss ∙ apart.0, rest)
 
 some-of : {X : Type 0} (p : X → Bool) (xs : List X) → list_all p xs ≡ true → (xs ≡ [] → ⊥) → list_any p xs ≡ true
 some-of p [] all more = absurd (more refl)
@@ -152,13 +153,13 @@ module _ {A : Type 0} (c : ℕ) (others : ℕ → ById ℕ) (base d : Desktop) (
   nums = with_numbers c numbers others
 
   nums-named : nums c surface ≡ Some k
-  nums-named = raising.nums-named c others base d r v pile before orderly surface k named
+  nums-named = rising.nums-named c others base d r v pile before orderly surface k named
 
   once-own : AreOnce (nums c)
-  once-own = raising.once-own c others base d r v pile before orderly surface k named
+  once-own = rising.once-own c others base d r v pile before orderly surface k named
 
   trees : HasTrees d
-  trees = raising.trees c others base d r v pile before orderly surface k named
+  trees = rising.trees c others base d r v pile before orderly surface k named
 
   -- where it comes to
   abbrev pub to : Place
@@ -468,3 +469,36 @@ module _ {A : Type 0} (c : ℕ) (others : ℕ → ById ℕ) (base d : Desktop) (
                 (pos j)
                 (and-both (in_output d.output.width d.output.height (pos i) (pos j)) _ (inside i j wide high)
                 (sym (ap (λ b. b || (is_in_any (pos i) (pos j) was || is_in_any (pos i) (pos j) is)) clean) ∙ (sym (marked-so i j wide high) ∙ marked))))
+
+    -- ---- as it is done
+
+    -- it is put at this place, which is where it comes to
+    module _ (at : Place) (here : at ≡ moved t.place x y) (b : Bool)
+        (keeps : (those : Surfaces) → Stand v.owned.linked.surfaces v.owned.linked.family those → b ≡ is_same_corner (history_in k those) t.place at) (now : Pile)
+        (scene : now.scene.standing ≡ moved_to c k at pile.scene.standing) (next : now.scene.next ≡ pile.scene.next) where
+      at-is : at ≡ to
+      at-is = here ∙ to-is
+
+      scene-is : now.scene.standing ≡ moved_to c k to pile.scene.standing
+      scene-is = scene ∙ ap (λ (p : Place). moved_to c k p pile.scene.standing) at-is
+
+      pub moves-kept : b ≡ true → now.windows ≡ pile.windows → IsSeated c others base v now e r
+      moves-kept same windows = seated-kept (corner-is b at at-is keeps ∙ same) now scene-is next windows
+
+      pub marks-kept : b ≡ true → (damage : Damaged) → MarksAtLeast d e damage damage
+      marks-kept same damage = kept-least (corner-is b at at-is keeps ∙ same) damage
+
+      module _ (puts : (those : Surfaces) (owner : Owner) → Stand v.owned.linked.surfaces v.owned.linked.family those
+          → length (tree 17 (rooted k owner) those k at) ≡ length (tree_of c k pile.windows)
+          → now.windows ≡ replaced c k (map told_of (tree 17 (rooted k owner) those k at)) pile.windows) where
+        pub moves-put : IsSeated c others base v now e r
+        moves-put = seated-put now at at-is puts scene-is next
+
+        module _ (d0 d2 : Damaged) (points : (i j : ℕ) → i < d0.width → j < d0.height
+            → has d2 i j ≡ (has d0 i j || (list_any (window_has (pos i) (pos j)) (tree_kept c (Some k) pile.windows)
+            || list_any (window_has (pos i) (pos j)) (tree_kept c (Some k) now.windows)))) where
+          pub marks-put : MarksAtLeast d e d0 d2
+          marks-put = put-least now at at-is puts d0 d2 points
+
+          pub most-put : b ≡ false → d0.width ≡ d.output.width → d0.height ≡ d.output.height → MarksMost d e d0 d2
+          most-put other width height = put-most now at at-is puts d0 d2 points (corner-is b at at-is keeps ∙ other) (inside-so d d0 width height)

@@ -1,6 +1,6 @@
 -- A toplevel comes to the top with its windows: what is kept agrees with that, and what is marked is what has to be and may be.
-use Rattle.std.proofs.Common.{◌≡◌, ℕ, ◌<◌, ◌==◌, Bool, true, false, cond, Some, None, List, [], ◌∷◌, ◌++◌, map, refl, ap, ap₂, sym, subst, ◌∙◌, inl, inr, ◌⊎◌}
-use Rattle.std.specs.Prelude.{ℤ, pos, ◌&&◌, ◌||◌, filter, not}
+use Rattle.std.proofs.Common.{◌≡◌, ℕ, zero, suc, ◌<◌, ◌==◌, Bool, true, false, cond, Some, None, List, [], ◌∷◌, ◌++◌, length, map, refl, ap, ap₂, sym, subst, ◌∙◌, inl, inr, ◌⊎◌, arith}
+use Rattle.std.specs.Prelude.{ℤ, pos, slice_index_or, ◌&&◌, ◌||◌, filter, not}
 use Rattle.std.specs.List.{list_all, list_any}
 use Rattle.std.proofs.lemmas.List.{append-nil}
 use Rattle.std.proofs.lemmas.List.Elements.{filter-append}
@@ -40,6 +40,8 @@ use Rattle.wl_changes.proofs.OneTree.Stacks.{IsFound, none-or-found, windows-amo
 use Rattle.wl_changes.proofs.TurnedWindows.Told.{filter-among}
 use Rattle.wl_owning.specs.Owning.{targets_in}
 use Rattle.wl_repaint.specs.Repaint.{window_has}
+use Rattle.wl_scene.specs.Kept.{standing_of}
+use Rattle.wl_scene.specs.declared.scene.Toplevel.{Toplevel}
 use Rattle.wl_requests.specs.declared.residents.Resident.{Resident as Kept}
 use Rattle.wl_resident.specs.Agreement.{IsStack, with_numbers}
 use Rattle.wl_resident.specs.Marking.{MarksAtLeast, MarksMostBy}
@@ -47,6 +49,7 @@ use Rattle.wl_resident.specs.Raising.{with_raised}
 use Rattle.wl_resident.specs.Screens.{tree_kept}
 use Rattle.wl_resident.specs.Seats.{IsSeated}
 use Rattle.wl_resident.specs.View.{Pile}
+use Rattle.wl_resident.proofs.Assembling.{within-output}
 use Rattle.wl_resident.proofs.Raised.{least-passing, most-passing}
 use Rattle.wl_resident.proofs.Scenes.{AreOnce, number-is, numbers-same, stack-more}
 use Rattle.wl_resident.proofs.Standings.{based-still, mapped-still, seated-same, trees-still, undamaged-still, unmarked-same}
@@ -68,16 +71,16 @@ raised-topmost c surface (s ∷ []) apart e = at (is_of c surface s)
     at : (b : Bool) → cond b (s ∷ []) (s ∷ []) ≡ s ∷ []
     at true = refl
     at false = refl
-raised-topmost c surface (s ∷ (t ∷ ts)) apart e = at (is_of c surface s) refl
+raised-topmost c surface (s ∷ (t ∷ ts)) apart e = at (is_of c surface s) refl (raised-topmost c surface (t ∷ ts) apart.1 e)
   where
-    at : (b : Bool) → is_of c surface s ≡ b → cond b ((t ∷ ts) ++ s ∷ []) (s ∷ raised c surface (t ∷ ts)) ≡ s ∷ (t ∷ ts)
-    at true its =
+    at : (b : Bool) → is_of c surface s ≡ b → raised c surface (t ∷ ts) ≡ t ∷ ts → cond b ((t ∷ ts) ++ s ∷ []) (s ∷ raised c surface (t ∷ ts)) ≡ s ∷ (t ∷ ts)
+    at true its rest =
         absurd
         (differ
         (sym apart.0
         ∙ subst (λ n. list_any (is_of n s.surface) (t ∷ ts) ≡ true) (sym (of-client c surface s its))
         (subst (λ n. list_any (is_of c n) (t ∷ ts) ≡ true) (sym (of-surface c surface s its)) (topmost-there c surface (t ∷ ts) e))))
-    at false other = ap (λ xs. s ∷ xs) (raised-topmost c surface (t ∷ ts) apart.1 e)
+    at false other rest = ap (λ xs. s ∷ xs) rest
 
 -- what is kept of them says so too
 pub topmost-kept : (numbers : ℕ → ById ℕ) (c surface n : ℕ) → AreOnce (numbers c) → numbers c surface ≡ Some n → (ks ss : List Standing) → IsStack numbers ks ss
@@ -107,22 +110,31 @@ stack-raised numbers c surface n once named (k ∷ ks) (s ∷ ss) is =
 
 apart-raised : (c surface : ℕ) (ss : List Standing) → AreApart ss → AreApart (raised c surface ss)
 apart-raised c surface [] apart = tt
-apart-raised c surface (s ∷ ss) apart = at (is_of c surface s)
+apart-raised c surface (s ∷ ss) apart = at (is_of c surface s) (apart-raised c surface ss apart.1)
   where
-    at : (b : Bool) → AreApart (cond b (ss ++ s ∷ []) (s ∷ raised c surface ss))
-    at true = apart-last ss s apart.1 apart.0
-    at false = (any-raised (is_of s.client s.surface) c surface ss ∙ apart.0, apart-raised c surface ss apart.1)
+    at : (b : Bool) → AreApart (raised c surface ss) → AreApart (cond b (ss ++ s ∷ []) (s ∷ raised c surface ss))
+    at true rest = apart-last ss s apart.1 apart.0
+    at false rest = (any-raised (is_of s.client s.surface) c surface ss ∙ apart.0, rest)
 
 stands-once : (c surface : ℕ) (ss : List Standing) → AreApart ss → stands_once c surface ss ≡ true
 stands-once c surface [] apart = refl
-stands-once c surface (s ∷ ss) apart = at (is_of c surface s) refl
+stands-once c surface (s ∷ ss) apart = at (is_of c surface s) refl (stands-once c surface ss apart.1)
   where
-    at : (b : Bool) → is_of c surface s ≡ b → cond b (not (list_any (is_of c surface) ss)) (stands_once c surface ss) ≡ true
-    at true its =
+    at : (b : Bool) → is_of c surface s ≡ b → stands_once c surface ss ≡ true → cond b (not (list_any (is_of c surface) ss)) (stands_once c surface ss) ≡ true
+    at true its rest =
         ap not
         (subst (λ n. list_any (is_of n surface) ss ≡ false) (of-client c surface s its)
         (subst (λ n. list_any (is_of s.client n) ss ≡ false) (of-surface c surface s its) apart.0))
-    at false other = stands-once c surface ss apart.1
+    at false other rest = rest
+
+-- the last of those that are kept is the topmost
+pub topmost-last : (c surface : ℕ) (ts : List Toplevel) (d : Toplevel) (n : ℕ) → suc n ≡ length ts
+    → is_of c surface (standing_of (slice_index_or ts n d)) ≡ is_topmost c surface (map standing_of ts)
+topmost-last c surface [] d n e = absurd (omega (arith, e))
+topmost-last c surface (t ∷ []) d zero e = refl
+topmost-last c surface (t ∷ []) d (suc n) e = absurd (omega (arith, e))
+topmost-last c surface (t ∷ (u ∷ us)) d zero e = absurd (omega (arith, e))
+topmost-last c surface (t ∷ (u ∷ us)) d (suc n) e = topmost-last c surface (u ∷ us) d n (omega (arith, e))
 
 -- ---- the windows
 
@@ -229,6 +241,13 @@ pub tree-has : (numbers : ℕ → ById ℕ) (all : List Stacked) (ws : List Wind
 tree-has numbers all ws c root k are named once x y =
     kept-has numbers (tree_of c k all) (filter (λ w. has_root c root w) ws) (tree-is-stacked numbers all ws c root k are named once) x y
 
+-- what is to be painted is of the output
+pub inside-so : (d : Desktop) (damage : Damaged) → damage.width ≡ d.output.width → damage.height ≡ d.output.height → (x y : ℕ) → x < damage.width → y < damage.height
+    → in_output d.output.width d.output.height (pos x) (pos y) ≡ true
+inside-so d damage width height x y wide high =
+    subst (λ w. in_output w d.output.height (pos x) (pos y) ≡ true) width
+    (subst (λ h. in_output damage.width h (pos x) (pos y) ≡ true) height (within-output damage.width damage.height x y wide high))
+
 -- ---- at its seat
 
 module _ {A : Type 0} (c : ℕ) (others : ℕ → ById ℕ) (base d : Desktop) (r : Resident) (v : Kept A) (pile : Pile) (before : IsSeated c others base v pile d r) (orderly : Orderly d)
@@ -316,9 +335,9 @@ module _ {A : Type 0} (c : ℕ) (others : ℕ → ById ℕ) (base d : Desktop) (
     where
       one : (s : Standing) (w : Window) → w.owner ≡ standing_owner s → its w ≡ true → is_raised (Some (c, surface)) w ≡ true
       one s w own is =
-          let client : c ≡ w.owner.client = eqb-true c w.owner.client (and-left _ _ is) in
-          let root : surface ≡ w.owner.root = eqb-true surface w.owner.root (and-right _ _ is) in
-          and-both _ _ (equal-numbers w.owner.client c (sym client))
+          let client : c ≡ w.owner.client = eqb-true c w.owner.client (and-left (c == w.owner.client) (surface == w.owner.root) is) in
+          let root : surface ≡ w.owner.root = eqb-true surface w.owner.root (and-right (c == w.owner.client) (surface == w.owner.root) is) in
+          and-both (w.owner.client == c) (w.owner.toplevel == surface) (equal-numbers w.owner.client c (sym client))
           (equal-numbers w.owner.toplevel surface (ap (λ o. o.toplevel) own ∙ sym (ap (λ o. o.root) own) ∙ sym root))
 
       each : (ss : List Standing) → Each (λ s. Each (λ w. its w ≡ true → is_raised (Some (c, surface)) w ≡ true) (windows_in (owned_in d s.client).surfaces s)) ss
