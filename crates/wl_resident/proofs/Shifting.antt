@@ -16,7 +16,6 @@ use Rattle.wl_peer.specs.Objects.{ById}
 use Rattle.wl_state.specs.State.{History}
 use Rattle.wl_surface.specs.Surfaces.{Surfaces, history_in}
 use Rattle.wl_surface.specs.Trees.{levels}
-use Rattle.wl_tree_laws.specs.Hanging.{kids_of}
 use Rattle.wl_stacking.specs.Popups.{place_or_origin, standing_place}
 use Rattle.wl_stacking.specs.Stacking.{Owned, Standing, is_of, moved_to, shows_buffer}
 use Rattle.wl_stacking.specs.Windows.{Owner, Place, Window, moved, tree}
@@ -130,18 +129,6 @@ some-of : {X : Type 0} (p : X → Bool) (xs : List X) → list_all p xs ≡ true
 some-of p [] all more = absurd (more refl)
 some-of p (x ∷ xs) all more = or_left (p x) (list_any p xs) (and-left (p x) (list_all p xs) all)
 
--- the surfaces stay
-surfaces-stay : (d e : Desktop) (c id : ℕ) → ((other : ℕ) → owned_in e other ≡ owned_in d other) → ChangesBelow c id (owned_in d) (owned_in e)
-surfaces-stay d e c id same =
-    record {
-      others = λ other apart. ap (λ (o : Owned). o.surfaces) (same other);
-      keeps = record {
-        histories = λ surface apart. ap (λ (o : Owned). history_in surface o.surfaces) (same c);
-        kids = λ number child its known apart. subst (λ (o : Owned). kids_of o.surfaces number ≡ Some child) (sym (same c)) known;
-        gone = λ number its none. subst (λ (o : Owned). kids_of o.surfaces number ≡ None) (sym (same c)) none;
-      };
-    }
-
 -- ---- at its seat
 
 module _ {A : Type 0} (c : ℕ) (others : ℕ → ById ℕ) (base d : Desktop) (r : Resident) (v : Kept A) (pile : Pile) (before : IsSeated c others base v pile d r) (orderly : Orderly d)
@@ -206,14 +193,14 @@ module _ {A : Type 0} (c : ℕ) (others : ℕ → ById ℕ) (base d : Desktop) (
   -- ---- where it stands
 
   module _ (t : Standing) (kept : find (is_of c k) pile.scene.standing ≡ Some t) where
-    f : IsFound c surface d.standing
+    pub f : IsFound c surface d.standing
     f = at (none-or-found c surface d.standing trees.apart) (find (is_of c surface) d.standing) refl (subst (λ o. IsFoundAs o (find (is_of c surface) d.standing)) kept found-here)
       where
         at : (list_any (is_of c surface) d.standing ≡ false) ⊎ IsFound c surface d.standing → (o : Option Standing) → find (is_of c surface) d.standing ≡ o → IsFoundAs (Some t) o
             → IsFound c surface d.standing
-        at (inr f) o is as = f
-        at (inl none) None is as = absurd as
-        at (inl none) (Some s) is as = absurd (differ (sym none ∙ found-any (is_of c surface) (is_of c surface) d.standing s is (found-passes (is_of c surface) d.standing s is)))
+        at (inr f) o is so = f
+        at (inl none) None is so = absurd so
+        at (inl none) (Some s) is so = absurd (differ (sym none ∙ found-any (is_of c surface) (is_of c surface) d.standing s is (found-passes (is_of c surface) d.standing s is)))
 
     abbrev it : Standing
     it = f.it
@@ -243,10 +230,18 @@ module _ {A : Type 0} (c : ℕ) (others : ℕ → ById ℕ) (base d : Desktop) (
     abbrev all : Surfaces
     all = (owned_in d c).surfaces
 
+    -- the surfaces stay
+    surfaces-stay : ChangesBelow c surface (owned_in d) (owned_in e)
+    surfaces-stay =
+        record {
+          others = λ other apart. refl;
+          keeps = record { histories = λ s apart. refl; kids = λ number child its known apart. known; gone = λ number its none. none };
+        }
+
     pub tree-moved : ChangesTree c surface d e
     tree-moved =
         tree-changes windows_are_toplevels no-standing-changes standing-is-distinct no-child-is-top roots-apart c surface surface d e trees after
-        (surfaces-stay d e c surface (λ other. refl))
+        surfaces-stay
         (record { top = stands-top no-child-is-top d trees c surface there; under = descends-itself levels all surface }) f.below f.above (Some it) (Some it_moved) f.parts
         parts-after f.its f.its f.no_lower f.no_higher
 
@@ -452,16 +447,16 @@ module _ {A : Type 0} (c : ℕ) (others : ℕ → ById ℕ) (base d : Desktop) (
         -- No more is than may be, where its corner doesn't stay.
         pub put-most : is_same_corner (history_in it.surface all) it.place to ≡ false
             → ((i j : ℕ) → i < d0.width → j < d0.height → in_output d.output.width d.output.height (pos i) (pos j) ≡ true) → MarksMost d e d0 d2
-        put-most other inside i j wide high marked = at (has d0 i j) refl
+        put-most other inside i j wide high marked = by (has d0 i j) refl
           where
             differ-records : same_records was is ≡ false
             differ-records =
                 ap₂ (λ (ws vs : List Window). same_records ws vs) was-is is-is
                 ∙ other-tree moved-trees-are-as-long 16 (standing_owner it) all it.surface it.place to (ap (λ n. shows_buffer (history_in n all)) own ∙ shows) other
 
-            at : (b : Bool) → has d0 i j ≡ b → (has d0 i j || marks_at_most d e None (pos i) (pos j)) ≡ true
-            at true dirty = or_left (has d0 i j) _ dirty
-            at false clean =
+            by : (b : Bool) → has d0 i j ≡ b → (has d0 i j || marks_at_most d e None (pos i) (pos j)) ≡ true
+            by true dirty = or_left (has d0 i j) _ dirty
+            by false clean =
                 or_right (has d0 i j) _
                 (ap₂ (λ (ws vs : List Window). at_most d.output.width d.output.height (applied_between d e) None ws vs (pos i) (pos j)) tree-moved.before tree-moved.after
                 ∙ may-mark-whole-tree below above was is (applied_between d e)

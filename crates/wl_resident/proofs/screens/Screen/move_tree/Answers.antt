@@ -3,6 +3,7 @@ use Rattle.std.specs.Option.{option_map}
 use Rattle.wl_linked.specs.Linked.{Stand}
 use Rattle.wl_scene.specs.Kept.{standing_of}
 use Rattle.wl_state.specs.State.{within_bounds}
+use Rattle.wl_stacking.specs.Stacking.{moved_to}
 use Rattle.wl_stacking.specs.Windows.{Place, moved}
 use Rattle.wl_surface.specs.Surfaces.{Surfaces, history_in}
 use Rattle.wl_resident.specs.Moving.{is_same_corner}
@@ -45,9 +46,15 @@ returns-then-keeps_corner-clause-moves g c = λ others base d r surface before o
     let kept = sym c.toplevel_of.ensures ∙ ap (option_map standing_of) c.in-Some.is in
     let keeps : (those : Surfaces) → Stand v.owned.linked.surfaces v.owned.linked.family those
         → c.keeps_corner.result ≡ is_same_corner (history_in c.args.toplevel those) (standing_of c.in-Some.found).place at =
-    λ those stand. c.keeps_corner.ensures those stand in
+    λ those stand.
+        c.keeps_corner.ensures those stand
+        ∙ ap₂ (λ a b. is_same_corner (history_in c.args.toplevel those) (let p : Place = record { x = a; y = b } in p) at) from_x from_y in
     moves-kept c.args.client others base d r v pile before orderly surface c.args.toplevel named c.args.x c.args.y (standing_of c.in-Some.found) kept at here c.keeps_corner.result keeps
-    (record { scene = c.move_to.new.self; windows = pile.windows }) c.move_to.ensures.standing c.move_to.ensures.next c.if-keeps_corner.true refl
+    (record { scene = c.move_to.new.self; windows = pile.windows })
+    (c.move_to.ensures.standing
+    ∙ ap₂ (λ a b. moved_to c.args.client c.args.toplevel (let p : Place = record { x = a; y = b } in p) pile.scene.standing) (ap (λ z. to_z w32 (of_z w32 z)) to_x)
+    (ap (λ z. to_z w32 (of_z w32 z)) to_y))
+    c.move_to.ensures.next c.if-keeps_corner.true refl
 
 pub returns-then-keeps_corner-clause-marks : goal.returns-then-keeps_corner-clause-marks
 returns-then-keeps_corner-clause-marks g c = λ others base d r surface before orderly named.
@@ -66,9 +73,15 @@ returns-then-keeps_corner-clause-marks g c = λ others base d r surface before o
     let kept = sym c.toplevel_of.ensures ∙ ap (option_map standing_of) c.in-Some.is in
     let keeps : (those : Surfaces) → Stand v.owned.linked.surfaces v.owned.linked.family those
         → c.keeps_corner.result ≡ is_same_corner (history_in c.args.toplevel those) (standing_of c.in-Some.found).place at =
-    λ those stand. c.keeps_corner.ensures those stand in
+    λ those stand.
+        c.keeps_corner.ensures those stand
+        ∙ ap₂ (λ a b. is_same_corner (history_in c.args.toplevel those) (let p : Place = record { x = a; y = b } in p) at) from_x from_y in
     marks-kept c.args.client others base d r v pile before orderly surface c.args.toplevel named c.args.x c.args.y (standing_of c.in-Some.found) kept at here c.keeps_corner.result keeps
-    (record { scene = c.move_to.new.self; windows = pile.windows }) c.move_to.ensures.standing c.move_to.ensures.next c.if-keeps_corner.true c.args.self.now.damage
+    (record { scene = c.move_to.new.self; windows = pile.windows })
+    (c.move_to.ensures.standing
+    ∙ ap₂ (λ a b. moved_to c.args.client c.args.toplevel (let p : Place = record { x = a; y = b } in p) pile.scene.standing) (ap (λ z. to_z w32 (of_z w32 z)) to_x)
+    (ap (λ z. to_z w32 (of_z w32 z)) to_y))
+    c.move_to.ensures.next c.if-keeps_corner.true c.args.self.now.damage
 
 -- ---- where it doesn't
 
@@ -89,7 +102,9 @@ returns-else-keeps_corner-clause-moves g c = λ others base d r surface before o
     let kept = sym c.toplevel_of.ensures ∙ ap (option_map standing_of) c.in-Some.is in
     let keeps : (those : Surfaces) → Stand v.owned.linked.surfaces v.owned.linked.family those
         → c.keeps_corner.result ≡ is_same_corner (history_in c.args.toplevel those) (standing_of c.in-Some.found).place at =
-    λ those stand. c.keeps_corner.ensures those stand in
+    λ those stand.
+        c.keeps_corner.ensures those stand
+        ∙ ap₂ (λ a b. is_same_corner (history_in c.args.toplevel those) (let p : Place = record { x = a; y = b } in p) at) from_x from_y in
     moves-put c.args.client others base d r v pile before orderly surface c.args.toplevel named c.args.x c.args.y (standing_of c.in-Some.found) kept at here c.keeps_corner.result keeps
     (pile_of c.put_tree.new.self) c.put_tree.ensures.standing c.put_tree.ensures.next c.put_tree.ensures.windows
 
@@ -110,7 +125,9 @@ returns-else-keeps_corner-clause-marks g c = λ others base d r surface before o
     let kept = sym c.toplevel_of.ensures ∙ ap (option_map standing_of) c.in-Some.is in
     let keeps : (those : Surfaces) → Stand v.owned.linked.surfaces v.owned.linked.family those
         → c.keeps_corner.result ≡ is_same_corner (history_in c.args.toplevel those) (standing_of c.in-Some.found).place at =
-    λ those stand. c.keeps_corner.ensures those stand in
+    λ those stand.
+        c.keeps_corner.ensures those stand
+        ∙ ap₂ (λ a b. is_same_corner (history_in c.args.toplevel those) (let p : Place = record { x = a; y = b } in p) at) from_x from_y in
     marks-put c.args.client others base d r v pile before orderly surface c.args.toplevel named c.args.x c.args.y (standing_of c.in-Some.found) kept at here c.keeps_corner.result keeps
     (pile_of c.put_tree.new.self) c.put_tree.ensures.standing c.put_tree.ensures.next c.put_tree.ensures.windows c.args.self.now.damage c.put_tree.new.self.damage
     c.put_tree.ensures.points
@@ -132,7 +149,9 @@ returns-else-keeps_corner-clause-most g c = λ others base d r surface width hei
     let kept = sym c.toplevel_of.ensures ∙ ap (option_map standing_of) c.in-Some.is in
     let keeps : (those : Surfaces) → Stand v.owned.linked.surfaces v.owned.linked.family those
         → c.keeps_corner.result ≡ is_same_corner (history_in c.args.toplevel those) (standing_of c.in-Some.found).place at =
-    λ those stand. c.keeps_corner.ensures those stand in
+    λ those stand.
+        c.keeps_corner.ensures those stand
+        ∙ ap₂ (λ a b. is_same_corner (history_in c.args.toplevel those) (let p : Place = record { x = a; y = b } in p) at) from_x from_y in
     most-put c.args.client others base d r v pile before orderly surface c.args.toplevel named c.args.x c.args.y (standing_of c.in-Some.found) kept at here c.keeps_corner.result keeps
     (pile_of c.put_tree.new.self) c.put_tree.ensures.standing c.put_tree.ensures.next c.put_tree.ensures.windows c.args.self.now.damage c.put_tree.new.self.damage
     c.put_tree.ensures.points c.if-keeps_corner.false width height
