@@ -11,7 +11,7 @@ use Rattle.wl_surface.specs.Slots.{IsCurrentAt}
 use Rattle.wl_surface.specs.Surfaces.{Link, Surfaces, history_in, link_at}
 use Rattle.wl_stacking.specs.Stacking.{shows_buffer}
 use Rattle.wl_stacking.specs.Windows.{Owner, Place, Window, child_windows, corner_at, member_windows, shown_windows, surface_windows, tree, window_showing, window_with}
-use Rattle.wl_plain.specs.Marks.{has_same_record, int_eq, same_records}
+use Rattle.wl_plain.specs.Marks.{int_eq, same_records}
 use Rattle.wl_laws.proofs.Marks.Stacks.{AreSame, and-both, and-left, and-right, differ, fields, unless}
 use Rattle.wl_invariants.proofs.TreeMarks.Records.{same-tested}
 use Rattle.wl_lending.specs.Moved.{MovedTreesAreAsLong}

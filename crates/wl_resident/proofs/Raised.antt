@@ -1,5 +1,5 @@
 -- Windows of which those that pass a test come on top of the others: what such a step marks lies in them.
-use Rattle.std.proofs.Common.{◌≡◌, Bool, true, false, List, [], ◌∷◌, ◌++◌, cond, refl, ap, ap₂, sym, ◌∙◌}
+use Rattle.std.proofs.Common.{◌≡◌, Bool, true, false, List, [], ◌∷◌, ◌++◌, cond, refl, ap, sym, ◌∙◌}
 use Rattle.std.specs.Prelude.{ℕ, ℤ, ◌&&◌, ◌||◌, if◌then◌else◌, filter, not, Option}
 use Rattle.std.specs.List.{list_any}
 use Rattle.std.proofs.lemmas.Bool.{or_left, or_right}

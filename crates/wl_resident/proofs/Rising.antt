@@ -9,7 +9,7 @@ use Rattle.std.proofs.lemmas.Bool.{or_left, or_right}
 use Rattle.wl_interface.specs.declared.interface.Interface.TheVariants.{WlSurface}
 use Rattle.wl_laws.specs.Laws.{AreApart}
 use Rattle.wl_laws.proofs.Isolation.Own.{any-raised}
-use Rattle.wl_laws.proofs.Lists.Standings.{apart-last, of-client, of-it, of-surface}
+use Rattle.wl_laws.proofs.Lists.Standings.{apart-last, of-client, of-surface}
 use Rattle.wl_laws.proofs.Marks.Stacks.{Each, and-both, and-left, and-right, differ, each-false, each-map, equal-numbers, or-left, or-right, unless}
 use Rattle.std.proofs.lemmas.Bool.{eqb-true}
 use Rattle.wl_paint.specs.Damage.{Damaged, has}

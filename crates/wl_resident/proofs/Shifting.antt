@@ -1,6 +1,6 @@
 -- A toplevel comes to another place with its windows: what is kept agrees with that, and what is marked is what has to be and may be.
 use Rattle.std.proofs.Common.{◌≡◌, ℕ, ◌<◌, Bool, true, false, cond, Option, Some, None, List, [], ◌∷◌, ◌++◌, length, map, refl, ap, ap₂, sym, subst, ◌∙◌, inl, inr, ◌⊎◌}
-use Rattle.std.specs.Prelude.{ℤ, pos, is_some, ◌||◌, ◌&&◌, filter, find}
+use Rattle.std.specs.Prelude.{ℤ, pos, is_some, ◌||◌, filter, find}
 use Rattle.std.specs.List.{list_all, list_any}
 use Rattle.std.proofs.lemmas.Bool.{or_left, or_right}
 use Rattle.wl_interface.specs.declared.interface.Interface.TheVariants.{WlSurface}
@@ -34,8 +34,7 @@ use Rattle.wl_plain.specs.Moments.{applied_between, marks_at_least, marks_at_mos
 use Rattle.wl_plain.specs.Stacked.{all_windows}
 use Rattle.wl_invariants.specs.Orderly.{Orderly}
 use Rattle.wl_invariants.specs.TreeMarksLaws.{among, is_in_any}
-use Rattle.wl_invariants.specs.TreeStanding.{ChangesBelow, standing_owner, windows_in}
-use Rattle.wl_invariants.specs.TreeStepsLaws.{IsRootOf}
+use Rattle.wl_invariants.specs.TreeStanding.{ChangesBelow, standing_owner}
 use Rattle.wl_invariants.proofs.TreeMarks.Roots.{is-tree-of-root}
 use Rattle.wl_invariants.proofs.TreeMarks.Tree.{marks-tree-alone}
 use Rattle.wl_invariants.proofs.TreeMarks.Whole.{may-mark-whole-tree}

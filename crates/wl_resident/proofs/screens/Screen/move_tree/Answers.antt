@@ -45,10 +45,10 @@ returns-then-keeps_corner-clause-moves g c = λ others base d r surface before o
     (to_y ∙ (c.moved-2.ensures ∙ ap₂ (λ a b. within_bounds (a +ℤ b)) from_y by_y)) in
     let kept = sym c.toplevel_of.ensures ∙ ap (option_map standing_of) c.in-Some.is in
     let keeps : (those : Surfaces) → Stand v.owned.linked.surfaces v.owned.linked.family those
-        → c.keeps_corner.result ≡ is_same_corner (history_in c.args.toplevel those) (standing_of c.in-Some.found).place at =
+    → c.keeps_corner.result ≡ is_same_corner (history_in c.args.toplevel those) (standing_of c.in-Some.found).place at =
     λ those stand.
-        c.keeps_corner.ensures those stand
-        ∙ ap₂ (λ a b. is_same_corner (history_in c.args.toplevel those) (let p : Place = record { x = a; y = b } in p) at) from_x from_y in
+    c.keeps_corner.ensures those stand
+    ∙ ap₂ (λ a b. is_same_corner (history_in c.args.toplevel those) (let p : Place = record { x = a; y = b } in p) at) from_x from_y in
     moves-kept c.args.client others base d r v pile before orderly surface c.args.toplevel named c.args.x c.args.y (standing_of c.in-Some.found) kept at here c.keeps_corner.result keeps
     (record { scene = c.move_to.new.self; windows = pile.windows })
     (c.move_to.ensures.standing
@@ -72,10 +72,10 @@ returns-then-keeps_corner-clause-marks g c = λ others base d r surface before o
     (to_y ∙ (c.moved-2.ensures ∙ ap₂ (λ a b. within_bounds (a +ℤ b)) from_y by_y)) in
     let kept = sym c.toplevel_of.ensures ∙ ap (option_map standing_of) c.in-Some.is in
     let keeps : (those : Surfaces) → Stand v.owned.linked.surfaces v.owned.linked.family those
-        → c.keeps_corner.result ≡ is_same_corner (history_in c.args.toplevel those) (standing_of c.in-Some.found).place at =
+    → c.keeps_corner.result ≡ is_same_corner (history_in c.args.toplevel those) (standing_of c.in-Some.found).place at =
     λ those stand.
-        c.keeps_corner.ensures those stand
-        ∙ ap₂ (λ a b. is_same_corner (history_in c.args.toplevel those) (let p : Place = record { x = a; y = b } in p) at) from_x from_y in
+    c.keeps_corner.ensures those stand
+    ∙ ap₂ (λ a b. is_same_corner (history_in c.args.toplevel those) (let p : Place = record { x = a; y = b } in p) at) from_x from_y in
     marks-kept c.args.client others base d r v pile before orderly surface c.args.toplevel named c.args.x c.args.y (standing_of c.in-Some.found) kept at here c.keeps_corner.result keeps
     (record { scene = c.move_to.new.self; windows = pile.windows })
     (c.move_to.ensures.standing
@@ -101,10 +101,10 @@ returns-else-keeps_corner-clause-moves g c = λ others base d r surface before o
     (to_y ∙ (c.moved-2.ensures ∙ ap₂ (λ a b. within_bounds (a +ℤ b)) from_y by_y)) in
     let kept = sym c.toplevel_of.ensures ∙ ap (option_map standing_of) c.in-Some.is in
     let keeps : (those : Surfaces) → Stand v.owned.linked.surfaces v.owned.linked.family those
-        → c.keeps_corner.result ≡ is_same_corner (history_in c.args.toplevel those) (standing_of c.in-Some.found).place at =
+    → c.keeps_corner.result ≡ is_same_corner (history_in c.args.toplevel those) (standing_of c.in-Some.found).place at =
     λ those stand.
-        c.keeps_corner.ensures those stand
-        ∙ ap₂ (λ a b. is_same_corner (history_in c.args.toplevel those) (let p : Place = record { x = a; y = b } in p) at) from_x from_y in
+    c.keeps_corner.ensures those stand
+    ∙ ap₂ (λ a b. is_same_corner (history_in c.args.toplevel those) (let p : Place = record { x = a; y = b } in p) at) from_x from_y in
     moves-put c.args.client others base d r v pile before orderly surface c.args.toplevel named c.args.x c.args.y (standing_of c.in-Some.found) kept at here c.keeps_corner.result keeps
     (pile_of c.put_tree.new.self) c.put_tree.ensures.standing c.put_tree.ensures.next c.put_tree.ensures.windows
 
@@ -124,10 +124,10 @@ returns-else-keeps_corner-clause-marks g c = λ others base d r surface before o
     (to_y ∙ (c.moved-2.ensures ∙ ap₂ (λ a b. within_bounds (a +ℤ b)) from_y by_y)) in
     let kept = sym c.toplevel_of.ensures ∙ ap (option_map standing_of) c.in-Some.is in
     let keeps : (those : Surfaces) → Stand v.owned.linked.surfaces v.owned.linked.family those
-        → c.keeps_corner.result ≡ is_same_corner (history_in c.args.toplevel those) (standing_of c.in-Some.found).place at =
+    → c.keeps_corner.result ≡ is_same_corner (history_in c.args.toplevel those) (standing_of c.in-Some.found).place at =
     λ those stand.
-        c.keeps_corner.ensures those stand
-        ∙ ap₂ (λ a b. is_same_corner (history_in c.args.toplevel those) (let p : Place = record { x = a; y = b } in p) at) from_x from_y in
+    c.keeps_corner.ensures those stand
+    ∙ ap₂ (λ a b. is_same_corner (history_in c.args.toplevel those) (let p : Place = record { x = a; y = b } in p) at) from_x from_y in
     marks-put c.args.client others base d r v pile before orderly surface c.args.toplevel named c.args.x c.args.y (standing_of c.in-Some.found) kept at here c.keeps_corner.result keeps
     (pile_of c.put_tree.new.self) c.put_tree.ensures.standing c.put_tree.ensures.next c.put_tree.ensures.windows c.args.self.now.damage c.put_tree.new.self.damage
     c.put_tree.ensures.points
@@ -148,10 +148,10 @@ returns-else-keeps_corner-clause-most g c = λ others base d r surface width hei
     (to_y ∙ (c.moved-2.ensures ∙ ap₂ (λ a b. within_bounds (a +ℤ b)) from_y by_y)) in
     let kept = sym c.toplevel_of.ensures ∙ ap (option_map standing_of) c.in-Some.is in
     let keeps : (those : Surfaces) → Stand v.owned.linked.surfaces v.owned.linked.family those
-        → c.keeps_corner.result ≡ is_same_corner (history_in c.args.toplevel those) (standing_of c.in-Some.found).place at =
+    → c.keeps_corner.result ≡ is_same_corner (history_in c.args.toplevel those) (standing_of c.in-Some.found).place at =
     λ those stand.
-        c.keeps_corner.ensures those stand
-        ∙ ap₂ (λ a b. is_same_corner (history_in c.args.toplevel those) (let p : Place = record { x = a; y = b } in p) at) from_x from_y in
+    c.keeps_corner.ensures those stand
+    ∙ ap₂ (λ a b. is_same_corner (history_in c.args.toplevel those) (let p : Place = record { x = a; y = b } in p) at) from_x from_y in
     most-put c.args.client others base d r v pile before orderly surface c.args.toplevel named c.args.x c.args.y (standing_of c.in-Some.found) kept at here c.keeps_corner.result keeps
     (pile_of c.put_tree.new.self) c.put_tree.ensures.standing c.put_tree.ensures.next c.put_tree.ensures.windows c.args.self.now.damage c.put_tree.new.self.damage
     c.put_tree.ensures.points c.if-keeps_corner.false width height

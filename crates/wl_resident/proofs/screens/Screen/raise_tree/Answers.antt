@@ -1,4 +1,4 @@
-use Rattle.std.proofs.Common.{◌≡◌, ◌∙◌, Bool, Some, None, subst, sym}
+use Rattle.std.proofs.Common.{◌∙◌, Bool, Some, None, subst, sym}
 use Rattle.std.specs.Prelude.{if◌then◌else◌}
 use Rattle.wl_resident.specs.Marking.{MarksMostBy}
 use Rattle.wl_resident.specs.Raising.{with_raised}
