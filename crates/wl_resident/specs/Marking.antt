@@ -43,10 +43,14 @@ MarksOwnIf if_so c kept pile old new =
 abbrev pub MarksOwn : {A : Type 0} → Option Cause → ℕ → Kept A → Pile → Damaged → Damaged → Type 0
 MarksOwn ended c kept pile old new = MarksOwnIf (is_none ended) c kept pile old new
 
--- What is to be painted stays so. What a step through these desktops marks at least is to be painted too, and nothing else than what it
--- marks at most.
-abbrev pub MarksThrough : Desktop → List Desktop → Damaged → Damaged → Type 0
-MarksThrough d path old new =
+-- What is to be painted stays so. What a step through these desktops, at whose beginning a press raised this toplevel, marks at least is to
+-- be painted too, and nothing else than what it marks at most.
+abbrev pub MarksThroughBy : Option (ℕ × ℕ) → Desktop → List Desktop → Damaged → Damaged → Type 0
+MarksThroughBy raised d path old new =
     (x y : ℕ) → x < old.width → y < old.height
     → (has new x y ≡ false → (has old x y ≡ false) × (marks_at_least_through all_windows d path (pos x) (pos y) ≡ false))
-    × (has new x y ≡ true → (has old x y || marks_at_most_through all_windows None d path (pos x) (pos y)) ≡ true)
+    × (has new x y ≡ true → (has old x y || marks_at_most_through all_windows raised d path (pos x) (pos y)) ≡ true)
+
+-- the same of one in which no press raised any
+abbrev pub MarksThrough : Desktop → List Desktop → Damaged → Damaged → Type 0
+MarksThrough d path old new = MarksThroughBy None d path old new

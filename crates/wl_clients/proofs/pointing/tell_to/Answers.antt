@@ -1,8 +1,8 @@
-use Rattle.std.proofs.Common.{◌≡◌, Bool, true, false, Option, Some, None, Result, ap, refl, subst, sym, ◌∙◌}
-use Rattle.std.specs.Prelude.{MatchResult, Ok, Err, is_ok, is_some}
+use Rattle.std.proofs.Common.{ap, sym, ◌∙◌}
+use Rattle.std.specs.Prelude.{is_some}
 use Rattle.wl_client.specs.View.{ClientView}
 use Rattle.wl_clients.proofs.Calls.{lives-of}
-use Rattle.wl_clients.proofs.Told.{answer-ok, told-ended, told-lives, told-refused}
+use Rattle.wl_clients.proofs.Told.{told-ended, told-lives, told-refused}
 use Rattle.wl_clients.proofs.pointing.tell_to.Goals as goal
 
 pub returns-then-has_ended-clause-told : goal.returns-then-has_ended-clause-told
@@ -20,10 +20,6 @@ returns-clause-told g c =
     (lives-of c.args.resident.now.client.ended (sym c.has_ended.ensures ∙ c.if-has_ended.false))
     (lives-of c.args.resident.now.client.refused (sym (c.is_some.ensures ∙ ap is_some c.to_end_for.ensures) ∙ c.if-is_some.false))
     (c.tell_pointers.ensures.tells, c.tell_pointers.ensures.only)
-
-pub returns-clause-queued : goal.returns-clause-queued
-returns-clause-queued g c = λ all.
-    (answer-ok c.tell_pointers.result _ _ (sym c.is_ok.ensures.value ∙ all) c.tell_pointers.ensures.answer).1
 
 pub returns-clause-table : goal.returns-clause-table
 returns-clause-table g c = ap (λ (v : ClientView). v.objects) c.tell_pointers.ensures.only
