@@ -16,10 +16,10 @@ returns-then-is_some-clause-told g c =
 
 pub returns-clause-told : goal.returns-clause-told
 returns-clause-told g c =
-    told-lives c.args.event c.args.pointers.now c.args.resident.now.client.ended c.args.resident.now.client.refused c.args.resident.now.client c.tell_pointers.new.self
+    told-lives c.args.event c.args.pointers.now c.args.resident.now.client.ended c.args.resident.now.client.refused c.args.resident.now.client c.tell_pointers-queued.new.self
     (lives-of c.args.resident.now.client.ended (sym c.has_ended.ensures ∙ c.if-has_ended.false))
     (lives-of c.args.resident.now.client.refused (sym (c.is_some.ensures ∙ ap is_some c.to_end_for.ensures) ∙ c.if-is_some.false))
-    (c.tell_pointers.ensures.tells, c.tell_pointers.ensures.only)
+    (c.tell_pointers-queued.ensures.tells, c.tell_pointers-queued.ensures.only)
 
 pub returns-clause-table : goal.returns-clause-table
-returns-clause-table g c = ap (λ (v : ClientView). v.objects) c.tell_pointers.ensures.only
+returns-clause-table g c = ap (λ (v : ClientView). v.objects) c.tell_pointers-queued.ensures.only

@@ -1,4 +1,6 @@
-use Rattle.std.proofs.Common.{◌∙◌, ap, refl}
+use Rattle.std.proofs.Common.{◌∙◌, ap, refl, rules, w64}
+use Rattle.std.proofs.lemmas.Int.{to_z-of_z}
+use Rattle.std.specs.Prelude.{FitsSigned}
 use Rattle.wl_resident.specs.Agreement.{numbers_in}
 use Rattle.wl_resident.specs.View.{MarkedDesk, pile_of}
 use Rattle.wl_clients.specs.Residents.{client_views}
@@ -41,24 +43,33 @@ returns-in_default-index-clause-most g c = λ m top mid named.
 -- it moves
 pub returns-clause-moves : goal.returns-clause-moves
 returns-clause-moves g c = λ m top mid named.
+    let x : FitsSigned w64 c.args.x = search rules in
+    let y : FitsSigned w64 c.args.y = search rules in
+    let moves = rw (to_z-of_z w64 c.args.x x, to_z-of_z w64 c.args.y y) at c.move_tree.ensures.moves in
     let rs = c.self.inside.residents.items in
     let pile = pile_of c.self.inside.screen in
     let v = c.in-Some-index.resident in
     let is = found _ _ _ _ _ _ c.deref.ensures.value c.in-Some.ensures.some c.index.ensures c.in-Some-index.is in
     here-moved c.self.inside.output rs pile c.args.client c.in-Some.k v is m (rw (← c.self.view_is) at mid) (pile_of c.move_tree.new.self) top c.args.toplevel c.args.x c.args.y
-    (rw (← c.self.view_is) at named) (λ r. c.move_tree.ensures.moves (numbers_in (client_views (open_all rs))) m.desktop m.desktop r top)
+    (rw (← c.self.view_is) at named) (λ r. moves (numbers_in (client_views (open_all rs))) m.desktop m.desktop r top)
 
 pub returns-clause-marks : goal.returns-clause-marks
 returns-clause-marks g c = λ m top mid named.
+    let x : FitsSigned w64 c.args.x = search rules in
+    let y : FitsSigned w64 c.args.y = search rules in
+    let marks = rw (to_z-of_z w64 c.args.x x, to_z-of_z w64 c.args.y y) at c.move_tree.ensures.marks in
     let rs = c.self.inside.residents.items in
     let pile = pile_of c.self.inside.screen in
     let v = c.in-Some-index.resident in
     let is = found _ _ _ _ _ _ c.deref.ensures.value c.in-Some.ensures.some c.index.ensures c.in-Some-index.is in
     rw (← c.self.view_is) (of-here c.self.inside.output rs pile c.args.client c.in-Some.k v is m (rw (← c.self.view_is) at mid) _ top c.args.toplevel (rw (← c.self.view_is) at named)
-    (λ r. c.move_tree.ensures.marks (numbers_in (client_views (open_all rs))) m.desktop m.desktop r top))
+    (λ r. marks (numbers_in (client_views (open_all rs))) m.desktop m.desktop r top))
 
 pub returns-clause-most : goal.returns-clause-most
 returns-clause-most g c = λ m top mid named.
+    let x : FitsSigned w64 c.args.x = search rules in
+    let y : FitsSigned w64 c.args.y = search rules in
+    let most = rw (to_z-of_z w64 c.args.x x, to_z-of_z w64 c.args.y y) at c.move_tree.ensures.most in
     let rs = c.self.inside.residents.items in
     let pile = pile_of c.self.inside.screen in
     let v = c.in-Some-index.resident in
@@ -66,7 +77,7 @@ returns-clause-most g c = λ m top mid named.
     let here = rw (← c.self.view_is) at mid in
     let sides = mid-sized c.self.inside.output rs pile m here c.self.inside.screen.damage c.self.invariant.1 in
     rw (← c.self.view_is) (of-here c.self.inside.output rs pile c.args.client c.in-Some.k v is m here _ top c.args.toplevel (rw (← c.self.view_is) at named)
-    (λ r. c.move_tree.ensures.most (numbers_in (client_views (open_all rs))) m.desktop m.desktop r top sides.0 sides.1))
+    (λ r. most (numbers_in (client_views (open_all rs))) m.desktop m.desktop r top sides.0 sides.1))
 
 pub returns-clause-clients : goal.returns-clause-clients
 returns-clause-clients g c = ap (λ (m : MarkedDesk). m.desk.clients) c.self.view_is
