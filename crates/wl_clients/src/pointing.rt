@@ -1,7 +1,7 @@
 //! What the pointer asks of the clients: what a point hits, the windows of a surface, and what the clients are told; and the ends of those that
 //! can't be told.
 
-ghost use Rattle.std.specs.Prelude.{ℕ, ◌≡◌, ◌∷◌, IfNone, IfSome, List, None, Some, ◌≢◌, ◌<◌, ◌≤◌, find, is_some, length, position};
+ghost use Rattle.std.specs.Prelude.{ℕ, ◌≡◌, ◌∷◌, IfNone, IfSome, List, None, Some, ◌≢◌, ◌<◌, ◌≤◌, find, is_some, length, position, true};
 ghost use Rattle.std.specs.List.{list_any};
 ghost use Rattle.std.specs.Option.{option_map};
 ghost use Rattle.wl_interface.specs.declared.interface.Interface.TheVariants.{WlSurface};
