@@ -91,6 +91,35 @@ fn a_tree_keeps_its_place(rt: HostRuntime) {
     assert!(rt; has(&all, &[(1, 7, 7)]));
 }
 
+// What a press raises comes to the top with all its windows, and the others keep their order.
+#[test]
+fn a_tree_comes_to_the_top(rt: HostRuntime) {
+    let mut all = StackedWindows::new(rt.alloc());
+    assert!(rt; three_trees(&mut all));
+    all.raise(1, 3);
+    assert!(rt;
+        has(
+            &all,
+            &[(2, 3, 5), (2, 3, 3), (1, 7, 7), (1, 3, 3), (1, 3, 4)]
+        )
+    );
+    all.raise(1, 3);
+    all.raise(2, 7);
+    assert!(rt;
+        has(
+            &all,
+            &[(2, 3, 5), (2, 3, 3), (1, 7, 7), (1, 3, 3), (1, 3, 4)]
+        )
+    );
+    all.raise(1, 7);
+    assert!(rt;
+        has(
+            &all,
+            &[(2, 3, 5), (2, 3, 3), (1, 3, 3), (1, 3, 4), (1, 7, 7)]
+        )
+    );
+}
+
 // Without memory for other windows of a tree nothing changes.
 #[test]
 fn other_windows_need_memory(rt: HostRuntime) {

@@ -8,3 +8,5 @@ pub mod Lent
 pub mod Standing
 pub mod Hits
 pub mod Numbered
+pub mod Raised
+pub mod Moved

@@ -1,10 +1,11 @@
 -- What is kept of the windows of the output goes on standing for those of the desktop where the windows of one tree change, come or go.
-use Rattle.std.specs.Prelude.{ℕ, ◌≡◌, ◌==◌, true, false, not, List, ◌++◌, Some, filter, map}
+use Rattle.std.specs.Prelude.{ℕ, ◌≡◌, ◌==◌, Bool, true, false, if◌then◌else◌, not, List, [], ◌∷◌, ◌++◌, Some, filter, map}
 use Rattle.std.specs.List.{All, list_all, list_any}
 use Rattle.wl_peer.specs.Objects.{ById}
 use Rattle.wl_stacking.specs.Windows.{Window}
 use Rattle.wl_stacked.specs.declared.stacked.Stacked.{Stacked}
-use Rattle.wl_stacked.specs.Stacked.{is_of, replaced, stacked, tree_of, without_client, without_tree}
+use Rattle.wl_stacking.specs.Stacking.{Owned, Standing, is_of as is_standing, raised as raised_standing, windows_on}
+use Rattle.wl_stacked.specs.Stacked.{is_of, raised, replaced, stacked, tree_of, without_client, without_tree}
 use Rattle.wl_lending.specs.Stacked.{AreNumberedBy, AreNumberedOnce, AreStacked, has_root, told_by}
 
 -- ---- lists
@@ -94,3 +95,27 @@ abbrev pub StackedClientGone : Type 0
 StackedClientGone =
     (numbers : ℕ → ById ℕ) (all : List Stacked) (ws : List Window) (client : ℕ) → AreStacked numbers all ws
     → AreStacked numbers (without_client client all) (filter (λ w. not (w.owner.client == client)) ws)
+
+-- ---- a toplevel that is raised
+
+-- The windows of a tree come on top of the others.
+abbrev pub StackedTreeRaised : Type 0
+StackedTreeRaised =
+    (numbers : ℕ → ById ℕ) (all : List Stacked) (ws : List Window) (client root k : ℕ) → AreStacked numbers all ws
+    → numbers client root ≡ Some k → AreNumberedOnce (numbers client)
+    → AreStacked numbers (raised client k all)
+    (filter (λ w. not (has_root client root w)) ws ++ filter (λ w. has_root client root w) ws)
+
+-- no two of these toplevels are of this surface
+abbrev pub stands_once : ℕ → ℕ → List Standing → Bool
+stands_once client surface [] = true
+stands_once client surface (s ∷ ss) =
+    if is_standing client surface s then not (list_any (is_standing client surface) ss) else stands_once client surface ss
+
+-- Where a toplevel comes to the top of the others, and its windows on top of theirs, what is kept stands for the windows again.
+abbrev pub StackedRaised : Type 0
+StackedRaised =
+    (numbers : ℕ → ById ℕ) (all : List Stacked) (owned : ℕ → Owned) (standing : List Standing) (client surface k : ℕ)
+    → AreStacked numbers all (windows_on owned standing) → stands_once client surface standing ≡ true
+    → numbers client surface ≡ Some k → AreNumberedOnce (numbers client)
+    → AreStacked numbers (raised client k all) (windows_on owned (raised_standing client surface standing))

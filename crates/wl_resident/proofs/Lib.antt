@@ -9,11 +9,16 @@ pub mod Living
 pub mod Made
 pub mod Marked
 pub mod Parting
+pub mod Placed
+pub mod Raised
 pub mod Restacking
+pub mod Rising
 pub mod Scenes
 pub mod Served
 pub mod Serving
+pub mod Shifting
 pub mod Sitting
+pub mod Standings
 pub mod Taking
 pub mod Telling
 pub mod Told

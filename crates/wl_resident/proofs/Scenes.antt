@@ -101,7 +101,7 @@ place-of next mappings e = rw (e, eight mappings) refl
 pub next-of : (next mappings : ℕ) → next ≡ mappings % 8 → (next + 1) % 8 ≡ (mappings + 1) % 8
 next-of next mappings e = omega (arith)
 
-stack-more : (numbers : ℕ → ById ℕ) (ks ss : List Standing) (k s : Standing) → IsStanding numbers k s → IsStack numbers ks ss → IsStack numbers (ks ++ k ∷ []) (ss ++ s ∷ [])
+pub stack-more : (numbers : ℕ → ById ℕ) (ks ss : List Standing) (k s : Standing) → IsStanding numbers k s → IsStack numbers ks ss → IsStack numbers (ks ++ k ∷ []) (ss ++ s ∷ [])
 stack-more numbers [] [] k s one is = (one, tt)
 stack-more numbers (x ∷ ks) (y ∷ ss) k s one is = (is.0, stack-more numbers ks ss k s one is.1)
 stack-more numbers [] (y ∷ ss) k s one is = absurd is

@@ -62,7 +62,7 @@ use Rattle.wl_resident.proofs.Touches.{IsTouchFor, IsTouchIf, IsTouchNamed, touc
 use Rattle.wl_resident.proofs.Turning.{untouched-least, untouched-most}
 use Rattle.wl_resident.proofs.Turning as turning
 
-length-mapped : {X Y : Type 0} (g : X → Y) (xs : List X) → length (map g xs) ≡ length xs
+pub length-mapped : {X Y : Type 0} (g : X → Y) (xs : List X) → length (map g xs) ≡ length xs
 length-mapped g [] = refl
 length-mapped g (x ∷ xs) = ap suc (length-mapped g xs)
 

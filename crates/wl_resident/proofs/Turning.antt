@@ -49,7 +49,7 @@ use Rattle.wl_resident.proofs.Told.{names_of}
 
 -- ---- plain booleans
 
-either-false : (a b : Bool) → (a || b) ≡ false → (a ≡ false) × (b ≡ false)
+pub either-false : (a b : Bool) → (a || b) ≡ false → (a ≡ false) × (b ≡ false)
 either-false false b e = (refl, e)
 either-false true b e = absurd (differ (sym e))
 

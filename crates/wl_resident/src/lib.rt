@@ -5,6 +5,8 @@
 mod feeding;
 mod frames;
 mod marking;
+mod moving;
+mod raising;
 mod screens;
 mod touching;
 

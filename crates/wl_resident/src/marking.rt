@@ -98,7 +98,7 @@ impl<A: Allocator + Copy> Screen<A> {
     }
 
     /// All points of the windows are marked that are kept of the tree of this root.
-    fn mark_gone(&mut self, client: ClientNo, root: SurfaceNo)
+    pub(crate) fn mark_gone(&mut self, client: ClientNo, root: SurfaceNo)
         ensures points { (x y : ℕ) → x < self.old.damage.width → y < self.old.damage.height
             → has self.new.damage x y ≡ (has self.old.damage x y || list_any (window_has (pos x) (pos y)) (tree_kept client (Some root) self.old.stacked.windows)) }
         ensures sides { IsAsLarge self.old.damage self.new.damage }

@@ -44,7 +44,7 @@ pub struct Screen<A: Allocator> {
 }
 
 /// The toplevel of a surface, if one stands.
-fn toplevel_of<A: Allocator>(scene: &Scene<A>, surface: Surface) -> Option<Toplevel>
+pub(crate) fn toplevel_of<A: Allocator>(scene: &Scene<A>, surface: Surface) -> Option<Toplevel>
     ensures { option_map standing_of result ≡ find (is_of surface.client surface.surface) scene.now.standing }
 {
     let toplevel = scene

@@ -1,14 +1,14 @@
 -- Where the windows of a tree stand, by their places.
-use Rattle.std.proofs.Common.{◌≡◌, ℕ, zero, suc, ◌+◌, ◌-◌, ◌<◌, ◌≤◌, List, ◌∷◌, ◌++◌, Bool, true, false, Some, None, refl, ap, subst, sym, ◌∙◌, length, get_or, take, drop, arith, []}
+use Rattle.std.proofs.Common.{◌≡◌, ℕ, zero, suc, ◌+◌, ◌-◌, ◌<◌, ◌≤◌, List, ◌∷◌, ◌++◌, Bool, true, false, Some, None, refl, ap, ap₂, subst, sym, ◌∙◌, length, get_or, take, drop, arith, []}
 use Rattle.std.specs.Prelude.{pos, ◌&&◌, cond, filter, not}
 use Rattle.std.specs.List.{list_all, list_any, position, position_or_len}
 use Rattle.std.proofs.lemmas.Bool.{ltb-false}
-use Rattle.std.proofs.lemmas.List.{append_assoc, drop_at, length-append, take_at}
+use Rattle.std.proofs.lemmas.List.{append-nil, append_assoc, drop_at, length-append, take_at}
 use Rattle.std.proofs.lemmas.List.Quantifiers.{position-Some}
 use Rattle.std.proofs.lemmas.List.Sums.{fails_before_first}
 use Rattle.wl_store.specs.declared.transform.Transform.TheVariants.{Normal}
 use Rattle.wl_stacked.specs.declared.stacked.Stacked.{Stacked}
-use Rattle.wl_stacked.specs.Stacked.{IsRun, are_a_run, are_in_front, in_place, last_first}
+use Rattle.wl_stacked.specs.Stacked.{IsRun, are_a_run, are_in_front, first_last, in_place, last_first}
 use Rattle.wl_stacked.proofs.Together.{front-ends, front-rest, or-left, or-none, or-right, place-here, place-later, run-begun, run-behind}
 
 -- ---- filters
@@ -28,6 +28,11 @@ filter-none p (x ∷ xs) h = rw (or-left (p x) (list_any p xs) h) (filter-none p
 filter-kept : {X : Type 0} (p : X → Bool) (xs : List X) → list_any p xs ≡ false → filter (λ y. not (p y)) xs ≡ xs
 filter-kept p [] h = refl
 filter-kept p (x ∷ xs) h = rw (or-left (p x) (list_any p xs) h) (ap (λ ys. x ∷ ys) (filter-kept p xs (or-right (p x) (list_any p xs) h)))
+
+pub kept-below : {X : Type 0} (p : X → Bool) (xs ys : List X) → list_any p xs ≡ false
+    → filter (λ y. not (p y)) (xs ++ ys) ≡ xs ++ filter (λ y. not (p y)) ys
+kept-below p [] ys h = refl
+kept-below p (x ∷ xs) ys h = rw (or-left (p x) (list_any p xs) h) (ap (λ zs. x ∷ zs) (kept-below p xs ys (or-right (p x) (list_any p xs) h)))
 
 -- those of which all pass, before those of which none does
 filter-front : {X : Type 0} (p : X → Bool) (xs ys : List X) → list_all p xs ≡ true → list_any p ys ≡ false → filter p (xs ++ ys) ≡ xs
@@ -244,3 +249,37 @@ run-written p k n m len new xs read grown less part put r same l g t is e long =
     take_at put (drop (length put) less) len long
     ∙ run-replaced p k n m new xs grown less put (subst (λ (ys : List Stacked). IsRun p k n ys) same r) l g t
     (e ∙ ap (λ (ys : List Stacked). take k ys ++ last_first m (drop k ys)) is)
+
+-- ---- a run comes to the top
+
+pub raised-none : (p : Stacked → Bool) (xs : List Stacked) → list_any p xs ≡ false → filter (λ s. not (p s)) xs ++ filter p xs ≡ xs
+raised-none p xs h = rw (filter-kept p xs h, filter-none p xs h) (append-nil xs)
+
+raised-whole : (p : Stacked → Bool) (below : List Stacked) (x : Stacked) (others above : List Stacked) → list_any p below ≡ false → p x ≡ true
+    → list_all p others ≡ true → list_any p above ≡ false
+    → filter (λ s. not (p s)) (below ++ ((x ∷ others) ++ above)) ++ filter p (below ++ ((x ∷ others) ++ above)) ≡ below ++ (above ++ (x ∷ others))
+raised-whole p below x others above n h o m =
+    ap₂ (λ (ys zs : List Stacked). ys ++ zs) left (run-filtered p below x others above n h o m) ∙ append_assoc below above (x ∷ others)
+  where
+    left : filter (λ s. not (p s)) (below ++ ((x ∷ others) ++ above)) ≡ below ++ above
+    left = kept-below p below ((x ∷ others) ++ above) n ∙ ap (λ ys. below ++ ys) (rw h (filter-behind p others above o m))
+
+turned-up : (k n : ℕ) (below run above : List Stacked) → length below ≡ k → length run ≡ n
+    → take k (below ++ (run ++ above)) ++ first_last n (drop k (below ++ (run ++ above))) ≡ below ++ (above ++ run)
+turned-up k n below run above b r =
+    rw (take_at below (run ++ above) k b, drop_at below (run ++ above) k b) (ap (λ (ys : List Stacked). below ++ ys) turned)
+  where
+    turned : first_last n (run ++ above) ≡ above ++ run
+    turned = rw (drop_at run above n r, take_at run above n r) refl
+
+pub run-raised : (p : Stacked → Bool) (k n : ℕ) (xs put : List Stacked) → IsRun p k n xs → put ≡ take k xs ++ first_last n (drop k xs)
+    → put ≡ filter (λ s. not (p s)) xs ++ filter p xs
+run-raised p k n xs put r e =
+    e ∙ (ap (λ (ys : List Stacked). take k ys ++ first_last n (drop k ys)) r.whole
+    ∙ (turned-up k n r.below (r.first ∷ r.others) r.above r.begins r.counted
+    ∙ (sym (raised-whole p r.below r.first r.others r.above r.none_below r.is_first r.are_others r.none_above)
+    ∙ ap (λ (ys : List Stacked). filter (λ s. not (p s)) ys ++ filter p ys) (sym r.whole))))
+
+pub run-fits : (p : Stacked → Bool) (k n : ℕ) (xs : List Stacked) → IsRun p k n xs → k + n ≤ length xs
+run-fits p k n xs r =
+    omega (arith, ap length r.whole, length-append r.below ((r.first ∷ r.others) ++ r.above), length-append (r.first ∷ r.others) r.above, r.begins, r.counted)

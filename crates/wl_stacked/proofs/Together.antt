@@ -49,6 +49,15 @@ none-without p (x ∷ xs) = at (p x) refl (none-without p xs)
     at true here rest = rest
     at false here rest = or-none (p x) (list_any p (filter (λ y. not (p y)) xs)) here rest
 
+-- none passes of those that pass a test apart from it
+pub none-among : {X : Type 0} (p q : X → Bool) (xs : List X) → ((x : X) → p x ≡ true → q x ≡ false) → list_any q (filter p xs) ≡ false
+none-among p q [] apart = refl
+none-among p q (x ∷ xs) apart = at (p x) refl (none-among p q xs apart)
+  where
+    at : (b : Bool) → p x ≡ b → list_any q (filter p xs) ≡ false → list_any q (cond b (x ∷ filter p xs) (filter p xs)) ≡ false
+    at true here rest = or-none (q x) (list_any q (filter p xs)) (apart x here) rest
+    at false here rest = rest
+
 pub none-map : {X Y : Type 0} (p : Y → Bool) (f : X → Y) (xs : List X) → ((x : X) → p (f x) ≡ false) → list_any p (map f xs) ≡ false
 none-map p f [] h = refl
 none-map p f (x ∷ xs) h = or-none (p (f x)) (list_any p (map f xs)) (h x) (none-map p f xs h)

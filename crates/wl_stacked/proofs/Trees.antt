@@ -1,13 +1,13 @@
 -- The windows of each tree stand together: so they do after each call.
 use Rattle.std.proofs.Common.{◌≡◌, ℕ, List, [], ◌++◌, Bool, true, false, Result, Ok, Err, OnErr, OnOk, refl, ap, sym, ◌∙◌, map, subst}
-use Rattle.std.specs.Prelude.{◌==◌, ◌&&◌, filter}
+use Rattle.std.specs.Prelude.{◌==◌, ◌&&◌, filter, not}
 use Rattle.std.specs.List.{list_any}
 use Rattle.std.proofs.lemmas.Bool.{eqb-true, eq-eqb}
 use Rattle.std.proofs.lemmas.List.{append-nil}
 use Rattle.wl_windows.specs.declared.window.TreeWindow.{TreeWindow}
 use Rattle.wl_stacked.specs.declared.stacked.Stacked.{Stacked}
-use Rattle.wl_stacked.specs.Stacked.{AreTogether, are_a_run, is_of, replaced, stacked}
-use Rattle.wl_stacked.proofs.Together.{front-map, none-map, others-placed, run-above, run-append, run-filter, run-front, run-placed}
+use Rattle.wl_stacked.specs.Stacked.{AreTogether, are_a_run, is_of, raised, replaced, stacked, tree_of, without_tree}
+use Rattle.wl_stacked.proofs.Together.{front-map, none-among, none-map, none-without, others-placed, run-above, run-append, run-filter, run-front, run-placed}
 
 and-left : (a b : Bool) → (a && b) ≡ true → a ≡ true
 and-left true b h = refl
@@ -68,3 +68,11 @@ together-replaced c r windows all h =
     (run-placed (is_of c r) (stacked c r) windows all (is_of-own c r))
     (λ d q e. others-placed (is_of c r) (is_of d q) (map (stacked c r) windows) all (λ s own. is_of-one c r d q s own ∙ e)
     (none-map (is_of d q) (stacked c r) windows (λ w. is_of-one c r d q (stacked c r w) (is_of-own c r w) ∙ e)) (h d q))
+
+-- a tree comes to the top
+pub together-raised : (c r : ℕ) (all : List Stacked) → AreTogether all → AreTogether (raised c r all)
+together-raised c r all h =
+    by-tree c r (λ d q. are_a_run (is_of d q) (raised c r all) ≡ true)
+    (run-above (is_of c r) (without_tree c r all) (tree_of c r all) (none-without (is_of c r) all) (together-filter (is_of c r) all h c r))
+    (λ d q e. run-append (is_of d q) (without_tree c r all) (tree_of c r all) (together-filter (λ s. not (is_of c r s)) all h d q)
+    (none-among (is_of c r) (is_of d q) all (λ s own. is_of-one c r d q s own ∙ e)))

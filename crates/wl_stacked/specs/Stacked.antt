@@ -1,7 +1,7 @@
 -- The windows of the output from bottom to top, and what becomes of those of one tree (xdg-shell.xml, xdg_surface; wayland.xml,
 -- wl_subsurface).
 use Rattle.std.specs.Prelude.{ℕ, suc, ◌-◌, ◌≡◌, ◌==◌, ◌&&◌, not, if◌then◌else◌, List, [], ◌∷◌, ◌++◌}
-use Rattle.std.specs.Prelude.{Bool, true, false, drop, filter, length, map, take}
+use Rattle.std.specs.Prelude.{Bool, true, false, drop, filter, length, map, min, take}
 use Rattle.std.specs.List.{list_all, list_any}
 use Rattle.wl_windows.specs.declared.window.TreeWindow.{TreeWindow}
 use Rattle.wl_stacked.specs.declared.stacked.Stacked.{Stacked}
@@ -20,8 +20,16 @@ tree_of client root all = filter (λ s. is_of client root s) all
 abbrev pub without_tree : ℕ → ℕ → List Stacked → List Stacked
 without_tree client root all = filter (λ s. not (is_of client root s)) all
 
+-- Those of the tree of this root come on top: the others keep their order, and so do they.
+abbrev pub raised : ℕ → ℕ → List Stacked → List Stacked
+raised client root all = without_tree client root all ++ tree_of client root all
+
 abbrev pub without_client : ℕ → List Stacked → List Stacked
 without_client client all = filter (λ s. not (s.client == client)) all
+
+-- how many windows more fit where so many are kept, and both capacities have to hold them
+abbrev pub room_for : ℕ → ℕ → ℕ → ℕ
+room_for count capacity spare = min capacity spare - count
 
 -- The windows, and how many more fit without memory.
 pub record WindowsKept : Type 0 where
@@ -86,3 +94,7 @@ ReplacesNothing =
 -- the last so many before the others
 abbrev pub last_first : ℕ → List Stacked → List Stacked
 last_first count xs = drop (length xs - count) xs ++ take (length xs - count) xs
+
+-- the first so many behind the others
+abbrev pub first_last : ℕ → List Stacked → List Stacked
+first_last count xs = drop count xs ++ take count xs

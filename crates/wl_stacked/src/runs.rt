@@ -3,7 +3,7 @@
 ghost use Rattle.std.specs.Prelude.{◌≡◌, ◌++◌, ◌+◌, ◌≤◌, IsOk, OnErr, OnOk, MatchOption, drop, false, length, map, position, take};
 ghost use Rattle.std.specs.List.{list_any};
 ghost use Rattle.std.specs.Vec.{vec_capacity, vec_len};
-ghost use Rattle.wl_stacked.specs.Stacked.{AreTogether, IsRun, is_of, last_first, replaced, stacked, tree_of};
+ghost use Rattle.wl_stacked.specs.Stacked.{AreTogether, IsRun, first_last, is_of, last_first, raised, replaced, stacked, tree_of};
 
 use crate::stacked::{Stacked, add_all, is_of_tree};
 use std::alloc::{AllocError, Allocator};
@@ -97,4 +97,61 @@ pub(crate) fn replace_in<A: Allocator>(
     take_out(all, run);
     put_below(all, run.start, windows.len());
     Ok(())
+}
+
+/// The lowest windows from `start` on, so many of them, come above the others.
+fn put_above(all: &mut [Stacked], start: usize, count: usize)
+    requires { start + count ≤ length all.old }
+    ensures len { length all.new ≡ length all.old }
+    ensures put { all.new ≡ take start all.old ++ first_last count (drop start all.old) }
+{
+    all[start..].rotate_left(count);
+}
+
+/// The windows of the tree of a root come on top of the others. Nothing changes where it has none.
+pub(crate) fn raise_in(all: &mut [Stacked], client: u32, root: SurfaceNo)
+    requires { AreTogether all.old }
+    ensures len { length all.new ≡ length all.old }
+    ensures raised { all.new ≡ raised client root all.old }
+{
+    let Some(run) = run_of(all, client, root) else {
+        return;
+    };
+    put_above(all, run.start, run.count);
+}
+
+/// Other windows of the tree of a root are written over those from `start` on.
+fn write_over(
+    all: &mut [Stacked],
+    start: usize,
+    client: u32,
+    root: SurfaceNo,
+    windows: &[TreeWindow],
+)
+    requires { start + length windows.now ≤ length all.old }
+    ensures len { length all.new ≡ length all.old }
+    ensures written { all.new ≡ take start all.old ++ (map (stacked client root) windows.now ++ drop (start + length windows.now) all.old) }
+{
+    for (k, window) in windows.iter().enumerate() {
+        all[start + k] = Stacked {
+            client,
+            root,
+            window: *window,
+        };
+    }
+}
+
+/// The windows of the tree of a root are these now, one by one in the place of those that stood there. Nothing changes where it hadn't as many.
+pub(crate) fn move_in(all: &mut [Stacked], client: u32, root: SurfaceNo, windows: &[TreeWindow])
+    requires { AreTogether all.old }
+    ensures len { length all.new ≡ length all.old }
+    ensures together { AreTogether all.new }
+    ensures moved { length windows.now ≡ length (tree_of client root all.old) → all.new ≡ replaced client root windows.now all.old }
+{
+    let Some(run) = run_of(all, client, root) else {
+        return;
+    };
+    if windows.len() == run.count {
+        write_over(all, run.start, client, root, windows);
+    }
 }

@@ -121,7 +121,7 @@ module _ (toplevels : WindowsAreToplevels) (no-standing : NoStandingChanges) (di
       (roots-apart all surface root id (stands-top no-child d had c surface (among_those surface there)) its.top under its.under) there)))
 
   -- The toplevel stands, or not, among the others.
-  tree-changes : (below above : List Standing) (o p : Option Standing) → d.standing ≡ below ++ stand o above → e.standing ≡ below ++ stand p above
+  pub tree-changes : (below above : List Standing) (o p : Option Standing) → d.standing ≡ below ++ stand o above → e.standing ≡ below ++ stand p above
       → IsItsOwn c root o → IsItsOwn c root p → list_any (is_of c root) below ≡ false → list_any (is_of c root) above ≡ false → ChangesTree c root d e
   tree-changes below above o p parts parts-now own own-now no_lower no_higher =
       record {

@@ -12,7 +12,7 @@ use Rattle.wl_surface.specs.Surfaces.{Surfaces, history_in}
 
 -- ---- the order of a surface and its children
 
-abbrev HasItself : List Member → Type 0
+abbrev pub HasItself : List Member → Type 0
 HasItself ms = list_any (is_member Itself) ms ≡ true
 
 without-keeps : (l : ℕ) (ms : List Member) → list_any (is_member Itself) (without (Child l) ms) ≡ list_any (is_member Itself) ms
@@ -67,7 +67,7 @@ ordered-keeps ms (PlaceAbove l at) has = placed-keeps above above-keeps l at ms 
 ordered-keeps ms (PlaceBelow l at) has = placed-keeps below below-keeps l at ms has
 ordered-keeps ms request has = has
 
-order-keeps : (rs : List Request) (ms : List Member) → HasItself ms → HasItself (fold ordered ms rs)
+pub order-keeps : (rs : List Request) (ms : List Member) → HasItself ms → HasItself (fold ordered ms rs)
 order-keeps [] ms has = has
 order-keeps (r ∷ rs) ms has = order-keeps rs (ordered ms r) (ordered-keeps ms r has)
 
