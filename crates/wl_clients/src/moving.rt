@@ -36,7 +36,7 @@ impl<A: Allocator + Copy> Clients<A> {
     }
 
     /// A toplevel of a client, given by the number of its surface, moves by this difference of the output's pixels with the windows of its
-    /// tree, and is held within 16,777,216 either way. What these have left and where they are is marked.
+    /// tree, and is held within 16,777,216 either way. Where these move, they are marked as they were and as they are then.
     pub fn move_toplevel(&mut self, client: ClientNo, toplevel: SurfaceNo, x: i64, y: i64)
         ensures moves { (m : Midstep) (top : ℕ) → IsMid self.old.desk m → numbers_in self.old.desk.clients client top ≡ Some toplevel
             → IsMid self.new.desk (with_standing (moved_standing (record { client = client; surface = top }) x y m.desktop.standing) m) }
