@@ -17,10 +17,10 @@ use Rattle.wl_plain.specs.LeftOut.{served_now}
 use Rattle.wl_plain.specs.Moments.{marks_at_most, marks_at_most_through}
 use Rattle.wl_plain.specs.Settling.{becomes, unstruck}
 use Rattle.wl_plain.specs.Stacked.{all_windows}
-use Rattle.wl_plain.specs.Through.{ServesThrough}
+use Rattle.wl_plain.specs.Through.{ServesThrough, raised_in}
 use Rattle.wl_laws.specs.Through.{IsSingle}
 use Rattle.wl_laws.proofs.Runs.Through.{happens_leads_through, settling-with}
-use Rattle.wl_resident.specs.Marking.{MarksAtLeast, MarksMost, MarksThrough}
+use Rattle.wl_resident.specs.Marking.{MarksAtLeast, MarksMost, MarksThrough, MarksThroughBy}
 use Rattle.wl_resident.specs.View.{DeskView}
 use Rattle.wl_clients.specs.Agreeing.{Agrees, TakesStep}
 use Rattle.wl_clients.specs.Feeding.{Ends, EndsBy, EndsOf}
@@ -44,26 +44,26 @@ nothing-more act done old new before after nothing = λ d e a step b x y wide hi
     ap (λ t. t || marks_at_most d e None (pos x) (pos y)) (sym (nothing d a x y wide high) ∙ again)
 
 -- what is no more from the first desktop to the last is no more along those between
-most-along : (h : Happening) (v : DeskView) (d e : Desktop) (path : List Desktop) (before after : Damaged) → Agrees v d → Leads served_now h d path e → MarksMost d e before after
-    → (x y : ℕ) → x < before.width → y < before.height → has after x y ≡ true
-    → (has before x y || marks_at_most_through all_windows None d path (pos x) (pos y)) ≡ true
-most-along h v d e path before after a leads most x y wide high again = at (has before x y) refl (most x y wide high again)
+most-along : (h : Happening) (v : DeskView) (raised : Option (ℕ × ℕ)) (d e : Desktop) (path : List Desktop) (before after : Damaged) → Agrees v d → Leads served_now h d path e
+    → MarksMost d e before after → (x y : ℕ) → x < before.width → y < before.height → has after x y ≡ true
+    → (has before x y || marks_at_most_through all_windows raised d path (pos x) (pos y)) ≡ true
+most-along h v raised d e path before after a leads most x y wide high again = at (has before x y) refl (most x y wide high again)
   where
     at : (t : Bool) → has before x y ≡ t → (t || marks_at_most d e None (pos x) (pos y)) ≡ true
-        → (has before x y || marks_at_most_through all_windows None d path (pos x) (pos y)) ≡ true
+        → (has before x y || marks_at_most_through all_windows raised d path (pos x) (pos y)) ≡ true
     at true was either = or_left (has before x y) _ was
-    at false was either = or_right (has before x y) _ (most-through (pos x) (pos y) served_now h d path e None (agrees-apart v d a) leads either)
+    at false was either = or_right (has before x y) _ (most-through (pos x) (pos y) served_now h d path e raised (agrees-apart v d a) leads either)
 
 -- ---- a step
 
 -- it marks along the desktops between what it has to, and no more than it may
 act-marks : (act : Act) (done : Done) (v : DeskView) (d e : Desktop) (path : List Desktop) (before after : Damaged) → is_losing_act act ≡ true → Agrees v d
-    → Leads served_now (Single act done) d path e → MarksAtLeast d e before after → MarksMost d e before after → MarksThrough d path before after
+    → Leads served_now (Single act done) d path e → MarksAtLeast d e before after → MarksMost d e before after → MarksThroughBy (raised_in act d) d path before after
 act-marks act done v d e path before after losing a leads marks most = λ x y wide high. (
   λ clean.
       let unmarked = marks x y wide high clean in
       (unmarked.0, unmarked-each served_now act done d path e (pos x) (pos y) losing (orderly-bare d a.orderly) (agrees-apart v d a) leads unmarked.1),
-  most-along (Single act done) v d e path before after a leads most x y wide high,
+  most-along (Single act done) v (raised_in act d) d e path before after a leads most x y wide high,
 )
 
 pub steps-led : (act : Act) → is_losing_act act ≡ true → IsSingle act → (done : Done) (old new : DeskView) (before after : Damaged) → TakesStep act done old new
@@ -122,7 +122,7 @@ starve-marks c v d e path before after a leads marks most = λ x y wide high. (
   λ clean.
       let unmarked = marks x y wide high clean in
       (unmarked.0, unmarked-starving c (client_at c d) d path e (pos x) (pos y) (agrees-apart v d a) leads unmarked.1),
-  most-along (Starve c) v d e path before after a leads most x y wide high,
+  most-along (Starve c) v None d e path before after a leads most x y wide high,
 )
 
 -- a client that lives ends by that

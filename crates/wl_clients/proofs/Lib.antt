@@ -25,3 +25,4 @@ pub mod EachEnd
 pub mod Most
 pub mod Leading
 pub mod Rests
+pub mod Restacked

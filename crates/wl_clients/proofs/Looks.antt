@@ -1,5 +1,5 @@
 -- What is asked of the windows, of the toplevels and of who is to end, in the middle of a step.
-use Rattle.std.proofs.Common.{◌≡◌, ◌≢◌, ℕ, ◌+◌, suc, zero, ◌<◌, ◌≤◌, List, [], ◌∷◌, ◌++◌, Bool, true, false, Option, Some, None, length, map, cond, get_or, eq-eqb, refl, ap, subst, sym, ◌∙◌, arith}
+use Rattle.std.proofs.Common.{◌≡◌, ℕ, ◌+◌, suc, zero, ◌<◌, ◌≤◌, List, [], ◌∷◌, ◌++◌, Bool, true, false, Option, Some, None, length, map, cond, get_or, eq-eqb, refl, ap, subst, sym, ◌∙◌, arith}
 use Rattle.std.specs.List.{list_any}
 use Rattle.std.specs.Option.{option_map}
 use Rattle.std.specs.Prelude.{◌==◌, ◌||◌, find, is_some, nat_lt, position}
@@ -11,12 +11,15 @@ use Rattle.wl_client.specs.declared.outputs.Output.{Output}
 use Rattle.wl_paint.specs.Damage.{Damaged}
 use Rattle.wl_peer.specs.Objects.{ById}
 use Rattle.wl_peer.specs.declared.cause.Cause.{Cause}
-use Rattle.wl_plain.specs.Changing.{is_focus_in}
-use Rattle.wl_plain.specs.Desktop.{Desktop}
+use Rattle.wl_plain.specs.Changing.{holds_grab, is_focus_in}
+use Rattle.wl_plain.specs.Desktop.{Desktop, Resident, client_at, toplevels_of}
 use Rattle.wl_plain.specs.Replies.{focus_window}
 use Rattle.wl_plain.specs.Settling.{Midstep, Strike, is_struck}
 use Rattle.wl_plain.specs.Stacked.{all_windows}
 use Rattle.wl_laws.proofs.Lists.Keys.{differ}
+use Rattle.wl_invariants.specs.Orderly.{OrderlyAt, OrderlyBy}
+use Rattle.wl_invariants.proofs.KeptRecords.Toplevels.Changed.{no-popups}
+use Rattle.wl_invariants.proofs.NobodyPoints.Grabs.{nobody-holds}
 use Rattle.wl_scene.specs.Kept.{standing_of}
 use Rattle.wl_scene.specs.declared.scene.Toplevel.{Toplevel}
 use Rattle.wl_stacking.specs.Pointer.{is_stacked}
@@ -28,14 +31,14 @@ use Rattle.wl_lending.specs.Stacked.{AreStacked}
 use Rattle.wl_requests.specs.declared.residents.Resident.{Resident as Kept}
 use Rattle.wl_resident.specs.Agreement.{IsStack, numbers_in}
 use Rattle.wl_resident.specs.View.{DeskView, MarkedDesk, Pile}
-use Rattle.wl_clients.specs.Midway.{IsMid, first_struck, is_refused, opened_desk, strike_for, strikes_from}
+use Rattle.wl_clients.specs.Midway.{IsMid, NobodyGrabs, first_struck, is_refused, strike_for, strikes_from}
 use Rattle.wl_clients.specs.Pointing.{is_in_tree, windows_numbered}
 use Rattle.wl_clients.specs.Residents.{client_views, resident_at}
 use Rattle.wl_clients.proofs.Desktops.{at, at-map, at-within}
-use Rattle.wl_clients.proofs.Midway.{mid-kept, mid_is_numbered_once}
+use Rattle.wl_clients.proofs.Midway.{mid-kept, mid-nobody, mid_is_numbered_once, seat}
 use Rattle.wl_clients.proofs.Numbers.{any-mapped, stands-so, tree-so, window-found, window-numbered}
 use Rattle.wl_clients.proofs.Opened.{numbers-open}
-use Rattle.wl_clients.proofs.Seats.{IsHere, client-here, marked, view_of}
+use Rattle.wl_clients.proofs.Seats.{here-of, marked, view_of}
 use Rattle.wl_clients.proofs.Strikes.{none-struck, of-refused, refused_in, struck-at}
 
 module _ (v : DeskView) (m : Midstep) (mid : IsMid v m) (c : ℕ) where
@@ -178,3 +181,37 @@ module _ {A : Type 0} where
       by (suc k) none =
           struck-at (suc k) 1 k (client_views rs) (omega arith)
           ∙ ap (λ (o : Option ClientView). is_some (refused_in o)) (at-map (λ (r : Kept A). r.client) rs k ∙ ap kept_client none)
+
+-- ---- the next serial of a client
+
+pub no-serial : {A : Type 0} (output : Output) (rs : List (Option (Kept A))) (pile : Pile) (damage : Damaged) (ws : List (Option (Kept A))) (w : MarkedDesk) (c : ℕ) (m : Midstep) → ws ≡ rs
+    → resident_at ws c ≡ None → marked (view_of output rs pile) damage ≡ w → IsMid w.desk m → None ≡ option_map (λ (r : Resident). r.peer.serial) (client_at c m.desktop)
+no-serial output rs pile damage ws w c m same none view mid =
+    sym (ap (λ (o : Option Resident). option_map (λ (r : Resident). r.peer.serial) o)
+    (mid-nobody output rs pile c m (rw (← same) none) (subst (λ (x : MarkedDesk). IsMid x.desk m) (sym view) mid)))
+
+pub serial-read : {A : Type 0} (output : Output) (rs : List (Option (Kept A))) (pile : Pile) (damage : Damaged) (ws : List (Option (Kept A))) (w : MarkedDesk) (c : ℕ) (v : Kept A) (m : Midstep)
+    → ws ≡ rs → Some v ≡ resident_at ws c → marked (view_of output rs pile) damage ≡ w → IsMid w.desk m
+    → Some v.client.serial ≡ option_map (λ (r : Resident). r.peer.serial) (client_at c m.desktop)
+serial-read {A} output rs pile damage ws w c v m same is view mid =
+    let here = here-of rs c v (is ∙ ap (λ (xs : List (Option (Kept A))). resident_at xs c) same) in
+    let s = seat output rs pile c here.0 v here.1 m (subst (λ (x : MarkedDesk). IsMid x.desk m) (sym view) mid) in
+    ap Some s.2.seat.peer.serial ∙ sym (ap (λ (o : Option Resident). option_map (λ (r : Resident). r.peer.serial) o) s.1)
+
+-- ---- nobody holds a grab
+
+none-any : {X : Type 0} (p : X → Bool) (xs : List X) → xs ≡ [] → list_any p xs ≡ false
+none-any p [] e = refl
+none-any p (x ∷ xs) e = absurd (cc)
+
+free-of-grabs : (o : Option Resident) (tops : List Standing) → OrderlyAt o tops → holds_grab o ≡ false
+free-of-grabs None tops known = refl
+free-of-grabs (Some r) tops known = by r.peer.status known
+  where
+    by : (s : Option Cause) → OrderlyBy s r tops → holds_grab (Some r) ≡ false
+    by None known = none-any _ _ (no-popups r.owned.shell known.0.no_popups.roles)
+    by (Some cause) known = ap (λ (q : Resident). holds_grab (Some q)) known.0
+
+pub nobody_grabs : NobodyGrabs
+nobody_grabs v m mid =
+    nobody-holds m.desktop (λ c. free-of-grabs (client_at c m.desktop) (toplevels_of c m.desktop) (mid.agrees.orderly.each c))

@@ -1,7 +1,7 @@
 -- The middle of a step: it begins and ends between steps, clients are told something in it, and the first that is to end does.
-use Rattle.std.proofs.Common.{◌≡◌, ◌≢◌, ℕ, ◌+◌, suc, zero, ◌<◌, List, [], ◌∷◌, ◌++◌, Bool, true, false, Option, Some, None, map, set, refl, ap, subst, sym, ◌∙◌, arith}
+use Rattle.std.proofs.Common.{◌≡◌, ℕ, ◌+◌, suc, zero, List, [], ◌∷◌, ◌++◌, Bool, true, Option, Some, None, map, set, refl, ap, subst, sym, ◌∙◌, arith}
 use Rattle.std.specs.Option.{option_map}
-use Rattle.std.specs.Prelude.{◌||◌, is_none, is_some, length}
+use Rattle.std.specs.Prelude.{◌||◌, is_none, is_some}
 use Rattle.std.proofs.Math.Path.{fun_ext}
 use Rattle.std.proofs.lemmas.List.{set-get_or}
 use Rattle.wl_interface.specs.declared.interface.Interface.TheVariants.{WlSurface}
@@ -20,7 +20,7 @@ use Rattle.wl_peer.specs.Objects.{ById}
 use Rattle.wl_peer.specs.Peer.{Peer, QueuesTo, ended}
 use Rattle.wl_peer.specs.Told.{Said}
 use Rattle.wl_plain.specs.Desktop.{Desktop, Resident, become, client_at, with_client}
-use Rattle.wl_plain.specs.Settling.{Midstep, Strike, Tells, TellsAt, TellsResident, TellsUnless, becomes, ended_at as plain_ended, ended_by, is_struck, struck_by, unstruck}
+use Rattle.wl_plain.specs.Settling.{Midstep, Strike, Tells, TellsAt, TellsUnless, ended_at as plain_ended, ended_by, is_struck, struck_by}
 use Rattle.wl_invariants.specs.Orderly.{Orderly}
 use Rattle.wl_invariants.proofs.KeptRecords.Toplevels.Serves.{becomes-same}
 use Rattle.wl_lending.specs.Hit.{AreKept}
@@ -32,7 +32,7 @@ use Rattle.wl_resident.specs.Seats.{IsSeated, ended_by as ended_while, opened_ke
 use Rattle.wl_resident.specs.View.{DeskView, MarkedDesk, OwnedView, Pile}
 use Rattle.wl_clients.specs.Agreeing.{Agrees}
 use Rattle.wl_clients.specs.Feeding.{Ends}
-use Rattle.wl_clients.specs.Midway.{IsMid, MidBeginsAndEnds, MidIsNumberedOnce, MidNamesSurfaces, RefusedLives, opened_desk, strike_for, strike_of, strikes_from}
+use Rattle.wl_clients.specs.Midway.{IsMid, MidBeginsAndEnds, MidIsNumberedOnce, MidNamesSurfaces, RefusedLives, opened_desk, strike_for, strikes_from}
 use Rattle.wl_clients.specs.Pointing.{IsTold, IsToldAt, IsToldBy}
 use Rattle.wl_clients.specs.Lent.{slots_lent}
 use Rattle.wl_clients.specs.Residents.{client_views, owned_views, resident_at}
@@ -43,8 +43,8 @@ use Rattle.wl_clients.proofs.Marks.{AddsOwn, adds-within, ends-marked, own-adds,
 use Rattle.wl_clients.proofs.Opened.{desk-open, here-open, numbers-open, open-set, open_all, opened-same}
 use Rattle.wl_clients.proofs.Seats.{IsHere, client-here, clients-within, marked, nobody, view_of}
 use Rattle.wl_clients.proofs.Steps.{ended-has, ends-away}
-use Rattle.wl_clients.proofs.Strikes.{of-refused, refused_in, struck-at, struck-first, struck-more, struck-same}
-use Rattle.wl_clients.proofs.Told.{noting, queues-only, still-alive, told-orderly, told-seated}
+use Rattle.wl_clients.proofs.Strikes.{of-refused, refused_in, struck-at, struck-first, struck-more}
+use Rattle.wl_clients.proofs.Told.{noting, queues-only, told-orderly, told-seated}
 
 -- ---- a step begins, and ends
 
@@ -192,12 +192,7 @@ module _ {A : Type 0} (output : Output) (rs : List (Option (Kept A))) (pile : Pi
   free-here : (o : Option Cause) → v.client.refused ≡ o → refused_in (at (client_views rs) k) ≡ o
   free-here o e = ap refused_in (client-here rs k v is.here) ∙ e
 
-  -- who is to end stays so where nothing is refused
-  pub struck-still : (new : Kept A) → new.client.refused ≡ v.client.refused → strikes_from 1 (client_views (set rs k (Some new))) ≡ strikes_from 1 (client_views rs)
-  struck-still new same =
-      ap (strikes_from 1) (views-put new) ∙ struck-same 1 k (client_views rs) (Some new.client) (same ∙ sym (free-here v.client.refused refl))
-
-  -- and so do the numbers of surfaces
+  -- the numbers of surfaces stay
   pub told-numbers : (new : Kept A) → new.client.objects ≡ v.client.objects → numbers_in (client_views (set rs k (Some new))) ≡ numbers_in (client_views rs)
   told-numbers new same =
       ap numbers_in (views-put new)
@@ -211,11 +206,11 @@ module _ {A : Type 0} (output : Output) (rs : List (Option (Kept A))) (pile : Pi
   here : IsHere (open_all rs) c k (opened_kept v)
   here = here-open rs c k v is
 
-  seat : (s : Resident) × (client_at c m.desktop ≡ Some s) × IsSeated c (numbers_in (client_views (open_all rs))) m.desktop (opened_kept v) pile m.desktop s
+  pub seat : (s : Resident) × (client_at c m.desktop ≡ Some s) × IsSeated c (numbers_in (client_views (open_all rs))) m.desktop (opened_kept v) pile m.desktop s
   seat = out output (open_all rs) pile c k (opened_kept v) here m.desktop agreed.matches
 
   -- another is put at its place
-  mid-put : (new : Kept A) (now : Pile) (e : Desktop) (s : Resident) (struck : List Strike)
+  pub mid-put : (new : Kept A) (now : Pile) (e : Desktop) (s : Resident) (struck : List Strike)
       → IsSeated c (numbers_in (client_views (open_all rs))) m.desktop (opened_kept new) now e s → Orderly e
       → strikes_from 1 (set (client_views rs) k (Some new.client)) ≡ struck → RefusedLives (Some new.client)
       → IsMid (view_of output (set rs k (Some new)) now) (record { desktop = e; struck = struck })
@@ -229,7 +224,7 @@ module _ {A : Type 0} (output : Output) (rs : List (Option (Kept A))) (pile : Pi
     alive = λ j. subst (λ (vs : List (Option ClientView)). RefusedLives (at vs j)) (sym (views-put output rs pile c k v is new)) (lives-put (client_views rs) k (Some new.client) lives mid.alive j);
   }
 
-  put-same : set rs k (Some v) ≡ rs
+  pub put-same : set rs k (Some v) ≡ rs
   put-same = ap (λ (o : Option (Kept A)). set rs k o) (sym is.here) ∙ set-get_or rs k None
 
   -- ---- it is told

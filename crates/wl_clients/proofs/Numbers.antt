@@ -1,15 +1,14 @@
 -- Surfaces, windows and toplevels by their numbers and by the ids of their wl_surfaces.
-use Rattle.std.proofs.Common.{◌≡◌, ◌≢◌, ℕ, suc, zero, List, [], ◌∷◌, Bool, true, false, Option, Some, None, map, eq-eqb, eqb-true, refl, ap, ap₂, subst, sym, ◌∙◌}
+use Rattle.std.proofs.Common.{◌≡◌, ◌≢◌, ℕ, suc, zero, List, [], ◌∷◌, Bool, true, false, Option, Some, None, map, eq-eqb, eqb-true, refl, ap, ap₂, sym, ◌∙◌}
 use Rattle.std.specs.List.{list_any}
 use Rattle.std.specs.Option.{option_and_then, option_map}
-use Rattle.std.specs.Prelude.{◌==◌, ◌&&◌, ◌||◌, IfNone, IfSome, cond, find, if◌then◌else◌, is_some}
+use Rattle.std.specs.Prelude.{◌==◌, ◌&&◌, ◌||◌, IfNone, IfSome, find, if◌then◌else◌, is_some}
 use Rattle.wl_interface.specs.declared.interface.Interface.{Interface}
 use Rattle.wl_interface.specs.declared.interface.Interface.TheVariants.{WlSurface}
 use Rattle.wl_table.specs.Objects.{Finds, Held, StandsFor, entry_of}
 use Rattle.wl_table.specs.declared.entry.Entry.{Entry}
-use Rattle.wl_client.specs.View.{ClientView}
 use Rattle.wl_peer.specs.Objects.{ById, interface_number, nothing}
-use Rattle.wl_stacking.specs.Pointer.{Target, is_stacked}
+use Rattle.wl_stacking.specs.Pointer.{is_stacked}
 use Rattle.wl_stacking.specs.Stacking.{Standing, is_of}
 use Rattle.wl_stacking.specs.Windows.{Window}
 use Rattle.wl_stacked.specs.declared.stacked.Stacked.{Stacked}
@@ -26,7 +25,7 @@ use Rattle.wl_requests.specs.declared.residents.Resident.{Resident as Kept}
 use Rattle.wl_resident.specs.Agreement.{IsStack, numbers_in, numbers_of}
 use Rattle.wl_clients.specs.Pointing.{is_in_tree}
 use Rattle.wl_clients.specs.Residents.{client_views, resident_at}
-use Rattle.wl_clients.proofs.Desktops.{at, at-map}
+use Rattle.wl_clients.proofs.Desktops.{at-map}
 use Rattle.wl_clients.proofs.Seats.{IsHere, client-here}
 
 -- ---- the numbers of a client's surfaces

@@ -1,5 +1,5 @@
 -- The clients as if each event for them had been queued.
-use Rattle.std.proofs.Common.{◌≡◌, ℕ, suc, zero, List, [], ◌∷◌, length, map, set, Option, Some, None, refl, ap, subst, sym, ◌∙◌}
+use Rattle.std.proofs.Common.{◌≡◌, ℕ, suc, zero, List, [], ◌∷◌, map, set, Option, Some, None, refl, ap, sym, ◌∙◌}
 use Rattle.std.specs.Option.{option_map}
 use Rattle.wl_client.specs.View.{ClientView, opened}
 use Rattle.wl_client.specs.declared.outputs.Output.{Output}
@@ -7,9 +7,8 @@ use Rattle.wl_peer.specs.declared.cause.Cause.{Cause}
 use Rattle.wl_requests.specs.declared.residents.Resident.{Resident as Kept}
 use Rattle.wl_resident.specs.Agreement.{numbers_in, numbers_of}
 use Rattle.wl_resident.specs.Seats.{opened_kept}
-use Rattle.wl_resident.specs.View.{DeskView, OwnedView, Pile, owned_view}
+use Rattle.wl_resident.specs.View.{OwnedView, Pile, owned_view}
 use Rattle.std.proofs.Math.Path.{fun_ext}
-use Rattle.wl_peer.specs.Objects.{ById}
 use Rattle.wl_clients.specs.Midway.{opened_desk}
 use Rattle.wl_clients.specs.Residents.{client_views, owned_views}
 use Rattle.wl_clients.proofs.Desktops.{at, at-map, map-length}

@@ -1,5 +1,5 @@
 -- What is left to be taken of each client is no more, where what is kept of one is put anew.
-use Rattle.std.proofs.Common.{◌≡◌, ◌≤◌, ℕ, zero, suc, List, Bool, true, false, length, Option, Some, None, set, refl, subst, sym, ap, arith}
+use Rattle.std.proofs.Common.{◌≡◌, ◌≤◌, ℕ, zero, suc, List, Bool, true, false, length, Option, Some, None, set, refl, subst, sym, arith}
 use Rattle.std.specs.Prelude.{◌==◌}
 use Rattle.std.proofs.lemmas.Bool.{eqb-false, eqb-true}
 use Rattle.wl_client.specs.View.{ClientView}

@@ -1,12 +1,11 @@
 -- The clients that are to end, by what is kept of all clients.
 use Rattle.std.proofs.Common.{◌≡◌, ℕ, ◌+◌, suc, zero, ◌<◌, ◌≤◌, List, [], ◌∷◌, ◌++◌, Bool, true, false, Option, Some, None, length, set, eq-eqb, refl, ap, subst, sym, ◌∙◌, arith}
 use Rattle.std.specs.List.{list_any}
-use Rattle.std.specs.Prelude.{◌==◌, ◌||◌, if◌then◌else◌, is_some, nat_lt}
+use Rattle.std.specs.Prelude.{◌==◌, ◌||◌, if◌then◌else◌, is_some}
 use Rattle.std.proofs.lemmas.List.Folds.{list_any-append}
 use Rattle.std.proofs.lemmas.Bool.{eqb-true, le-ltb, lt-ltb}
 use Rattle.wl_client.specs.View.{ClientView}
 use Rattle.wl_peer.specs.declared.cause.Cause.{Cause}
-use Rattle.wl_laws.proofs.Lists.Keys.{differ}
 use Rattle.wl_plain.specs.Settling.{Strike, in_order, is_struck, struck_by}
 use Rattle.wl_clients.specs.Midway.{strike_for, strike_of, strikes_from}
 use Rattle.wl_clients.proofs.Desktops.{at}
@@ -115,13 +114,6 @@ struck-more c start (suc k) (v ∷ vs) x e within free =
     by : (o : Option Cause) → strike_for start o ++ struck_by c (refused_in x) (strikes_from (suc start) vs) ≡ struck_by c (refused_in x) (strike_for start o ++ strikes_from (suc start) vs)
     by None = refl
     by (Some cause) = sym (past-by c (refused_in x) (record { client = start; cause = cause }) (strikes_from (suc start) vs) (omega (arith, e)))
-
--- nothing changes who is to end where it leaves why
-pub struck-same : (start k : ℕ) (vs : List (Option ClientView)) (x : Option ClientView) → refused_in x ≡ refused_in (at vs k) → strikes_from start (set vs k x) ≡ strikes_from start vs
-struck-same start k [] x e = refl
-struck-same start zero (v ∷ vs) x e =
-    ap (λ (ts : List Strike). ts ++ strikes_from (suc start) vs) (of-refused start x ∙ ap (strike_for start) e ∙ sym (of-refused start v))
-struck-same start (suc k) (v ∷ vs) x e = ap (λ (ts : List Strike). strike_of start v ++ ts) (struck-same (suc start) k vs x e)
 
 -- ---- the first that is to end does
 

@@ -1,6 +1,6 @@
 -- A client in the middle of a step is told something by its wl_pointers: what that leaves of it and of the desktop.
-use Rattle.std.proofs.Common.{◌≡◌, ◌≢◌, ℕ, ◌+◌, ◌≤◌, List, [], ◌∷◌, Bool, true, false, Option, Some, None, Result, refl, ap, subst, sym, ◌∙◌, inl, inr, ◌⊎◌, arith}
-use Rattle.std.specs.Prelude.{MatchResult, Ok, Err, is_ok, is_some}
+use Rattle.std.proofs.Common.{◌≡◌, ◌≢◌, ℕ, List, [], ◌∷◌, Bool, true, false, Option, Some, None, refl, ap, subst, sym, ◌∙◌, inl, inr, ◌⊎◌, arith}
+use Rattle.std.specs.Prelude.{is_some}
 use Rattle.wl_client.specs.Agreement.{IsPeer}
 use Rattle.wl_client.specs.Pointers.{TellsPointers}
 use Rattle.wl_client.specs.declared.pointers.PointerEvent.{PointerEvent}
@@ -180,8 +180,3 @@ pub told-lives : (event : PointerEvent) (pointers : List ℕ) (e f : Option Caus
     → IsToldBy event pointers e f v w
 told-lives event pointers e f v w lives free h =
     subst (λ (o : Option Cause). IsToldBy event pointers o f v w) (sym lives) (subst (λ (o : Option Cause). IsToldBy event pointers None o v w) (sym free) h)
-
--- what holds where each event was queued
-pub answer-ok : {X E : Type 0} (r : Result X E) (P : X → Type 0) (Q : E → Type 0) → is_ok r ≡ true → MatchResult r P Q → (x : X) × P x
-answer-ok (Ok x) P Q ok h = (x, h)
-answer-ok (Err e) P Q ok h = absurd (cc)

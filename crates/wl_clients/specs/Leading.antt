@@ -1,13 +1,19 @@
 -- What one thing that happens leads to, and what it marks on the way.
-use Rattle.std.specs.Prelude.{List}
+use Rattle.std.specs.Prelude.{ℕ, List, Option, None}
 use Rattle.wl_paint.specs.Damage.{Damaged}
 use Rattle.wl_plain.specs.Desktop.{Desktop}
-use Rattle.wl_plain.specs.Happenings.{Happening, Leads}
+use Rattle.wl_plain.specs.Happenings.{Happening, Leads, Single}
 use Rattle.wl_plain.specs.LeftOut.{served_now}
-use Rattle.wl_resident.specs.Marking.{MarksThrough}
+use Rattle.wl_plain.specs.Through.{raised_in}
+use Rattle.wl_resident.specs.Marking.{MarksThroughBy}
 use Rattle.wl_resident.specs.View.{MarkedDesk}
 use Rattle.wl_clients.specs.Agreeing.{Agrees}
 use Rattle.wl_clients.specs.Framing.{MarksIfEnds}
+
+-- the toplevel that a press raised, if it did
+abbrev pub raised_by : Happening → Desktop → Option (ℕ × ℕ)
+raised_by (Single act done) d = raised_in act d
+raised_by happening d = None
 
 -- It leads from a desktop through others to one with which what is kept agrees. What has to be marked by its own change, by each end and by
 -- each settling in turn is, and nothing else than what may be.
@@ -16,7 +22,7 @@ pub record Led (AgreesAfter : Desktop → Type 0) (h : Happening) (old new : Dam
   pub desktop : Desktop
   pub leads : Leads served_now h d path desktop
   pub agrees : AgreesAfter desktop
-  pub marks : MarksThrough d path old new
+  pub marks : MarksThroughBy (raised_by h d) d path old new
 
 -- So it does from whatever desktop agrees before.
 abbrev pub LeadsBy : Happening → MarkedDesk → MarkedDesk → Type 0

@@ -9,5 +9,7 @@ pub mod Pointing
 pub mod Residents
 pub use Rattle.wl_resident.specs.Agreement
 pub use Rattle.wl_resident.specs.Marking
+pub use Rattle.wl_resident.specs.Moving
+pub use Rattle.wl_resident.specs.Raising
 pub use Rattle.wl_resident.specs.Seats
 pub use Rattle.wl_resident.specs.View

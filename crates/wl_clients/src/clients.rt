@@ -10,7 +10,7 @@ ghost use Rattle.wl_plain.specs.Act.{Connect, Store, Leave, Tick, Send, Close, l
 ghost use Rattle.wl_clients.specs.NextStore.{next_store_of};
 ghost use Rattle.wl_clients.specs.Agreeing.{Agrees, MarksNothing, MarksStep, TakesStep};
 ghost use Rattle.wl_resident.specs.Marking.{MarksAtLeast, MarksMost};
-ghost use Rattle.wl_clients.specs.Feeding.{Ends, IsIdleIn, kept_at, kept_while, rest_in, served_as};
+ghost use Rattle.wl_clients.specs.Feeding.{Ends, IsIdleIn, kept_at, kept_while, rest_in, served_as, served_of};
 ghost use Rattle.wl_marking.specs.Marking.{IsAsLarge};
 ghost use Rattle.wl_clients.specs.Framing.{MarksIfEnds, WasTold};
 ghost use Rattle.wl_clients.specs.Leading.{LeadsBy, LeadsQuietly, Led};
@@ -159,6 +159,7 @@ impl<A: Allocator + Copy> Clients<A> {
     /// new wl_pointer, a client that asks for one ends for want of memory.
     pub fn take(&mut self, client: ClientNo, has_seat: bool) -> Taken
         ensures leads { result.served ≢ Served.More → LeadsBy (Message client) self.old self.new }
+        ensures told { result.served ≢ Served.More → (d : Desktop) → Agrees self.new.desk d → result.served ≡ served_of (status_of (peer_at client d)) }
         ensures asks { result.served ≢ Served.More → (d : Desktop) → Agrees self.old.desk d
             → AsksOfPointer (numbers_in self.old.desk.clients client) (asked served_now client d) result.pointer }
         ensures seat { (id : ℕ) → result.pointer ≡ PointerAsked.NewPointer id → has_seat ≡ false → (e : Desktop) → Agrees self.new.desk e

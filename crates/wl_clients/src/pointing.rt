@@ -3,6 +3,7 @@
 
 ghost use Rattle.std.specs.Prelude.{ℕ, ◌≡◌, ◌∷◌, IfNone, IfSome, List, None, Some, ◌≢◌, ◌<◌, ◌≤◌, find, is_some, length, position, true};
 ghost use Rattle.std.specs.List.{list_any};
+ghost use Rattle.std.specs.Option.{option_map};
 ghost use Rattle.wl_interface.specs.declared.interface.Interface.TheVariants.{WlSurface};
 ghost use Rattle.wl_owning.specs.Owning.{targets_in};
 ghost use Rattle.wl_peer.specs.Objects.{ById};
@@ -25,7 +26,7 @@ ghost use Rattle.wl_resident.specs.Marking.{MarksAtLeast, MarksMost, MarksOwnIf}
 ghost use Rattle.wl_resident.specs.Seats.{IsSeated, opened_kept};
 ghost use Rattle.wl_resident.specs.View.{pile_of};
 ghost use Rattle.wl_clients.specs.Feeding.{rest_in};
-ghost use Rattle.wl_clients.specs.Midway.{IsMid, MidBeginsAndEnds, MidIsNumberedOnce, MidNamesSurfaces, first_struck, is_refused, strikes_from};
+ghost use Rattle.wl_clients.specs.Midway.{IsMid, MidBeginsAndEnds, MidIsNumberedOnce, MidNamesSurfaces, NobodyGrabs, first_struck, is_refused};
 ghost use Rattle.wl_clients.specs.Pointing.{IsToldAt, IsToldBy, is_in_tree, windows_numbered};
 
 use crate::clients::{Clients, place_of};
@@ -168,13 +169,22 @@ impl<A: Allocator + Copy> Clients<A> {
         resident.client.find(Interface::WlSurface, surface)
     }
 
+    /// The serial that the next event of a client with one has. It isn't drawn by that.
+    pub fn serial(&self, client: ClientNo) -> Option<u32>
+        ensures { (m : Midstep) → IsMid self.now.desk m → result ≡ option_map (λ r. r.peer.serial) (client_at client m.desktop) }
+    {
+        let Some(resident) = resident_of(&self.residents, client) else {
+            return None;
+        };
+        Some(resident.client.serial())
+    }
+
     /// These wl_pointers of a client are told an event in this order, with one serial if it has one, unless the client ended, is to end or isn't
-    /// there. False where an event wasn't queued: the client is to end for that, and is told nothing more (see [`Clients::end_refused`]).
-    pub fn tell(&mut self, client: ClientNo, pointers: &[u32], event: PointerEvent) -> bool
+    /// there. Where an event isn't queued, the client is to end for that, and is told nothing more (see [`Clients::end_refused`]).
+    pub fn tell(&mut self, client: ClientNo, pointers: &[u32], event: PointerEvent)
         ensures tells { (change : Plain → Plain) (events : Plain → List Said) (m : Midstep) → IsMid self.old.desk m
             → IsToldAt event pointers.now change events (client_at client m.desktop)
             → (n : Midstep) × Tells change events client m n × IsMid self.new.desk n }
-        ensures queued { result ≡ true → strikes_from 1 self.new.desk.clients ≡ strikes_from 1 self.old.desk.clients }
         ensures damage { self.new.damage ≡ self.old.damage }
         ensures output { self.new.desk.output ≡ self.old.desk.output }
         ensures pile { self.new.desk.pile ≡ self.old.desk.pile }
@@ -182,12 +192,12 @@ impl<A: Allocator + Copy> Clients<A> {
         ensures rests { (c : ℕ) → length (rest_in c self.new.desk) ≤ length (rest_in c self.old.desk) }
     {
         let Some(k) = place_of(&self.residents, client) else {
-            return true;
+            return;
         };
         let Some(resident) = &mut self.residents[k] else {
-            return true;
+            return;
         };
-        tell_to(resident, pointers, event)
+        tell_to(resident, pointers, event);
     }
 
     /// The least number of a client that is to end since an event for it wasn't queued. There are 32 numbers.
@@ -246,24 +256,19 @@ fn end_for_refusal<A: Allocator + Copy>(
     screen.end(resident, client, cause, alloc);
 }
 
-/// A client that lives and isn't to end is told. False where an event wasn't queued.
-fn tell_to<A: Allocator + Copy>(
-    resident: &mut Resident<A>,
-    pointers: &[u32],
-    event: PointerEvent,
-) -> bool
+/// A client that lives and isn't to end is told.
+fn tell_to<A: Allocator + Copy>(resident: &mut Resident<A>, pointers: &[u32], event: PointerEvent)
     ensures told { IsToldBy event pointers.now resident.old.client.ended resident.old.client.refused resident.old.client resident.new.client }
-    ensures queued { result ≡ true → resident.new.client.refused ≡ resident.old.client.refused }
     ensures table { resident.new.client.objects ≡ resident.old.client.objects }
     ensures rest { resident.new ≡ record resident.old { client = resident.new.client } }
 {
     if resident.client.has_ended() {
-        return true;
+        return;
     }
     if resident.client.to_end_for().is_some() {
-        return true;
+        return;
     }
-    resident.client.tell_pointers(pointers, event).is_ok()
+    let _queued = resident.client.tell_pointers(pointers, event);
 }
 
 /// The number of the surface of a client's wl_surface with this id.
@@ -295,6 +300,11 @@ pub fn mid_begins_and_ends()
 /// In the middle of a step too a client's surface has a number as long as it is there.
 pub fn mid_names_surfaces()
     ensures { MidNamesSurfaces }
+{}
+
+/// No client holds a grab: there are no popups.
+pub fn nobody_grabs()
+    ensures { NobodyGrabs }
 {}
 
 /// In the middle of a step too no number is that of two surfaces of a client.

@@ -1,8 +1,8 @@
-use Rattle.std.proofs.Common.{◌≡◌, Bool, true, false, Option, Some, None, Result, ap, refl, subst, sym, ◌∙◌}
-use Rattle.std.specs.Prelude.{MatchResult, Ok, Err, is_ok, is_some}
+use Rattle.std.proofs.Common.{ap, sym, ◌∙◌}
+use Rattle.std.specs.Prelude.{is_some}
 use Rattle.wl_client.specs.View.{ClientView}
 use Rattle.wl_clients.proofs.Calls.{lives-of}
-use Rattle.wl_clients.proofs.Told.{answer-ok, told-ended, told-lives, told-refused}
+use Rattle.wl_clients.proofs.Told.{told-ended, told-lives, told-refused}
 use Rattle.wl_clients.proofs.pointing.tell_to.Goals as goal
 
 pub returns-then-has_ended-clause-told : goal.returns-then-has_ended-clause-told
@@ -16,14 +16,10 @@ returns-then-is_some-clause-told g c =
 
 pub returns-clause-told : goal.returns-clause-told
 returns-clause-told g c =
-    told-lives c.args.event c.args.pointers.now c.args.resident.now.client.ended c.args.resident.now.client.refused c.args.resident.now.client c.tell_pointers.new.self
+    told-lives c.args.event c.args.pointers.now c.args.resident.now.client.ended c.args.resident.now.client.refused c.args.resident.now.client c.tell_pointers-queued.new.self
     (lives-of c.args.resident.now.client.ended (sym c.has_ended.ensures ∙ c.if-has_ended.false))
     (lives-of c.args.resident.now.client.refused (sym (c.is_some.ensures ∙ ap is_some c.to_end_for.ensures) ∙ c.if-is_some.false))
-    (c.tell_pointers.ensures.tells, c.tell_pointers.ensures.only)
-
-pub returns-clause-queued : goal.returns-clause-queued
-returns-clause-queued g c = λ all.
-    (answer-ok c.tell_pointers.result _ _ (sym c.is_ok.ensures.value ∙ all) c.tell_pointers.ensures.answer).1
+    (c.tell_pointers-queued.ensures.tells, c.tell_pointers-queued.ensures.only)
 
 pub returns-clause-table : goal.returns-clause-table
-returns-clause-table g c = ap (λ (v : ClientView). v.objects) c.tell_pointers.ensures.only
+returns-clause-table g c = ap (λ (v : ClientView). v.objects) c.tell_pointers-queued.ensures.only

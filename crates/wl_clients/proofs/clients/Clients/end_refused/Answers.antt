@@ -1,4 +1,4 @@
-use Rattle.std.proofs.Common.{◌≡◌, ap, refl, sym, ◌∙◌}
+use Rattle.std.proofs.Common.{ap, refl, ◌∙◌}
 use Rattle.std.proofs.lemmas.List.{length-set}
 use Rattle.wl_resident.specs.Agreement.{numbers_in}
 use Rattle.wl_resident.specs.View.{MarkedDesk, pile_of}

@@ -1,10 +1,8 @@
-use Rattle.std.proofs.Common.{◌≡◌, ℕ, Option, Some, None, ap, subst, sym, ◌∙◌}
+use Rattle.std.proofs.Common.{◌≡◌, ℕ, Some, ap, subst, sym, ◌∙◌}
 use Rattle.std.specs.Prelude.{IfNone, IfSome, ◌≢◌}
 use Rattle.wl_peer.specs.Objects.{ById}
-use Rattle.wl_resident.specs.View.{pile_of}
-use Rattle.wl_resident.specs.Agreement.{numbers_in}
-use Rattle.wl_clients.specs.Residents.{client_views, resident_at}
-use Rattle.wl_clients.proofs.Numbers.{found-named, named-none, numbers-here, numbers-missing, unfound-or}
+use Rattle.wl_clients.specs.Residents.{resident_at}
+use Rattle.wl_clients.proofs.Numbers.{found-named, named-none, numbers-here, unfound-or}
 use Rattle.wl_clients.proofs.Seats.{here-of}
 use Rattle.wl_clients.proofs.clients.Clients.surface_id.Goals as goal
 

@@ -2,10 +2,11 @@ use Rattle.std.proofs.Common.{◌≡◌, None, ap, refl, sym, ◌∙◌}
 use Rattle.std.proofs.lemmas.List.{length-set}
 use Rattle.wl_resident.specs.Agreement.{numbers_in}
 use Rattle.wl_resident.specs.View.{MarkedDesk, pile_of}
+use Rattle.wl_clients.specs.Feeding.{served_as}
 use Rattle.wl_clients.specs.Residents.{client_views}
 use Rattle.wl_requests.specs.PointerAsks.{MessageAsksPointer}
 use Rattle.wl_clients.proofs.Asks.{asks-of, message-asks, over-there, seat-of}
-use Rattle.wl_clients.proofs.Kept.{idles, rest-less, served-idle, served-took, serves-through}
+use Rattle.wl_clients.proofs.Kept.{idles, rest-less, served-answer, served-idle, served-took, serves-told, serves-through}
 use Rattle.wl_clients.proofs.Leading.{message-led}
 use Rattle.wl_clients.proofs.Steps.{idles-nobody, idles-whole, through-whole}
 use Rattle.wl_clients.proofs.Seats.{as-large, empty-slot, found, missing, still}
@@ -119,3 +120,17 @@ returns-clause-seat g c =
     over-there c.self.inside.output c.self.inside.residents.items pile (pile_of c.serve-taken.new.self) c.args.client c.in-Some.k c.in-Some-index_mut.resident
     (found _ _ _ _ _ _ c.deref.ensures.value c.in-Some.ensures.some c.index_mut.ensures.value c.in-Some-index_mut.is) c.serve-taken.new.resident e
     (seat-of c.serve-taken.result _ id _ _ c.unwrap_or.ensures c.serve-taken.ensures.seat new lacks) b.matches
+
+pub returns-in_default-clause-told : goal.returns-in_default-clause-told
+returns-in_default-clause-told g c = λ some. absurd (some refl)
+
+pub returns-in_default-index_mut-clause-told : goal.returns-in_default-index_mut-clause-told
+returns-in_default-index_mut-clause-told g c = λ some. absurd (some refl)
+
+pub returns-clause-told : goal.returns-clause-told
+returns-clause-told g c =
+    let pile = pile_of c.self.inside.screen in
+    λ some d a.
+    serves-told c.self.inside.output c.self.inside.residents.items pile (pile_of c.serve-taken.new.self) c.args.client c.in-Some.k c.in-Some-index_mut.resident
+    (found _ _ _ _ _ _ c.deref.ensures.value c.in-Some.ensures.some c.index_mut.ensures.value c.in-Some-index_mut.is) c.serve-taken.new.resident d _ (served-answer _ _ _
+    (c.served_of.ensures ∙ ap (served_as c.is_some.result) c.ended.ensures) some) a.matches

@@ -1,9 +1,8 @@
-use Rattle.std.proofs.Common.{ap, refl, sym, ◌∙◌}
+use Rattle.std.proofs.Common.{ap, refl, ◌∙◌}
 use Rattle.std.proofs.lemmas.List.{length-set}
 use Rattle.wl_resident.specs.Agreement.{numbers_in}
 use Rattle.wl_resident.specs.View.{MarkedDesk, pile_of}
-use Rattle.wl_clients.specs.Midway.{strikes_from}
-use Rattle.wl_clients.proofs.Midway.{mid-missing, mid-still, struck-still, tells-kept, told-numbers}
+use Rattle.wl_clients.proofs.Midway.{mid-missing, mid-still, tells-kept, told-numbers}
 use Rattle.wl_clients.proofs.Rests.{rest-no-more, rest-unput, told-no-more}
 use Rattle.wl_clients.proofs.Seats.{empty-slot, found, still}
 use Rattle.wl_clients.proofs.clients.Clients.tell.Goals as goal
@@ -27,17 +26,6 @@ returns-clause-tells g c = λ change events m mid so.
     tells-kept c.self.inside.output c.self.inside.residents.items pile c.args.client c.in-Some.k c.in-Some-index_mut.resident
     (found _ _ _ _ _ _ c.deref.ensures.value c.in-Some.ensures.some c.index_mut.ensures.value c.in-Some-index_mut.is) m (rw (← c.self.view_is) at mid)
     c.args.event c.args.pointers.now change events so c.tell_to.new.resident c.tell_to.ensures.rest c.tell_to.ensures.told
-
-pub returns-in_default-index_mut-clause-queued : goal.returns-in_default-index_mut-clause-queued
-returns-in_default-index_mut-clause-queued g c = λ all.
-    let pile = pile_of c.self.inside.screen in
-    let e = (empty-slot _ _ _ _ _ c.deref.ensures.value c.in-Some.ensures.some c.index_mut.ensures.value c.in_default-index_mut.is) in
-    ap (λ (w : MarkedDesk). strikes_from 1 w.desk.clients) (still c.self.inside.output c.self.inside.residents.items pile c.self.inside.screen.damage _ _ e.1 c.self.view_is)
-
-pub returns-clause-queued : goal.returns-clause-queued
-returns-clause-queued g c = λ all.
-    rw (← c.self.view_is) (struck-still c.self.inside.output c.self.inside.residents.items (pile_of c.self.inside.screen) c.args.client c.in-Some.k c.in-Some-index_mut.resident
-    (found _ _ _ _ _ _ c.deref.ensures.value c.in-Some.ensures.some c.index_mut.ensures.value c.in-Some-index_mut.is) c.tell_to.new.resident (c.tell_to.ensures.queued all))
 
 pub returns-in_default-index_mut-clause-rests : goal.returns-in_default-index_mut-clause-rests
 returns-in_default-index_mut-clause-rests g c =

@@ -1,0 +1,59 @@
+//! A toplevel of a client comes to the top, or goes along with the pointer.
+
+ghost use Rattle.std.specs.Prelude.{ℕ, ◌≡◌, if◌then◌else◌, None, Some};
+ghost use Rattle.wl_stacking.specs.Stacking.{raised};
+ghost use Rattle.wl_marking.specs.Marking.{IsAsLarge};
+ghost use Rattle.wl_plain.specs.Pointing.{moved_standing};
+ghost use Rattle.wl_plain.specs.Settling.{Midstep, with_standing};
+ghost use Rattle.wl_plain.specs.Through.{is_topmost};
+ghost use Rattle.wl_resident.specs.Agreement.{numbers_in};
+ghost use Rattle.wl_resident.specs.Marking.{MarksAtLeast, MarksMost, MarksMostBy};
+ghost use Rattle.wl_resident.specs.Moving.{with_moved};
+ghost use Rattle.wl_resident.specs.Raising.{with_raised};
+ghost use Rattle.wl_clients.specs.Midway.{IsMid};
+
+use crate::clients::{Clients, place_of};
+use std::alloc::Allocator;
+use wl_plain::ClientNo;
+use wl_surface::SurfaceNo;
+
+impl<A: Allocator + Copy> Clients<A> {
+    /// A press raises a toplevel of a client, given by the number of its surface: it comes to the top of the others with the windows of its
+    /// tree. These are marked where it wasn't topmost, and nothing is where it was.
+    pub fn raise(&mut self, client: ClientNo, toplevel: SurfaceNo)
+        ensures raises { (m : Midstep) (top : ℕ) → IsMid self.old.desk m → numbers_in self.old.desk.clients client top ≡ Some toplevel
+            → IsMid self.new.desk (with_standing (raised client top m.desktop.standing) m) }
+        ensures marks { (m : Midstep) (top : ℕ) → IsMid self.old.desk m → numbers_in self.old.desk.clients client top ≡ Some toplevel
+            → MarksAtLeast m.desktop (with_raised client top m.desktop) self.old.damage self.new.damage }
+        ensures most { (m : Midstep) (top : ℕ) → IsMid self.old.desk m → numbers_in self.old.desk.clients client top ≡ Some toplevel
+            → MarksMostBy (if is_topmost client top m.desktop.standing then None else Some (client, top)) m.desktop (with_raised client top m.desktop)
+            self.old.damage self.new.damage }
+        ensures clients { self.new.desk.clients ≡ self.old.desk.clients }
+        ensures output { self.new.desk.output ≡ self.old.desk.output }
+        ensures sides { IsAsLarge self.old.damage self.new.damage }
+    {
+        self.screen.raise_tree(client, toplevel);
+    }
+
+    /// A toplevel of a client, given by the number of its surface, moves by this difference of the output's pixels with the windows of its
+    /// tree, and is held within 16,777,216 either way. Where these move, they are marked as they were and as they are then.
+    pub fn move_toplevel(&mut self, client: ClientNo, toplevel: SurfaceNo, x: i64, y: i64)
+        ensures moves { (m : Midstep) (top : ℕ) → IsMid self.old.desk m → numbers_in self.old.desk.clients client top ≡ Some toplevel
+            → IsMid self.new.desk (with_standing (moved_standing (record { client = client; surface = top }) x y m.desktop.standing) m) }
+        ensures marks { (m : Midstep) (top : ℕ) → IsMid self.old.desk m → numbers_in self.old.desk.clients client top ≡ Some toplevel
+            → MarksAtLeast m.desktop (with_moved client top x y m.desktop) self.old.damage self.new.damage }
+        ensures most { (m : Midstep) (top : ℕ) → IsMid self.old.desk m → numbers_in self.old.desk.clients client top ≡ Some toplevel
+            → MarksMost m.desktop (with_moved client top x y m.desktop) self.old.damage self.new.damage }
+        ensures clients { self.new.desk.clients ≡ self.old.desk.clients }
+        ensures output { self.new.desk.output ≡ self.old.desk.output }
+        ensures sides { IsAsLarge self.old.damage self.new.damage }
+    {
+        let Some(k) = place_of(&self.residents, client) else {
+            return;
+        };
+        let Some(resident) = &self.residents[k] else {
+            return;
+        };
+        self.screen.move_tree(resident, client, toplevel, x, y);
+    }
+}
