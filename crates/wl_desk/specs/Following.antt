@@ -14,7 +14,7 @@ use Rattle.wl_requests.specs.declared.pointer_asked.PointerAsked.{PointerAsked}
 use Rattle.wl_clients.specs.Agreeing.{Agrees as KeptAgrees}
 use Rattle.wl_clients.specs.Marking.{MarksThrough}
 use Rattle.wl_clients.specs.Pointing.{AsksOfPointer}
-use Rattle.wl_desk.specs.Agreeing.{AreSeats, IsFree}
+use Rattle.wl_desk.specs.Agreeing.{AreSeats, IsPlaced}
 use Rattle.wl_desk.specs.Midway.{IsMidway}
 use Rattle.wl_desk.specs.View.{MarkedDesk}
 
@@ -31,7 +31,7 @@ pub record Took (c : ℕ) (request : PointerAsked) (old new : MarkedDesk) (d : D
   pub asks : AsksOfPointer numbers (asked served_now c d) request
   pub seats : AreSeats new.desk.seats desktop
   pub pointer : new.desk.pointer ≡ d.pointer
-  pub free : IsFree d.pointer
+  pub placed : IsPlaced d
   pub settled : IsSettled d
 
 -- What happens led through these desktops to the last of them, and on to wherever the focus is settled from there. The desk agrees with that

@@ -4,7 +4,7 @@ ghost use Rattle.std.specs.Prelude.{ℕ, ◌≡◌, ◌≢◌, ◌≤◌, ◌∷
 ghost use Rattle.wl_peer.specs.Told.{Said};
 ghost use Rattle.wl_stacking.specs.Pointer.{hit_by, is_stacked};
 ghost use Rattle.wl_stacking.specs.Windows.{Window};
-ghost use Rattle.wl_scene.specs.Focus.{action_of, target_of, target_or_none};
+ghost use Rattle.wl_scene.specs.Focus.{IsSeen, action_of, target_of, target_or_none};
 ghost use Rattle.wl_marking.specs.Marking.{IsAsLarge};
 ghost use Rattle.wl_plain.specs.Changing.{drawing};
 ghost use Rattle.wl_plain.specs.Desktop.{Resident, client_at};
@@ -50,6 +50,21 @@ impl<A: Allocator + Copy> Desk<A> {
             client: window.client,
             surface,
         })
+    }
+
+    /// What the focus goes by: what the pointer hits where no button is down, and whether the surface that has the focus has a window where
+    /// one is.
+    pub(crate) fn seen(&self) -> (Option<Target>, bool)
+        ensures { (m : Midstep) → IsMidway self.now.desk m
+            → IsSeen (target_or_none result.0) result.1 m.desktop.pointer (all_windows m.desktop) }
+    {
+        if self.pointer.is_free() {
+            return (self.hit(), false);
+        }
+        let Some(focus) = self.pointer.focus() else {
+            return (None, false);
+        };
+        (None, self.window_of(focus).is_some())
     }
 
     /// Whether a window is that of this surface.
@@ -249,8 +264,8 @@ impl<A: Allocator + Copy> Desk<A> {
         ensures rests { (c : ℕ) → length (rest_in c self.new.desk.kept) ≤ length (rest_in c self.old.desk.kept) }
         ensures output { self.new.desk.kept.output ≡ self.old.desk.kept.output }
     {
-        let hit = self.hit();
-        let actions = self.pointer.settle(hit, false);
+        let (hit, is_stacked) = self.seen();
+        let actions = self.pointer.settle(hit, is_stacked);
         self.apply_all(&actions);
     }
 
