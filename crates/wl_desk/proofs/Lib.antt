@@ -1,4 +1,6 @@
+pub mod Applying
 pub mod Asking
+pub mod Buttons
 pub mod Calls
 pub mod Clearing
 pub mod Coming
@@ -11,13 +13,17 @@ pub mod Following
 pub mod Forgetting
 pub mod Forgotten
 pub mod Frames
+pub mod Holding
 pub mod Keeping
 pub mod Leading
 pub mod Moving
 pub mod Numbers
 pub mod Onward
+pub mod OwnChange
 pub mod Points
+pub mod Pressing
 pub mod Quiet
+pub mod Restacking
 pub mod Rests
 pub mod Rising
 pub mod Rounds

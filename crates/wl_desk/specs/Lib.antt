@@ -1,7 +1,9 @@
 pub mod Agreeing
+pub mod Doing
 pub mod Following
 pub mod Midway
 pub mod Points
+pub mod Restacking
 pub mod Seating
 pub mod View
 pub use Rattle.wl_clients.specs.Agreement

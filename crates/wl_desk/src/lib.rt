@@ -2,7 +2,9 @@
 #![tactic(auto)]
 
 mod desks;
+mod dragging;
 mod pointing;
+mod pressing;
 mod seating;
 mod seats;
 
