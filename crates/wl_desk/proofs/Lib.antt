@@ -1,7 +1,9 @@
 pub mod Asking
+pub mod Begun
 pub mod Calls
 pub mod Clearing
 pub mod Coming
+pub mod Done
 pub mod Ended
 pub mod Ending
 pub mod Events
@@ -9,13 +11,14 @@ pub mod Focused
 pub mod Followed
 pub mod Following
 pub mod Forgetting
-pub mod Forgotten
 pub mod Frames
 pub mod Keeping
 pub mod Leading
+pub mod Movables
 pub mod Moving
 pub mod Numbers
 pub mod Onward
+pub mod Placed
 pub mod Points
 pub mod Quiet
 pub mod Rests
@@ -23,6 +26,7 @@ pub mod Rising
 pub mod Rounds
 pub mod Seated
 pub mod SeatsStay
+pub mod Seeing
 pub mod Taking
 pub mod Telling
 pub mod Tells

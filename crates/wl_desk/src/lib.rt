@@ -2,6 +2,7 @@
 #![tactic(auto)]
 
 mod desks;
+mod moves;
 mod pointing;
 mod seating;
 mod seats;
