@@ -20,20 +20,19 @@ use Rattle.wl_plain.specs.Happenings.{Message, Single, Starve}
 use Rattle.wl_plain.specs.Happens.{point_in, within}
 use Rattle.wl_plain.specs.Settling.{AppliesAll, Midstep, PointerActs, pointer_without}
 use Rattle.wl_plain.specs.Stacked.{all_windows}
-use Rattle.wl_laws.specs.Focus.{EndedAreBare, IsSettled}
 use Rattle.wl_laws.proofs.Marks.Stacks.{Each}
 use Rattle.wl_laws.proofs.Lists.Keys.{none-some}
 use Rattle.wl_pointed.specs.Happenings.{is_quiet, pointer_left}
 use Rattle.wl_clients.specs.Agreeing.{Agrees as KeptAgrees, MarksNothing as KeptMarksNothing}
 use Rattle.wl_clients.specs.Leading.{LeadsBy as KeptLeadsBy, LeadsQuietly as KeptLeadsQuietly, Led}
 use Rattle.wl_clients.specs.View.{MarkedDesk as KeptDesk}
-use Rattle.wl_desk.specs.Agreeing.{Agrees, IsFree, LeadsBy, LeadsQuietly, MarksNothing}
+use Rattle.wl_desk.specs.Agreeing.{Agrees, LeadsBy, LeadsQuietly, MarksNothing}
 use Rattle.wl_desk.specs.Midway.{IsMidway, IsOfFocus, IsTelling, SettlesDown}
 use Rattle.wl_desk.specs.View.{DeskView, MarkedDesk, seat_of}
 use Rattle.wl_desk.proofs.Coming.{connects-lead}
 use Rattle.wl_desk.proofs.Ending.{ends-lead}
 use Rattle.wl_desk.proofs.Frames.{frames-lead}
-use Rattle.wl_desk.proofs.Quiet.{ended-bare, quiet-leads}
+use Rattle.wl_desk.proofs.Quiet.{quiet-leads}
 use Rattle.wl_desk.proofs.SeatsStay.{KeepsSeats, seats-stay}
 
 abbrev pub desk_with : KeptDesk → List (List ℕ) → Pointer → MarkedDesk
@@ -119,12 +118,12 @@ goes c old after seats p q new leads large left settles d a =
 
 pub frames : (time : ℕ) (old after : KeptDesk) (seats : List (List ℕ)) (p : Pointer) (mid new : MarkedDesk) → KeptLeadsQuietly (Single (Tick time) gave.Tick) old after
     → IsAsLarge old.damage after.damage → mid.desk.kept ≡ after.desk → mid.desk.seats ≡ seats → mid.damage ≡ after.damage
-    → ((d e : Desktop) → IsSettled d → IsFree d.pointer → EndedAreBare d → p ≡ d.pointer → KeptAgrees after.desk e → mid.desk.pointer ≡ pointer_left d e)
+    → ((was : DeskView) (d e : Desktop) → Agrees was d → p ≡ d.pointer → KeptAgrees after.desk e → mid.desk.pointer ≡ pointer_left d e)
     → Settles mid new → LeadsQuietly (Single (Tick time) gave.Tick) (desk_with old seats p) new
 frames time old after seats p mid new leads large kept same damage left settles d a =
     let led = leads (unpointed d) a.kept in
     let parts : mid ≡ desk_with after seats mid.desk.pointer =
     ap₂ (λ (k : KeptDesk) (s : List (List ℕ)). desk_with k s mid.desk.pointer) (ap₂ (λ v w. record { desk = v; damage = w }) kept damage) same in
     frames-lead time d (desk_with old seats p) (desk_with after seats mid.desk.pointer) new a led.0 led.1 large refl
-    (left d led.0.desktop a.settled a.free (ended-bare (unpointed d) a.kept.orderly) a.pointer led.0.agrees)
+    (left (desk_with old seats p).desk d led.0.desktop a a.pointer led.0.agrees)
     (subst (λ (m : MarkedDesk). Settles m new) parts settles)

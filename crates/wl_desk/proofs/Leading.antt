@@ -39,7 +39,7 @@ pub midway-agrees : (v : DeskView) (m : Midstep) → IsMidway v m → m.struck �
 midway-agrees v m midway over settled = record {
   kept = mid-kept v.kept m over midway.telling.kept;
   pointer = midway.pointer;
-  free = midway.free;
+  placed = midway.placed;
   seats = midway.telling.seats;
   settled = settled;
 }

@@ -1,9 +1,11 @@
 pub mod Applying
 pub mod Asking
+pub mod Begun
 pub mod Buttons
 pub mod Calls
 pub mod Clearing
 pub mod Coming
+pub mod Done
 pub mod Ended
 pub mod Ending
 pub mod Events
@@ -11,15 +13,16 @@ pub mod Focused
 pub mod Followed
 pub mod Following
 pub mod Forgetting
-pub mod Forgotten
 pub mod Frames
 pub mod Holding
 pub mod Keeping
 pub mod Leading
+pub mod Movables
 pub mod Moving
 pub mod Numbers
 pub mod Onward
 pub mod OwnChange
+pub mod Placed
 pub mod Points
 pub mod Pressing
 pub mod Quiet
@@ -29,6 +32,7 @@ pub mod Rising
 pub mod Rounds
 pub mod Seated
 pub mod SeatsStay
+pub mod Seeing
 pub mod Taking
 pub mod Telling
 pub mod Tells

@@ -6,9 +6,9 @@ use Rattle.std.proofs.lemmas.List.{drop_all}
 use Rattle.wl_paint.specs.Damage.{Damaged, has}
 use Rattle.wl_marking.specs.Marking.{IsAsLarge}
 use Rattle.wl_peer.specs.Told.{Said}
-use Rattle.wl_stacking.specs.Pointer.{Pointer, Target, hit_by, settled}
+use Rattle.wl_stacking.specs.Pointer.{Pointer, Target, settled}
 use Rattle.wl_stacking.specs.PointerActions.{PointerAction, Leave, Enter, Motion, Button, Raise, MoveWindow, Dismiss, Settle, actions}
-use Rattle.wl_stacking.specs.Windows.{Place, Window}
+use Rattle.wl_stacking.specs.Windows.{Window}
 use Rattle.wl_plain.specs.Changing.{drawing}
 use Rattle.wl_plain.specs.Desktop.{Desktop, Resident, client_at}
 use Rattle.wl_plain.specs.Marks.{AreDistinct}
@@ -27,25 +27,22 @@ use Rattle.wl_clients.specs.Marking.{MarksThrough}
 use Rattle.wl_clients.proofs.Agreed.{agrees-apart}
 use Rattle.wl_clients.specs.Midway.{first_struck, opened_desk}
 use Rattle.wl_clients.specs.View.{DeskView as KeptView}
-use Rattle.wl_desk.specs.Agreeing.{IsFree}
 use Rattle.wl_desk.specs.Midway.{IsMidway, IsOfFocus, IsTelling, SettlesDown, unpointed_mid}
 use Rattle.wl_desk.specs.View.{DeskView, MarkedDesk}
 use Rattle.wl_scene.specs.Focus.{IsSeen, action_of}
 use Rattle.wl_scene.specs.declared.actions.Action.{Action}
 use Rattle.wl_desk.proofs.Telling.{seen}
 use Rattle.wl_desk.proofs.Ended.{first-of, mid-long, midway-to-end, none-first}
-use Rattle.wl_desk.proofs.Points.{settled-hit, settles-each}
+use Rattle.wl_desk.proofs.Placed.{settled-placed}
+use Rattle.wl_desk.proofs.Points.{settled-nowhere, settles-each}
 use Rattle.wl_desk.proofs.Rests.{IsLeft, left-all}
 use Rattle.wl_desk.proofs.Tells.{tells-pointer, tells-shows}
 
 -- ---- the focus is settled once
 
 -- what the settling does is of the focus
-pub settles-of : (p : Pointer) (ws : List Window) → p.buttons ≡ [] → Each (IsOfFocus ws) (actions Settle p ws)
-settles-of p ws free = settles-each (IsOfFocus ws) p ws free (λ t. (tt, tt)) (λ t stacked. (stacked, tt))
-
-focused-free : (p : Pointer) (t : Option Target) → IsFree p → p.place ≢ None → IsFree (record p { focus = t })
-focused-free p t free some = record { buttons = free.buttons; hold = free.hold; move = free.move; nowhere = λ e. absurd (some e) }
+pub settles-of : (p : Pointer) (ws : List Window) → Each (IsOfFocus ws) (actions Settle p ws)
+settles-of p ws = settles-each (IsOfFocus ws) p ws (λ t. (tt, tt)) (λ t stacked. (stacked, tt))
 
 pub settled-midway : (old new : DeskView) (m n : Midstep) → IsMidway old m → m.desktop.pointer.place ≢ None → Settles m n → IsTelling new n
     → new.pointer ≡ record old.pointer { focus = settled old.pointer (all_windows m.desktop) } → IsMidway new n
@@ -54,27 +51,23 @@ settled-midway old new m n midway some settles telling pointer =
     record {
       telling = telling;
       pointer = pointer ∙ ap (λ (p : Pointer). record p { focus = settled p (all_windows m.desktop) }) midway.pointer ∙ sym has.pointer;
-      free = subst IsFree (sym has.pointer) (focused-free m.desktop.pointer (settled m.desktop.pointer (all_windows m.desktop)) midway.free some);
+      placed = settled-placed m n some settles midway.placed;
       nowhere = λ e. absurd (some (sym (ap (λ (p : Pointer). p.place) has.pointer) ∙ e));
     }
 
 -- by what the pointer does, and what is promised of that
-module _ (kept : KeptView) (seats : List (List ℕ)) (p q : Pointer) (hit : Option Target) (acts : List PointerAction) (new : DeskView)
-    (hits : (m : Midstep) → IsTelling (seen kept seats p) m → hit ≡ hit_by m.desktop.pointer.place (all_windows m.desktop))
-    (does : (ws : List Window) → IsSeen hit false p ws → acts ≡ actions Settle p ws)
-    (keeps : (ws : List Window) → IsSeen hit false p ws → q ≡ record p { focus = settled p ws })
+module _ (kept : KeptView) (seats : List (List ℕ)) (p q : Pointer) (hit : Option Target) (stacked : Bool) (acts : List PointerAction) (new : DeskView)
+    (sees : (m : Midstep) → IsMidway (seen kept seats p) m → IsSeen hit stacked m.desktop.pointer (all_windows m.desktop))
+    (does : (ws : List Window) → IsSeen hit stacked p ws → acts ≡ actions Settle p ws)
+    (keeps : (ws : List Window) → IsSeen hit stacked p ws → q ≡ record p { focus = settled p ws })
     (tells : (m : Midstep) → IsTelling (seen kept seats q) m → m.desktop.pointer.place ≢ None → Each (IsOfFocus (all_windows m.desktop)) acts
     → (n : Midstep) × AppliesAll (all_windows m.desktop) acts m n × IsTelling new n)
     (pointer : new.pointer ≡ q) (m : Midstep) (midway : IsMidway (seen kept seats p) m) (some : m.desktop.pointer.place ≢ None) where
   abbrev shown : List Window
   shown = all_windows m.desktop
 
-  is-seen : IsSeen hit false p shown
-  is-seen =
-      record {
-        free = λ none. ap (λ (at : Option Place). hit_by at shown) midway.telling.place ∙ sym (hits m midway.telling);
-        pressed = λ down t e. absurd (down (ap (λ (r : Pointer). r.buttons) midway.pointer ∙ midway.free.buttons));
-      }
+  is-seen : IsSeen hit stacked p shown
+  is-seen = subst (λ (r : Pointer). IsSeen hit stacked r shown) (sym midway.pointer) (sees m midway)
 
   acts-so : acts ≡ actions Settle m.desktop.pointer shown
   acts-so = does shown is-seen ∙ ap (λ (r : Pointer). actions Settle r shown) midway.pointer
@@ -83,7 +76,7 @@ module _ (kept : KeptView) (seats : List (List ℕ)) (p q : Pointer) (hit : Opti
   telling-on = record { kept = midway.telling.kept; place = ap (λ (r : Pointer). r.place) (keeps shown is-seen) ∙ midway.telling.place; seats = midway.telling.seats }
 
   turned : (n : Midstep) × AppliesAll shown acts m n × IsTelling new n
-  turned = tells m telling-on some (subst (λ (xs : List PointerAction). Each (IsOfFocus shown) xs) (sym acts-so) (settles-of m.desktop.pointer shown midway.free.buttons))
+  turned = tells m telling-on some (subst (λ (xs : List PointerAction). Each (IsOfFocus shown) xs) (sym acts-so) (settles-of m.desktop.pointer shown))
 
   pub settled-once : (n : Midstep) × Settles m n × IsMidway new n
   settled-once =
@@ -256,7 +249,8 @@ idle-down old m midway none =
     let p : Pointer = m.desktop.pointer in
     let ws : List Window = all_windows m.desktop in
     let nowhere : p.place ≡ None = sym (none ∙ midway.telling.place) in
-    let is : IsSettled m.desktop = midway.free.nowhere nowhere ∙ sym (settled-hit p ws midway.free.buttons ∙ ap (λ (at : Option Place). hit_by at ws) nowhere) in
+    let none-focused : p.focus ≡ None = midway.placed.nowhere nowhere in
+    let is : IsSettled m.desktop = none-focused ∙ sym (settled-nowhere p ws nowhere none-focused) in
     settles-down 0 old old old m m (none-done old m midway) (omega arith) (settles-idly m is).0 (midway.nowhere nowhere) midway refl
 
 -- ---- the loop

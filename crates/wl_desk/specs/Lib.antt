@@ -1,4 +1,5 @@
 pub mod Agreeing
+pub mod Beginning
 pub mod Doing
 pub mod Following
 pub mod Midway

@@ -6,21 +6,25 @@ ghost use Rattle.wl_client.specs.Agreement.{output_of};
 ghost use Rattle.wl_paint.specs.Damage.{has};
 ghost use Rattle.wl_paint.specs.Frame.{color_at, is_side};
 ghost use Rattle.wl_marking.specs.Marking.{IsAsLarge};
+ghost use Rattle.wl_scene.specs.Focus.{target_or_none};
 ghost use Rattle.wl_lending.specs.Painting.{IsOpaqueAsSaid};
 ghost use Rattle.wl_plain.specs.Act.{Connect, Store, Leave, Tick, Send, Close, peer_at, unsent_of, status_of, store_size_of};
 ghost use Rattle.wl_plain.specs.Desktop.{Desktop, empty, status_in};
 ghost use Rattle.wl_plain.specs.Happenings.{Message, Single, Starve};
 ghost use Rattle.wl_plain.specs.Scratch.{scratch};
-ghost use Rattle.wl_laws.specs.Focus.{EndedAreBare, IsSettled};
+ghost use Rattle.wl_plain.specs.LeftOut.{served_now};
 ghost use Rattle.wl_pointed.specs.Happenings.{pointer_left};
+ghost use Rattle.wl_pointed.specs.Pointed.{asked};
 ghost use Rattle.wl_clients.specs.Agreeing.{Agrees as KeptAgrees};
 ghost use Rattle.wl_clients.specs.Feeding.{IsIdleIn, kept_at, rest_in, served_of};
 ghost use Rattle.wl_clients.specs.Leading.{Led};
 ghost use Rattle.wl_clients.specs.NextStore.{next_store_of};
-ghost use Rattle.wl_desk.specs.Agreeing.{Agrees, IsFree, LeadsBy, LeadsQuietly, MarksNothing};
-ghost use Rattle.wl_desk.specs.Following.{IsUnsettled, Took};
-ghost use Rattle.wl_desk.specs.View.{MarkedDesk, seat_of};
+ghost use Rattle.wl_desk.specs.Agreeing.{Agrees, LeadsBy, LeadsQuietly, MarksNothing};
+ghost use Rattle.wl_desk.specs.Beginning.{IsToMove};
+ghost use Rattle.wl_desk.specs.Following.{IsUnsettled, Took, left_of};
+ghost use Rattle.wl_desk.specs.View.{DeskView, MarkedDesk, seat_of};
 
+use crate::moves::to_move;
 use crate::seating::{keep_asked, make_room};
 use std::alloc::{AllocError, Allocator};
 use std::marker::Model;
@@ -28,7 +32,8 @@ use wl_client::{Cause, Output, Served, StoreNo};
 use wl_clients::{ClientNo, Clients, ConnectError, Fed, PointerAsked, Stored, Taken};
 use wl_paint::{Damage, FrameError, Framebuffer};
 use wl_plain::Done;
-use wl_scene::Focus;
+use wl_scene::{Focus, Target};
+
 
 /// How many clients there may be at once.
 const CLIENT_LIMIT: usize = 32;
@@ -125,11 +130,12 @@ impl<A: Allocator + Copy> Desk<A> {
         ensures less { result ≢ Served.More → length (rest_in client self.new.desk.kept) < length (rest_in client self.old.desk.kept) }
         ensures output { self.new.desk.kept.output ≡ self.old.desk.kept.output }
     {
+        let movable = self.movable(client);
         let taken = self.take(client);
         if taken.served == Served::More {
             return Served::More;
         }
-        self.follow(client, taken.pointer);
+        self.follow(client, taken.pointer, to_move(movable, taken.pointer));
         self.settle();
         served_of(self.clients.status(client))
     }
@@ -153,18 +159,23 @@ impl<A: Allocator + Copy> Desk<A> {
     }
 
     /// The pointer leaves a client that ended by a message. Where the message asked for a wl_pointer, that one is told of the focus where its
-    /// client has it (wayland.xml, wl_pointer.enter).
-    fn follow(&mut self, client: ClientNo, asked: PointerAsked)
-        ensures follows { (old : MarkedDesk) (d : Desktop) → Took client asked old self.old d → IsUnsettled (Message client) old self.new d }
+    /// client has it (wayland.xml, wl_pointer.enter). Where it begins to move a toplevel, motions move that one from now on; and one that
+    /// doesn't stand any more isn't moved any more.
+    fn follow(&mut self, client: ClientNo, request: PointerAsked, toplevel: Option<Target>)
+        ensures follows { (old : MarkedDesk) (d : Desktop) → Took client request old self.old d → IsToMove (asked served_now client d) client d (target_or_none toplevel)
+            → IsUnsettled (Message client) old self.new d }
         ensures sides { IsAsLarge self.old.damage self.new.damage }
         ensures rests { (c : ℕ) → length (rest_in c self.new.desk.kept) ≤ length (rest_in c self.old.desk.kept) }
         ensures output { self.new.desk.kept.output ≡ self.old.desk.kept.output }
     {
         if let Fed::Ended(_) = self.clients.status(client) {
             self.pointer.forget(client);
+            self.let_go();
             return;
         }
-        let PointerAsked::NewPointer(id) = asked else {
+        let PointerAsked::NewPointer(id) = request else {
+            self.begin_move(toplevel);
+            self.let_go();
             return;
         };
         self.tell_new(client, id);
@@ -216,21 +227,34 @@ impl<A: Allocator + Copy> Desk<A> {
         self.settle();
     }
 
-    /// The pointer leaves what it has of a client that ended.
+    /// The pointer leaves what it has of clients that ended.
     fn forget_ended(&mut self)
-        ensures left { (d e : Desktop) → IsSettled d → IsFree d.pointer → EndedAreBare d → self.old.desk.pointer ≡ d.pointer → KeptAgrees self.old.desk.kept e
+        ensures left { (old : DeskView) (d e : Desktop) → Agrees old d → self.old.desk.pointer ≡ d.pointer → KeptAgrees self.old.desk.kept e
             → self.new.desk.pointer ≡ pointer_left d e }
         ensures kept { self.new.desk.kept ≡ self.old.desk.kept }
         ensures seats { self.new.desk.seats ≡ self.old.desk.seats }
         ensures damage { self.new.damage ≡ self.old.damage }
     {
-        let Some(focus) = self.pointer.focus() else {
+        let focus = self.pointer.focus();
+        self.forget_of(focus);
+        let moved = self.pointer.moved();
+        self.forget_of(moved);
+    }
+
+    /// The pointer leaves what it has of the client of this surface, if that ended.
+    fn forget_of(&mut self, surface: Option<Target>)
+        ensures left { (e : Desktop) → KeptAgrees self.old.desk.kept e → self.new.desk.pointer ≡ left_of (target_or_none surface) e self.old.desk.pointer }
+        ensures kept { self.new.desk.kept ≡ self.old.desk.kept }
+        ensures seats { self.new.desk.seats ≡ self.old.desk.seats }
+        ensures damage { self.new.damage ≡ self.old.damage }
+    {
+        let Some(surface) = surface else {
             return;
         };
-        let Fed::Ended(_) = self.clients.status(focus.client) else {
+        let Fed::Ended(_) = self.clients.status(surface.client) else {
             return;
         };
-        self.pointer.forget(focus.client);
+        self.pointer.forget(surface.client);
     }
 
     /// Puts bytes into a client's store.

@@ -1,0 +1,1 @@
+use Rattle.wl_desk.proofs.desks.Desk.seen.Goals as goal
