@@ -20,24 +20,21 @@ use Rattle.wl_plain.specs.Pointing.{motion_told}
 use Rattle.wl_plain.specs.Replies.{focus_window}
 use Rattle.wl_plain.specs.Settling.{AppliesAll, Midstep, PointerActs, unstruck, with_standing}
 use Rattle.wl_plain.specs.Stacked.{all_windows}
-use Rattle.wl_plain.specs.Through.{SettlesAllThrough}
-use Rattle.wl_laws.specs.Focus.{IsSettled}
 use Rattle.wl_laws.proofs.Lists.Keys.{none-some}
 use Rattle.wl_laws.proofs.Marks.Stacks.{Each, and-left, and-right, differ}
 use Rattle.wl_laws.proofs.Runs.Settled.{HasFocus, ShowsSame, has-settled, shows-itself, tells-so}
 use Rattle.wl_pointed.specs.Pointed.{MovedStands}
-use Rattle.wl_pointed.proofs.Moved.{moved-stands-mid}
 use Rattle.wl_pointed.proofs.Rounds.{motions-end}
 use Rattle.wl_clients.specs.Agreeing.{Agrees as KeptAgrees}
 use Rattle.wl_clients.specs.Leading.{Led}
 use Rattle.wl_clients.specs.View.{MarkedDesk as KeptDesk}
 use Rattle.wl_desk.specs.Agreeing.{Agrees, LeadsBy}
 use Rattle.wl_desk.specs.Midway.{IsMidway, IsOfFocus, IsTelling, SettlesDown}
-use Rattle.wl_desk.specs.Restacking.{HasNumber, MarksChange, dragged}
+use Rattle.wl_desk.specs.Restacking.{HasNumber, MarksChange, first_dragged, first_moved}
 use Rattle.wl_desk.specs.View.{DeskView, MarkedDesk}
 use Rattle.wl_desk.proofs.Calls.{Settles, desk_with}
-use Rattle.wl_desk.proofs.Leading.{midway-agrees}
-use Rattle.wl_desk.proofs.OwnChange.{all, marked, path}
+use Rattle.wl_desk.proofs.OwnChange.{all, own-leads, path}
+use Rattle.wl_desk.proofs.Placed.{acts-stand}
 use Rattle.wl_desk.proofs.Points.{settled-stacked}
 use Rattle.wl_desk.proofs.Pressing.{begins-telling, number-on}
 use Rattle.wl_desk.proofs.Restacking.{moved-number}
@@ -109,10 +106,15 @@ module _ (time : ℕ) (p : Pointer) (ws : List Window) where
 
 -- the pointer moves what it has moved
 dragged-so : (ws : List Window) (from : Option Place) (to : Place) (moved : Option Target) (m : Midstep)
-    → AppliesAll ws (move_of from to moved) m (with_standing (dragged from to moved m.desktop.standing) m)
+    → AppliesAll ws (move_of from to moved) m (with_standing (first_dragged (move_of from to moved) m.desktop.standing) m)
 dragged-so ws None to moved m = refl
 dragged-so ws (Some from) to None m = refl
-dragged-so ws (Some from) to (Some t) m = (with_standing (dragged (Some from) to (Some t) m.desktop.standing) m, refl, refl)
+dragged-so ws (Some from) to (Some t) m = (with_standing (first_dragged (move_of (Some from) to (Some t)) m.desktop.standing) m, refl, refl)
+
+dragged-number : (v : DeskView) (from : Option Place) (to : Place) (moved : Option Target) → HasNumber v moved → HasNumber v (first_moved (move_of from to moved))
+dragged-number v None to moved h = tt
+dragged-number v (Some from) to None h = tt
+dragged-number v (Some from) to (Some t) h = h
 
 -- ---- a motion
 
@@ -129,7 +131,7 @@ module _ (time : ℕ) (x y : ℤ) (d : Desktop) (v : DeskView) (a : Agrees v d) 
 
   -- what is moved has gone along
   abbrev pub gone : Midstep
-  gone = with_standing (dragged d.pointer.place there d.pointer.move d.standing) (unstruck d)
+  gone = with_standing (first_dragged (move_of d.pointer.place there d.pointer.move) d.standing) (unstruck d)
 
   abbrev pub moved : Midstep
   moved = placed there gone
@@ -148,7 +150,7 @@ module _ (time : ℕ) (x y : ℤ) (d : Desktop) (v : DeskView) (a : Agrees v d) 
   moved-midway w telling is = record {
     telling = telling;
     pointer = is;
-    placed = record { nowhere = λ none. absurd (none-some there (sym none)); moved = moved-stands-mid.1 (GoTo there) (unstruck d) gone a.placed.moved goes };
+    placed = record { nowhere = λ none. absurd (none-some there (sym none)); moved = acts-stand (GoTo there) (unstruck d) gone goes a.placed.moved };
     nowhere = λ none. absurd (none-some there (sym none));
   }
 
@@ -160,7 +162,7 @@ module _ (time : ℕ) (x y : ℤ) (d : Desktop) (v : DeskView) (a : Agrees v d) 
       record {
         telling = telling;
         pointer = is ∙ sym has.pointer;
-        placed = record { nowhere = λ none. absurd (none-some there (sym none ∙ place)); moved = moved-stands-mid.1 (Went time) moved n stands acts };
+        placed = record { nowhere = λ none. absurd (none-some there (sym none ∙ place)); moved = acts-stand (Went time) moved n acts stands };
         nowhere = λ none. absurd (none-some there (sym none ∙ place));
       }
 
@@ -169,17 +171,13 @@ module _ (time : ℕ) (x y : ℤ) (d : Desktop) (v : DeskView) (a : Agrees v d) 
     shows : ShowsSame moved.desktop n.desktop
     shows = (has-went time moved n acts).shows
 
-    whole : SettlesAllThrough 33 n (path None d moved.desktop n shows old mid new large change midway down) down.last.desktop × IsSettled down.last.desktop
-    whole = all None d moved.desktop n shows old mid new large change midway down
+    abbrev way : List Desktop
+    way = path None d moved.desktop n shows old mid new large change midway down
 
     pub motion-leads : Led (Agrees new.desk) (Single (Motion time x y) gave.Motion) old new.damage d
-    motion-leads = record {
-      path = path None d moved.desktop n shows old mid new large change midway down;
-      desktop = down.last.desktop;
-      leads = (refl, (gone, goes, n, acts, (motions-end time moved n _ down.last.desktop acts whole.0).1));
-      agrees = midway-agrees new.desk down.last down.midway down.over whole.1;
-      marks = marked None d moved.desktop n shows old mid new large change midway down;
-    }
+    motion-leads =
+        own-leads None d moved.desktop n shows old mid new large change midway down (Single (Motion time x y) gave.Motion) refl
+        (refl, (gone, goes, n, acts, (motions-end time moved n way down.last.desktop acts (all None d moved.desktop n shows old mid new large change midway down).0).1))
 
 -- ---- a motion of a desk
 
@@ -196,11 +194,10 @@ point-held k o x y i j same wide high d a =
 pub moves : (time : ℕ) (x y : ℤ) (k : KeptDesk) (seats : List (List ℕ)) (p p1 p2 : Pointer) (at : Place) (drags : List PointerAction) (hit : Option Target) (stacked : Bool)
     (does : List PointerAction) (gone-along told new : MarkedDesk)
     → ((d : Desktop) → KeptAgrees k.desk d → at ≡ point_in d.output x y) → p1 ≡ record p { place = Some at } → drags ≡ move_of p.place at p.move
-    → ((from : Option Place) (to : Place) (t : Option Target) (m : Midstep) → drags ≡ move_of from to t → IsTelling (desk_with k seats p1).desk m
-    → HasNumber (desk_with k seats p1).desk t → IsTelling gone-along.desk (with_standing (dragged from to t m.desktop.standing) m))
-    → ((from : Option Place) (to : Place) (t : Option Target) (m : Midstep) → drags ≡ move_of from to t → IsTelling (desk_with k seats p1).desk m
-    → HasNumber (desk_with k seats p1).desk t
-    → MarksChange None m.desktop (with_standing (dragged from to t m.desktop.standing) m).desktop k.damage gone-along.damage)
+    → ((m : Midstep) → IsTelling (desk_with k seats p1).desk m → HasNumber (desk_with k seats p1).desk (first_moved drags)
+    → IsTelling gone-along.desk (with_standing (first_dragged drags m.desktop.standing) m))
+    → ((m : Midstep) → IsTelling (desk_with k seats p1).desk m → HasNumber (desk_with k seats p1).desk (first_moved drags)
+    → MarksChange None m.desktop (with_standing (first_dragged drags m.desktop.standing) m).desktop k.damage gone-along.damage)
     → IsAsLarge k.damage gone-along.damage → gone-along.desk.pointer ≡ p1
     → ((m : Midstep) → IsMidway gone-along.desk m → IsSeen hit stacked m.desktop.pointer (all_windows m.desktop))
     → ((ws : List Window) → IsSeen hit stacked gone-along.desk.pointer ws → does ≡ actions (Went time) gone-along.desk.pointer ws)
@@ -218,10 +215,13 @@ moves time x y k seats p p1 p2 at drags hit stacked does gone-along told new pla
     let here : at ≡ there time x y d v a = place (unpointed d) a.kept in
     let first : p1 ≡ to = goes ∙ ap₂ (λ (q : Pointer) (b : Place). record q { place = Some b }) a.pointer here in
     let telling : IsTelling (desk_with k seats p1).desk start = begins-telling k seats p p1 to d a (ap (λ (q : Pointer). q.place) first) in
-    let number : HasNumber (desk_with k seats p1).desk d.pointer.move = number-on v (desk_with k seats p1).desk d.pointer.move refl (moved-number v d a) in
-    let so : drags ≡ move_of d.pointer.place (there time x y d v a) d.pointer.move =
-    drag ∙ ap₂ (λ (q : Pointer) (b : Place). move_of q.place b q.move) a.pointer here in
-    let went = along d.pointer.place (there time x y d v a) d.pointer.move start so telling number in
+    let target : Place = there time x y d v a in
+    let so : drags ≡ move_of d.pointer.place target d.pointer.move = drag ∙ ap₂ (λ (q : Pointer) (b : Place). move_of q.place b q.move) a.pointer here in
+    let number : HasNumber (desk_with k seats p1).desk (first_moved drags) =
+    subst (λ (xs : List PointerAction). HasNumber (desk_with k seats p1).desk (first_moved xs)) (sym so)
+    (dragged-number (desk_with k seats p1).desk d.pointer.place target d.pointer.move (number-on v (desk_with k seats p1).desk d.pointer.move refl (moved-number v d a))) in
+    let went : IsTelling gone-along.desk mid =
+    subst (λ (xs : List PointerAction). IsTelling gone-along.desk (with_standing (first_dragged xs d.standing) start)) so (along start telling number) in
     let midway : IsMidway gone-along.desk mid = moved-midway time x y d v a gone-along.desk went (same ∙ first) in
     let second : gone-along.desk.pointer ≡ to = same ∙ first in
     let is-seen : IsSeen hit stacked gone-along.desk.pointer windows = subst (λ (q : Pointer). IsSeen hit stacked q windows) (sym second) (seen mid midway) in
@@ -234,5 +234,6 @@ moves time x y k seats p p1 p2 at drags hit stacked does gone-along told new pla
     let size : IsAsLarge k.damage told.damage = subst (λ (dmg : Damaged). IsAsLarge k.damage dmg) (sym damage) large in
     let change : MarksChange None d mid.desktop k.damage told.damage =
     subst (λ (dmg : Damaged). MarksChange None d mid.desktop k.damage dmg) (sym damage)
-    (marks d.pointer.place (there time x y d v a) d.pointer.move start so telling number) in
+    (subst (λ (xs : List PointerAction). MarksChange None d (with_standing (first_dragged xs d.standing) start).desktop k.damage gone-along.damage) so
+    (marks start telling number)) in
     motion-leads time x y d v a k.damage told new t.0 told-so midway-told size change (settles t.0 midway-told)

@@ -9,6 +9,8 @@ use Rattle.wl_stacking.specs.Popups.{stacked_popups}
 use Rattle.wl_stacking.specs.Stacking.{Owned, Standing, root_of}
 use Rattle.wl_stacking.specs.Windows.{Window, windows}
 use Rattle.wl_plain.specs.Desktop.{Desktop}
+use Rattle.wl_plain.specs.Happenings.{Happening, Leads}
+use Rattle.wl_plain.specs.LeftOut.{served_now}
 use Rattle.wl_plain.specs.Marks.{Applied, at_least, at_most}
 use Rattle.wl_plain.specs.Moments.{history_of, is_applied_by, marks_at_least_of, marks_at_least_through, marks_at_most_of, marks_at_most_through}
 use Rattle.wl_plain.specs.Settling.{Midstep}
@@ -19,10 +21,13 @@ use Rattle.wl_laws.proofs.Marks.Stacks.{differ}
 use Rattle.wl_laws.proofs.Runs.Settled.{ShowsSame}
 use Rattle.wl_pointed.proofs.Marking.{last-marks-nothing, marks-own-then-rounds}
 use Rattle.wl_pointed.proofs.Rounds.{rounds-settle}
+use Rattle.wl_clients.specs.Leading.{Led, raised_by}
 use Rattle.wl_clients.specs.Marking.{MarksThroughBy}
+use Rattle.wl_desk.specs.Agreeing.{Agrees}
 use Rattle.wl_desk.specs.Midway.{IsMidway, SettlesDown}
 use Rattle.wl_desk.specs.Restacking.{MarksChange}
 use Rattle.wl_desk.specs.View.{MarkedDesk}
+use Rattle.wl_desk.proofs.Leading.{midway-agrees}
 use Rattle.wl_desk.proofs.Restacking.{telling-apart}
 
 -- ---- what is marked goes by what stands, and by what the clients own
@@ -84,7 +89,7 @@ module _ (raised : Option (ℕ × ℕ)) (d own : Desktop) (told : Midstep) (show
       (sym (ap (λ (ds : List Desktop). marks_at_most_through all_windows None told.desktop ds x y) all.0.3)
       ∙ (last-marks-nothing down.count told down.mid down.last down.rounds x y down.distinct down.each down.settles).1)
 
-  pub marked : MarksThroughBy raised d path old new.damage
+  marked : MarksThroughBy raised d path old new.damage
   marked i j wide high =
       let later = down.marks i j (subst (λ (n : ℕ). i < n) (sym large.width) wide) (subst (λ (n : ℕ). j < n) (sym large.height) high) in
       let first = change.0 i j wide high in
@@ -98,3 +103,13 @@ module _ (raised : Option (ℕ × ℕ)) (d own : Desktop) (told : Midstep) (show
             ∙ any-or (has old i j) (has mid.damage i j) (marks_at_most_of all_windows d own raised (pos i) (pos j))
             (marks_at_most_through all_windows None told.desktop down.rounds (pos i) (pos j)) (later.1 full) most-first,
       )
+
+  -- so it leads to the last of them
+  pub own-leads : (h : Happening) → raised ≡ raised_by h d → Leads served_now h d path down.last.desktop → Led (Agrees new.desk) h old new.damage d
+  own-leads h up leads = record {
+    path = path;
+    desktop = down.last.desktop;
+    leads = leads;
+    agrees = midway-agrees new.desk down.last down.midway down.over all.1;
+    marks = subst (λ (up : Option (ℕ × ℕ)). MarksThroughBy up d path old new.damage) up marked;
+  }

@@ -24,9 +24,8 @@ use Rattle.wl_plain.specs.Through.{ending_through, raised_from, raised_if}
 use Rattle.wl_laws.proofs.Marks.Stacks.{Each}
 use Rattle.wl_laws.proofs.Runs.Settled.{ShowsSame, shows-itself, shows-on}
 use Rattle.wl_pointed.specs.Pointed.{MovedStands}
-use Rattle.wl_pointed.proofs.Moved.{moved-stands-mid}
 use Rattle.wl_pointed.proofs.Rounds.{buttons-end}
-use Rattle.wl_clients.specs.Leading.{Led, raised_by}
+use Rattle.wl_clients.specs.Leading.{raised_by}
 use Rattle.wl_clients.specs.Marking.{MarksThroughBy}
 use Rattle.wl_clients.specs.Midway.{IsMid, NobodyGrabs}
 use Rattle.wl_clients.specs.View.{MarkedDesk as KeptDesk}
@@ -38,8 +37,8 @@ use Rattle.wl_desk.specs.Restacking.{HasNumber, MarksChange, moved_up, raised_to
 use Rattle.wl_desk.specs.View.{DeskView, MarkedDesk}
 use Rattle.wl_desk.proofs.Applying.{noted-owned}
 use Rattle.wl_desk.proofs.Calls.{Settles, desk_with}
-use Rattle.wl_desk.proofs.Leading.{midway-agrees}
-use Rattle.wl_desk.proofs.OwnChange.{all, marked, path}
+use Rattle.wl_desk.proofs.OwnChange.{all, own-leads, path}
+use Rattle.wl_desk.proofs.Placed.{acts-stand}
 use Rattle.wl_desk.proofs.Restacking.{change-none, still-marks, telling-apart}
 use Rattle.wl_desk.proofs.Tells.{tells-pointer, tells-shows}
 
@@ -50,7 +49,7 @@ pub begins-telling : (k : KeptDesk) (seats : List (List ℕ)) (p q r : Pointer) 
     → IsTelling (desk_with k seats q).desk (unstruck (record d { pointer = r }))
 begins-telling k seats p q r d a place = record { kept = (mid_begins_and_ends k.desk (unpointed d)).0 a.kept; place = place; seats = a.seats }
 
-number-on : (v w : DeskView) (t : Option Target) → w.kept ≡ v.kept → HasNumber v t → HasNumber w t
+pub number-on : (v w : DeskView) (t : Option Target) → w.kept ≡ v.kept → HasNumber v t → HasNumber w t
 number-on v w None same h = tt
 number-on v w (Some t) same h = subst (λ k. HasNumber (record v { kept = k }) (Some t)) (sym same) h
 
@@ -191,10 +190,10 @@ module _ (time button : ℕ) (d : Desktop) (counts : is_press button d.pointer.b
       (press-acts time button (hit_now d.pointer.place (all_windows d)) d.pointer.focus (all_windows d) vs pressed n
       (subst (λ (t : Option Target). AppliesAll vs (button_of time button true d.pointer.focus) (with_standing (raised_to t d.standing) pressed) n) (sym hit) told))
 
-  pub press-leads : (n : Midstep) (path : List Desktop) (e : Desktop) → PointerActs (Press time button (grab_holder d)) pressed n
-      → ((settled : Midstep) × PointerActs Settle n settled × ending_through path e settled) → Leads served_now (Single (Button time button true) gave.Button) d path e
-  press-leads n path e acts ends =
-      (refl, subst (λ (b : Bool). PressesThen b time button d (ending_through path e)) (sym counts) (n, acts, ends))
+  pub press-leads : (n : Midstep) (later : List Desktop) (e : Desktop) → PointerActs (Press time button (grab_holder d)) pressed n
+      → ((settled : Midstep) × PointerActs Settle n settled × ending_through later e settled) → Leads served_now (Single (Button time button true) gave.Button) d later e
+  press-leads n later e acts ends =
+      (refl, subst (λ (b : Bool). PressesThen b time button d (ending_through later e)) (sym counts) (n, acts, ends.0, ends.1, ends.2))
 
   pub press-raises : (top : Option Target) → toplevel_of (hit_now d.pointer.place (all_windows d)) ≡ top
       → moved_up top d.standing ≡ raised_by (Single (Button time button true) gave.Button) d
@@ -247,18 +246,14 @@ presses time button nobody k seats p p1 q top serial does raised told new counts
     let still = button-still (all_windows up.desktop) time button true focus up n told-of in
     let midway : IsMidway told.desk n =
     button-midway told.desk d start n a.placed t.2 (stays ∙ same ∙ first) refl refl
-    (moved-stands-mid.1 (Press time button (grab_holder d)) start n a.placed.moved acted) refl still.1 still.2 in
+    (acts-stand (Press time button (grab_holder d)) start n acted a.placed.moved) refl still.1 still.2 in
     let down : SettlesDown told new n = settles n midway in
     let size : IsAsLarge k.damage told.damage = subst (λ (dmg : Damaged). IsAsLarge k.damage dmg) (sym damage) large in
-    let whole = all (moved_up top d.standing) d up.desktop n still.0 k.damage told new size change midway down in
-    record {
-      path = path (moved_up top d.standing) d up.desktop n still.0 k.damage told new size change midway down;
-      desktop = down.last.desktop;
-      leads = press-leads time button d counted grabs n _ down.last.desktop acted (buttons-end n _ down.last.desktop whole.0);
-      agrees = midway-agrees new.desk down.last down.midway down.over whole.1;
-      marks = subst (λ (up : Option (ℕ × ℕ)). MarksThroughBy up d _ k.damage new.damage) (press-raises time button d counted grabs top hit)
-          (marked (moved_up top d.standing) d up.desktop n still.0 k.damage told new size change midway down);
-    }
+    own-leads (moved_up top d.standing) d up.desktop n still.0 k.damage told new size change midway down (Single (Button time button true) gave.Button)
+    (press-raises time button d counted grabs top hit)
+    (press-leads time button d counted grabs n (path (moved_up top d.standing) d up.desktop n still.0 k.damage told new size change midway down) down.last.desktop acted
+    (buttons-end n (path (moved_up top d.standing) d up.desktop n still.0 k.damage told new size change midway down) down.last.desktop
+    (all (moved_up top d.standing) d up.desktop n still.0 k.damage told new size change midway down).0))
 
 -- ---- a release
 
@@ -277,6 +272,12 @@ released-place (b ∷ bs) p = (refl, refl)
 released-moved : (buttons : List ℕ) (d : Desktop) → MovedStands d → kept_move (released_to buttons d.pointer).move d.standing ≡ (released_to buttons d.pointer).move
 released-moved [] d moved = refl
 released-moved (b ∷ bs) d moved = moved
+
+release-leads : (time button : ℕ) (d : Desktop) → is_down button d.pointer.buttons ≡ true → (n : Midstep) (later : List Desktop) (e : Desktop)
+    → PointerActs (Release time button) (unstruck (with_release button d)) n
+    → ((settled : Midstep) × PointerActs Settle n settled × ending_through later e settled) → Leads served_now (Single (Button time button false) gave.Button) d later e
+release-leads time button d counts n later e acts ends =
+    (refl, subst (λ (b : Bool). ReleasesThen b time button d (ending_through later e)) (sym counts) (n, acts, ends.0, ends.1, ends.2))
 
 pub releases : (time button : ℕ) (k : KeptDesk) (seats : List (List ℕ)) (p q : Pointer) (does : List PointerAction) (told new : MarkedDesk) → is_down button p.buttons ≡ true
     → ((ws : List Window) → does ≡ actions (Release time button) q ws) → q ≡ with_buttons (without_button button p.buttons) p
@@ -303,20 +304,12 @@ releases time button k seats p q does told new counts acts releasing tells stays
     let same = released-place buttons d.pointer in
     let midway : IsMidway told.desk n =
     button-midway told.desk d start n a.placed t.2 (stays ∙ first) same.0 same.1
-    (moved-stands-mid.1 (Release time button) start n (released-moved buttons d a.placed.moved) acted) refl still.1 still.2 in
+    (acts-stand (Release time button) start n acted (released-moved buttons d a.placed.moved)) refl still.1 still.2 in
     let down : SettlesDown told new n = settles n midway in
     let change : MarksChange None d d k.damage told.damage =
     subst (λ (dmg : Damaged). MarksChange None d d k.damage dmg) (sym damage) (change-none None d k.damage (apart-now k seats p d a)) in
     let size : IsAsLarge k.damage told.damage = subst (λ (dmg : Damaged). IsAsLarge k.damage dmg) (sym damage) (record { width = refl; height = refl }) in
     let shows : ShowsSame d n.desktop = record { standing = still.0.standing; owned = still.0.owned } in
-    let whole = all None d d n shows k.damage told new size change midway down in
-    record {
-      path = path None d d n shows k.damage told new size change midway down;
-      desktop = down.last.desktop;
-      leads = (
-        refl,
-        subst (λ (b : Bool). ReleasesThen b time button d (ending_through _ down.last.desktop)) (sym counted) (n, acted, buttons-end n _ down.last.desktop whole.0),
-      );
-      agrees = midway-agrees new.desk down.last down.midway down.over whole.1;
-      marks = marked None d d n shows k.damage told new size change midway down;
-    }
+    own-leads None d d n shows k.damage told new size change midway down (Single (Button time button false) gave.Button) refl
+    (release-leads time button d counted n (path None d d n shows k.damage told new size change midway down) down.last.desktop acted
+    (buttons-end n (path None d d n shows k.damage told new size change midway down) down.last.desktop (all None d d n shows k.damage told new size change midway down).0))

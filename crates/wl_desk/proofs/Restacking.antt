@@ -116,14 +116,15 @@ module _ (numbers : ℕ → ById ℕ) (c surface : ℕ) where
   standing-number [] [] are there = absurd (differ there)
   standing-number [] (s ∷ ss) are there = absurd are
   standing-number (k ∷ ks) [] are there = absurd are
-  standing-number (k ∷ ks) (s ∷ ss) are there = at (is_of c surface s) refl there
+  standing-number (k ∷ ks) (s ∷ ss) are there = at (is_of c surface s) refl (standing-number ks ss are.1) there
     where
-      at : (b : Bool) → is_of c surface s ≡ b → (b || list_any (is_of c surface) ss) ≡ true → is_some (numbers c surface) ≡ true
-      at true is there =
+      at : (b : Bool) → is_of c surface s ≡ b → (list_any (is_of c surface) ss ≡ true → is_some (numbers c surface) ≡ true) → (b || list_any (is_of c surface) ss) ≡ true
+          → is_some (numbers c surface) ≡ true
+      at true is later there =
           let client : s.client ≡ c = eqb-true s.client c (and-left (s.client == c) (s.surface == surface) is) in
           let own : s.surface ≡ surface = eqb-true s.surface surface (and-right (s.client == c) (s.surface == surface) is) in
           some-number (numbers c surface) k.surface (sym (ap₂ (λ (n id : ℕ). numbers n id) client own) ∙ are.0.surface)
-      at false is there = standing-number ks ss are.1 there
+      at false is later there = later there
 
 kept-there : (t : Target) (standing : List Standing) → kept_move (Some t) standing ≡ Some t → list_any (is_of t.client t.surface) standing ≡ true
 kept-there t standing e = at (list_any (is_of t.client t.surface) standing) refl e
@@ -158,7 +159,7 @@ pub telling-apart : (v : DeskView) (m : Midstep) → IsTelling v m → AreDistin
 telling-apart v m telling = agrees-apart (opened_desk v.kept) (unpointed m.desktop) telling.kept.agrees
 
 -- where nothing changes, nothing is marked
-still-marks : (d : Desktop) (x y : ℤ) → AreDistinct (all_windows d) → (marks_at_least_of all_windows d d x y ≡ false) × (marks_at_most_of all_windows d d None x y ≡ false)
+pub still-marks : (d : Desktop) (x y : ℤ) → AreDistinct (all_windows d) → (marks_at_least_of all_windows d d x y ≡ false) × (marks_at_most_of all_windows d d None x y ≡ false)
 still-marks d x y apart =
     settling-marks-nothing (unstruck (unpointed d)) (unstruck (unpointed d)) x y apart (settles-idly (unstruck (unpointed d)) refl).0
 

@@ -1,9 +1,9 @@
 -- How a press and a motion change the stack of toplevels, and what that marks.
-use Rattle.std.specs.Prelude.{ℕ, ◌≡◌, ◌-ℤ◌, if◌then◌else◌, is_some, true, Option, Some, None, List}
+use Rattle.std.specs.Prelude.{ℕ, ◌≡◌, if◌then◌else◌, is_some, true, Option, Some, None, List, [], ◌∷◌}
 use Rattle.wl_paint.specs.Damage.{Damaged}
 use Rattle.wl_stacking.specs.Pointer.{Target}
+use Rattle.wl_stacking.specs.PointerActions.{PointerAction, MoveWindow}
 use Rattle.wl_stacking.specs.Stacking.{Standing, raised}
-use Rattle.wl_stacking.specs.Windows.{Place}
 use Rattle.wl_plain.specs.Desktop.{Desktop}
 use Rattle.wl_plain.specs.Pointing.{moved_standing}
 use Rattle.wl_plain.specs.Through.{is_topmost}
@@ -26,11 +26,23 @@ abbrev pub moved_up : Option Target → List Standing → Option (ℕ × ℕ)
 moved_up None standing = None
 moved_up (Some t) standing = if is_topmost t.client t.surface standing then None else Some (t.client, t.surface)
 
--- the stack after the pointer went from a place, if it had one, to another: a toplevel that is moved has gone along
-abbrev pub dragged : Option Place → Place → Option Target → List Standing → List Standing
-dragged None to moved standing = standing
-dragged (Some from) to None standing = standing
-dragged (Some from) to (Some t) standing = moved_standing t (to.x -ℤ from.x) (to.y -ℤ from.y) standing
+-- the toplevel that the pointer moves, and the stack where it is moved
+abbrev pub moved_of : PointerAction → Option Target
+moved_of (MoveWindow t x y) = Some t
+moved_of action = None
+
+abbrev pub dragged : PointerAction → List Standing → List Standing
+dragged (MoveWindow t x y) standing = moved_standing t x y standing
+dragged action standing = standing
+
+-- the same by the first of these, if there is one
+abbrev pub first_moved : List PointerAction → Option Target
+first_moved [] = None
+first_moved (action ∷ later) = moved_of action
+
+abbrev pub first_dragged : List PointerAction → List Standing → List Standing
+first_dragged [] standing = standing
+first_dragged (action ∷ later) standing = dragged action standing
 
 -- A change from one desktop to another marks what it has to, and no more than it may where a press raised this toplevel.
 abbrev pub MarksChange : Option (ℕ × ℕ) → Desktop → Desktop → Damaged → Damaged → Type 0

@@ -34,7 +34,6 @@ use wl_paint::{Damage, FrameError, Framebuffer};
 use wl_plain::Done;
 use wl_scene::{Focus, Target};
 
-
 /// How many clients there may be at once.
 const CLIENT_LIMIT: usize = 32;
 

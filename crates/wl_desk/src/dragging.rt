@@ -1,9 +1,6 @@
 //! Motions: the pointer goes to a point, and a toplevel that it moves goes along.
 
-ghost use Rattle.std.specs.Prelude.{◌≡◌, None, Option, Some, map};
-ghost use Rattle.wl_stacking.specs.Pointer.{Target as Named};
-ghost use Rattle.wl_stacking.specs.PointerActions.{move_of};
-ghost use Rattle.wl_stacking.specs.Windows.{Place};
+ghost use Rattle.std.specs.Prelude.{◌≡◌, None, Some, map};
 ghost use Rattle.wl_scene.specs.Focus.{action_of, target_of};
 ghost use Rattle.wl_marking.specs.Marking.{IsAsLarge};
 ghost use Rattle.wl_plain.specs.Act.{Motion};
@@ -13,7 +10,7 @@ ghost use Rattle.wl_plain.specs.Pointing.{moved_standing};
 ghost use Rattle.wl_plain.specs.Settling.{Midstep, with_standing};
 ghost use Rattle.wl_desk.specs.Agreeing.{LeadsBy};
 ghost use Rattle.wl_desk.specs.Midway.{IsTelling};
-ghost use Rattle.wl_desk.specs.Restacking.{HasNumber, MarksChange, dragged};
+ghost use Rattle.wl_desk.specs.Restacking.{HasNumber, MarksChange, dragged, first_dragged, first_moved, moved_of};
 
 use crate::desks::Desk;
 use std::alloc::Allocator;
@@ -45,24 +42,44 @@ impl<A: Allocator + Copy> Desk<A> {
 
     /// A toplevel goes along with the pointer, if it moves one. That is marked, and no more.
     fn drag(&mut self, moves: &Actions)
-        ensures moves { (from : Option Place) (to : Place) (moved : Option Named) (m : Midstep) → map action_of moves.now.items ≡ move_of from to moved
-            → IsTelling self.old.desk m → HasNumber self.old.desk moved
-            → IsTelling self.new.desk (with_standing (dragged from to moved m.desktop.standing) m) }
-        ensures marks { (from : Option Place) (to : Place) (moved : Option Named) (m : Midstep) → map action_of moves.now.items ≡ move_of from to moved
-            → IsTelling self.old.desk m → HasNumber self.old.desk moved
-            → MarksChange None m.desktop (with_standing (dragged from to moved m.desktop.standing) m).desktop self.old.damage self.new.damage }
+        ensures moves { (m : Midstep) → IsTelling self.old.desk m → HasNumber self.old.desk (first_moved (map action_of moves.now.items))
+            → IsTelling self.new.desk (with_standing (first_dragged (map action_of moves.now.items) m.desktop.standing) m) }
+        ensures marks { (m : Midstep) → IsTelling self.old.desk m → HasNumber self.old.desk (first_moved (map action_of moves.now.items))
+            → MarksChange None m.desktop (with_standing (first_dragged (map action_of moves.now.items) m.desktop.standing) m).desktop self.old.damage
+            self.new.damage }
         ensures pointer { self.new.desk.pointer ≡ self.old.desk.pointer }
         ensures sides { IsAsLarge self.old.damage self.new.damage }
         ensures output { self.new.desk.kept.output ≡ self.old.desk.kept.output }
     {
-        let Some(Action::MoveWindow(toplevel, x, y)) = moves.as_slice().first().copied() else {
+        let Some(action) = moves.as_slice().first() else {
             return;
         };
-        self.drag_by(toplevel, x, y);
+        self.drag_by(*action);
+    }
+
+    /// So it does where this is what the pointer does.
+    fn drag_by(&mut self, action: Action)
+        ensures moves { (m : Midstep) → IsTelling self.old.desk m → HasNumber self.old.desk (moved_of (action_of action))
+            → IsTelling self.new.desk (with_standing (dragged (action_of action) m.desktop.standing) m) }
+        ensures marks { (m : Midstep) → IsTelling self.old.desk m → HasNumber self.old.desk (moved_of (action_of action))
+            → MarksChange None m.desktop (with_standing (dragged (action_of action) m.desktop.standing) m).desktop self.old.damage self.new.damage }
+        ensures pointer { self.new.desk.pointer ≡ self.old.desk.pointer }
+        ensures sides { IsAsLarge self.old.damage self.new.damage }
+        ensures output { self.new.desk.kept.output ≡ self.old.desk.kept.output }
+    {
+        match action {
+            Action::MoveWindow(toplevel, x, y) => self.move_by(toplevel, x, y),
+            Action::Leave(_)
+            | Action::Enter(_)
+            | Action::Motion(..)
+            | Action::Button(..)
+            | Action::Raise(_)
+            | Action::Dismiss(_) => {}
+        }
     }
 
     /// A toplevel moves by a difference. That is marked, and no more.
-    fn drag_by(&mut self, toplevel: Target, x: i64, y: i64)
+    fn move_by(&mut self, toplevel: Target, x: i64, y: i64)
         ensures moves { (m : Midstep) → IsTelling self.old.desk m → HasNumber self.old.desk (Some (target_of toplevel))
             → IsTelling self.new.desk (with_standing (moved_standing (target_of toplevel) x y m.desktop.standing) m) }
         ensures marks { (m : Midstep) → IsTelling self.old.desk m → HasNumber self.old.desk (Some (target_of toplevel))
