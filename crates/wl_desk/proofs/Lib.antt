@@ -14,6 +14,7 @@ pub mod Forgetting
 pub mod Frames
 pub mod Keeping
 pub mod Leading
+pub mod LetGo
 pub mod Movables
 pub mod Moving
 pub mod Numbers
