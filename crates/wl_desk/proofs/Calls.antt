@@ -32,7 +32,6 @@ use Rattle.wl_desk.specs.View.{DeskView, MarkedDesk, seat_of}
 use Rattle.wl_desk.proofs.Coming.{connects-lead}
 use Rattle.wl_desk.proofs.Ending.{ends-lead}
 use Rattle.wl_desk.proofs.Frames.{frames-lead}
-use Rattle.wl_desk.proofs.Moving.{is-each, is-midway, is-seen, is-telling, motion-leads, moved, pointer, there, ws}
 use Rattle.wl_desk.proofs.Quiet.{quiet-leads}
 use Rattle.wl_desk.proofs.SeatsStay.{KeepsSeats, seats-stay}
 
@@ -128,40 +127,3 @@ frames time old after seats p mid new leads large kept same damage left settles 
     frames-lead time d (desk_with old seats p) (desk_with after seats mid.desk.pointer) new a led.0 led.1 large refl
     (left (desk_with old seats p).desk d led.0.desktop a a.pointer led.0.agrees)
     (subst (λ (m : MarkedDesk). Settles m new) parts settles)
-
--- ---- a motion
-
-abbrev pub place_at : ℤ → ℤ → Place
-place_at i j = record { x = i; y = j }
-
--- a point held within the output that is kept is held within that of the desktop
-pub point-held : (k : KeptDesk) (o : Sides) (x y i j : ℤ) → o ≡ k.desk.output → i ≡ within o.width x → j ≡ within o.height y → (d : Desktop) → KeptAgrees k.desk d
-    → place_at i j ≡ point_in d.output x y
-point-held k o x y i j same wide high d a =
-    let output : output_of o ≡ d.output = ap (λ (s : Sides). output_of s) same ∙ a.matches.output in
-    ap₂ place_at (wide ∙ ap (λ (b : Output). within b.width x) output) (high ∙ ap (λ (b : Output). within b.height y) output)
-
-pub moves : (time : ℕ) (x y : ℤ) (k : KeptDesk) (seats : List (List ℕ)) (p p1 p2 : Pointer) (at : Place) (hit : Option Target) (does : List PointerAction) (told new : MarkedDesk)
-    → ((d : Desktop) → KeptAgrees k.desk d → at ≡ point_in d.output x y) → p1 ≡ record p { place = Some at }
-    → ((m : Midstep) → IsTelling (desk_with k seats p1).desk m → hit ≡ hit_by m.desktop.pointer.place (all_windows m.desktop))
-    → ((ws : List Window) → IsSeen hit false p1 ws → does ≡ actions (Went time) p1 ws)
-    → ((ws : List Window) → IsSeen hit false p1 ws → p2 ≡ record p1 { focus = settled p1 ws })
-    → ((m : Midstep) → IsTelling (desk_with k seats p2).desk m → m.desktop.pointer.place ≢ None → Each (IsOfFocus (all_windows m.desktop)) does
-    → (n : Midstep) × AppliesAll (all_windows m.desktop) does m n × IsTelling told.desk n)
-    → told.desk.pointer ≡ p2 → told.damage ≡ k.damage → told.desk.kept.output ≡ k.desk.output → Settles told new
-    → LeadsBy (Single (Motion time x y) gave.Motion) (desk_with k seats p) new
-moves time x y k seats p p1 p2 at hit does told new place goes hits acts keeps tells same damage output settles d a =
-    let v : DeskView = (desk_with k seats p).desk in
-    let to : Pointer = pointer time x y d v a in
-    let windows : List Window = ws time x y d v a in
-    let start : Midstep = moved time x y d v a in
-    let first : p1 ≡ to = goes ∙ ap₂ (λ (q : Pointer) (b : Place). record q { place = Some b }) a.pointer (place (unpointed d) a.kept) in
-    let is-hit = hits start (is-telling time x y d v a (desk_with k seats p1).desk refl refl (ap (λ (q : Pointer). q.place) first)) in
-    let seen : IsSeen hit false p1 windows = subst (λ (q : Pointer). IsSeen hit false q windows) (sym first) (is-seen time x y d v a hit is-hit) in
-    let done : does ≡ actions (Went time) to windows = acts windows seen ∙ ap (λ (q : Pointer). actions (Went time) q windows) first in
-    let after : p2 ≡ record to { focus = settled to windows } = keeps windows seen ∙ ap (λ (q : Pointer). record q { focus = settled q windows }) first in
-    let t = tells start (is-telling time x y d v a (desk_with k seats p2).desk refl refl (ap (λ (q : Pointer). q.place) after))
-    (λ none. none-some (there time x y d v a) (sym none)) (subst (λ (xs : List PointerAction). Each (IsOfFocus windows) xs) (sym done) (is-each time x y d v a)) in
-    let went : PointerActs (Went time) start t.0 = subst (λ (xs : List PointerAction). AppliesAll windows xs start t.0) done t.1 in
-    let midway : IsMidway told.desk t.0 = is-midway time x y d v a told.desk t.0 went t.2 (same ∙ after) in
-    motion-leads time x y d v a (desk_with k seats p) told new t.0 went midway output damage (settles t.0 midway)
