@@ -17,6 +17,7 @@ pub mod Frames
 pub mod Holding
 pub mod Keeping
 pub mod Leading
+pub mod LetGo
 pub mod Movables
 pub mod Moving
 pub mod Numbers

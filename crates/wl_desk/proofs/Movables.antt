@@ -4,7 +4,7 @@ use Rattle.std.proofs.lemmas.Bool.{eqb-true}
 use Rattle.std.specs.List.{list_any}
 use Rattle.std.specs.Prelude.{◌==◌, ◌&&◌, ◌||◌, cond}
 use Rattle.wl_peer.specs.Objects.{ById}
-use Rattle.wl_stacking.specs.Pointer.{Target}
+use Rattle.wl_stacking.specs.Pointer.{Pointer, Target}
 use Rattle.wl_stacking.specs.Windows.{Window}
 use Rattle.wl_stacked.specs.declared.stacked.Stacked.{Stacked}
 use Rattle.wl_scene.specs.Focus.{target_of}
@@ -18,13 +18,16 @@ use Rattle.wl_plain.specs.Settling.{Midstep, unstruck}
 use Rattle.wl_plain.specs.Stacked.{all_windows}
 use Rattle.wl_laws.proofs.Lists.Keys.{differ, found-passes, none-some, some-same}
 use Rattle.wl_laws.proofs.Marks.Stacks.{and-both, and-left, and-right, equal-numbers}
-use Rattle.wl_clients.proofs.Midway.{mid_begins_and_ends}
+use Rattle.wl_clients.specs.Agreement.{numbers_in}
+use Rattle.wl_clients.proofs.Agreed.{agrees-apart}
+use Rattle.wl_clients.proofs.Midway.{mid_begins_and_ends, mid_is_numbered_once}
 use Rattle.wl_desk.specs.Agreeing.{Agrees}
 use Rattle.wl_desk.specs.Beginning.{IsMovable, chosen}
 use Rattle.wl_desk.specs.Midway.{IsTelling}
 use Rattle.wl_desk.specs.View.{DeskView}
 use Rattle.wl_desk.specs.declared.moves.Movable.{Movable}
 use Rattle.wl_desk.proofs.Points.{is_window}
+use Rattle.wl_desk.proofs.Windows.{none-of}
 
 -- what a desk keeps agrees with the middle of a step that begins
 pub telling-at : (v : DeskView) (d : Desktop) → Agrees v d → IsTelling v (unstruck d)
@@ -69,9 +72,9 @@ one-in surface t w (v ∷ ws) apart is = at (v.owner.client == t.client) (v.surf
     others : (v.owner.client == t.client) ≡ true → (v.surface == t.surface) ≡ true → list_any (is_in surface t) ws ≡ false
     others owner named =
         none-implied (is_in surface t) (is_same_surface v) ws
-        (λ u in. and-both (v.owner.client == u.owner.client) (v.surface == u.surface)
-        (equal-numbers v.owner.client u.owner.client (eqb-true v.owner.client t.client owner ∙ sym (eqb-true u.owner.client t.client (and-left _ _ in))))
-        (equal-numbers v.surface u.surface (eqb-true v.surface t.surface named ∙ sym (eqb-true u.surface t.surface (and-left _ _ (and-right _ _ in)))))) apart.0
+        (λ u within. and-both (v.owner.client == u.owner.client) (v.surface == u.surface)
+        (equal-numbers v.owner.client u.owner.client (eqb-true v.owner.client t.client owner ∙ sym (eqb-true u.owner.client t.client (and-left (u.owner.client == t.client) ((u.surface == t.surface) && (u.owner.root == surface)) within))))
+        (equal-numbers v.surface u.surface (eqb-true v.surface t.surface named ∙ sym (eqb-true u.surface t.surface (and-left (u.surface == t.surface) (u.owner.root == surface) (and-right (u.owner.client == t.client) ((u.surface == t.surface) && (u.owner.root == surface)) within)))))) apart.0
 
     last : (b a : Bool) → a ≡ false → (b || a) ≡ b
     last true a none = refl
@@ -173,3 +176,42 @@ module _ (numbers : ℕ → ById ℕ) (once : (c : ℕ) → AreNumberedOnce (num
           ∙ ap (λ (b : Bool). if (m.serial == serial) && b then Some (record { client = t.client; surface = surface }) else None)
           (focus-in surface t (all_windows d) ∙ one-in surface t w (all_windows d) apart found)
           ∙ both w rooted (m.serial == serial) (w.owner.root == surface) (m.number == other) refl refl
+
+-- ---- by what a desk keeps
+
+module _ (v : DeskView) (d : Desktop) (a : Agrees v d) (c : ℕ) where
+  abbrev kept_numbers : ℕ → ById ℕ
+  kept_numbers = numbers_in v.kept.clients
+
+  once-at : (n : ℕ) → AreNumberedOnce (kept_numbers n)
+  once-at = mid_is_numbered_once v.kept (unstruck (unpointed d)) ((mid_begins_and_ends v.kept (unpointed d)).0 a.kept)
+
+  apart-at : AreDistinct (all_windows d)
+  apart-at = agrees-apart v.kept (unpointed d) a.kept
+
+  focus-is : (f : Option Target) → f ≡ v.pointer.focus → f ≡ d.pointer.focus
+  focus-is f is = is ∙ ap (λ (p : Pointer). p.focus) a.pointer
+
+  pub unheld-whole : None ≡ v.pointer.hold → IsMovable (kept_numbers c) c d None
+  unheld-whole none = unheld-may (kept_numbers c) c d (none ∙ ap (λ (p : Pointer). p.hold) a.pointer)
+
+  pub unfocused-whole : None ≡ v.pointer.focus → IsMovable (kept_numbers c) c d None
+  unfocused-whole none = unfocused-may (kept_numbers c) c d (focus-is None none)
+
+  pub other-whole : (t : Target) → Some t ≡ v.pointer.focus → (t.client == c) ≡ false → IsMovable (kept_numbers c) c d None
+  other-whole t has other = other-may (kept_numbers c) c d t (focus-is (Some t) has) other
+
+  module _ (t : Target) (has : Some t ≡ v.pointer.focus) (own : t.client ≡ c) where
+    pub windowless-whole : IsStackedOrNone kept_numbers None (focus_window (Some t) (all_windows d)) → IsMovable (kept_numbers c) c d None
+    windowless-whole is = windowless-may (kept_numbers c) c d t (focus-is (Some t) has) own (none-of kept_numbers (focus_window (Some t) (all_windows d)) is)
+
+    module _ (s : Stacked) (is : IsStackedOrNone kept_numbers (Some s) (focus_window (Some t) (all_windows d))) where
+      pub rootless-whole : {X : Type 0} → ((id : ℕ) → kept_numbers c id ≢ Some s.root) → X
+      rootless-whole none =
+          rootless-may kept_numbers once-at d apart-at t (focus-is (Some t) has) s is (subst (λ (n : ℕ). (id : ℕ) → kept_numbers n id ≢ Some s.root) (sym own) none)
+
+      pub one-whole : (m : Movable) (id : ℕ) → Some m.serial ≡ v.pointer.hold → m.number ≡ s.root → target_of m.toplevel ≡ record { client = c; surface = id }
+          → kept_numbers c id ≡ Some s.root → IsMovable (kept_numbers c) c d (Some m)
+      one-whole m id held number =
+          subst (λ (n : ℕ). target_of m.toplevel ≡ record { client = n; surface = id } → kept_numbers n id ≡ Some s.root → IsMovable (kept_numbers n) n d (Some m)) own
+          (one-may kept_numbers once-at d apart-at t (focus-is (Some t) has) s is m id (held ∙ ap (λ (p : Pointer). p.hold) a.pointer) number)
