@@ -5,10 +5,10 @@ pub mod Buttons
 pub mod Calls
 pub mod Clearing
 pub mod Coming
-pub mod Done
 pub mod Ended
 pub mod Ending
 pub mod Events
+pub mod Finished
 pub mod Focused
 pub mod Followed
 pub mod Following
@@ -25,7 +25,7 @@ pub mod Onward
 pub mod OwnChange
 pub mod Placed
 pub mod Points
-pub mod Pressing
+pub mod Presses
 pub mod Quiet
 pub mod Restacking
 pub mod Rests

@@ -36,7 +36,7 @@ use Rattle.wl_desk.proofs.Calls.{Settles, desk_with}
 use Rattle.wl_desk.proofs.OwnChange.{all, own-leads, path}
 use Rattle.wl_desk.proofs.Placed.{acts-stand}
 use Rattle.wl_desk.proofs.Points.{settled-stacked}
-use Rattle.wl_desk.proofs.Pressing.{begins-telling, number-on}
+use Rattle.wl_desk.proofs.Presses.{begins-telling, number-on}
 use Rattle.wl_desk.proofs.Restacking.{moved-number}
 use Rattle.wl_desk.proofs.Telling.{telling-same}
 

@@ -79,7 +79,7 @@ impl<A: Allocator + Copy> Desk<A> {
     }
 
     /// The window of this surface, if it has one.
-    fn window_of(&self, target: Target) -> Option<Stacked>
+    pub(crate) fn window_of(&self, target: Target) -> Option<Stacked>
         ensures { (m : Midstep) → IsTelling self.now.desk m
             → IsStackedOrNone (numbers_in self.now.desk.kept.clients) result (focus_window (Some (target_of target)) (all_windows m.desktop)) }
     {

@@ -5,7 +5,7 @@ use Rattle.wl_stacking.specs.Pointer.{is_press}
 use Rattle.wl_scene.specs.Focus.{action_of, target_or_none}
 use Rattle.wl_clients.proofs.Looks.{nobody_grabs}
 use Rattle.wl_desk.proofs.Calls.{large-on}
-use Rattle.wl_desk.proofs.Pressing.{presses, presses-not}
+use Rattle.wl_desk.proofs.Presses.{presses, presses-not}
 use Rattle.wl_desk.proofs.desks.Desk.press.Goals as goal
 
 pub returns-then-not-is_press-clause-leads : goal.returns-then-not-is_press-clause-leads
