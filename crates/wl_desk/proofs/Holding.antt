@@ -1,5 +1,6 @@
 -- The serial of the press that begins the present hold.
-use Rattle.std.proofs.Common.{◌≡◌, ◌≢◌, ℕ, List, [], ◌∷◌, Bool, true, false, Option, Some, None, refl, ap, subst, sym, ◌∙◌}
+use Rattle.std.proofs.Common.{◌≡◌, ◌≢◌, ℕ, List, [], ◌∷◌, Bool, true, false, Option, Some, None, refl, ap, subst, sym, ◌∙◌, arith}
+use Rattle.std.proofs.lemmas.Bool.{eqb-true}
 use Rattle.std.specs.Option.{option_map}
 use Rattle.std.specs.Prelude.{◌==◌, if◌then◌else◌, length}
 use Rattle.wl_client.specs.Pointers.{has_any}
@@ -45,7 +46,10 @@ module _ (v : DeskView) (d : Desktop) (a : Agrees v d) (t : Target) (has : Some 
     where
       at : (ps : List ℕ) → (length ps == 0) ≡ true → serial_if (has_any ps) (client_at t.client d) ≡ press_serial d.pointer.focus d → None ≡ press_serial d.pointer.focus d
       at [] e h = h
-      at (p ∷ ps) e h = absurd (differ e)
+      at (p ∷ ps) e h =
+          let same : length (p ∷ ps) ≡ 0 = eqb-true (length (p ∷ ps)) 0 e in
+          let never : ⊥ = omega (arith, same) in
+          absurd never
 
   pub serial-some : (ps : List ℕ) → ps ≡ seat_of v.seats t.client → ps ≢ [] → (serial : Option ℕ) → serial ≡ option_map (λ r. r.peer.serial) (client_at t.client d)
       → serial ≡ press_serial d.pointer.focus d
