@@ -66,8 +66,8 @@ pub after-begun : (left : LeftOut) (c : ℕ) (d e : Desktop) → pointer_after l
 after-begun left c d e = ap (λ (p : Pointer). keeping e.standing (pointer_if (status_in c e) c p)) (asked-begun (asked left c d) c d)
 
 -- what it moves stands then
-pub put-placed : (left : LeftOut) (c : ℕ) (d e : Desktop) → IsPlaced d → IsPlaced (pointed (pointer_after left c d e) e)
-put-placed left c d e placed =
+pub back-placed : (left : LeftOut) (c : ℕ) (d e : Desktop) → IsPlaced d → IsPlaced (pointed (pointer_after left c d e) e)
+back-placed left c d e placed =
     subst (λ (p : Pointer). IsPlaced (pointed p e)) (sym (after-begun left c d e))
     (after-placed (status_in c e) c (to_move (asked left c d) c d) d.pointer e placed.nowhere)
 

@@ -38,7 +38,7 @@ use Rattle.wl_desk.specs.Following.{IsUnsettled, Took}
 use Rattle.wl_desk.specs.Midway.{IsMidway, IsTelling, SettlesDown}
 use Rattle.wl_desk.specs.View.{DeskView, MarkedDesk}
 use Rattle.wl_desk.proofs.Asking.{on-queued, on-refused, refused-ends, told-marks, told-still}
-use Rattle.wl_desk.proofs.Begun.{after-get, put-placed}
+use Rattle.wl_desk.proofs.Begun.{after-get, back-placed}
 use Rattle.wl_desk.proofs.Focused.{focus-placed, focus-stacked}
 use Rattle.wl_desk.proofs.Leading.{kept-aside, midway-agrees}
 use Rattle.wl_desk.proofs.Onward.{last-at, marks-as, marks-then, marks-to, none-more}
@@ -119,7 +119,7 @@ followed c request old mid new d took on kept seats pointer damage =
     (marks-to (unpointed d) took.path old.damage mid.damage new.damage damage took.marks)
     (subst (λ (v : Damaged). IsAsLarge old.damage v) (sym damage) took.sides)
     (midway-at new.desk e (pointer_after served_now c d e) (subst (λ (k : ClientsView). KeptAgrees k e) (sym kept) took.kept)
-    (subst (λ (s : List (List ℕ)). AreSeats s e) (sym seats) took.seats) pointer (put-placed served_now c d e took.placed))
+    (subst (λ (s : List (List ℕ)). AreSeats s e) (sym seats) took.seats) pointer (back-placed served_now c d e took.placed))
 
 -- ---- a new wl_pointer is told
 
@@ -146,7 +146,7 @@ module _ (c id : ℕ) (old mid : MarkedDesk) (d : Desktop) (took : Took c (NewPo
   pub put-midway : IsMidway mid.desk (unstruck put)
   put-midway =
       midway-at mid.desk took.desktop d.pointer took.kept took.seats took.pointer
-      (subst (λ (x : Desktop). IsPlaced x) put-is (put-placed served_now c d took.desktop took.placed))
+      (subst (λ (x : Desktop). IsPlaced x) put-is (back-placed served_now c d took.desktop took.placed))
 
   pub put-stacked : is_stacked t (all_windows put) ≡ true
   put-stacked =
