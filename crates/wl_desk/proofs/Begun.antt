@@ -26,7 +26,7 @@ use Rattle.wl_desk.specs.Agreeing.{IsPlaced}
 use Rattle.wl_desk.specs.Beginning.{IsMovable, IsToMove, begun, chosen, chosen_by, moved_by}
 use Rattle.wl_desk.specs.declared.moves.Movable.{Movable}
 use Rattle.wl_desk.proofs.Asking.{refused-ends}
-use Rattle.wl_desk.proofs.Done.{get-stands, move-lives}
+use Rattle.wl_desk.proofs.Finished.{get-stands, move-lives}
 use Rattle.wl_desk.proofs.Placed.{after-placed}
 
 -- ---- by what is asked

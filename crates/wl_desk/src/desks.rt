@@ -8,10 +8,9 @@ ghost use Rattle.wl_paint.specs.Frame.{color_at, is_side};
 ghost use Rattle.wl_marking.specs.Marking.{IsAsLarge};
 ghost use Rattle.wl_scene.specs.Focus.{target_or_none};
 ghost use Rattle.wl_lending.specs.Painting.{IsOpaqueAsSaid};
-ghost use Rattle.wl_plain.specs.Act.{Connect, Store, Leave, Tick, Send, Close, Motion, peer_at, unsent_of, status_of, store_size_of};
+ghost use Rattle.wl_plain.specs.Act.{Connect, Store, Leave, Tick, Send, Close, peer_at, unsent_of, status_of, store_size_of};
 ghost use Rattle.wl_plain.specs.Desktop.{Desktop, empty, status_in};
 ghost use Rattle.wl_plain.specs.Happenings.{Message, Single, Starve};
-ghost use Rattle.wl_plain.specs.Happens.{within};
 ghost use Rattle.wl_plain.specs.Scratch.{scratch};
 ghost use Rattle.wl_plain.specs.LeftOut.{served_now};
 ghost use Rattle.wl_pointed.specs.Happenings.{pointer_left};
@@ -33,7 +32,7 @@ use wl_client::{Cause, Output, Served, StoreNo};
 use wl_clients::{ClientNo, Clients, ConnectError, Fed, PointerAsked, Stored, Taken};
 use wl_paint::{Damage, FrameError, Framebuffer};
 use wl_plain::Done;
-use wl_scene::{Focus, Point, Target};
+use wl_scene::{Focus, Target};
 
 /// How many clients there may be at once.
 const CLIENT_LIMIT: usize = 32;
@@ -257,26 +256,6 @@ impl<A: Allocator + Copy> Desk<A> {
         self.pointer.forget(surface.client);
     }
 
-    /// The pointer goes to a point of the output in pixels, held within it, at a time in milliseconds. The surface that keeps the focus is
-    /// told of the motion; where the focus moves, the one that had it is left and the other entered (wayland.xml, wl_pointer.motion, leave
-    /// and enter). The windows of each client that can't be told, and so ends, are marked.
-    pub fn motion(&mut self, time: u32, x: i32, y: i32)
-        ensures leads { LeadsBy (Single (Motion time x y) Done.Motion) self.old self.new }
-        ensures sides { IsAsLarge self.old.damage self.new.damage }
-        ensures output { self.new.desk.kept.output ≡ self.old.desk.kept.output }
-    {
-        let output = self.clients.output();
-        let place = Point {
-            x: within(output.width, x),
-            y: within(output.height, y),
-        };
-        self.pointer.motion(place);
-        let hit = self.hit();
-        let actions = self.pointer.went(time, hit, false);
-        self.apply_all(&actions);
-        self.settle();
-    }
-
     /// Puts bytes into a client's store.
     pub fn store(&mut self, client: ClientNo, store: StoreNo, at: u32, bytes: &[u8]) -> Stored
         ensures leads { LeadsBy (Single (Store client store at bytes.now) (Done.Store result)) self.old self.new }
@@ -413,14 +392,6 @@ fn seats_of<A: Allocator + Copy>(alloc: A) -> Result<Vec<Vec<u32, A>, A>, AllocE
         seats.push(Vec::new(alloc))?;
     }
     Ok(seats)
-}
-
-/// A coordinate held within a side of the output.
-fn within(side: u32, at: i32) -> i32
-    ensures { result ≡ within side at }
-{
-    let last = side.saturating_sub(1);
-    last.min(at.max(0) as u32) as i32
 }
 
 /// What became of a client's message, by how the client is then. That it lacked memory it is told as an error of wl_display; one that was too

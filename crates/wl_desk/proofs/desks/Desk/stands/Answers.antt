@@ -2,7 +2,7 @@ use Rattle.std.proofs.Common.{sym, ◌∙◌}
 use Rattle.wl_plain.specs.Settling.{unstruck}
 use Rattle.wl_clients.proofs.Midway.{mid_begins_and_ends}
 use Rattle.wl_desk.proofs.LetGo.{unnumbered-stands}
-use Rattle.wl_desk.proofs.moves.Desk.stands.Goals as goal
+use Rattle.wl_desk.proofs.desks.Desk.stands.Goals as goal
 
 pub returns-in_default : goal.returns-in_default
 returns-in_default g c = rw (← c.self.view_is) (λ e kept.

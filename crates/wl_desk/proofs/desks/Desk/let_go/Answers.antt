@@ -1,7 +1,7 @@
 use Rattle.wl_scene.specs.Focus.{target_of}
 use Rattle.wl_desk.proofs.LetGo.{let-go, none-kept, standing-kept}
 use Rattle.std.proofs.Common.{sym, ◌∙◌}
-use Rattle.wl_desk.proofs.moves.Desk.let_go.Goals as goal
+use Rattle.wl_desk.proofs.desks.Desk.let_go.Goals as goal
 
 pub returns-in_default-clause-pointer : goal.returns-in_default-clause-pointer
 returns-in_default-clause-pointer g c = λ e kept.

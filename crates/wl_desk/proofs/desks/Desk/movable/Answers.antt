@@ -2,7 +2,7 @@ use Rattle.std.proofs.Common.{◌≡◌, ◌==◌, false, ap, refl, rules, sym, 
 use Rattle.wl_scene.specs.Focus.{target_of, target_or_none}
 use Rattle.wl_plain.specs.Settling.{unstruck}
 use Rattle.wl_desk.proofs.Movables.{one-whole, other-whole, rootless-whole, telling-at, unfocused-whole, unheld-whole, windowless-whole}
-use Rattle.wl_desk.proofs.moves.Desk.movable.Goals as goal
+use Rattle.wl_desk.proofs.desks.Desk.movable.Goals as goal
 
 pub returns-in_err-serial : goal.returns-in_err-serial
 returns-in_err-serial g c = λ d a.
