@@ -4,7 +4,6 @@ use Rattle.std.specs.Prelude.{if◌then◌else◌}
 use Rattle.wl_client.specs.Pointers.{has_any, pointers_told}
 use Rattle.wl_client.specs.declared.pointers.PointerEvent.TheVariants.{Button}
 use Rattle.wl_peer.specs.Told.{Said}
-use Rattle.wl_xdg_state.specs.Shell.{next_serial}
 use Rattle.wl_plain.specs.Changing.{drawing}
 use Rattle.wl_plain.specs.Desktop.{Resident, client_at}
 use Rattle.wl_plain.specs.Pointing.{button_told, has_pointers}
@@ -25,7 +24,7 @@ has-any r = any-pointers r r.pointers
 abbrev drawn_with : Bool → Option ℕ → Option ℕ → Resident → Resident
 drawn_with b press release r =
     record r {
-      peer = record r.peer { serial = if b then next_serial r.peer.serial else r.peer.serial };
+      peer = record r.peer { serial = if b then (drawing true r).peer.serial else r.peer.serial };
       press = press;
       release = release;
     }

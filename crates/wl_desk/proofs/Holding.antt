@@ -1,11 +1,12 @@
 -- The serial of the press that begins the present hold.
 use Rattle.std.proofs.Common.{◌≡◌, ◌≢◌, ℕ, List, [], ◌∷◌, Bool, true, false, Option, Some, None, refl, ap, subst, sym, ◌∙◌}
 use Rattle.std.specs.Option.{option_map}
-use Rattle.std.specs.Prelude.{if◌then◌else◌}
+use Rattle.std.specs.Prelude.{◌==◌, if◌then◌else◌, length}
 use Rattle.wl_client.specs.Pointers.{has_any}
 use Rattle.wl_stacking.specs.Pointer.{Pointer, Target}
 use Rattle.wl_plain.specs.Desktop.{Desktop, Resident, client_at, status_of, unpointed}
 use Rattle.wl_plain.specs.Happens.{hold_from, press_serial, serial_for}
+use Rattle.wl_laws.proofs.Marks.Stacks.{differ}
 use Rattle.wl_desk.specs.Agreeing.{Agrees}
 use Rattle.wl_desk.specs.View.{DeskView, seat_of}
 use Rattle.wl_desk.proofs.Buttons.{has-any}
@@ -39,11 +40,16 @@ module _ (v : DeskView) (d : Desktop) (a : Agrees v d) (t : Target) (has : Some 
       ∙ serial-at (client_at t.client d) refl (focus-lives d a.settled (ended-bare (unpointed d) a.kept.orderly) t focused)
 
   -- a client without wl_pointers isn't sent a press
-  pub serial-none : seat_of v.seats t.client ≡ [] → None ≡ press_serial d.pointer.focus d
-  serial-none none = sym (serial-so ∙ ap (λ (ps : List ℕ). serial_if (has_any ps) (client_at t.client d)) none)
+  pub serial-none : (ps : List ℕ) → ps ≡ seat_of v.seats t.client → (empty : Bool) → empty ≡ (length ps == 0) → empty ≡ true → None ≡ press_serial d.pointer.focus d
+  serial-none ps own empty is none = at ps (sym is ∙ none) (ap (λ (qs : List ℕ). serial_if (has_any qs) (client_at t.client d)) own ∙ sym serial-so)
+    where
+      at : (ps : List ℕ) → (length ps == 0) ≡ true → serial_if (has_any ps) (client_at t.client d) ≡ press_serial d.pointer.focus d → None ≡ press_serial d.pointer.focus d
+      at [] e h = h
+      at (p ∷ ps) e h = absurd (differ e)
 
-  pub serial-some : seat_of v.seats t.client ≢ [] → (serial : Option ℕ) → serial ≡ option_map (λ r. r.peer.serial) (client_at t.client d) → serial ≡ press_serial d.pointer.focus d
-  serial-some some serial is = at (seat_of v.seats t.client) some (sym serial-so)
+  pub serial-some : (ps : List ℕ) → ps ≡ seat_of v.seats t.client → ps ≢ [] → (serial : Option ℕ) → serial ≡ option_map (λ r. r.peer.serial) (client_at t.client d)
+      → serial ≡ press_serial d.pointer.focus d
+  serial-some ps own some serial is = at ps some (ap (λ (qs : List ℕ). serial_if (has_any qs) (client_at t.client d)) own ∙ sym serial-so)
     where
       at : (ps : List ℕ) → ps ≢ [] → serial_if (has_any ps) (client_at t.client d) ≡ press_serial d.pointer.focus d → serial ≡ press_serial d.pointer.focus d
       at [] some h = absurd (some refl)
@@ -67,3 +73,6 @@ later-holds v d a some =
     at : (bs : List ℕ) → bs ≢ [] → d.pointer.hold ≡ hold_from bs d.pointer d
     at [] some = absurd (some refl)
     at (b ∷ bs) some = refl
+
+pub not-empty : (ps : List ℕ) (empty : Bool) → empty ≡ (length ps == 0) → empty ≡ false → ps ≢ []
+not-empty ps empty is full none = differ (sym full ∙ is ∙ ap (λ (qs : List ℕ). length qs == 0) none)

@@ -1,6 +1,6 @@
 -- Toplevels by the numbers of their surfaces: the one that is hit, and the one that is moved; and what is kept where one is raised or moved.
 use Rattle.std.proofs.Common.{◌≡◌, ◌≢◌, ℕ, List, [], ◌∷◌, ◌++◌, Bool, true, false, Option, Some, None, refl, ap, ap₂, subst, sym, ◌∙◌}
-use Rattle.std.specs.Prelude.{ℤ, ◌==◌, ◌&&◌, ◌||◌, if◌then◌else◌, fold, is_some, pos}
+use Rattle.std.specs.Prelude.{ℤ, ◌==◌, ◌&&◌, ◌||◌, if◌then◌else◌, fold, is_some, map, pos, slice_get}
 use Rattle.std.specs.List.{list_any}
 use Rattle.std.proofs.lemmas.Bool.{eqb-true}
 use Rattle.wl_paint.specs.Damage.{Damaged, has}
@@ -9,12 +9,16 @@ use Rattle.wl_stacking.specs.Pointer.{Target, hit_now}
 use Rattle.wl_stacking.specs.Stacking.{Owned, Standing, is_of, root_of, windows_on}
 use Rattle.wl_stacking.specs.Windows.{Place, Window, hit, hit_after, is_hit, owner_of, tree}
 use Rattle.wl_stacked.specs.declared.stacked.Stacked.{Stacked}
-use Rattle.wl_scene.specs.Focus.{place_of, toplevel_of}
+use Rattle.wl_scene.specs.Focus.{action_of, place_of, toplevel_of}
+use Rattle.wl_scene.specs.declared.actions.Action.{Action}
+use Rattle.wl_scene.specs.declared.actions.Action.TheVariants as does
+use Rattle.wl_scene.specs.declared.actions.Target.{Target as Named}
 use Rattle.wl_scene.specs.declared.focus.Point.{Point}
 use Rattle.wl_plain.specs.Changing.{kept_move}
 use Rattle.wl_plain.specs.Desktop.{Desktop, owned_in, unpointed}
 use Rattle.wl_plain.specs.Marks.{AreDistinct}
 use Rattle.wl_plain.specs.Moments.{marks_at_least_of, marks_at_most_of}
+use Rattle.wl_plain.specs.Pointing.{moved_standing}
 use Rattle.wl_plain.specs.Settling.{Midstep, unstruck, with_standing}
 use Rattle.wl_plain.specs.Stacked.{all_windows}
 use Rattle.wl_laws.proofs.Lists.Keys.{none-some, some-same}
@@ -36,7 +40,7 @@ use Rattle.wl_clients.proofs.Agreed.{agrees-apart}
 use Rattle.wl_clients.proofs.Midway.{mid_is_numbered_once}
 use Rattle.wl_desk.specs.Agreeing.{Agrees, AreSeats}
 use Rattle.wl_desk.specs.Midway.{IsTelling, unpointed_mid}
-use Rattle.wl_desk.specs.Restacking.{HasNumber, MarksChange}
+use Rattle.wl_desk.specs.Restacking.{HasNumber, MarksChange, dragged, first_dragged, first_moved, moved_of}
 use Rattle.wl_desk.specs.View.{DeskView}
 
 -- ---- each window is in the tree of a toplevel
@@ -172,3 +176,53 @@ change-none raised d old apart = (
   λ x y wide high none. (none, (still-marks d (pos x) (pos y) apart).0),
   λ x y wide high some. or-first (has old x y) (marks_at_most_of all_windows d d raised (pos x) (pos y)) some,
 )
+
+-- ---- a toplevel is moved
+
+module _ (t : Target) (x y i j : ℤ) (across : i ≡ x) (down : j ≡ y) where
+  pub moved-telling : (v w : DeskView) (m : Midstep) → w.seats ≡ v.seats → w.pointer.place ≡ v.pointer.place → IsTelling v m
+      → IsMid w.kept (with_standing (moved_standing t i j m.desktop.standing) (unpointed_mid m)) → IsTelling w (with_standing (moved_standing t x y m.desktop.standing) m)
+  moved-telling v w m seats place telling kept =
+      subst (λ (z : ℤ). IsTelling w (with_standing (moved_standing t x z m.desktop.standing) m)) down
+      (subst (λ (z : ℤ). IsTelling w (with_standing (moved_standing t z j m.desktop.standing) m)) across
+      (telling-stack v w (moved_standing t i j m.desktop.standing) m seats place telling kept))
+
+  pub moved-change : (d : Desktop) (old new : Damaged) → MarksChange None d (record d { standing = moved_standing t i j d.standing }) old new
+      → MarksChange None d (record d { standing = moved_standing t x y d.standing }) old new
+  moved-change d old new change =
+      subst (λ (z : ℤ). MarksChange None d (record d { standing = moved_standing t x z d.standing }) old new) down
+      (subst (λ (z : ℤ). MarksChange None d (record d { standing = moved_standing t z j d.standing }) old new) across change)
+
+-- what the pointer does else moves none
+pub not-moved : (a : Action) → ((t : Named) (x y : ℤ) → a ≡ does.MoveWindow t x y → ⊥) → (standing : List Standing) → dragged (action_of a) standing ≡ standing
+not-moved (does.Leave t) none standing = refl
+not-moved (does.Enter t) none standing = refl
+not-moved (does.Motion time t) none standing = refl
+not-moved (does.Button time button pressed t) none standing = refl
+not-moved (does.Raise t) none standing = refl
+not-moved (does.MoveWindow t x y) none standing = absurd (none t x y refl)
+not-moved (does.Dismiss client) none standing = refl
+
+-- the first thing that it does
+pub none-dragged : (xs : List Action) → None ≡ slice_get xs 0 → (standing : List Standing) → first_dragged (map action_of xs) standing ≡ standing
+none-dragged [] none standing = refl
+none-dragged (x ∷ xs) none standing = absurd (cc)
+
+some-same-action : (a b : Action) → Some a ≡ Some b → a ≡ b
+some-same-action a b e = cc
+
+pub some-dragged : (xs : List Action) (a : Action) → Some a ≡ slice_get xs 0
+    → ((standing : List Standing) → dragged (action_of a) standing ≡ first_dragged (map action_of xs) standing) × (moved_of (action_of a) ≡ first_moved (map action_of xs))
+some-dragged [] a is = absurd (cc)
+some-dragged (x ∷ xs) a is =
+    let same : a ≡ x = some-same-action a x is in
+    (λ standing. ap (λ (b : Action). dragged (action_of b) standing) same, ap (λ (b : Action). moved_of (action_of b)) same)
+
+-- where none is moved, nothing is marked
+pub change-still : (v : DeskView) (m : Midstep) (standing : List Standing) (old : Damaged) → IsTelling v m → standing ≡ m.desktop.standing
+    → MarksChange None m.desktop (with_standing standing m).desktop old old
+change-still v m standing old telling same =
+    subst (λ (ss : List Standing). MarksChange None m.desktop (with_standing ss m).desktop old old) (sym same) (change-none None m.desktop old (telling-apart v m telling))
+
+pub telling-still : (v : DeskView) (m : Midstep) (standing : List Standing) → IsTelling v m → standing ≡ m.desktop.standing → IsTelling v (with_standing standing m)
+telling-still v m standing telling same = subst (λ (ss : List Standing). IsTelling v (with_standing ss m)) (sym same) telling

@@ -67,15 +67,10 @@ impl<A: Allocator + Copy> Desk<A> {
         ensures sides { IsAsLarge self.old.damage self.new.damage }
         ensures output { self.new.desk.kept.output ≡ self.old.desk.kept.output }
     {
-        match action {
-            Action::MoveWindow(toplevel, x, y) => self.move_by(toplevel, x, y),
-            Action::Leave(_)
-            | Action::Enter(_)
-            | Action::Motion(..)
-            | Action::Button(..)
-            | Action::Raise(_)
-            | Action::Dismiss(_) => {}
-        }
+        let Action::MoveWindow(toplevel, x, y) = action else {
+            return;
+        };
+        self.move_by(toplevel, x, y);
     }
 
     /// A toplevel moves by a difference. That is marked, and no more.
