@@ -10,13 +10,14 @@ use Rattle.wl_pointed.specs.Happenings.{IsEndOf}
 use Rattle.wl_pointed.specs.Pointed.{pointed}
 use Rattle.wl_pointed.proofs.Happenings.{ends-apart}
 use Rattle.wl_clients.specs.Agreeing.{Agrees as KeptAgrees}
-use Rattle.wl_clients.specs.Leading.{Led}
+use Rattle.wl_clients.specs.Leading.{Led, raised_by}
 use Rattle.wl_clients.proofs.Midway.{mid_begins_and_ends}
 use Rattle.wl_desk.specs.Agreeing.{Agrees, AreSeats, IsPlaced}
 use Rattle.wl_desk.specs.Midway.{IsMidway, SettlesDown}
 use Rattle.wl_desk.specs.View.{DeskView, MarkedDesk}
 use Rattle.wl_desk.proofs.Leading.{kept-aside, leads-on}
 use Rattle.wl_desk.proofs.Placed.{end-placed}
+use Rattle.wl_desk.proofs.Unraised.{end-unraised, marks-unraised}
 use Rattle.wl_desk.proofs.SeatsStay.{end-keeps-seats, seats-stay}
 
 -- ---- the middle of a step begins
@@ -47,4 +48,5 @@ ends-lead c h d old mid new end a led large seats pointer settles =
     let midway : IsMidway mid.desk start =
     begins mid.desk p led.desktop led.agrees (pointer ∙ ap (pointer_without c) a.pointer) (end-placed c h d led.path led.desktop end led.leads a.placed)
     (subst (λ (s : List (List ℕ)). AreSeats s led.desktop) (sym seats) (seats-stay old.desk.seats h d led.path led.desktop (end-keeps-seats c h end) a.seats led.leads)) in
-    leads-on h (λ e. p) d led.path led.desktop old.damage mid new (ends-apart served_now c h d led.path led.desktop end led.leads) large led.marks midway (settles start midway)
+    leads-on h (λ e. p) d led.path led.desktop old.damage mid new (ends-apart served_now c h d led.path led.desktop end led.leads) large
+    (marks-unraised (raised_by h (unpointed d)) (unpointed d) led.path old.damage mid.damage (end-unraised c h (unpointed d) end) led.marks) midway (settles start midway) (end-unraised c h d end)

@@ -4,14 +4,13 @@ use Rattle.std.specs.Prelude.{◌-◌, ◌⊎◌, Ok, Err, is_some}
 use Rattle.wl_wire.specs.Wire.{split_of}
 use Rattle.wl_wire.specs.declared.header.Split.{Split}
 use Rattle.wl_wire.specs.declared.header.Split.TheVariants.{Message as Whole, More, Bad}
-use Rattle.wl_interface.specs.declared.interface.Interface.TheVariants.{WlPointer}
 use Rattle.wl_peer.specs.declared.cause.Cause.{Cause}
 use Rattle.wl_peer.specs.declared.cause.Cause.TheVariants.{Memory}
 use Rattle.wl_peer.specs.declared.refusals.Refusal.{Refusal}
 use Rattle.wl_peer.specs.Peer.{LacksMemory, Peer, counted, with_rest}
 use Rattle.wl_peer.specs.Told.{Said}
 use Rattle.wl_stacking.specs.Stacking.{Standing}
-use Rattle.wl_plain.specs.Changing.{changed_for, drawing, in_rising_order}
+use Rattle.wl_plain.specs.Changing.{changed_for}
 use Rattle.wl_plain.specs.Demand.{Demand, GetPointer, Move}
 use Rattle.wl_plain.specs.Demanding.{judge_all}
 use Rattle.wl_plain.specs.Desktop.{Desktop, Resident, become_by, client_at, status_in, status_of, unpointed, with_client}
@@ -20,7 +19,7 @@ use Rattle.wl_plain.specs.LeftOut.{LeftOut}
 use Rattle.wl_plain.specs.Replies.{replies}
 use Rattle.wl_plain.specs.Settling.{QueuesTo, becomes}
 use Rattle.wl_plain.specs.Stacked.{all_windows}
-use Rattle.wl_plain.specs.Step.{making, with_peer}
+use Rattle.wl_plain.specs.Step.{with_peer}
 use Rattle.wl_plain.specs.Through.{ServesThrough, settling_through}
 use Rattle.wl_laws.proofs.Lists.Keys.{none-some, some-same}
 use Rattle.wl_laws.proofs.Runs.Places.{number-same, status-become}

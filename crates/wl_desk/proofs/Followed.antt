@@ -167,4 +167,4 @@ served-whole c request movable t old mid next new may is took follows settles d 
     subst (λ (x : Option Target). IsToMove (asked served_now c d) c d x) (sym is)
     (asks-move (numbers_in old.desk.kept.clients c) (asked served_now c d) c d request movable it.asks (may d a)) in
     let u = follows old d it to in
-    settled-down (Message c) d old next new u (settles (unstruck u.start) u.midway)
+    settled-down c d old next new u (settles (unstruck u.start) u.midway)

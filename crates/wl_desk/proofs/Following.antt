@@ -49,9 +49,9 @@ use Rattle.wl_desk.proofs.Tells.{tells-shows}
 -- ---- the rounds that follow
 
 -- from where the focus isn't settled the rounds lead on to where it is
-pub settled-down : (h : Happening) (d : Desktop) (old mid new : MarkedDesk) (u : IsUnsettled h old mid d) → SettlesDown mid new (unstruck u.start)
-    → Led (Agrees new.desk) h old.damage new.damage d
-settled-down h d old mid new u down =
+pub settled-down : (c : ℕ) (d : Desktop) (old mid new : MarkedDesk) (u : IsUnsettled (Message c) old mid d) → SettlesDown mid new (unstruck u.start)
+    → Led (Agrees new.desk) (Message c) old.damage new.damage d
+settled-down c d old mid new u down =
     let start : Desktop = u.start in
     let settles = rounds-settle down.count 33 (unstruck start) down.mid down.last down.rounds down.few down.each down.settles down.over in
     let later : List Desktop = down.rounds ++ down.last.desktop ∷ [] in

@@ -193,9 +193,9 @@ frames-lead time d old mid new a led quiet large seats pointer settles =
     let down = settles start midway in
     let tick : Happening = Single (Tick time) gave.Tick in
     let on = frames-apart served_now time gave.Tick d led.path led.desktop led.leads in (
-      leads-on tick (λ e. pointer_left d e) d led.path led.desktop old.damage mid new on large led.marks midway down,
+      leads-on tick (λ e. pointer_left d e) d led.path led.desktop old.damage mid new on large led.marks midway down refl,
       λ same x y wide high.
-          let last = leads-to tick (λ e. pointer_left d e) d led.path led.desktop old.damage mid new on large led.marks midway down in
+          let last = leads-to tick (λ e. pointer_left d e) d led.path led.desktop old.damage mid new on large led.marks midway down refl in
           let there : StatusesStay d down.last.desktop = λ c. sym (ap (status_in c) last) ∙ same c in
           let ended = none-ended time d led.path led.desktop led.leads down.count start down.mid down.last down.rounds down.each down.settles refl (λ k. refl) there in
           let later = rounds-mark-nothing time d led.path led.desktop led.leads down.count start down.mid down.last down.rounds down.each down.settles refl (λ k. refl) there

@@ -37,4 +37,5 @@ pub mod Seeing
 pub mod Taking
 pub mod Telling
 pub mod Tells
+pub mod Unraised
 pub mod Windows

@@ -24,11 +24,12 @@ use Rattle.wl_pointed.specs.Pointed.{pointed}
 use Rattle.wl_pointed.proofs.Happenings.{quiet-apart}
 use Rattle.wl_pointed.proofs.Moved.{moved-stands-on}
 use Rattle.wl_clients.specs.Agreeing.{Agrees as KeptAgrees}
-use Rattle.wl_clients.specs.Leading.{Led}
+use Rattle.wl_clients.specs.Leading.{Led, raised_by}
 use Rattle.wl_clients.specs.Marking.{MarksThrough}
 use Rattle.wl_desk.specs.Agreeing.{Agrees, AreSeats}
 use Rattle.wl_desk.specs.View.{MarkedDesk}
 use Rattle.wl_desk.proofs.Leading.{kept-aside}
+use Rattle.wl_desk.proofs.Unraised.{marks-raised, marks-unraised, quiet-unraised}
 
 -- a client that ended owns nothing
 pub ended-bare : (d : Desktop) → Orderly d → EndedAreBare d
@@ -130,5 +131,7 @@ quiet-leads h d old new quiet a led stays seats =
         seats = seats;
         settled = same-settled d e same a.settled;
       };
-      marks = subst (λ (path : List Desktop). MarksThrough (unpointed d) path old.damage new.damage) shows.0 led.marks;
+      marks = marks-raised (raised_by h d) d (pointed d.pointer e ∷ []) old.damage new.damage (quiet-unraised h d quiet)
+          (subst (λ (path : List Desktop). MarksThrough (unpointed d) path old.damage new.damage) shows.0
+          (marks-unraised (raised_by h (unpointed d)) (unpointed d) led.path old.damage new.damage (quiet-unraised h (unpointed d) quiet) led.marks));
     }

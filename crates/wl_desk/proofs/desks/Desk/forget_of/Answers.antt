@@ -5,13 +5,13 @@ use Rattle.wl_desk.proofs.Forgetting.{lives-left, over-left}
 use Rattle.wl_desk.proofs.Taking.{ended-status, lives-status}
 use Rattle.wl_desk.proofs.desks.Desk.forget_of.Goals as goal
 
-pub returns-in_default-2-clause-left : goal.returns-in_default-2-clause-left
-returns-in_default-2-clause-left g c = rw (← c.self.view_is) (λ e kept.
+pub returns-in_default-status-clause-left : goal.returns-in_default-status-clause-left
+returns-in_default-status-clause-left g c = rw (c.in-Some.is, ← c.self.view_is) (λ e kept.
     let t = target_of c.in-Some.surface in
-    lives-left t e c.self.inside.pointer (lives-status t.client e c.status.result (c.status.ensures e kept) c.in_default-2.not-Ended))
+    lives-left t e c.self.inside.pointer (lives-status t.client e c.status.result (c.status.ensures e kept) c.in_default-status.not-Ended))
 
 pub returns-clause-left : goal.returns-clause-left
-returns-clause-left g c = rw (← c.self.view_is) (λ e kept.
+returns-clause-left g c = rw (c.in-Some.is, ← c.self.view_is) (λ e kept.
     let t = target_of c.in-Some.surface in
     c.forget.ensures ∙ forgets t.client c.self.inside.pointer
     ∙ over-left t e c.in-Ended.field-0 c.self.inside.pointer (ended-status t.client e c.status.result c.in-Ended.field-0 (c.status.ensures e kept) c.in-Ended.is))

@@ -6,7 +6,7 @@ use Rattle.wl_desk.proofs.desks.Desk.movable.Goals as goal
 
 pub returns-in_err-serial : goal.returns-in_err-serial
 returns-in_err-serial g c = λ d a.
-    rw c.from_residual-in_err-serial.ensures (unheld-whole c.args.self.now.desk d a c.args.client (rw (← c.self.view_is) (sym c.in_err-serial.was ∙ c.hold.ensures)))
+    rw c.from_residual.ensures (unheld-whole c.args.self.now.desk d a c.args.client (rw (← c.self.view_is) (sym c.in_err-serial.was ∙ c.hold.ensures)))
 
 pub returns-in_err-focus : goal.returns-in_err-focus
 returns-in_err-focus g c = λ d a.

@@ -17,5 +17,5 @@ returns-in_default g c = λ m midway.
 pub returns : goal.returns
 returns g c = λ m midway.
     let down : c.self.inside.pointer.buttons ≢ [] = search (rules, tests) in
-    held-seen c.args.self.now.desk (target_of c.in-Some.focus) (numbers_in c.args.self.now.desk.kept.clients) c.window_of.result (rw (← c.self.view_is) down)
-    (rw (← c.self.view_is) c.in-Some.ensures) c.window_of.ensures m midway
+    rw c.is_some.ensures (held-seen c.args.self.now.desk (target_of c.in-Some.focus) (numbers_in c.args.self.now.desk.kept.clients) c.window_of.result (rw (← c.self.view_is) down)
+    (rw (← c.self.view_is) c.in-Some.ensures) c.window_of.ensures m midway)
