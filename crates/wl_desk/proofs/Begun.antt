@@ -26,7 +26,9 @@ use Rattle.wl_desk.specs.Agreeing.{IsPlaced}
 use Rattle.wl_desk.specs.Beginning.{IsMovable, IsToMove, begun, chosen, chosen_by, moved_by}
 use Rattle.wl_desk.specs.declared.moves.Movable.{Movable}
 use Rattle.wl_desk.proofs.Asking.{refused-ends}
+use Rattle.wl_desk.specs.Following.{left_of}
 use Rattle.wl_desk.proofs.Finished.{get-stands, move-lives}
+use Rattle.wl_desk.proofs.Forgetting.{over-left}
 use Rattle.wl_desk.proofs.Placed.{after-placed}
 
 -- ---- by what is asked
@@ -133,3 +135,7 @@ unless-same c (Some t) = refl
 
 pub forgets : (c : ℕ) (p : Pointer) → record p { focus = unless_of_scene c p.focus; move = unless_of_scene c p.move } ≡ pointer_without c p
 forgets c p = ap₂ (λ (focus move : Option Target). record p { focus = focus; move = move }) (unless-same c p.focus) (unless-same c p.move)
+
+pub over-forgets : (t : Target) (e : Desktop) (why : Cause) (p q : Pointer) → q ≡ record p { focus = unless_of_scene t.client p.focus; move = unless_of_scene t.client p.move }
+    → status_in t.client e ≡ Some why → q ≡ left_of (Some t) e p
+over-forgets t e why p q is over = is ∙ forgets t.client p ∙ over-left t e why p over

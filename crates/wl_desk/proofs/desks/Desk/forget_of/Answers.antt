@@ -1,7 +1,6 @@
-use Rattle.std.proofs.Common.{◌∙◌}
 use Rattle.wl_scene.specs.Focus.{target_of}
-use Rattle.wl_desk.proofs.Begun.{forgets}
-use Rattle.wl_desk.proofs.Forgetting.{lives-left, over-left}
+use Rattle.wl_desk.proofs.Begun.{over-forgets}
+use Rattle.wl_desk.proofs.Forgetting.{lives-left}
 use Rattle.wl_desk.proofs.Taking.{ended-status, lives-status}
 use Rattle.wl_desk.proofs.desks.Desk.forget_of.Goals as goal
 
@@ -12,6 +11,5 @@ returns-in_default-status-clause-left g c = rw (c.in-Some.is, ← c.self.view_is
 
 pub returns-clause-left : goal.returns-clause-left
 returns-clause-left g c = rw (c.in-Some.is, ← c.self.view_is) (λ e kept.
-    let t = target_of c.in-Some.surface in
-    c.forget.ensures ∙ forgets t.client c.self.inside.pointer
-    ∙ over-left t e c.in-Ended.field-0 c.self.inside.pointer (ended-status t.client e c.status.result c.in-Ended.field-0 (c.status.ensures e kept) c.in-Ended.is))
+    over-forgets (target_of c.in-Some.surface) e c.in-Ended.field-0 c.self.inside.pointer c.forget.new.self c.forget.ensures
+    (ended-status c.in-Some.surface.client e c.status.result c.in-Ended.field-0 (c.status.ensures e kept) c.in-Ended.is))
