@@ -1,7 +1,7 @@
 -- What is told of what the pointer does is told, one after another.
 use Rattle.std.proofs.Common.{◌≡◌, ◌≢◌, ℕ, zero, suc, ◌<◌, ◌≤◌, List, [], ◌∷◌, Bool, true, false, Option, Some, None, refl, ap, subst, sym, ◌∙◌}
 use Rattle.std.proofs.Common.{length, map, drop, drop-cons, get_or, arith}
-use Rattle.std.specs.Prelude.{◌||◌, filter}
+use Rattle.std.specs.Prelude.{filter}
 use Rattle.std.proofs.lemmas.List.{drop_all}
 use Rattle.wl_peer.specs.Told.{Said}
 use Rattle.wl_stacking.specs.Pointer.{Pointer, Target}

@@ -1,9 +1,8 @@
 -- What a client is told of a button, and which serial it keeps.
-use Rattle.std.proofs.Common.{◌≡◌, ℕ, List, [], ◌∷◌, Bool, true, false, Option, Some, refl, ap, sym, ◌∙◌}
+use Rattle.std.proofs.Common.{◌≡◌, ℕ, List, [], ◌∷◌, Bool, true, false, Option, Some, refl, ap, ◌∙◌}
 use Rattle.std.specs.Prelude.{if◌then◌else◌}
 use Rattle.wl_client.specs.Pointers.{has_any, pointers_told}
 use Rattle.wl_client.specs.declared.pointers.PointerEvent.TheVariants.{Button}
-use Rattle.wl_peer.specs.Told.{Said}
 use Rattle.wl_plain.specs.Changing.{drawing}
 use Rattle.wl_plain.specs.Desktop.{Resident, client_at}
 use Rattle.wl_plain.specs.Pointing.{button_told, has_pointers}

@@ -1,33 +1,23 @@
 -- What the calls of a desk come to, by what is kept of the clients, of the wl_pointers, and of the pointer.
-use Rattle.std.proofs.Common.{◌≡◌, ◌≢◌, ℕ, List, [], true, false, Option, Some, None, refl, ap, ap₂, subst, sym, ◌∙◌, inl, inr}
+use Rattle.std.proofs.Common.{◌≡◌, ◌≢◌, ℕ, List, [], true, refl, ap, ap₂, subst, sym, ◌∙◌, inl, inr}
 use Rattle.wl_paint.specs.Damage.{Damaged}
-use Rattle.std.specs.Prelude.{ℤ, Result, Ok, Err}
-use Rattle.wl_client.specs.Agreement.{output_of}
-use Rattle.wl_client.specs.declared.outputs.Output.{Output as Sides}
-use Rattle.wl_peer.specs.Told.{Output}
+use Rattle.std.specs.Prelude.{Result, Ok, Err}
 use Rattle.wl_marking.specs.Marking.{IsAsLarge}
-use Rattle.wl_stacking.specs.Pointer.{Pointer, Target, hit_by, settled}
-use Rattle.wl_stacking.specs.PointerActions.{PointerAction, Went, actions}
-use Rattle.wl_stacking.specs.Windows.{Place, Window}
-use Rattle.wl_scene.specs.Focus.{IsSeen}
+use Rattle.wl_stacking.specs.Pointer.{Pointer}
 use Rattle.wl_plain.specs.declared.answers.ConnectError.{ConnectError}
 use Rattle.wl_plain.specs.declared.answers.Done.{Done}
 use Rattle.wl_plain.specs.declared.answers.Done.TheVariants as gave
 use Rattle.wl_plain.specs.declared.answers.Fed.TheVariants.{Alive}
-use Rattle.wl_plain.specs.Act.{Act, Connect, Leave, Motion, Tick, peer_at, status_of}
+use Rattle.wl_plain.specs.Act.{Act, Connect, Leave, Tick, peer_at, status_of}
 use Rattle.wl_plain.specs.Desktop.{Desktop, unpointed}
 use Rattle.wl_plain.specs.Happenings.{Message, Single, Starve}
-use Rattle.wl_plain.specs.Happens.{point_in, within}
-use Rattle.wl_plain.specs.Settling.{AppliesAll, Midstep, PointerActs, pointer_without}
-use Rattle.wl_plain.specs.Stacked.{all_windows}
-use Rattle.wl_laws.proofs.Marks.Stacks.{Each}
-use Rattle.wl_laws.proofs.Lists.Keys.{none-some}
+use Rattle.wl_plain.specs.Settling.{Midstep, pointer_without}
 use Rattle.wl_pointed.specs.Happenings.{is_quiet, pointer_left}
 use Rattle.wl_clients.specs.Agreeing.{Agrees as KeptAgrees, MarksNothing as KeptMarksNothing}
 use Rattle.wl_clients.specs.Leading.{LeadsBy as KeptLeadsBy, LeadsQuietly as KeptLeadsQuietly, Led}
 use Rattle.wl_clients.specs.View.{MarkedDesk as KeptDesk}
 use Rattle.wl_desk.specs.Agreeing.{Agrees, LeadsBy, LeadsQuietly, MarksNothing}
-use Rattle.wl_desk.specs.Midway.{IsMidway, IsOfFocus, IsTelling, SettlesDown}
+use Rattle.wl_desk.specs.Midway.{IsMidway, SettlesDown}
 use Rattle.wl_desk.specs.View.{DeskView, MarkedDesk, seat_of}
 use Rattle.wl_desk.proofs.Coming.{connects-lead}
 use Rattle.wl_desk.proofs.Ending.{ends-lead}

@@ -1,5 +1,5 @@
 -- A button is pressed or released: a press raises what it hits, the focus is told, and then it is settled.
-use Rattle.std.proofs.Common.{◌≡◌, ◌≢◌, ℕ, List, [], ◌∷◌, ◌++◌, Bool, true, false, Option, Some, None, refl, ap, ap₂, subst, sym, ◌∙◌}
+use Rattle.std.proofs.Common.{◌≡◌, ℕ, List, [], ◌∷◌, ◌++◌, Bool, true, false, Option, Some, None, refl, ap, ap₂, subst, sym, ◌∙◌}
 use Rattle.std.specs.Prelude.{◌||◌, filter, pos}
 use Rattle.wl_paint.specs.Damage.{Damaged, has}
 use Rattle.wl_marking.specs.Marking.{IsAsLarge}
@@ -18,16 +18,16 @@ use Rattle.wl_plain.specs.LeftOut.{served_now}
 use Rattle.wl_plain.specs.Marks.{AreDistinct}
 use Rattle.wl_plain.specs.Moments.{marks_at_most_of}
 use Rattle.wl_plain.specs.Pointing.{button_told, has_pointers}
-use Rattle.wl_plain.specs.Settling.{AppliesAll, Midstep, PointerActs, Strike, noted_if, number_of, unstruck, with_standing}
+use Rattle.wl_plain.specs.Settling.{AppliesAll, Midstep, PointerActs, noted_if, number_of, unstruck, with_standing}
 use Rattle.wl_plain.specs.Stacked.{all_windows}
 use Rattle.wl_plain.specs.Through.{ending_through, raised_from, raised_if}
 use Rattle.wl_laws.proofs.Marks.Stacks.{Each}
-use Rattle.wl_laws.proofs.Runs.Settled.{ShowsSame, shows-itself, shows-on}
+use Rattle.wl_laws.proofs.Runs.Settled.{ShowsSame, shows-itself}
 use Rattle.wl_pointed.specs.Pointed.{MovedStands}
 use Rattle.wl_pointed.proofs.Rounds.{buttons-end}
 use Rattle.wl_clients.specs.Leading.{raised_by}
 use Rattle.wl_clients.specs.Marking.{MarksThroughBy}
-use Rattle.wl_clients.specs.Midway.{IsMid, NobodyGrabs}
+use Rattle.wl_clients.specs.Midway.{NobodyGrabs}
 use Rattle.wl_clients.specs.View.{MarkedDesk as KeptDesk}
 use Rattle.wl_clients.proofs.Midway.{mid_begins_and_ends}
 use Rattle.wl_desk.specs.Agreeing.{Agrees, IsPlaced, LeadsBy}

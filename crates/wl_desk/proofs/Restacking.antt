@@ -1,6 +1,6 @@
 -- Toplevels by the numbers of their surfaces: the one that is hit, and the one that is moved; and what is kept where one is raised or moved.
 use Rattle.std.proofs.Common.{◌≡◌, ◌≢◌, ℕ, List, [], ◌∷◌, ◌++◌, Bool, true, false, Option, Some, None, refl, ap, ap₂, subst, sym, ◌∙◌}
-use Rattle.std.specs.Prelude.{ℤ, ◌==◌, ◌&&◌, ◌||◌, if◌then◌else◌, fold, is_some, map, pos, slice_get}
+use Rattle.std.specs.Prelude.{ℤ, ◌==◌, ◌||◌, if◌then◌else◌, fold, is_some, map, pos, slice_get}
 use Rattle.std.specs.List.{list_any}
 use Rattle.std.proofs.lemmas.Bool.{eqb-true}
 use Rattle.wl_paint.specs.Damage.{Damaged, has}
@@ -33,7 +33,6 @@ use Rattle.wl_lending.specs.Stacked.{AreNumberedOnce}
 use Rattle.wl_pointed.proofs.Marking.{settling-marks-nothing}
 use Rattle.wl_pointed.proofs.Rounds.{settles-idly}
 use Rattle.wl_clients.specs.Agreement.{IsStack, numbers_in}
-use Rattle.wl_clients.specs.Marking.{MarksAtLeast, MarksMostBy}
 use Rattle.wl_clients.specs.Midway.{IsMid, opened_desk}
 use Rattle.wl_clients.specs.View.{DeskView as ClientsView}
 use Rattle.wl_clients.proofs.Agreed.{agrees-apart}

@@ -1,25 +1,23 @@
 -- The focus is settled, and clients end, round by round.
 use Rattle.std.proofs.Common.{◌≡◌, ◌≢◌, ℕ, zero, suc, ◌<◌, ◌≤◌, List, [], ◌∷◌, ◌++◌, Bool, true, false, Option, Some, None, refl, ap, subst, sym, ◌∙◌}
-use Rattle.std.proofs.Common.{length, map, drop, drop-cons, get_or, arith, inl, inr}
+use Rattle.std.proofs.Common.{length, arith, inl, inr}
 use Rattle.std.specs.Prelude.{◌⊎◌, ◌||◌, pos}
-use Rattle.std.proofs.lemmas.List.{drop_all}
 use Rattle.wl_paint.specs.Damage.{Damaged, has}
 use Rattle.wl_marking.specs.Marking.{IsAsLarge}
 use Rattle.wl_peer.specs.Told.{Said}
 use Rattle.wl_stacking.specs.Pointer.{Pointer, Target, settled}
-use Rattle.wl_stacking.specs.PointerActions.{PointerAction, Leave, Enter, Motion, Button, Raise, MoveWindow, Dismiss, Settle, actions}
+use Rattle.wl_stacking.specs.PointerActions.{PointerAction, Leave, Enter, Settle, actions}
 use Rattle.wl_stacking.specs.Windows.{Window}
-use Rattle.wl_plain.specs.Changing.{drawing}
 use Rattle.wl_plain.specs.Desktop.{Desktop, Resident, client_at}
 use Rattle.wl_plain.specs.Marks.{AreDistinct}
 use Rattle.wl_plain.specs.Moments.{marks_at_least_of, marks_at_least_through, marks_at_most_of, marks_at_most_through}
-use Rattle.wl_plain.specs.Settling.{Applies, AppliesAll, Midstep, Settles, Strike, Tells, TellsAt, TellsUnless, ended_at, ended_by, with_focus}
+use Rattle.wl_plain.specs.Settling.{Applies, AppliesAll, Midstep, Settles, Strike, Tells, TellsAt, TellsUnless, ended_at, ended_by}
 use Rattle.wl_plain.specs.Stacked.{all_windows}
 use Rattle.wl_laws.specs.Focus.{IsSettled}
 use Rattle.wl_laws.proofs.Marks.Stacks.{Each}
 use Rattle.wl_laws.proofs.Runs.Fates.{number-long}
 use Rattle.wl_laws.proofs.Runs.Focus.{settles-keeps}
-use Rattle.wl_laws.proofs.Runs.Settled.{HasFocus, has-settled, same-windows}
+use Rattle.wl_laws.proofs.Runs.Settled.{HasFocus, has-settled}
 use Rattle.wl_pointed.specs.Rounds.{AreRounds, IsRound}
 use Rattle.wl_pointed.proofs.Rounds.{rounds-are-few, settles-idly}
 use Rattle.wl_pointed.proofs.Marking.{rounds-mark-in-turn}
@@ -29,14 +27,12 @@ use Rattle.wl_clients.specs.Midway.{first_struck, opened_desk}
 use Rattle.wl_clients.specs.View.{DeskView as KeptView}
 use Rattle.wl_desk.specs.Midway.{IsMidway, IsOfFocus, IsTelling, SettlesDown, unpointed_mid}
 use Rattle.wl_desk.specs.View.{DeskView, MarkedDesk}
-use Rattle.wl_scene.specs.Focus.{IsSeen, action_of}
-use Rattle.wl_scene.specs.declared.actions.Action.{Action}
+use Rattle.wl_scene.specs.Focus.{IsSeen}
 use Rattle.wl_desk.proofs.Telling.{seen}
 use Rattle.wl_desk.proofs.Ended.{first-of, mid-long, midway-to-end, none-first}
 use Rattle.wl_desk.proofs.Placed.{settled-placed}
 use Rattle.wl_desk.proofs.Points.{settled-nowhere, settles-each}
 use Rattle.wl_desk.proofs.Rests.{IsLeft, left-all}
-use Rattle.wl_desk.proofs.Tells.{tells-pointer, tells-shows}
 
 -- ---- the focus is settled once
 

@@ -1,5 +1,5 @@
 -- Nothing but a press raises a toplevel.
-use Rattle.std.proofs.Common.{◌≡◌, ℕ, List, Bool, true, false, Option, None, refl, ap, subst, sym, inl, inr}
+use Rattle.std.proofs.Common.{◌≡◌, ℕ, List, true, Option, None, refl, ap, subst, sym, inl, inr}
 use Rattle.wl_paint.specs.Damage.{Damaged}
 use Rattle.wl_plain.specs.declared.answers.Done.{Done}
 use Rattle.wl_plain.specs.Act.{Act, Connect, Feed, Store, Leave, Tick, Send, Close, Motion, Button}

@@ -1,4 +1,4 @@
-use Rattle.std.proofs.Common.{ap, map, subst, sym, ◌∙◌}
+use Rattle.std.proofs.Common.{ap, map, sym, ◌∙◌}
 use Rattle.std.specs.Option.{option_copied}
 use Rattle.wl_scene.specs.Focus.{action_of}
 use Rattle.wl_desk.specs.Restacking.{first_dragged}

@@ -1,4 +1,3 @@
-use Rattle.std.proofs.Common.{sym}
 use Rattle.wl_scene.specs.Focus.{action_of}
 use Rattle.wl_desk.specs.Restacking.{dragged}
 use Rattle.wl_desk.proofs.Restacking.{change-still, not-moved, telling-still}

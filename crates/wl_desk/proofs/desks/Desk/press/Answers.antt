@@ -1,4 +1,4 @@
-use Rattle.std.proofs.Common.{◌≡◌, ap, map, subst, sym, true, ◌∙◌}
+use Rattle.std.proofs.Common.{◌≡◌, map, subst, sym, true, ◌∙◌}
 use Rattle.wl_paint.specs.Damage.{Damaged}
 use Rattle.wl_marking.specs.Marking.{IsAsLarge}
 use Rattle.wl_stacking.specs.Pointer.{is_press}

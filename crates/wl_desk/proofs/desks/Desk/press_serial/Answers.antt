@@ -4,7 +4,7 @@ use Rattle.wl_scene.specs.Focus.{target_of}
 use Rattle.wl_plain.specs.Desktop.{unpointed}
 use Rattle.wl_plain.specs.Settling.{unstruck}
 use Rattle.wl_clients.proofs.Midway.{mid_begins_and_ends}
-use Rattle.wl_desk.proofs.Holding.{nobody-sent, not-empty, serial-none, serial-some}
+use Rattle.wl_desk.proofs.Holding.{not-empty, serial-none, serial-some}
 use Rattle.wl_desk.proofs.Telling.{seen}
 use Rattle.wl_desk.proofs.desks.Desk.press_serial.Goals as goal
 

@@ -6,7 +6,7 @@ use Rattle.wl_scene.specs.Focus.{place_of}
 use Rattle.wl_plain.specs.Stacked.{all_windows}
 use Rattle.wl_clients.specs.Agreement.{numbers_in}
 use Rattle.wl_desk.specs.Midway.{unpointed_mid}
-use Rattle.wl_desk.proofs.Restacking.{no-toplevel, some-number, toplevel-has, toplevel-named}
+use Rattle.wl_desk.proofs.Restacking.{no-toplevel, toplevel-has, toplevel-named}
 use Rattle.wl_desk.proofs.desks.Desk.toplevel_hit.Goals as goal
 
 pub returns-in_err-window-clause-hit : goal.returns-in_err-window-clause-hit
