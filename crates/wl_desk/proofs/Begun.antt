@@ -1,12 +1,10 @@
 -- Which toplevel is moved after a message.
-use Rattle.std.proofs.Common.{◌≡◌, ◌≢◌, ◌==◌, ℕ, List, [], ◌∷◌, Bool, true, false, Option, Some, None, if◌then◌else◌, refl, ap, ap₂, subst, sym, ◌∙◌}
-use Rattle.std.proofs.lemmas.Bool.{eqb-true}
-use Rattle.std.specs.List.{list_any}
-use Rattle.std.specs.Prelude.{◌&&◌, ◌||◌, cond, is_some}
+use Rattle.std.proofs.Common.{◌≡◌, ◌≢◌, ℕ, List, Bool, true, false, Option, Some, None, if◌then◌else◌, refl, ap, ap₂, subst, sym, ◌∙◌}
+use Rattle.std.specs.Prelude.{◌&&◌, is_some}
 use Rattle.wl_peer.specs.declared.cause.Cause.{Cause}
 use Rattle.wl_peer.specs.Objects.{ById}
 use Rattle.wl_stacking.specs.Pointer.{Pointer, Target}
-use Rattle.wl_stacking.specs.Stacking.{Standing, is_of}
+use Rattle.wl_stacking.specs.Stacking.{Standing}
 use Rattle.wl_plain.specs.Changing.{is_focus_in, is_serial, kept_move}
 use Rattle.wl_plain.specs.Demand.{Demand, Asks, EndSurface, AskFrame, CommitTree, GetSubsurface, EndSubsurface, SetMode, GetPointer, MakeCursor}
 use Rattle.wl_plain.specs.Demand.{GetPopup, Grab, EndPopup, EndToplevel, Move}
@@ -16,14 +14,13 @@ use Rattle.wl_plain.specs.Settling.{pointer_without, unless_of}
 use Rattle.wl_plain.specs.Stacked.{all_windows}
 use Rattle.wl_plain.specs.Through.{ServesThrough}
 use Rattle.wl_scene.specs.Focus.{unless_of as unless_of_scene}
-use Rattle.wl_laws.proofs.Lists.Keys.{differ, none-some}
+use Rattle.wl_laws.proofs.Lists.Keys.{differ}
 use Rattle.wl_pointed.specs.Pointed.{MovedStands, asked, keeping, pointed, pointer_after, pointer_asked, pointer_for, pointer_if}
 use Rattle.wl_pointed.proofs.Pointers.{keeping-stays}
 use Rattle.wl_requests.specs.declared.pointer_asked.PointerAsked.{PointerAsked}
-use Rattle.wl_requests.specs.declared.pointer_asked.PointerAsked.TheVariants.{Nothing, NewPointer, Move as AsksMove}
 use Rattle.wl_clients.specs.Pointing.{AsksOfPointer}
 use Rattle.wl_desk.specs.Agreeing.{IsPlaced}
-use Rattle.wl_desk.specs.Beginning.{IsMovable, IsToMove, begun, chosen, chosen_by, moved_by}
+use Rattle.wl_desk.specs.Beginning.{IsMovable, IsToMove, begun, chosen_by, moved_by}
 use Rattle.wl_desk.specs.declared.moves.Movable.{Movable}
 use Rattle.wl_desk.proofs.Asking.{refused-ends}
 use Rattle.wl_desk.specs.Following.{left_of}

@@ -1,6 +1,6 @@
 -- What a message leads to that queues nothing and moves nothing, with the pointer put aside: get_pointer and xdg_toplevel.move.
-use Rattle.std.proofs.Common.{◌≡◌, ℕ, List, [], drop, take, Bool, true, false, Option, Some, None, Result, refl, ap, subst, sym, ◌∙◌, inl, inr}
-use Rattle.std.specs.Prelude.{◌-◌, ◌⊎◌, Ok, Err, is_some}
+use Rattle.std.proofs.Common.{◌≡◌, ℕ, List, [], drop, take, Option, Some, None, Result, refl, ap, subst, sym, ◌∙◌, inl, inr}
+use Rattle.std.specs.Prelude.{◌-◌, ◌⊎◌, Ok, Err}
 use Rattle.wl_wire.specs.Wire.{split_of}
 use Rattle.wl_wire.specs.declared.header.Split.{Split}
 use Rattle.wl_wire.specs.declared.header.Split.TheVariants.{Message as Whole, More, Bad}
@@ -9,7 +9,6 @@ use Rattle.wl_peer.specs.declared.cause.Cause.TheVariants.{Memory}
 use Rattle.wl_peer.specs.declared.refusals.Refusal.{Refusal}
 use Rattle.wl_peer.specs.Peer.{LacksMemory, Peer, counted, with_rest}
 use Rattle.wl_peer.specs.Told.{Said}
-use Rattle.wl_stacking.specs.Stacking.{Standing}
 use Rattle.wl_plain.specs.Changing.{changed_for}
 use Rattle.wl_plain.specs.Demand.{Demand, GetPointer, Move}
 use Rattle.wl_plain.specs.Demanding.{judge_all}

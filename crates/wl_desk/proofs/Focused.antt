@@ -1,5 +1,5 @@
 -- The surface that has the focus has a window.
-use Rattle.std.proofs.Common.{◌≡◌, ◌≢◌, List, true, Option, Some, None, sym, ◌∙◌}
+use Rattle.std.proofs.Common.{◌≡◌, ◌≢◌, List, true, Some, None, sym, ◌∙◌}
 use Rattle.wl_stacking.specs.Pointer.{Pointer, Target, is_stacked, settled}
 use Rattle.wl_stacking.specs.Windows.{Window}
 use Rattle.wl_laws.proofs.Lists.Keys.{none-some}

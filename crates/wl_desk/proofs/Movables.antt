@@ -14,7 +14,7 @@ use Rattle.wl_plain.specs.Changing.{is_focus_in, is_serial}
 use Rattle.wl_plain.specs.Desktop.{Desktop, unpointed}
 use Rattle.wl_plain.specs.Marks.{AreDistinct, is_same_surface}
 use Rattle.wl_plain.specs.Replies.{focus_window}
-use Rattle.wl_plain.specs.Settling.{Midstep, unstruck}
+use Rattle.wl_plain.specs.Settling.{unstruck}
 use Rattle.wl_plain.specs.Stacked.{all_windows}
 use Rattle.wl_laws.proofs.Lists.Keys.{differ, found-passes, none-some, some-same}
 use Rattle.wl_laws.proofs.Marks.Stacks.{and-both, and-left, and-right, equal-numbers}
