@@ -72,9 +72,13 @@ one-in surface t w (v ∷ ws) apart is = at (v.owner.client == t.client) (v.surf
     others : (v.owner.client == t.client) ≡ true → (v.surface == t.surface) ≡ true → list_any (is_in surface t) ws ≡ false
     others owner named =
         none-implied (is_in surface t) (is_same_surface v) ws
-        (λ u within. and-both (v.owner.client == u.owner.client) (v.surface == u.surface)
-        (equal-numbers v.owner.client u.owner.client (eqb-true v.owner.client t.client owner ∙ sym (eqb-true u.owner.client t.client (and-left (u.owner.client == t.client) ((u.surface == t.surface) && (u.owner.root == surface)) within))))
-        (equal-numbers v.surface u.surface (eqb-true v.surface t.surface named ∙ sym (eqb-true u.surface t.surface (and-left (u.surface == t.surface) (u.owner.root == surface) (and-right (u.owner.client == t.client) ((u.surface == t.surface) && (u.owner.root == surface)) within)))))) apart.0
+        (λ u within.
+        let owned = and-left (u.owner.client == t.client) ((u.surface == t.surface) && (u.owner.root == surface)) within in
+        let later = and-right (u.owner.client == t.client) ((u.surface == t.surface) && (u.owner.root == surface)) within in
+        let same = and-left (u.surface == t.surface) (u.owner.root == surface) later in
+        and-both (v.owner.client == u.owner.client) (v.surface == u.surface)
+        (equal-numbers v.owner.client u.owner.client (eqb-true v.owner.client t.client owner ∙ sym (eqb-true u.owner.client t.client owned)))
+        (equal-numbers v.surface u.surface (eqb-true v.surface t.surface named ∙ sym (eqb-true u.surface t.surface same)))) apart.0
 
     last : (b a : Bool) → a ≡ false → (b || a) ≡ b
     last true a none = refl
