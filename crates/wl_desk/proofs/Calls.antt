@@ -1,40 +1,28 @@
 -- What the calls of a desk come to, by what is kept of the clients, of the wl_pointers, and of the pointer.
-use Rattle.std.proofs.Common.{◌≡◌, ◌≢◌, ℕ, List, [], true, false, Option, Some, None, refl, ap, ap₂, subst, sym, ◌∙◌, inl, inr}
+use Rattle.std.proofs.Common.{◌≡◌, ◌≢◌, ℕ, List, [], true, refl, ap, ap₂, subst, sym, ◌∙◌, inl, inr}
 use Rattle.wl_paint.specs.Damage.{Damaged}
-use Rattle.std.specs.Prelude.{ℤ, Result, Ok, Err}
-use Rattle.wl_client.specs.Agreement.{output_of}
-use Rattle.wl_client.specs.declared.outputs.Output.{Output as Sides}
-use Rattle.wl_peer.specs.Told.{Output}
+use Rattle.std.specs.Prelude.{Result, Ok, Err}
 use Rattle.wl_marking.specs.Marking.{IsAsLarge}
-use Rattle.wl_stacking.specs.Pointer.{Pointer, Target, hit_by, settled}
-use Rattle.wl_stacking.specs.PointerActions.{PointerAction, Went, actions}
-use Rattle.wl_stacking.specs.Windows.{Place, Window}
-use Rattle.wl_scene.specs.Focus.{IsSeen}
+use Rattle.wl_stacking.specs.Pointer.{Pointer}
 use Rattle.wl_plain.specs.declared.answers.ConnectError.{ConnectError}
 use Rattle.wl_plain.specs.declared.answers.Done.{Done}
 use Rattle.wl_plain.specs.declared.answers.Done.TheVariants as gave
 use Rattle.wl_plain.specs.declared.answers.Fed.TheVariants.{Alive}
-use Rattle.wl_plain.specs.Act.{Act, Connect, Leave, Motion, Tick, peer_at, status_of}
+use Rattle.wl_plain.specs.Act.{Act, Connect, Leave, Tick, peer_at, status_of}
 use Rattle.wl_plain.specs.Desktop.{Desktop, unpointed}
 use Rattle.wl_plain.specs.Happenings.{Message, Single, Starve}
-use Rattle.wl_plain.specs.Happens.{point_in, within}
-use Rattle.wl_plain.specs.Settling.{AppliesAll, Midstep, PointerActs, pointer_without}
-use Rattle.wl_plain.specs.Stacked.{all_windows}
-use Rattle.wl_laws.specs.Focus.{EndedAreBare, IsSettled}
-use Rattle.wl_laws.proofs.Marks.Stacks.{Each}
-use Rattle.wl_laws.proofs.Lists.Keys.{none-some}
+use Rattle.wl_plain.specs.Settling.{Midstep, pointer_without}
 use Rattle.wl_pointed.specs.Happenings.{is_quiet, pointer_left}
 use Rattle.wl_clients.specs.Agreeing.{Agrees as KeptAgrees, MarksNothing as KeptMarksNothing}
 use Rattle.wl_clients.specs.Leading.{LeadsBy as KeptLeadsBy, LeadsQuietly as KeptLeadsQuietly, Led}
 use Rattle.wl_clients.specs.View.{MarkedDesk as KeptDesk}
-use Rattle.wl_desk.specs.Agreeing.{Agrees, IsFree, LeadsBy, LeadsQuietly, MarksNothing}
-use Rattle.wl_desk.specs.Midway.{IsMidway, IsOfFocus, IsTelling, SettlesDown}
+use Rattle.wl_desk.specs.Agreeing.{Agrees, LeadsBy, LeadsQuietly, MarksNothing}
+use Rattle.wl_desk.specs.Midway.{IsMidway, SettlesDown}
 use Rattle.wl_desk.specs.View.{DeskView, MarkedDesk, seat_of}
 use Rattle.wl_desk.proofs.Coming.{connects-lead}
 use Rattle.wl_desk.proofs.Ending.{ends-lead}
 use Rattle.wl_desk.proofs.Frames.{frames-lead}
-use Rattle.wl_desk.proofs.Moving.{is-each, is-midway, is-seen, is-telling, motion-leads, moved, pointer, there, ws}
-use Rattle.wl_desk.proofs.Quiet.{ended-bare, quiet-leads}
+use Rattle.wl_desk.proofs.Quiet.{quiet-leads}
 use Rattle.wl_desk.proofs.SeatsStay.{KeepsSeats, seats-stay}
 
 abbrev pub desk_with : KeptDesk → List (List ℕ) → Pointer → MarkedDesk
@@ -120,49 +108,12 @@ goes c old after seats p q new leads large left settles d a =
 
 pub frames : (time : ℕ) (old after : KeptDesk) (seats : List (List ℕ)) (p : Pointer) (mid new : MarkedDesk) → KeptLeadsQuietly (Single (Tick time) gave.Tick) old after
     → IsAsLarge old.damage after.damage → mid.desk.kept ≡ after.desk → mid.desk.seats ≡ seats → mid.damage ≡ after.damage
-    → ((d e : Desktop) → IsSettled d → IsFree d.pointer → EndedAreBare d → p ≡ d.pointer → KeptAgrees after.desk e → mid.desk.pointer ≡ pointer_left d e)
+    → ((was : DeskView) (d e : Desktop) → Agrees was d → p ≡ d.pointer → KeptAgrees after.desk e → mid.desk.pointer ≡ pointer_left d e)
     → Settles mid new → LeadsQuietly (Single (Tick time) gave.Tick) (desk_with old seats p) new
 frames time old after seats p mid new leads large kept same damage left settles d a =
     let led = leads (unpointed d) a.kept in
     let parts : mid ≡ desk_with after seats mid.desk.pointer =
     ap₂ (λ (k : KeptDesk) (s : List (List ℕ)). desk_with k s mid.desk.pointer) (ap₂ (λ v w. record { desk = v; damage = w }) kept damage) same in
     frames-lead time d (desk_with old seats p) (desk_with after seats mid.desk.pointer) new a led.0 led.1 large refl
-    (left d led.0.desktop a.settled a.free (ended-bare (unpointed d) a.kept.orderly) a.pointer led.0.agrees)
+    (left (desk_with old seats p).desk d led.0.desktop a a.pointer led.0.agrees)
     (subst (λ (m : MarkedDesk). Settles m new) parts settles)
-
--- ---- a motion
-
-abbrev pub place_at : ℤ → ℤ → Place
-place_at i j = record { x = i; y = j }
-
--- a point held within the output that is kept is held within that of the desktop
-pub point-held : (k : KeptDesk) (o : Sides) (x y i j : ℤ) → o ≡ k.desk.output → i ≡ within o.width x → j ≡ within o.height y → (d : Desktop) → KeptAgrees k.desk d
-    → place_at i j ≡ point_in d.output x y
-point-held k o x y i j same wide high d a =
-    let output : output_of o ≡ d.output = ap (λ (s : Sides). output_of s) same ∙ a.matches.output in
-    ap₂ place_at (wide ∙ ap (λ (b : Output). within b.width x) output) (high ∙ ap (λ (b : Output). within b.height y) output)
-
-pub moves : (time : ℕ) (x y : ℤ) (k : KeptDesk) (seats : List (List ℕ)) (p p1 p2 : Pointer) (at : Place) (hit : Option Target) (does : List PointerAction) (told new : MarkedDesk)
-    → ((d : Desktop) → KeptAgrees k.desk d → at ≡ point_in d.output x y) → p1 ≡ record p { place = Some at }
-    → ((m : Midstep) → IsTelling (desk_with k seats p1).desk m → hit ≡ hit_by m.desktop.pointer.place (all_windows m.desktop))
-    → ((ws : List Window) → IsSeen hit false p1 ws → does ≡ actions (Went time) p1 ws)
-    → ((ws : List Window) → IsSeen hit false p1 ws → p2 ≡ record p1 { focus = settled p1 ws })
-    → ((m : Midstep) → IsTelling (desk_with k seats p2).desk m → m.desktop.pointer.place ≢ None → Each (IsOfFocus (all_windows m.desktop)) does
-    → (n : Midstep) × AppliesAll (all_windows m.desktop) does m n × IsTelling told.desk n)
-    → told.desk.pointer ≡ p2 → told.damage ≡ k.damage → told.desk.kept.output ≡ k.desk.output → Settles told new
-    → LeadsBy (Single (Motion time x y) gave.Motion) (desk_with k seats p) new
-moves time x y k seats p p1 p2 at hit does told new place goes hits acts keeps tells same damage output settles d a =
-    let v : DeskView = (desk_with k seats p).desk in
-    let to : Pointer = pointer time x y d v a in
-    let windows : List Window = ws time x y d v a in
-    let start : Midstep = moved time x y d v a in
-    let first : p1 ≡ to = goes ∙ ap₂ (λ (q : Pointer) (b : Place). record q { place = Some b }) a.pointer (place (unpointed d) a.kept) in
-    let is-hit = hits start (is-telling time x y d v a (desk_with k seats p1).desk refl refl (ap (λ (q : Pointer). q.place) first)) in
-    let seen : IsSeen hit false p1 windows = subst (λ (q : Pointer). IsSeen hit false q windows) (sym first) (is-seen time x y d v a hit is-hit) in
-    let done : does ≡ actions (Went time) to windows = acts windows seen ∙ ap (λ (q : Pointer). actions (Went time) q windows) first in
-    let after : p2 ≡ record to { focus = settled to windows } = keeps windows seen ∙ ap (λ (q : Pointer). record q { focus = settled q windows }) first in
-    let t = tells start (is-telling time x y d v a (desk_with k seats p2).desk refl refl (ap (λ (q : Pointer). q.place) after))
-    (λ none. none-some (there time x y d v a) (sym none)) (subst (λ (xs : List PointerAction). Each (IsOfFocus windows) xs) (sym done) (is-each time x y d v a)) in
-    let went : PointerActs (Went time) start t.0 = subst (λ (xs : List PointerAction). AppliesAll windows xs start t.0) done t.1 in
-    let midway : IsMidway told.desk t.0 = is-midway time x y d v a told.desk t.0 went t.2 (same ∙ after) in
-    motion-leads time x y d v a (desk_with k seats p) told new t.0 went midway output damage (settles t.0 midway)

@@ -41,7 +41,7 @@ pub begins-empty : (v : DeskView) (output : Output) → KeptAgrees v.kept (empty
 begins-empty v output kept pointer = record {
   kept = kept;
   pointer = pointer;
-  free = record { buttons = refl; hold = refl; move = refl; nowhere = λ none. refl };
+  placed = record { nowhere = λ none. refl; moved = refl };
   seats = λ c r there lives. absurd (some-none r (sym there ∙ nobody output c));
   settled = refl;
 }

@@ -21,9 +21,10 @@ use Rattle.wl_clients.specs.View.{DeskView as KeptView, OwnedView}
 use Rattle.wl_clients.specs.Midway.{IsMid, RefusedLives, first_struck, opened_desk, strike_for, strikes_from}
 use Rattle.wl_clients.proofs.Desktops.{at, at-map, map-length, place-at}
 use Rattle.wl_clients.proofs.Strikes.{none-struck, refused_in}
-use Rattle.wl_desk.specs.Agreeing.{AreSeats, IsFree}
+use Rattle.wl_desk.specs.Agreeing.{AreSeats}
 use Rattle.wl_desk.specs.Midway.{IsMidway, unpointed_mid}
 use Rattle.wl_desk.specs.View.{DeskView, seat_of}
+use Rattle.wl_desk.proofs.Placed.{ended-placed}
 use Rattle.wl_desk.proofs.Telling.{seen}
 use Rattle.wl_desk.proofs.Tells.{Have}
 
@@ -131,15 +132,6 @@ module _ (s : Strike) (d : Desktop) (r : Resident) (there : client_at s.client d
               absurd (none-some s.cause (sym (ap (λ (y : Resident). y.peer.status) same ∙ alive)))
           by (inr differ) = have k x (sym (number-other d.clients s.client k (Some gone) differ) ∙ found) alive
 
-left-free : (c : ℕ) (p : Pointer) → IsFree p → IsFree (pointer_without c p)
-left-free c p free =
-    record {
-      buttons = free.buttons;
-      hold = free.hold;
-      move = ap (unless_of c) free.move;
-      nowhere = λ e. ap (unless_of c) (free.nowhere e);
-    }
-
 -- what is kept agrees with the step where it ended
 pub ended-midway : (old new : DeskView) (s : Strike) (ss : List Strike) (m : Midstep) → m.struck ≡ s ∷ ss → IsMidway old m
     → IsMid new.kept (record { desktop = ended_by s (unpointed m.desktop); struck = ss }) → new.seats ≡ old.seats → new.pointer ≡ left_by s.client old.pointer
@@ -157,7 +149,7 @@ ended-midway old new s ss m struck midway kept seats pointer =
         seats = subst (λ (qs : List (List ℕ)). AreSeats qs (ended_by s m.desktop)) (sym seats) (ended-seats s m.desktop r there (seat_of old.seats) midway.telling.seats);
       };
       pointer = so;
-      free = subst IsFree (sym after) (left-free s.client m.desktop.pointer midway.free);
+      placed = ended-placed s m.desktop midway.placed;
       nowhere = λ e. absurd (never s ss (sym struck ∙ midway.nowhere (sym (ap (λ (p : Pointer). p.place) after) ∙ e)));
     }
   where

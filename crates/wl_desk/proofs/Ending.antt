@@ -4,42 +4,35 @@ use Rattle.wl_stacking.specs.Pointer.{Pointer}
 use Rattle.wl_plain.specs.Desktop.{Desktop, unpointed}
 use Rattle.wl_plain.specs.Happenings.{Happening}
 use Rattle.wl_plain.specs.LeftOut.{served_now}
-use Rattle.wl_plain.specs.Settling.{Midstep, pointer_without, unless_of, unstruck}
+use Rattle.wl_plain.specs.Settling.{Midstep, pointer_without, unstruck}
 use Rattle.wl_marking.specs.Marking.{IsAsLarge}
 use Rattle.wl_pointed.specs.Happenings.{IsEndOf}
 use Rattle.wl_pointed.specs.Pointed.{pointed}
 use Rattle.wl_pointed.proofs.Happenings.{ends-apart}
 use Rattle.wl_clients.specs.Agreeing.{Agrees as KeptAgrees}
-use Rattle.wl_clients.specs.Leading.{Led}
+use Rattle.wl_clients.specs.Leading.{Led, raised_by}
 use Rattle.wl_clients.proofs.Midway.{mid_begins_and_ends}
-use Rattle.wl_desk.specs.Agreeing.{Agrees, AreSeats, IsFree}
+use Rattle.wl_desk.specs.Agreeing.{Agrees, AreSeats, IsPlaced}
 use Rattle.wl_desk.specs.Midway.{IsMidway, SettlesDown}
 use Rattle.wl_desk.specs.View.{DeskView, MarkedDesk}
 use Rattle.wl_desk.proofs.Leading.{kept-aside, leads-on}
+use Rattle.wl_desk.proofs.Placed.{end-placed}
+use Rattle.wl_desk.proofs.Unraised.{end-unraised, marks-unraised}
 use Rattle.wl_desk.proofs.SeatsStay.{end-keeps-seats, seats-stay}
 
 -- ---- the middle of a step begins
 
 -- What is kept of the clients agrees where nobody points, and the pointer is put back.
-pub begins : (v : DeskView) (p : Pointer) (e : Desktop) → KeptAgrees v.kept e → v.pointer ≡ p → IsFree p → AreSeats v.seats e → IsMidway v (unstruck (pointed p e))
-begins v p e kept same free seats = record {
+pub begins : (v : DeskView) (p : Pointer) (e : Desktop) → KeptAgrees v.kept e → v.pointer ≡ p → IsPlaced (pointed p e) → AreSeats v.seats e → IsMidway v (unstruck (pointed p e))
+begins v p e kept same placed seats = record {
   telling = record {
     kept = (mid_begins_and_ends v.kept (unpointed (pointed p e))).0 (kept-aside v.kept p e kept);
     place = ap (λ (q : Pointer). q.place) same;
     seats = seats;
   };
   pointer = same;
-  free = free;
+  placed = placed;
   nowhere = λ none. refl;
-}
-
--- a pointer that is free is so when it has left a client
-pub free-without : (c : ℕ) (p : Pointer) → IsFree p → IsFree (pointer_without c p)
-free-without c p free = record {
-  buttons = free.buttons;
-  hold = free.hold;
-  move = ap (unless_of c) free.move;
-  nowhere = λ none. ap (unless_of c) (free.nowhere none);
 }
 
 -- ---- one client ends
@@ -53,6 +46,7 @@ ends-lead c h d old mid new end a led large seats pointer settles =
     let p : Pointer = pointer_without c d.pointer in
     let start : Midstep = unstruck (pointed p led.desktop) in
     let midway : IsMidway mid.desk start =
-    begins mid.desk p led.desktop led.agrees (pointer ∙ ap (pointer_without c) a.pointer) (free-without c d.pointer a.free)
+    begins mid.desk p led.desktop led.agrees (pointer ∙ ap (pointer_without c) a.pointer) (end-placed c h d led.path led.desktop end led.leads a.placed)
     (subst (λ (s : List (List ℕ)). AreSeats s led.desktop) (sym seats) (seats-stay old.desk.seats h d led.path led.desktop (end-keeps-seats c h end) a.seats led.leads)) in
-    leads-on h (λ e. p) d led.path led.desktop old.damage mid new (ends-apart served_now c h d led.path led.desktop end led.leads) large led.marks midway (settles start midway)
+    leads-on h (λ e. p) d led.path led.desktop old.damage mid new (ends-apart served_now c h d led.path led.desktop end led.leads) large
+    (marks-unraised (raised_by h (unpointed d)) (unpointed d) led.path old.damage mid.damage (end-unraised c h (unpointed d) end) led.marks) midway (settles start midway) (end-unraised c h d end)

@@ -20,35 +20,38 @@ use Rattle.wl_plain.specs.Through.{ServesThrough}
 use Rattle.wl_laws.proofs.Lists.Keys.{differ}
 use Rattle.wl_pointed.specs.Apart.{SettlesOn}
 use Rattle.wl_pointed.specs.Entering.{TellsNew, new_entered}
-use Rattle.wl_pointed.specs.Pointed.{asked, pointed, pointer_after, pointer_if, put_back}
+use Rattle.wl_pointed.specs.Pointed.{asked, pointed, pointer_after, put_back}
 use Rattle.wl_pointed.proofs.Marking.{last-marks-nothing, marks-apart}
 use Rattle.wl_pointed.proofs.Rounds.{rounds-settle}
 use Rattle.wl_pointed.proofs.Unshown.{new-pointer-shows-nothing}
 use Rattle.wl_requests.specs.declared.pointer_asked.PointerAsked.{PointerAsked}
 use Rattle.wl_requests.specs.declared.pointer_asked.PointerAsked.TheVariants.{NewPointer}
 use Rattle.wl_clients.specs.Agreeing.{Agrees as KeptAgrees}
+use Rattle.wl_clients.specs.Agreement.{numbers_in}
 use Rattle.wl_clients.specs.Leading.{Led}
 use Rattle.wl_clients.specs.Marking.{MarksThrough}
 use Rattle.wl_clients.specs.View.{DeskView as ClientsView}
 use Rattle.wl_clients.proofs.Agreed.{agrees-apart}
 use Rattle.wl_clients.proofs.Midway.{mid_begins_and_ends}
-use Rattle.wl_desk.specs.Agreeing.{Agrees, AreSeats, IsFree}
+use Rattle.wl_desk.specs.Agreeing.{Agrees, AreSeats, IsPlaced}
 use Rattle.wl_desk.specs.Following.{IsUnsettled, Took}
 use Rattle.wl_desk.specs.Midway.{IsMidway, IsTelling, SettlesDown}
 use Rattle.wl_desk.specs.View.{DeskView, MarkedDesk}
 use Rattle.wl_desk.proofs.Asking.{on-queued, on-refused, refused-ends, told-marks, told-still}
+use Rattle.wl_desk.proofs.Begun.{after-get, back-placed}
 use Rattle.wl_desk.proofs.Focused.{focus-placed, focus-stacked}
-use Rattle.wl_desk.proofs.Forgotten.{free-left, free-stands, pointer-left}
 use Rattle.wl_desk.proofs.Leading.{kept-aside, midway-agrees}
 use Rattle.wl_desk.proofs.Onward.{last-at, marks-as, marks-then, marks-to, none-more}
+use Rattle.wl_desk.proofs.Placed.{placed-as}
 use Rattle.wl_desk.proofs.Seated.{asks-by}
+use Rattle.wl_desk.proofs.Tells.{tells-shows}
 
 -- ---- the rounds that follow
 
 -- from where the focus isn't settled the rounds lead on to where it is
-pub settled-down : (h : Happening) (d : Desktop) (old mid new : MarkedDesk) (u : IsUnsettled h old mid d) → SettlesDown mid new (unstruck u.start)
-    → Led (Agrees new.desk) h old.damage new.damage d
-settled-down h d old mid new u down =
+pub settled-down : (c : ℕ) (d : Desktop) (old mid new : MarkedDesk) (u : IsUnsettled (Message c) old mid d) → SettlesDown mid new (unstruck u.start)
+    → Led (Agrees new.desk) (Message c) old.damage new.damage d
+settled-down c d old mid new u down =
     let start : Desktop = u.start in
     let settles = rounds-settle down.count 33 (unstruck start) down.mid down.last down.rounds down.few down.each down.settles down.over in
     let later : List Desktop = down.rounds ++ down.last.desktop ∷ [] in
@@ -64,8 +67,9 @@ settled-down h d old mid new u down =
 
 -- ---- the pointer is put back
 
-pub midway-at : (v : DeskView) (e : Desktop) (p : Pointer) → KeptAgrees v.kept e → AreSeats v.seats e → v.pointer ≡ p → IsFree p → IsMidway v (unstruck (pointed p e))
-midway-at v e p kept seats is free =
+pub midway-at : (v : DeskView) (e : Desktop) (p : Pointer) → KeptAgrees v.kept e → AreSeats v.seats e → v.pointer ≡ p → IsPlaced (pointed p e)
+    → IsMidway v (unstruck (pointed p e))
+midway-at v e p kept seats is placed =
     record {
       telling = record {
         kept = (mid_begins_and_ends v.kept (unpointed (pointed p e))).0 (kept-aside v.kept p e kept);
@@ -73,7 +77,7 @@ midway-at v e p kept seats is free =
         seats = seats;
       };
       pointer = is;
-      free = free;
+      placed = placed;
       nowhere = λ none. refl;
     }
 
@@ -108,17 +112,14 @@ larger old mid new first next = record { width = next.width ∙ first.width; hei
 
 pub followed : (c : ℕ) (request : PointerAsked) (old mid new : MarkedDesk) (d : Desktop) (took : Took c request old mid d)
     → SettlesOn (put_back served_now c d) (ServesThrough served_now c d) took.path took.desktop → new.desk.kept ≡ mid.desk.kept → new.desk.seats ≡ mid.desk.seats
-    → new.desk.pointer ≡ pointer_if (status_in c took.desktop) c mid.desk.pointer → new.damage ≡ mid.damage → IsUnsettled (Message c) old new d
+    → new.desk.pointer ≡ pointer_after served_now c d took.desktop → new.damage ≡ mid.damage → IsUnsettled (Message c) old new d
 followed c request old mid new d took on kept seats pointer damage =
     let e : Desktop = took.desktop in
-    let p : Pointer = pointer_if (status_in c e) c d.pointer in
-    let midway : IsMidway new.desk (unstruck (pointed p e)) =
-    midway-at new.desk e p (subst (λ (k : ClientsView). KeptAgrees k e) (sym kept) took.kept) (subst (λ (s : List (List ℕ)). AreSeats s e) (sym seats) took.seats)
-    (pointer ∙ ap (pointer_if (status_in c e) c) took.pointer) (free-left (status_in c e) c d.pointer took.free) in
     from-aside (Message c) (pointer_after served_now c d) d e took.path old new on (agrees-apart mid.desk.kept e took.kept)
     (marks-to (unpointed d) took.path old.damage mid.damage new.damage damage took.marks)
     (subst (λ (v : Damaged). IsAsLarge old.damage v) (sym damage) took.sides)
-    (subst (λ (q : Pointer). IsMidway new.desk (unstruck (pointed q e))) (sym (pointer-left served_now c d e took.free)) midway)
+    (midway-at new.desk e (pointer_after served_now c d e) (subst (λ (k : ClientsView). KeptAgrees k e) (sym kept) took.kept)
+    (subst (λ (s : List (List ℕ)). AreSeats s e) (sym seats) took.seats) pointer (back-placed served_now c d e took.placed))
 
 -- ---- a new wl_pointer is told
 
@@ -128,7 +129,7 @@ module _ (c id : ℕ) (old mid : MarkedDesk) (d : Desktop) (took : Took c (NewPo
   put = pointed d.pointer took.desktop
 
   get : (version : ℕ) × (asked served_now c d ≡ Some (GetPointer id version))
-  get = by (asks-by (asked served_now c d) (NewPointer id) took.numbers id took.asks refl)
+  get = by (asks-by (asked served_now c d) (NewPointer id) (numbers_in old.desk.kept.clients c) id took.asks refl)
     where
       by : ((asked served_now c d ≡ None) ⊎ ((version : ℕ) × (asked served_now c d ≡ Some (GetPointer id version)))) → (version : ℕ) × (asked served_now c d ≡ Some (GetPointer id version))
       by (inl none) =
@@ -140,19 +141,20 @@ module _ (c id : ℕ) (old mid : MarkedDesk) (d : Desktop) (took : Took c (NewPo
 
   put-is : put_back served_now c d took.desktop ≡ put
   put-is =
-      ap (λ (p : Pointer). pointed p took.desktop)
-      (pointer-left served_now c d took.desktop took.free ∙ ap (λ (s : Option Cause). pointer_if s c d.pointer) alive)
+      ap (λ (p : Pointer). pointed p took.desktop) (after-get served_now c id get.0 d took.path took.desktop took.placed.moved get.1 took.leads alive)
 
   pub put-midway : IsMidway mid.desk (unstruck put)
-  put-midway = midway-at mid.desk took.desktop d.pointer took.kept took.seats took.pointer took.free
+  put-midway =
+      midway-at mid.desk took.desktop d.pointer took.kept took.seats took.pointer
+      (subst (λ (x : Desktop). IsPlaced x) put-is (back-placed served_now c d took.desktop took.placed))
 
   pub put-stacked : is_stacked t (all_windows put) ≡ true
   put-stacked =
       subst (λ (ws : List Window). is_stacked t ws ≡ true) (sym (new-pointer-shows-nothing served_now c id get.0 (unpointed d) took.path took.desktop refl get.1 took.leads alive))
-      (focus-stacked d.pointer (all_windows d) t took.free.buttons took.settled has)
+      (focus-stacked d.pointer (all_windows d) t took.settled has)
 
   pub put-placed : put.pointer.place ≢ None
-  put-placed = focus-placed d.pointer t took.free.nowhere has
+  put-placed = focus-placed d.pointer t took.placed.nowhere has
 
   module _ (n : Midstep)
       (tells : Tells (drawing true) (λ (r : Resident). entered_at id r.peer.serial put.pointer.place (focus_window (Some t) (all_windows put))) t.client (unstruck put) n)
@@ -173,7 +175,9 @@ module _ (c id : ℕ) (old mid : MarkedDesk) (d : Desktop) (took : Took c (NewPo
     told-midway = record {
       telling = telling;
       pointer = pointer ∙ took.pointer ∙ sym still;
-      free = subst IsFree (sym still) took.free;
+      placed = placed-as put n.desktop still
+          (tells-shows (drawing true) (λ (r : Resident). entered_at id r.peer.serial put.pointer.place (focus_window (Some t) (all_windows put))) (λ r. refl) t.client (unstruck put) n tells).standing
+          put-midway.placed;
       nowhere = λ none. absurd (put-placed (sym (ap (λ (p : Pointer). p.place) still) ∙ none));
     }
 
@@ -181,7 +185,7 @@ module _ (c id : ℕ) (old mid : MarkedDesk) (d : Desktop) (took : Took c (NewPo
     first =
         marks-to d (n.desktop ∷ []) old.damage mid.damage told.damage damage
         (marks-as d (unpointed d) (n.desktop ∷ []) took.path old.damage mid.damage
-        (told-marks served_now c id get.0 d took.path took.desktop n (free-stands d took.free) get.1 has-focus took.leads tells-new (agrees-apart mid.desk.kept took.desktop took.kept)) took.marks)
+        (told-marks served_now c id get.0 d took.path took.desktop n took.placed.moved get.1 has-focus took.leads tells-new (agrees-apart mid.desk.kept took.desktop took.kept)) took.marks)
 
     sides : IsAsLarge old.damage told.damage
     sides = subst (λ (v : Damaged). IsAsLarge old.damage v) (sym damage) took.sides
@@ -192,7 +196,7 @@ module _ (c id : ℕ) (old mid : MarkedDesk) (d : Desktop) (took : Took c (NewPo
       start = n.desktop;
       last = refl;
       leads = λ later last settles.
-          on-queued served_now c id get.0 d took.path took.desktop n (free-stands d took.free) get.1 has-focus took.leads tells-new none later last settles;
+          on-queued served_now c id get.0 d took.path took.desktop n took.placed.moved get.1 has-focus took.leads tells-new none later last settles;
       midway = subst (λ (ss : List Strike). IsMidway told.desk (record { desktop = n.desktop; struck = ss })) none told-midway;
       marks = first;
       sides = sides;
@@ -205,7 +209,7 @@ module _ (c id : ℕ) (old mid : MarkedDesk) (d : Desktop) (took : Took c (NewPo
       start = ended_by s n.desktop;
       last = refl;
       leads = λ later last settles.
-          on-refused served_now c id get.0 d took.path took.desktop n (free-stands d took.free) get.1 has-focus took.leads tells-new s one later last settles;
+          on-refused served_now c id get.0 d took.path took.desktop n took.placed.moved get.1 has-focus took.leads tells-new s one later last settles;
       midway = midway;
       marks = marks-then d n.desktop (n.desktop ∷ []) (ended_by s n.desktop ∷ []) old.damage told.damage new.damage sides refl first marks;
       sides = larger old.damage told.damage new.damage sides large;

@@ -23,7 +23,7 @@ use Rattle.wl_laws.proofs.Runs.Ends.{drawn-status, ended-after, queues-status}
 use Rattle.wl_laws.proofs.Runs.Fates.{AreStruck, Follows, fate, same-or}
 use Rattle.wl_laws.proofs.Runs.Moves.{frames-leads}
 use Rattle.wl_laws.proofs.Runs.Places.{number-other, number-same}
-use Rattle.wl_pointed.specs.Happenings.{pointer_left, unless_ended}
+use Rattle.wl_pointed.specs.Happenings.{pointer_left}
 use Rattle.wl_pointed.specs.Pointed.{pointed}
 use Rattle.wl_pointed.specs.Rounds.{AreRounds, AreToEnd}
 use Rattle.wl_pointed.proofs.Frames.{frames-apart}
@@ -34,11 +34,12 @@ use Rattle.wl_clients.specs.Agreeing.{Agrees as KeptAgrees}
 use Rattle.wl_clients.specs.Framing.{HasSame, MarksIfEnds}
 use Rattle.wl_clients.specs.Leading.{Led}
 use Rattle.wl_clients.specs.Marking.{MarksThrough}
-use Rattle.wl_desk.specs.Agreeing.{Agrees, AreSeats, IsFree}
+use Rattle.wl_desk.specs.Agreeing.{Agrees, AreSeats}
 use Rattle.wl_desk.specs.Midway.{IsMidway, SettlesDown}
 use Rattle.wl_desk.specs.View.{MarkedDesk}
 use Rattle.wl_desk.proofs.Ending.{begins}
 use Rattle.wl_desk.proofs.Leading.{leads-on, leads-to}
+use Rattle.wl_desk.proofs.Placed.{frame-placed}
 use Rattle.wl_desk.proofs.SeatsStay.{KeepsSeats, seats-stay}
 
 -- ---- to settle the focus ends nobody
@@ -135,15 +136,6 @@ frame-ended time done d path e still h c why is =
 frame-keeps-seats : (time : ℕ) → KeepsSeats (Single (Tick time) gave.Tick)
 frame-keeps-seats time k = (λ e. absurd (cc), λ e. absurd (cc))
 
--- the pointer is free when it has left those that ended
-free-left : (d e : Desktop) → IsFree d.pointer → IsFree (pointer_left d e)
-free-left d e free = record {
-  buttons = free.buttons;
-  hold = free.hold;
-  move = ap (unless_ended d e) free.move;
-  nowhere = λ none. ap (unless_ended d e) (free.nowhere none);
-}
-
 -- where nobody ended in the whole step, nobody did by the frame
 module _ (time : ℕ) (d : Desktop) (aside : List Desktop) (e : Desktop) (leads : Leads served_now (Single (Tick time) gave.Tick) (unpointed d) aside e) (n : ℕ) (start mid last : Midstep)
     (rounds : List Desktop) (each : AreRounds n start rounds mid) (settles : Settles mid last) (none : start.struck ≡ []) (first : StatusesStay e start.desktop)
@@ -195,15 +187,15 @@ frames-lead time d old mid new a led quiet large seats pointer settles =
     let p : Pointer = pointer_left d led.desktop in
     let start : Midstep = unstruck (pointed p led.desktop) in
     let midway : IsMidway mid.desk start =
-    begins mid.desk p led.desktop led.agrees pointer (free-left d led.desktop a.free)
+    begins mid.desk p led.desktop led.agrees pointer (frame-placed time gave.Tick d led.path led.desktop led.leads a.placed)
     (subst (λ (s : List (List ℕ)). AreSeats s led.desktop) (sym seats)
     (seats-stay old.desk.seats (Single (Tick time) gave.Tick) d led.path led.desktop (frame-keeps-seats time) a.seats led.leads)) in
     let down = settles start midway in
     let tick : Happening = Single (Tick time) gave.Tick in
     let on = frames-apart served_now time gave.Tick d led.path led.desktop led.leads in (
-      leads-on tick (λ e. pointer_left d e) d led.path led.desktop old.damage mid new on large led.marks midway down,
+      leads-on tick (λ e. pointer_left d e) d led.path led.desktop old.damage mid new on large led.marks midway down refl,
       λ same x y wide high.
-          let last = leads-to tick (λ e. pointer_left d e) d led.path led.desktop old.damage mid new on large led.marks midway down in
+          let last = leads-to tick (λ e. pointer_left d e) d led.path led.desktop old.damage mid new on large led.marks midway down refl in
           let there : StatusesStay d down.last.desktop = λ c. sym (ap (status_in c) last) ∙ same c in
           let ended = none-ended time d led.path led.desktop led.leads down.count start down.mid down.last down.rounds down.each down.settles refl (λ k. refl) there in
           let later = rounds-mark-nothing time d led.path led.desktop led.leads down.count start down.mid down.last down.rounds down.each down.settles refl (λ k. refl) there

@@ -22,7 +22,7 @@ pub agrees-still : (old new : DeskView) (d : Desktop) → Agrees old d → new.p
 agrees-still old new d a pointer seats kept = record {
   kept = kept;
   pointer = pointer ∙ a.pointer;
-  free = a.free;
+  placed = a.placed;
   seats = subst (λ (s : List (List ℕ)). AreSeats s d) (sym seats) a.seats;
   settled = a.settled;
 }
@@ -53,7 +53,7 @@ keeps c piece old new d a pointer seats kept = of (client_at c d) refl kept
         record {
           kept = k;
           pointer = pointer ∙ a.pointer;
-          free = a.free;
+          placed = record { nowhere = a.placed.nowhere; moved = a.placed.moved };
           seats = subst (λ (s : List (List ℕ)). AreSeats s e) (sym seats) (seats-put old.seats c r come d there refl refl a.seats);
           settled = a.settled ∙ ap (settled d.pointer) (sym (same-windows d e (put-shows c r (Some come) d there refl)));
         }

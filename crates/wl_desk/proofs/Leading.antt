@@ -17,7 +17,7 @@ use Rattle.wl_pointed.specs.Apart.{SettlesOn}
 use Rattle.wl_pointed.specs.Pointed.{pointed}
 use Rattle.wl_pointed.proofs.Whole.{steps-by-rounds}
 use Rattle.wl_clients.specs.Agreeing.{Agrees as KeptAgrees}
-use Rattle.wl_clients.specs.Leading.{Led}
+use Rattle.wl_clients.specs.Leading.{Led, raised_by}
 use Rattle.wl_clients.specs.Marking.{MarksThrough}
 use Rattle.wl_clients.specs.Midway.{IsMid, opened_desk}
 use Rattle.wl_clients.specs.View.{DeskView as ClientsView}
@@ -26,6 +26,7 @@ use Rattle.wl_clients.proofs.Midway.{mid_begins_and_ends}
 use Rattle.wl_desk.specs.Agreeing.{Agrees}
 use Rattle.wl_desk.specs.Midway.{IsMidway, SettlesDown}
 use Rattle.wl_desk.specs.View.{DeskView, MarkedDesk}
+use Rattle.wl_desk.proofs.Unraised.{marks-raised}
 
 -- ---- the middle of a step, where nobody is to end
 
@@ -39,7 +40,7 @@ pub midway-agrees : (v : DeskView) (m : Midstep) → IsMidway v m → m.struck �
 midway-agrees v m midway over settled = record {
   kept = mid-kept v.kept m over midway.telling.kept;
   pointer = midway.pointer;
-  free = midway.free;
+  placed = midway.placed;
   seats = midway.telling.seats;
   settled = settled;
 }
@@ -88,9 +89,9 @@ marks-both d aside start rounds path old mid new large first second both x y wid
 -- What is led to with the pointer put aside, and then with the pointer put back through these rounds, is led to.
 pub leads-on : (h : Happening) (p : Desktop → Pointer) (d : Desktop) (aside : List Desktop) (e : Desktop) (old : Damaged) (mid new : MarkedDesk)
     → SettlesOn (λ a. pointed (p a) a) (Leads served_now h d) aside e → IsAsLarge old mid.damage → MarksThrough (unpointed d) aside old mid.damage
-    → IsMidway mid.desk (unstruck (pointed (p e) e)) → SettlesDown mid new (unstruck (pointed (p e) e))
+    → IsMidway mid.desk (unstruck (pointed (p e) e)) → SettlesDown mid new (unstruck (pointed (p e) e)) → raised_by h d ≡ None
     → Led (Agrees new.desk) h old new.damage d
-leads-on h p d aside e old mid new on large marks midway down =
+leads-on h p d aside e old mid new on large marks midway down none =
     let step = steps-by-rounds served_now h p d aside e down.rounds down.mid down.last on
     (record { count = down.count; few = down.few; each = down.each; settles = down.settles; over = down.over }) in
     record {
@@ -98,14 +99,15 @@ leads-on h p d aside e old mid new on large marks midway down =
       desktop = down.last.desktop;
       leads = step.1;
       agrees = midway-agrees new.desk down.last down.midway down.over step.2;
-      marks = marks-both d aside (pointed (p e) e) down.rounds step.0 old mid.damage new.damage large marks down.marks
-          (λ x y. step.3 None (midway-apart mid.desk (unstruck (pointed (p e) e)) midway) down.distinct (pos x) (pos y));
+      marks = marks-raised (raised_by h d) d step.0 old new.damage none
+          (marks-both d aside (pointed (p e) e) down.rounds step.0 old mid.damage new.damage large marks down.marks
+          (λ x y. step.3 None (midway-apart mid.desk (unstruck (pointed (p e) e)) midway) down.distinct (pos x) (pos y)));
     }
 
 -- It is led to the last of them.
 pub leads-to : (h : Happening) (p : Desktop → Pointer) (d : Desktop) (aside : List Desktop) (e : Desktop) (old : Damaged) (mid new : MarkedDesk)
     (on : SettlesOn (λ a. pointed (p a) a) (Leads served_now h d) aside e) (large : IsAsLarge old mid.damage) (marks : MarksThrough (unpointed d) aside old mid.damage)
-    (midway : IsMidway mid.desk (unstruck (pointed (p e) e))) (down : SettlesDown mid new (unstruck (pointed (p e) e)))
-    → (leads-on h p d aside e old mid new on large marks midway down).desktop ≡ down.last.desktop
+    (midway : IsMidway mid.desk (unstruck (pointed (p e) e))) (down : SettlesDown mid new (unstruck (pointed (p e) e))) (none : raised_by h d ≡ None)
+    → (leads-on h p d aside e old mid new on large marks midway down none).desktop ≡ down.last.desktop
 unfolding leads-on
-leads-to h p d aside e old mid new on large marks midway down = refl
+leads-to h p d aside e old mid new on large marks midway down none = refl

@@ -1,9 +1,9 @@
 -- Where the pointer is in a surface, and what it hits.
-use Rattle.std.proofs.Common.{◌≡◌, ◌≢◌, ℕ, List, [], ◌∷◌, ◌++◌, Bool, true, false, Option, Some, None, refl, ap, subst, sym, ◌∙◌, inl, inr}
+use Rattle.std.proofs.Common.{◌≡◌, ◌≢◌, ℕ, List, [], ◌∷◌, ◌++◌, Bool, true, false, Option, Some, None, refl, ap, subst, sym, inl, inr}
 use Rattle.std.specs.Prelude.{ℤ, ◌==◌, ◌&&◌, ◌||◌, ◌⊎◌, cond, fold, if◌then◌else◌, is_none}
 use Rattle.std.specs.Option.{option_map}
 use Rattle.std.proofs.lemmas.Bool.{eqb-true}
-use Rattle.wl_stacking.specs.Pointer.{Pointer, Target, fixed_from, hit_by, is_same, is_stacked, settled, settled_focus, target_of}
+use Rattle.wl_stacking.specs.Pointer.{Pointer, Target, fixed_from, hit_by, is_same, is_stacked, kept_focus, settled, settled_focus, target_of}
 use Rattle.wl_stacking.specs.PointerActions.{PointerAction, Settle, actions, enter_of, leave_of}
 use Rattle.wl_stacking.specs.Windows.{Place, Window, hit, hit_after, is_hit}
 use Rattle.wl_scene.specs.Focus.{place_of}
@@ -117,6 +117,31 @@ hit-stacked (Some p) ws t e = by (hit p.x p.y ws) refl e
 pub settled-hit : (p : Pointer) (ws : List Window) → p.buttons ≡ [] → settled p ws ≡ hit_by p.place ws
 settled-hit p ws free = ap (λ (buttons : List ℕ). settled_focus buttons p ws) free
 
+-- a surface that keeps the focus has a window
+kept-stacked : (f : Option Target) (ws : List Window) (t : Target) → kept_focus f ws ≡ Some t → is_stacked t ws ≡ true
+kept-stacked None ws t e = absurd (cc)
+kept-stacked (Some s) ws t e = at (is_stacked s ws) refl e
+  where
+    at : (b : Bool) → is_stacked s ws ≡ b → (if b then Some s else None) ≡ Some t → is_stacked t ws ≡ true
+    at true is e = subst (λ (u : Target). is_stacked u ws ≡ true) (some-same s t e) is
+    at false is e = absurd (cc)
+
+-- so has one to which it settles
+pub settled-stacked : (p : Pointer) (ws : List Window) (t : Target) → settled p ws ≡ Some t → is_stacked t ws ≡ true
+settled-stacked p ws t e = at p.buttons e
+  where
+    at : (buttons : List ℕ) → settled_focus buttons p ws ≡ Some t → is_stacked t ws ≡ true
+    at [] e = hit-stacked p.place ws t e
+    at (b ∷ bs) e = kept-stacked p.focus ws t e
+
+-- where the pointer isn't anywhere, and nothing has the focus, nothing gets it
+pub settled-nowhere : (p : Pointer) (ws : List Window) → p.place ≡ None → p.focus ≡ None → settled p ws ≡ None
+settled-nowhere p ws nowhere none = at p.buttons
+  where
+    at : (buttons : List ℕ) → settled_focus buttons p ws ≡ None
+    at [] = ap (λ (place : Option Place). hit_by place ws) nowhere
+    at (b ∷ bs) = ap (λ (f : Option Target). kept_focus f ws) none
+
 each-turn : (P : PointerAction → Type 0) (s t : Option Target) → ((u : Target) → s ≡ Some u → Each P (leave_of (Some u))) → ((u : Target) → t ≡ Some u → Each P (enter_of (Some u)))
     → Each P (leave_of s ++ enter_of t)
 each-turn P None None left entered = tt
@@ -129,11 +154,11 @@ each-unless P true xs all = tt
 each-unless P false xs all = all
 
 -- what the settling does is to leave a surface, and to enter one that has a window
-pub settles-each : (P : PointerAction → Type 0) (p : Pointer) (ws : List Window) → p.buttons ≡ [] → ((t : Target) → Each P (leave_of (Some t)))
+pub settles-each : (P : PointerAction → Type 0) (p : Pointer) (ws : List Window) → ((t : Target) → Each P (leave_of (Some t)))
     → ((t : Target) → is_stacked t ws ≡ true → Each P (enter_of (Some t))) → Each P (actions Settle p ws)
-settles-each P p ws free left entered =
+settles-each P p ws left entered =
     each-unless P (is_same p.focus (settled p ws)) (leave_of p.focus ++ enter_of (settled p ws))
-    (each-turn P p.focus (settled p ws) (λ u e. left u) (λ u e. entered u (hit-stacked p.place ws u (sym (settled-hit p ws free) ∙ e))))
+    (each-turn P p.focus (settled p ws) (λ u e. left u) (λ u e. entered u (settled-stacked p ws u e)))
 
 -- ---- the place
 

@@ -22,12 +22,14 @@ use Rattle.wl_invariants.specs.Orderly.{Orderly, OrderlyAt, OrderlyBy}
 use Rattle.wl_pointed.specs.Happenings.{is_quiet}
 use Rattle.wl_pointed.specs.Pointed.{pointed}
 use Rattle.wl_pointed.proofs.Happenings.{quiet-apart}
+use Rattle.wl_pointed.proofs.Moved.{moved-stands-on}
 use Rattle.wl_clients.specs.Agreeing.{Agrees as KeptAgrees}
-use Rattle.wl_clients.specs.Leading.{Led}
+use Rattle.wl_clients.specs.Leading.{Led, raised_by}
 use Rattle.wl_clients.specs.Marking.{MarksThrough}
 use Rattle.wl_desk.specs.Agreeing.{Agrees, AreSeats}
 use Rattle.wl_desk.specs.View.{MarkedDesk}
 use Rattle.wl_desk.proofs.Leading.{kept-aside}
+use Rattle.wl_desk.proofs.Unraised.{marks-raised, marks-unraised, quiet-unraised}
 
 -- a client that ended owns nothing
 pub ended-bare : (d : Desktop) → Orderly d → EndedAreBare d
@@ -117,16 +119,19 @@ quiet-leads h d old new quiet a led stays seats =
     let e : Desktop = led.desktop in
     let shows = quiet-shows served_now h (unpointed d) led.path e quiet (ended-bare (unpointed d) a.kept.orderly) led.leads in
     let same : ShowsSame d e = record { standing = shows.1.standing; owned = shows.1.owned } in
+    let on : Leads served_now h d (pointed d.pointer e ∷ []) (pointed d.pointer e) = quiet-apart served_now h d led.path e quiet led.leads in
     record {
       path = pointed d.pointer e ∷ [];
       desktop = pointed d.pointer e;
-      leads = quiet-apart served_now h d led.path e quiet led.leads;
+      leads = on;
       agrees = record {
         kept = kept-aside new.desk.kept d.pointer e led.agrees;
         pointer = stays ∙ a.pointer;
-        free = a.free;
+        placed = record { nowhere = a.placed.nowhere; moved = moved-stands-on.1 served_now h d (pointed d.pointer e ∷ []) (pointed d.pointer e) a.placed.moved on };
         seats = seats;
         settled = same-settled d e same a.settled;
       };
-      marks = subst (λ (path : List Desktop). MarksThrough (unpointed d) path old.damage new.damage) shows.0 led.marks;
+      marks = marks-raised (raised_by h d) d (pointed d.pointer e ∷ []) old.damage new.damage (quiet-unraised h d quiet)
+          (subst (λ (path : List Desktop). MarksThrough (unpointed d) path old.damage new.damage) shows.0
+          (marks-unraised (raised_by h (unpointed d)) (unpointed d) led.path old.damage new.damage (quiet-unraised h (unpointed d) quiet) led.marks));
     }

@@ -1,25 +1,23 @@
 -- The focus is settled, and clients end, round by round.
 use Rattle.std.proofs.Common.{◌≡◌, ◌≢◌, ℕ, zero, suc, ◌<◌, ◌≤◌, List, [], ◌∷◌, ◌++◌, Bool, true, false, Option, Some, None, refl, ap, subst, sym, ◌∙◌}
-use Rattle.std.proofs.Common.{length, map, drop, drop-cons, get_or, arith, inl, inr}
+use Rattle.std.proofs.Common.{length, arith, inl, inr}
 use Rattle.std.specs.Prelude.{◌⊎◌, ◌||◌, pos}
-use Rattle.std.proofs.lemmas.List.{drop_all}
 use Rattle.wl_paint.specs.Damage.{Damaged, has}
 use Rattle.wl_marking.specs.Marking.{IsAsLarge}
 use Rattle.wl_peer.specs.Told.{Said}
-use Rattle.wl_stacking.specs.Pointer.{Pointer, Target, hit_by, settled}
-use Rattle.wl_stacking.specs.PointerActions.{PointerAction, Leave, Enter, Motion, Button, Raise, MoveWindow, Dismiss, Settle, actions}
-use Rattle.wl_stacking.specs.Windows.{Place, Window}
-use Rattle.wl_plain.specs.Changing.{drawing}
+use Rattle.wl_stacking.specs.Pointer.{Pointer, Target, settled}
+use Rattle.wl_stacking.specs.PointerActions.{PointerAction, Leave, Enter, Settle, actions}
+use Rattle.wl_stacking.specs.Windows.{Window}
 use Rattle.wl_plain.specs.Desktop.{Desktop, Resident, client_at}
 use Rattle.wl_plain.specs.Marks.{AreDistinct}
 use Rattle.wl_plain.specs.Moments.{marks_at_least_of, marks_at_least_through, marks_at_most_of, marks_at_most_through}
-use Rattle.wl_plain.specs.Settling.{Applies, AppliesAll, Midstep, Settles, Strike, Tells, TellsAt, TellsUnless, ended_at, ended_by, with_focus}
+use Rattle.wl_plain.specs.Settling.{Applies, AppliesAll, Midstep, Settles, Strike, Tells, TellsAt, TellsUnless, ended_at, ended_by}
 use Rattle.wl_plain.specs.Stacked.{all_windows}
 use Rattle.wl_laws.specs.Focus.{IsSettled}
 use Rattle.wl_laws.proofs.Marks.Stacks.{Each}
 use Rattle.wl_laws.proofs.Runs.Fates.{number-long}
 use Rattle.wl_laws.proofs.Runs.Focus.{settles-keeps}
-use Rattle.wl_laws.proofs.Runs.Settled.{HasFocus, has-settled, same-windows}
+use Rattle.wl_laws.proofs.Runs.Settled.{HasFocus, has-settled}
 use Rattle.wl_pointed.specs.Rounds.{AreRounds, IsRound}
 use Rattle.wl_pointed.proofs.Rounds.{rounds-are-few, settles-idly}
 use Rattle.wl_pointed.proofs.Marking.{rounds-mark-in-turn}
@@ -27,108 +25,20 @@ use Rattle.wl_clients.specs.Marking.{MarksThrough}
 use Rattle.wl_clients.proofs.Agreed.{agrees-apart}
 use Rattle.wl_clients.specs.Midway.{first_struck, opened_desk}
 use Rattle.wl_clients.specs.View.{DeskView as KeptView}
-use Rattle.wl_desk.specs.Agreeing.{IsFree}
 use Rattle.wl_desk.specs.Midway.{IsMidway, IsOfFocus, IsTelling, SettlesDown, unpointed_mid}
 use Rattle.wl_desk.specs.View.{DeskView, MarkedDesk}
-use Rattle.wl_scene.specs.Focus.{IsSeen, action_of}
-use Rattle.wl_scene.specs.declared.actions.Action.{Action}
+use Rattle.wl_scene.specs.Focus.{IsSeen}
 use Rattle.wl_desk.proofs.Telling.{seen}
 use Rattle.wl_desk.proofs.Ended.{first-of, mid-long, midway-to-end, none-first}
-use Rattle.wl_desk.proofs.Points.{settled-hit, settles-each}
+use Rattle.wl_desk.proofs.Placed.{settled-placed}
+use Rattle.wl_desk.proofs.Points.{settled-nowhere, settles-each}
 use Rattle.wl_desk.proofs.Rests.{IsLeft, left-all}
-use Rattle.wl_desk.proofs.Tells.{tells-pointer, tells-shows}
-
--- ---- one action of the focus
-
-drawing-owned : (b : Bool) (r : Resident) → (drawing b r).owned ≡ r.owned
-drawing-owned true r = refl
-drawing-owned false r = refl
-
--- the windows stay, and so does the place
-pub record StaysThere (m n : Midstep) : Type 0 where
-  pub windows : all_windows n.desktop ≡ all_windows m.desktop
-  pub place : n.desktop.pointer.place ≡ m.desktop.pointer.place
-
-tells-there : (change : Resident → Resident) (events : Resident → List Said) → ((r : Resident) → (change r).owned ≡ r.owned) → (c : ℕ) (m n : Midstep) → Tells change events c m n → StaysThere m n
-tells-there change events same c m n h =
-    record {
-      windows = same-windows m.desktop n.desktop (tells-shows change events same c m n h);
-      place = ap (λ (p : Pointer). p.place) (tells-pointer change events c m n h);
-    }
-
-focused-there : (t : Option Target) (m told n : Midstep) → n ≡ with_focus t told → StaysThere m told → StaysThere m n
-focused-there t m told n e there =
-    subst (λ (x : Midstep). StaysThere m x) (sym e) (record { windows = there.windows; place = there.place })
-
-pub applies-there : (ws : List Window) (action : PointerAction) (m n : Midstep) → IsOfFocus ws action → Applies ws action m n → StaysThere m n
-applies-there ws (Leave t) m n of h = focused-there None m h.0 n h.2 (tells-there _ _ (λ r. drawing-owned _ r) t.client m h.0 h.1)
-applies-there ws (Enter t) m n of h = focused-there (Some t) m h.0 n h.2 (tells-there _ _ (λ r. drawing-owned _ r) t.client m h.0 h.1)
-applies-there ws (Motion time t) m n of h = tells-there (λ r. r) _ (λ r. refl) t.client m n h
-applies-there ws (Button time button pressed t) m n of h = absurd of
-applies-there ws (Raise t) m n of h = absurd of
-applies-there ws (MoveWindow t x y) m n of h = absurd of
-applies-there ws (Dismiss c) m n of h = absurd of
-
-pub there-on : (l m n : Midstep) → StaysThere l m → StaysThere m n → StaysThere l n
-there-on l m n first second = record { windows = second.windows ∙ first.windows; place = second.place ∙ first.place }
-
-pub there-first : (m : Midstep) → StaysThere m m
-there-first m = record { windows = refl; place = refl }
-
--- ---- actions, one after another
-
-each-at : (P : PointerAction → Type 0) (actions : List Action) (k : ℕ) (d : Action) → k < length actions → Each P (map action_of actions) → P (action_of (get_or actions k d))
-each-at P [] k d less all = absurd (omega (arith, less))
-each-at P (x ∷ xs) zero d less all = all.0
-each-at P (x ∷ xs) (suc k) d less all = each-at P xs k d (omega (arith, less)) all.1
-
--- So many of these were done, and what is left leads where all of them lead.
-pub record AreApplied (k : ℕ) (actions : List Action) (old now : DeskView) : Type 0 where
-  pub told : (m : Midstep) → IsTelling old m → m.desktop.pointer.place ≢ None → Each (IsOfFocus (all_windows m.desktop)) (map action_of actions)
-      → (mid : Midstep) × IsTelling now mid × StaysThere m mid
-      × ((q : Midstep) → AppliesAll (all_windows m.desktop) (map action_of (drop k actions)) mid q → AppliesAll (all_windows m.desktop) (map action_of actions) m q)
-
-pub none-applied : (actions : List Action) (old : DeskView) → AreApplied 0 actions old old
-none-applied actions old = record { told = λ m telling some each. (m, telling, there-first m, λ q h. h) }
-
-pub more-applied : (k n : ℕ) (actions : List Action) (d : Action) (old now new : DeskView) → k < length actions → n ≡ suc k
-    → ((ws : List Window) (m : Midstep) → IsTelling now m → m.desktop.pointer.place ≢ None → ws ≡ all_windows m.desktop → IsOfFocus ws (action_of (get_or actions k d))
-    → (x : Midstep) × Applies ws (action_of (get_or actions k d)) m x × IsTelling new x)
-    → AreApplied k actions old now → AreApplied n actions old new
-more-applied k n actions d old now new less next applies before =
-    record {
-      told = λ m telling some each.
-          let ws : List Window = all_windows m.desktop in
-          let at = before.told m telling some each in
-          let of : IsOfFocus ws (action_of (get_or actions k d)) = each-at (IsOfFocus ws) actions k d less each in
-          let here = applies ws at.0 at.1 (λ none. some (sym at.2.place ∙ none)) (sym at.2.windows) of in (
-            here.0,
-            here.2,
-            there-on m at.0 here.0 at.2 (applies-there ws (action_of (get_or actions k d)) at.0 here.0 of here.1),
-            λ q later.
-                at.3 q (subst (λ (xs : List Action). AppliesAll ws (map action_of xs) at.0 q) (sym (drop-cons actions k d less))
-                (here.0, here.1, subst (λ (j : ℕ). AppliesAll ws (map action_of (drop j actions)) here.0 q) next later)),
-          );
-    }
-
-pub all-applied : (k : ℕ) (actions : List Action) (old now : DeskView) → length actions ≤ k → AreApplied k actions old now
-    → (m : Midstep) → IsTelling old m → m.desktop.pointer.place ≢ None → Each (IsOfFocus (all_windows m.desktop)) (map action_of actions)
-    → (n : Midstep) × AppliesAll (all_windows m.desktop) (map action_of actions) m n × IsTelling now n
-all-applied k actions old now past applied m telling some each =
-    let at = applied.told m telling some each in (
-      at.0,
-      at.3 at.0 (subst (λ (xs : List Action). AppliesAll (all_windows m.desktop) (map action_of xs) at.0 at.0) (sym (drop_all k actions past)) refl),
-      at.1,
-    )
 
 -- ---- the focus is settled once
 
 -- what the settling does is of the focus
-pub settles-of : (p : Pointer) (ws : List Window) → p.buttons ≡ [] → Each (IsOfFocus ws) (actions Settle p ws)
-settles-of p ws free = settles-each (IsOfFocus ws) p ws free (λ t. (tt, tt)) (λ t stacked. (stacked, tt))
-
-focused-free : (p : Pointer) (t : Option Target) → IsFree p → p.place ≢ None → IsFree (record p { focus = t })
-focused-free p t free some = record { buttons = free.buttons; hold = free.hold; move = free.move; nowhere = λ e. absurd (some e) }
+pub settles-of : (p : Pointer) (ws : List Window) → Each (IsOfFocus ws) (actions Settle p ws)
+settles-of p ws = settles-each (IsOfFocus ws) p ws (λ t. (tt, tt)) (λ t stacked. (stacked, tt))
 
 pub settled-midway : (old new : DeskView) (m n : Midstep) → IsMidway old m → m.desktop.pointer.place ≢ None → Settles m n → IsTelling new n
     → new.pointer ≡ record old.pointer { focus = settled old.pointer (all_windows m.desktop) } → IsMidway new n
@@ -137,27 +47,23 @@ settled-midway old new m n midway some settles telling pointer =
     record {
       telling = telling;
       pointer = pointer ∙ ap (λ (p : Pointer). record p { focus = settled p (all_windows m.desktop) }) midway.pointer ∙ sym has.pointer;
-      free = subst IsFree (sym has.pointer) (focused-free m.desktop.pointer (settled m.desktop.pointer (all_windows m.desktop)) midway.free some);
+      placed = settled-placed m n some settles midway.placed;
       nowhere = λ e. absurd (some (sym (ap (λ (p : Pointer). p.place) has.pointer) ∙ e));
     }
 
 -- by what the pointer does, and what is promised of that
-module _ (kept : KeptView) (seats : List (List ℕ)) (p q : Pointer) (hit : Option Target) (acts : List PointerAction) (new : DeskView)
-    (hits : (m : Midstep) → IsTelling (seen kept seats p) m → hit ≡ hit_by m.desktop.pointer.place (all_windows m.desktop))
-    (does : (ws : List Window) → IsSeen hit false p ws → acts ≡ actions Settle p ws)
-    (keeps : (ws : List Window) → IsSeen hit false p ws → q ≡ record p { focus = settled p ws })
+module _ (kept : KeptView) (seats : List (List ℕ)) (p q : Pointer) (hit : Option Target) (stacked : Bool) (acts : List PointerAction) (new : DeskView)
+    (sees : (m : Midstep) → IsMidway (seen kept seats p) m → IsSeen hit stacked m.desktop.pointer (all_windows m.desktop))
+    (does : (ws : List Window) → IsSeen hit stacked p ws → acts ≡ actions Settle p ws)
+    (keeps : (ws : List Window) → IsSeen hit stacked p ws → q ≡ record p { focus = settled p ws })
     (tells : (m : Midstep) → IsTelling (seen kept seats q) m → m.desktop.pointer.place ≢ None → Each (IsOfFocus (all_windows m.desktop)) acts
     → (n : Midstep) × AppliesAll (all_windows m.desktop) acts m n × IsTelling new n)
     (pointer : new.pointer ≡ q) (m : Midstep) (midway : IsMidway (seen kept seats p) m) (some : m.desktop.pointer.place ≢ None) where
   abbrev shown : List Window
   shown = all_windows m.desktop
 
-  is-seen : IsSeen hit false p shown
-  is-seen =
-      record {
-        free = λ none. ap (λ (at : Option Place). hit_by at shown) midway.telling.place ∙ sym (hits m midway.telling);
-        pressed = λ down t e. absurd (down (ap (λ (r : Pointer). r.buttons) midway.pointer ∙ midway.free.buttons));
-      }
+  is-seen : IsSeen hit stacked p shown
+  is-seen = subst (λ (r : Pointer). IsSeen hit stacked r shown) (sym midway.pointer) (sees m midway)
 
   acts-so : acts ≡ actions Settle m.desktop.pointer shown
   acts-so = does shown is-seen ∙ ap (λ (r : Pointer). actions Settle r shown) midway.pointer
@@ -166,7 +72,7 @@ module _ (kept : KeptView) (seats : List (List ℕ)) (p q : Pointer) (hit : Opti
   telling-on = record { kept = midway.telling.kept; place = ap (λ (r : Pointer). r.place) (keeps shown is-seen) ∙ midway.telling.place; seats = midway.telling.seats }
 
   turned : (n : Midstep) × AppliesAll shown acts m n × IsTelling new n
-  turned = tells m telling-on some (subst (λ (xs : List PointerAction). Each (IsOfFocus shown) xs) (sym acts-so) (settles-of m.desktop.pointer shown midway.free.buttons))
+  turned = tells m telling-on some (subst (λ (xs : List PointerAction). Each (IsOfFocus shown) xs) (sym acts-so) (settles-of m.desktop.pointer shown))
 
   pub settled-once : (n : Midstep) × Settles m n × IsMidway new n
   settled-once =
@@ -339,7 +245,8 @@ idle-down old m midway none =
     let p : Pointer = m.desktop.pointer in
     let ws : List Window = all_windows m.desktop in
     let nowhere : p.place ≡ None = sym (none ∙ midway.telling.place) in
-    let is : IsSettled m.desktop = midway.free.nowhere nowhere ∙ sym (settled-hit p ws midway.free.buttons ∙ ap (λ (at : Option Place). hit_by at ws) nowhere) in
+    let none-focused : p.focus ≡ None = midway.placed.nowhere nowhere in
+    let is : IsSettled m.desktop = none-focused ∙ sym (settled-nowhere p ws nowhere none-focused) in
     settles-down 0 old old old m m (none-done old m midway) (omega arith) (settles-idly m is).0 (midway.nowhere nowhere) midway refl
 
 -- ---- the loop

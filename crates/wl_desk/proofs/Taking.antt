@@ -5,7 +5,6 @@ use Rattle.std.specs.Vec.{with_items}
 use Rattle.std.proofs.lemmas.List.{with_items_is}
 use Rattle.wl_marking.specs.Marking.{IsAsLarge}
 use Rattle.wl_peer.specs.declared.cause.Cause.{Cause}
-use Rattle.wl_peer.specs.Objects.{ById}
 use Rattle.wl_stacking.specs.Pointer.{Pointer}
 use Rattle.wl_plain.specs.declared.answers.Fed.{Fed}
 use Rattle.wl_plain.specs.declared.answers.Fed.TheVariants.{Ended}
@@ -28,24 +27,23 @@ use Rattle.wl_desk.specs.Seating.{seats_after}
 use Rattle.wl_desk.specs.View.{MarkedDesk}
 use Rattle.wl_desk.proofs.Seated.{IsPlaced, seats-keep}
 
-pub taken : (c : ℕ) (request : PointerAsked) (room : Bool) (numbers : ById ℕ) (old new : MarkedDesk) (d : Desktop) → Agrees old.desk d
-    → Led (KeptAgrees new.desk.kept) (Message c) old.damage new.damage (unpointed d) → AsksOfPointer numbers (asked served_now c d) request
+pub taken : (c : ℕ) (request : PointerAsked) (room : Bool) (old new : MarkedDesk) (d : Desktop) → Agrees old.desk d
+    → Led (KeptAgrees new.desk.kept) (Message c) old.damage new.damage (unpointed d) → AsksOfPointer (numbers_in old.desk.kept.clients c) (asked served_now c d) request
     → ((id : ℕ) → request ≡ NewPointer id → room ≡ false → (e : Desktop) → KeptAgrees new.desk.kept e → is_some (status_in c e) ≡ true)
     → IsAsLarge old.damage new.damage → (room ≡ true → IsPlaced c old.desk.seats) → new.desk.seats ≡ seats_after room request c old.desk.seats
     → new.desk.pointer ≡ old.desk.pointer → Took c request old new d
-taken c request room numbers old new d a led asks no_room large placed seats pointer = record {
+taken c request room old new d a led asks no_room large placed seats pointer = record {
   path = led.path;
   desktop = led.desktop;
   leads = led.leads;
   kept = led.agrees;
   marks = led.marks;
   sides = large;
-  numbers = numbers;
   asks = asks;
   seats = subst (λ (s : List (List ℕ)). AreSeats s led.desktop) (sym seats)
-      (seats-keep c request room numbers old.desk.seats d led.desktop led.path a.seats led.leads asks (λ id is none. no_room id is none led.desktop led.agrees) placed);
+      (seats-keep c request room (numbers_in old.desk.kept.clients c) old.desk.seats d led.desktop led.path a.seats led.leads asks (λ id is none. no_room id is none led.desktop led.agrees) placed);
   pointer = pointer ∙ a.pointer;
-  free = a.free;
+  placed = a.placed;
   settled = a.settled;
 }
 
@@ -55,7 +53,7 @@ pub rested : (old new : MarkedDesk) (d : Desktop) → Agrees old.desk d → Kept
 rested old new d a kept seats pointer = record {
   kept = kept;
   pointer = pointer ∙ a.pointer;
-  free = a.free;
+  placed = a.placed;
   seats = subst (λ (s : List (List ℕ)). AreSeats s d) (sym seats) a.seats;
   settled = a.settled;
 }
@@ -80,7 +78,7 @@ pub took-whole : (c : ℕ) (request : PointerAsked) (room : Bool) (k now : KeptD
 took-whole c request room k now seats is p old view same placed leads asks no_room large d a =
     let was : Agrees (desk_with k seats p).desk d = subst (λ (m : MarkedDesk). Agrees m.desk d) (sym view) a in
     subst (λ (m : MarkedDesk). Took c request m (desk_with now is p) d) view
-    (taken c request room (numbers_in k.desk.clients c) (desk_with k seats p) (desk_with now is p) d was (leads (unpointed d) was.kept) (asks (unpointed d) was.kept) no_room large placed same refl)
+    (taken c request room (desk_with k seats p) (desk_with now is p) d was (leads (unpointed d) was.kept) (asks (unpointed d) was.kept) no_room large placed same refl)
 
 -- what was written to the wl_pointers of all is there
 pub written : {V Z : Type 0} (v : Vec V Z) (xs now : List V) → length xs ≡ length now → now ≡ v.items → (with_items v xs).items ≡ xs

@@ -59,7 +59,7 @@ unnumbered v m t mid none =
 
 -- ---- where the pointer is in it
 
-none-of : (numbers : ℕ → ById ℕ) (w : Option Window) → IsStackedOrNone numbers None w → w ≡ None
+pub none-of : (numbers : ℕ → ById ℕ) (w : Option Window) → IsStackedOrNone numbers None w → w ≡ None
 none-of numbers None is = refl
 none-of numbers (Some w) is = absurd is
 

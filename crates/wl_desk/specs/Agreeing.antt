@@ -1,7 +1,6 @@
 -- A desk agrees with a desktop, and what its calls make of both.
-use Rattle.std.specs.Prelude.{ℕ, ◌≡◌, ◌<◌, List, None, Some, []}
+use Rattle.std.specs.Prelude.{ℕ, ◌≡◌, ◌<◌, List, None, Some}
 use Rattle.wl_paint.specs.Damage.{has}
-use Rattle.wl_stacking.specs.Pointer.{Pointer}
 use Rattle.wl_plain.specs.declared.answers.Done.{Done}
 use Rattle.wl_plain.specs.Act.{Act}
 use Rattle.wl_plain.specs.Desktop.{Desktop, Resident, client_at, unpointed}
@@ -9,17 +8,16 @@ use Rattle.wl_plain.specs.Happenings.{Happening}
 use Rattle.wl_plain.specs.Happens.{Happens}
 use Rattle.wl_plain.specs.LeftOut.{served_now}
 use Rattle.wl_laws.specs.Focus.{IsSettled}
+use Rattle.wl_pointed.specs.Pointed.{MovedStands}
 use Rattle.wl_clients.specs.Agreeing.{Agrees as KeptAgrees}
 use Rattle.wl_clients.specs.Framing.{MarksIfEnds}
 use Rattle.wl_clients.specs.Leading.{Led}
 use Rattle.wl_desk.specs.View.{DeskView, MarkedDesk, seat_of}
 
--- No button is down, and nothing is held or moved; where the pointer isn't anywhere, it has no focus.
-pub record IsFree (p : Pointer) : Type 0 where
-  pub buttons : p.buttons ≡ []
-  pub hold : p.hold ≡ None
-  pub move : p.move ≡ None
-  pub nowhere : p.place ≡ None → p.focus ≡ None
+-- Where the pointer isn't anywhere, it has no focus; and a toplevel that is moved with it stands.
+pub record IsPlaced (d : Desktop) : Type 0 where
+  pub nowhere : d.pointer.place ≡ None → d.pointer.focus ≡ None
+  pub moved : MovedStands d
 
 -- the wl_pointers are those of each client that lives
 abbrev pub AreSeats : List (List ℕ) → Desktop → Type 0
@@ -30,7 +28,7 @@ AreSeats seats d = (c : ℕ) (r : Resident) → client_at c d ≡ Some r → r.p
 pub record Agrees (v : DeskView) (d : Desktop) : Type 0 where
   pub kept : KeptAgrees v.kept (unpointed d)
   pub pointer : v.pointer ≡ d.pointer
-  pub free : IsFree d.pointer
+  pub placed : IsPlaced d
   pub seats : AreSeats v.seats d
   pub settled : IsSettled d
 

@@ -1,20 +1,21 @@
 -- What a message does before the focus is settled: it is taken with the pointer put aside, and then the pointer follows it.
-use Rattle.std.specs.Prelude.{ℕ, ◌≡◌, ◌++◌, List}
+use Rattle.std.specs.Prelude.{ℕ, ◌≡◌, ◌++◌, List, Option, Some, None}
 use Rattle.wl_marking.specs.Marking.{IsAsLarge}
-use Rattle.wl_peer.specs.Objects.{ById}
-use Rattle.wl_plain.specs.Desktop.{Desktop, unpointed}
+use Rattle.wl_stacking.specs.Pointer.{Pointer, Target}
+use Rattle.wl_plain.specs.Desktop.{Desktop, status_in, unpointed}
 use Rattle.wl_plain.specs.Happenings.{Happening, Leads, Message}
 use Rattle.wl_plain.specs.LeftOut.{served_now}
 use Rattle.wl_plain.specs.Settling.{unstruck}
 use Rattle.wl_plain.specs.Through.{SettlesAllThrough}
 use Rattle.wl_laws.specs.Focus.{IsSettled}
 use Rattle.wl_pointed.specs.Marking.{last_of}
-use Rattle.wl_pointed.specs.Pointed.{asked}
+use Rattle.wl_pointed.specs.Pointed.{asked, pointer_if}
 use Rattle.wl_requests.specs.declared.pointer_asked.PointerAsked.{PointerAsked}
 use Rattle.wl_clients.specs.Agreeing.{Agrees as KeptAgrees}
+use Rattle.wl_clients.specs.Agreement.{numbers_in}
 use Rattle.wl_clients.specs.Marking.{MarksThrough}
 use Rattle.wl_clients.specs.Pointing.{AsksOfPointer}
-use Rattle.wl_desk.specs.Agreeing.{AreSeats, IsFree}
+use Rattle.wl_desk.specs.Agreeing.{AreSeats, IsPlaced}
 use Rattle.wl_desk.specs.Midway.{IsMidway}
 use Rattle.wl_desk.specs.View.{MarkedDesk}
 
@@ -27,11 +28,10 @@ pub record Took (c : ℕ) (request : PointerAsked) (old new : MarkedDesk) (d : D
   pub kept : KeptAgrees new.desk.kept desktop
   pub marks : MarksThrough (unpointed d) path old.damage new.damage
   pub sides : IsAsLarge old.damage new.damage
-  pub numbers : ById ℕ
-  pub asks : AsksOfPointer numbers (asked served_now c d) request
+  pub asks : AsksOfPointer (numbers_in old.desk.kept.clients c) (asked served_now c d) request
   pub seats : AreSeats new.desk.seats desktop
   pub pointer : new.desk.pointer ≡ d.pointer
-  pub free : IsFree d.pointer
+  pub placed : IsPlaced d
   pub settled : IsSettled d
 
 -- What happens led through these desktops to the last of them, and on to wherever the focus is settled from there. The desk agrees with that
@@ -44,3 +44,8 @@ pub record IsUnsettled (h : Happening) (old new : MarkedDesk) (d : Desktop) : Ty
   pub midway : IsMidway new.desk (unstruck start)
   pub marks : MarksThrough d path old.damage new.damage
   pub sides : IsAsLarge old.damage new.damage
+
+-- The pointer where it has left the client of this surface, if that ended.
+abbrev pub left_of : Option Target → Desktop → Pointer → Pointer
+left_of None e p = p
+left_of (Some t) e p = pointer_if (status_in t.client e) t.client p

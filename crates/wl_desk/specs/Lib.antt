@@ -1,7 +1,10 @@
 pub mod Agreeing
+pub mod Beginning
+pub mod Doing
 pub mod Following
 pub mod Midway
 pub mod Points
+pub mod Restacking
 pub mod Seating
 pub mod View
 pub use Rattle.wl_clients.specs.Agreement

@@ -13,7 +13,7 @@ use Rattle.wl_pointed.specs.Rounds.{AreRounds}
 use Rattle.wl_clients.specs.Marking.{MarksThrough}
 use Rattle.wl_clients.specs.Midway.{IsMid}
 use Rattle.wl_clients.specs.Pointing.{IsTold}
-use Rattle.wl_desk.specs.Agreeing.{AreSeats, IsFree}
+use Rattle.wl_desk.specs.Agreeing.{AreSeats, IsPlaced}
 use Rattle.wl_desk.specs.View.{DeskView, MarkedDesk}
 
 -- the middle of a step, where nobody has pointed yet
@@ -30,7 +30,7 @@ pub record IsTelling (v : DeskView) (m : Midstep) : Type 0 where
 pub record IsMidway (v : DeskView) (m : Midstep) : Type 0 where
   pub telling : IsTelling v m
   pub pointer : v.pointer ≡ m.desktop.pointer
-  pub free : IsFree m.desktop.pointer
+  pub placed : IsPlaced m.desktop
   -- where it isn't anywhere, nobody is to end
   pub nowhere : m.desktop.pointer.place ≡ None → m.struck ≡ []
 

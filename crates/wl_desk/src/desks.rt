@@ -6,22 +6,25 @@ ghost use Rattle.wl_client.specs.Agreement.{output_of};
 ghost use Rattle.wl_paint.specs.Damage.{has};
 ghost use Rattle.wl_paint.specs.Frame.{color_at, is_side};
 ghost use Rattle.wl_marking.specs.Marking.{IsAsLarge};
+ghost use Rattle.wl_scene.specs.Focus.{target_or_none};
 ghost use Rattle.wl_lending.specs.Painting.{IsOpaqueAsSaid};
-ghost use Rattle.wl_plain.specs.Act.{Connect, Store, Leave, Tick, Send, Close, Motion, peer_at, unsent_of, status_of, store_size_of};
+ghost use Rattle.wl_plain.specs.Act.{Connect, Store, Leave, Tick, Send, Close, peer_at, unsent_of, status_of, store_size_of};
 ghost use Rattle.wl_plain.specs.Desktop.{Desktop, empty, status_in};
 ghost use Rattle.wl_plain.specs.Happenings.{Message, Single, Starve};
-ghost use Rattle.wl_plain.specs.Happens.{within};
 ghost use Rattle.wl_plain.specs.Scratch.{scratch};
-ghost use Rattle.wl_laws.specs.Focus.{EndedAreBare, IsSettled};
+ghost use Rattle.wl_plain.specs.LeftOut.{served_now};
 ghost use Rattle.wl_pointed.specs.Happenings.{pointer_left};
+ghost use Rattle.wl_pointed.specs.Pointed.{asked};
 ghost use Rattle.wl_clients.specs.Agreeing.{Agrees as KeptAgrees};
 ghost use Rattle.wl_clients.specs.Feeding.{IsIdleIn, kept_at, rest_in, served_of};
 ghost use Rattle.wl_clients.specs.Leading.{Led};
 ghost use Rattle.wl_clients.specs.NextStore.{next_store_of};
-ghost use Rattle.wl_desk.specs.Agreeing.{Agrees, IsFree, LeadsBy, LeadsQuietly, MarksNothing};
-ghost use Rattle.wl_desk.specs.Following.{IsUnsettled, Took};
-ghost use Rattle.wl_desk.specs.View.{MarkedDesk, seat_of};
+ghost use Rattle.wl_desk.specs.Agreeing.{Agrees, LeadsBy, LeadsQuietly, MarksNothing};
+ghost use Rattle.wl_desk.specs.Beginning.{IsToMove};
+ghost use Rattle.wl_desk.specs.Following.{IsUnsettled, Took, left_of};
+ghost use Rattle.wl_desk.specs.View.{DeskView, MarkedDesk, seat_of};
 
+use crate::moves::to_move;
 use crate::seating::{keep_asked, make_room};
 use std::alloc::{AllocError, Allocator};
 use std::marker::Model;
@@ -29,7 +32,7 @@ use wl_client::{Cause, Output, Served, StoreNo};
 use wl_clients::{ClientNo, Clients, ConnectError, Fed, PointerAsked, Stored, Taken};
 use wl_paint::{Damage, FrameError, Framebuffer};
 use wl_plain::Done;
-use wl_scene::{Focus, Point};
+use wl_scene::{Focus, Target};
 
 /// How many clients there may be at once.
 const CLIENT_LIMIT: usize = 32;
@@ -126,11 +129,12 @@ impl<A: Allocator + Copy> Desk<A> {
         ensures less { result ≢ Served.More → length (rest_in client self.new.desk.kept) < length (rest_in client self.old.desk.kept) }
         ensures output { self.new.desk.kept.output ≡ self.old.desk.kept.output }
     {
+        let movable = self.movable(client);
         let taken = self.take(client);
         if taken.served == Served::More {
             return Served::More;
         }
-        self.follow(client, taken.pointer);
+        self.follow(client, taken.pointer, to_move(movable, taken.pointer));
         self.settle();
         served_of(self.clients.status(client))
     }
@@ -154,18 +158,23 @@ impl<A: Allocator + Copy> Desk<A> {
     }
 
     /// The pointer leaves a client that ended by a message. Where the message asked for a wl_pointer, that one is told of the focus where its
-    /// client has it (wayland.xml, wl_pointer.enter).
-    fn follow(&mut self, client: ClientNo, asked: PointerAsked)
-        ensures follows { (old : MarkedDesk) (d : Desktop) → Took client asked old self.old d → IsUnsettled (Message client) old self.new d }
+    /// client has it (wayland.xml, wl_pointer.enter). Where it begins to move a toplevel, motions move that one from now on; and one that
+    /// doesn't stand any more isn't moved any more.
+    fn follow(&mut self, client: ClientNo, request: PointerAsked, toplevel: Option<Target>)
+        ensures follows { (old : MarkedDesk) (d : Desktop) → Took client request old self.old d → IsToMove (asked served_now client d) client d (target_or_none toplevel)
+            → IsUnsettled (Message client) old self.new d }
         ensures sides { IsAsLarge self.old.damage self.new.damage }
         ensures rests { (c : ℕ) → length (rest_in c self.new.desk.kept) ≤ length (rest_in c self.old.desk.kept) }
         ensures output { self.new.desk.kept.output ≡ self.old.desk.kept.output }
     {
         if let Fed::Ended(_) = self.clients.status(client) {
             self.pointer.forget(client);
+            self.let_go();
             return;
         }
-        let PointerAsked::NewPointer(id) = asked else {
+        let PointerAsked::NewPointer(id) = request else {
+            self.begin_move(toplevel);
+            self.let_go();
             return;
         };
         self.tell_new(client, id);
@@ -217,41 +226,34 @@ impl<A: Allocator + Copy> Desk<A> {
         self.settle();
     }
 
-    /// The pointer leaves what it has of a client that ended.
+    /// The pointer leaves what it has of clients that ended.
     fn forget_ended(&mut self)
-        ensures left { (d e : Desktop) → IsSettled d → IsFree d.pointer → EndedAreBare d → self.old.desk.pointer ≡ d.pointer → KeptAgrees self.old.desk.kept e
+        ensures left { (old : DeskView) (d e : Desktop) → Agrees old d → self.old.desk.pointer ≡ d.pointer → KeptAgrees self.old.desk.kept e
             → self.new.desk.pointer ≡ pointer_left d e }
         ensures kept { self.new.desk.kept ≡ self.old.desk.kept }
         ensures seats { self.new.desk.seats ≡ self.old.desk.seats }
         ensures damage { self.new.damage ≡ self.old.damage }
     {
-        let Some(focus) = self.pointer.focus() else {
-            return;
-        };
-        let Fed::Ended(_) = self.clients.status(focus.client) else {
-            return;
-        };
-        self.pointer.forget(focus.client);
+        let focus = self.pointer.focus();
+        self.forget_of(focus);
+        let moved = self.pointer.moved();
+        self.forget_of(moved);
     }
 
-    /// The pointer goes to a point of the output in pixels, held within it, at a time in milliseconds. The surface that keeps the focus is
-    /// told of the motion; where the focus moves, the one that had it is left and the other entered (wayland.xml, wl_pointer.motion, leave
-    /// and enter). The windows of each client that can't be told, and so ends, are marked.
-    pub fn motion(&mut self, time: u32, x: i32, y: i32)
-        ensures leads { LeadsBy (Single (Motion time x y) Done.Motion) self.old self.new }
-        ensures sides { IsAsLarge self.old.damage self.new.damage }
-        ensures output { self.new.desk.kept.output ≡ self.old.desk.kept.output }
+    /// The pointer leaves what it has of the client of this surface, if that ended.
+    fn forget_of(&mut self, surface: Option<Target>)
+        ensures left { (e : Desktop) → KeptAgrees self.old.desk.kept e → self.new.desk.pointer ≡ left_of (target_or_none surface) e self.old.desk.pointer }
+        ensures kept { self.new.desk.kept ≡ self.old.desk.kept }
+        ensures seats { self.new.desk.seats ≡ self.old.desk.seats }
+        ensures damage { self.new.damage ≡ self.old.damage }
     {
-        let output = self.clients.output();
-        let place = Point {
-            x: within(output.width, x),
-            y: within(output.height, y),
+        let Some(surface) = surface else {
+            return;
         };
-        self.pointer.motion(place);
-        let hit = self.hit();
-        let actions = self.pointer.went(time, hit, false);
-        self.apply_all(&actions);
-        self.settle();
+        let Fed::Ended(_) = self.clients.status(surface.client) else {
+            return;
+        };
+        self.pointer.forget(surface.client);
     }
 
     /// Puts bytes into a client's store.
@@ -390,14 +392,6 @@ fn seats_of<A: Allocator + Copy>(alloc: A) -> Result<Vec<Vec<u32, A>, A>, AllocE
         seats.push(Vec::new(alloc))?;
     }
     Ok(seats)
-}
-
-/// A coordinate held within a side of the output.
-fn within(side: u32, at: i32) -> i32
-    ensures { result ≡ within side at }
-{
-    let last = side.saturating_sub(1);
-    last.min(at.max(0) as u32) as i32
 }
 
 /// What became of a client's message, by how the client is then. That it lacked memory it is told as an error of wl_display; one that was too

@@ -2,7 +2,10 @@
 #![tactic(auto)]
 
 mod desks;
+mod dragging;
+mod moves;
 mod pointing;
+mod pressing;
 mod seating;
 mod seats;
 

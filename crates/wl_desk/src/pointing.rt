@@ -1,16 +1,16 @@
 //! What the pointer does at the desk: what it hits, what clients are told of it, and how its focus is settled.
 
-ghost use Rattle.std.specs.Prelude.{ℕ, ◌≡◌, ◌≢◌, ◌≤◌, ◌∷◌, [], List, Some, None, true, false, length, map};
+ghost use Rattle.std.specs.Prelude.{ℕ, ◌≡◌, ◌≢◌, ◌≤◌, ◌∷◌, [], List, Some, None, true, false, filter, length, map};
 ghost use Rattle.wl_peer.specs.Told.{Said};
 ghost use Rattle.wl_stacking.specs.Pointer.{hit_by, is_stacked};
 ghost use Rattle.wl_stacking.specs.Windows.{Window};
-ghost use Rattle.wl_scene.specs.Focus.{action_of, target_of, target_or_none};
+ghost use Rattle.wl_scene.specs.Focus.{IsSeen, action_of, target_of, target_or_none};
 ghost use Rattle.wl_marking.specs.Marking.{IsAsLarge};
 ghost use Rattle.wl_plain.specs.Changing.{drawing};
 ghost use Rattle.wl_plain.specs.Desktop.{Resident, client_at};
-ghost use Rattle.wl_plain.specs.Pointing.{entered_surface, left_surface, motion_told};
+ghost use Rattle.wl_plain.specs.Pointing.{button_told, entered_surface, has_pointers, left_surface, motion_told};
 ghost use Rattle.wl_plain.specs.Replies.{entered_at, focus_window};
-ghost use Rattle.wl_plain.specs.Settling.{Applies, AppliesAll, Midstep, Settles, Strike, Tells, ended_by, leave_drawn, told_drawn};
+ghost use Rattle.wl_plain.specs.Settling.{AppliesAll, Midstep, Settles, Strike, Tells, ended_by, leave_drawn, noted_if, number_of, told_drawn};
 ghost use Rattle.wl_plain.specs.Stacked.{all_windows};
 ghost use Rattle.wl_lending.specs.Hit.{IsStackedOrNone};
 ghost use Rattle.wl_laws.proofs.Marks.Stacks.{Each};
@@ -18,6 +18,7 @@ ghost use Rattle.wl_clients.specs.Agreement.{numbers_in};
 ghost use Rattle.wl_clients.specs.Marking.{MarksThrough};
 ghost use Rattle.wl_clients.specs.Feeding.{rest_in};
 ghost use Rattle.wl_clients.specs.Midway.{first_struck};
+ghost use Rattle.wl_desk.specs.Doing.{IsTellable, is_told};
 ghost use Rattle.wl_desk.specs.Midway.{IsMidway, IsOfFocus, IsTelling, IsToldOf, SettlesDown};
 ghost use Rattle.wl_desk.specs.Points.{point_told};
 
@@ -52,6 +53,21 @@ impl<A: Allocator + Copy> Desk<A> {
         })
     }
 
+    /// What the focus goes by: what the pointer hits where no button is down, and whether the surface that has the focus has a window where
+    /// one is.
+    pub(crate) fn seen(&self) -> (Option<Target>, bool)
+        ensures { (m : Midstep) → IsMidway self.now.desk m
+            → IsSeen (target_or_none result.0) result.1 m.desktop.pointer (all_windows m.desktop) }
+    {
+        if self.pointer.is_free() {
+            return (self.hit(), false);
+        }
+        let Some(focus) = self.pointer.focus() else {
+            return (None, false);
+        };
+        (None, self.window_of(focus).is_some())
+    }
+
     /// Whether a window is that of this surface.
     fn is_of(&self, window: &Stacked, target: Target) -> bool
         ensures { result ≡ true → (window.now.client ≡ target.client)
@@ -63,7 +79,7 @@ impl<A: Allocator + Copy> Desk<A> {
     }
 
     /// The window of this surface, if it has one.
-    fn window_of(&self, target: Target) -> Option<Stacked>
+    pub(crate) fn window_of(&self, target: Target) -> Option<Stacked>
         ensures { (m : Midstep) → IsTelling self.now.desk m
             → IsStackedOrNone (numbers_in self.now.desk.kept.clients) result (focus_window (Some (target_of target)) (all_windows m.desktop)) }
     {
@@ -177,6 +193,25 @@ impl<A: Allocator + Copy> Desk<A> {
         self.tell(target.client, PointerEvent::Motion { time, x, y });
     }
 
+    /// A surface is told that a button is pressed, or released, at this time (wayland.xml, wl_pointer.button).
+    fn press_over(&mut self, target: Target, time: u32, button: u32, pressed: bool)
+        ensures tells { (m : Midstep) → IsTelling self.old.desk m
+            → (n : Midstep) × Tells (λ r. noted_if (has_pointers r) pressed r) (button_told time button (number_of pressed)) target.client m n
+            × IsTelling self.new.desk n }
+        ensures pointer { self.new.desk.pointer ≡ self.old.desk.pointer }
+        ensures seats { self.new.desk.seats ≡ self.old.desk.seats }
+        ensures damage { self.new.damage ≡ self.old.damage }
+        ensures rests { (c : ℕ) → length (rest_in c self.new.desk.kept) ≤ length (rest_in c self.old.desk.kept) }
+        ensures output { self.new.desk.kept.output ≡ self.old.desk.kept.output }
+    {
+        let event = PointerEvent::Button {
+            time,
+            button,
+            pressed,
+        };
+        self.tell(target.client, event);
+    }
+
     /// The wl_pointers of a client are told an event.
     fn tell(&mut self, client: ClientNo, event: PointerEvent)
         ensures tells { (change : Resident → Resident) (events : Resident → List Said) (m : Midstep) → IsTelling self.old.desk m
@@ -192,10 +227,12 @@ impl<A: Allocator + Copy> Desk<A> {
             .tell(client, seat_of(&self.seats, client), event);
     }
 
-    /// What the pointer does as its focus is settled and as it moves is done: surfaces are left, entered and told of a motion.
+    /// What is told of one thing that the pointer does is told: surfaces are left, entered, and told of a motion or of a button. That a toplevel
+    /// comes to the top or is moved is done apart.
     fn apply(&mut self, action: Action)
-        ensures tells { (ws : List Window) (m : Midstep) → IsTelling self.old.desk m → m.desktop.pointer.place ≢ None → ws ≡ all_windows m.desktop
-            → IsOfFocus ws (action_of action) → (n : Midstep) × Applies ws (action_of action) m n × IsTelling self.new.desk n }
+        ensures tells { (ws : List Window) (m : Midstep) → IsTelling self.old.desk m → ws ≡ all_windows m.desktop
+            → IsTellable m.desktop.pointer.place ws (action_of action)
+            → (n : Midstep) × AppliesAll ws (filter is_told (action_of action ∷ [])) m n × IsTelling self.new.desk n }
         ensures pointer { self.new.desk.pointer ≡ self.old.desk.pointer }
         ensures seats { self.new.desk.seats ≡ self.old.desk.seats }
         ensures damage { self.new.damage ≡ self.old.damage }
@@ -206,16 +243,18 @@ impl<A: Allocator + Copy> Desk<A> {
             Action::Leave(target) => self.leave(target),
             Action::Enter(target) => self.enter(target),
             Action::Motion(time, target) => self.move_over(target, time),
-            Action::Button(..) | Action::Raise(_) | Action::MoveWindow(..) | Action::Dismiss(_) =>
-                {}
+            Action::Button(time, button, pressed, target) => {
+                self.press_over(target, time, button, pressed)
+            }
+            Action::Raise(_) | Action::MoveWindow(..) | Action::Dismiss(_) => {}
         }
     }
 
     /// So are these, one after another.
     fn apply_each(&mut self, actions: &[Action])
-        ensures tells { (m : Midstep) → IsTelling self.old.desk m → m.desktop.pointer.place ≢ None
-            → Each (IsOfFocus (all_windows m.desktop)) (map action_of actions.now)
-            → (n : Midstep) × AppliesAll (all_windows m.desktop) (map action_of actions.now) m n × IsTelling self.new.desk n }
+        ensures tells { (m : Midstep) → IsTelling self.old.desk m
+            → Each (IsTellable m.desktop.pointer.place (all_windows m.desktop)) (map action_of actions.now)
+            → (n : Midstep) × AppliesAll (all_windows m.desktop) (filter is_told (map action_of actions.now)) m n × IsTelling self.new.desk n }
         ensures pointer { self.new.desk.pointer ≡ self.old.desk.pointer }
         ensures seats { self.new.desk.seats ≡ self.old.desk.seats }
         ensures damage { self.new.damage ≡ self.old.damage }
@@ -227,8 +266,12 @@ impl<A: Allocator + Copy> Desk<A> {
         }
     }
 
-    /// What the pointer does is done, one after another.
+    /// What is told of what the pointer does is told, one after another: of the focus, that is all that it does.
     pub(crate) fn apply_all(&mut self, actions: &Actions)
+        ensures told { (m : Midstep) → IsTelling self.old.desk m
+            → Each (IsTellable m.desktop.pointer.place (all_windows m.desktop)) (map action_of actions.now.items)
+            → (n : Midstep) × AppliesAll (all_windows m.desktop) (filter is_told (map action_of actions.now.items)) m n
+            × IsTelling self.new.desk n }
         ensures tells { (m : Midstep) → IsTelling self.old.desk m → m.desktop.pointer.place ≢ None
             → Each (IsOfFocus (all_windows m.desktop)) (map action_of actions.now.items)
             → (n : Midstep) × AppliesAll (all_windows m.desktop) (map action_of actions.now.items) m n × IsTelling self.new.desk n }
@@ -249,8 +292,8 @@ impl<A: Allocator + Copy> Desk<A> {
         ensures rests { (c : ℕ) → length (rest_in c self.new.desk.kept) ≤ length (rest_in c self.old.desk.kept) }
         ensures output { self.new.desk.kept.output ≡ self.old.desk.kept.output }
     {
-        let hit = self.hit();
-        let actions = self.pointer.settle(hit, false);
+        let (hit, is_stacked) = self.seen();
+        let actions = self.pointer.settle(hit, is_stacked);
         self.apply_all(&actions);
     }
 

@@ -1,6 +1,6 @@
 use Rattle.std.proofs.Common.{refl, ◌∙◌, arith}
 use Rattle.wl_desk.proofs.Rests.{left-all, left-on}
-use Rattle.wl_desk.proofs.Rounds.{all-applied, more-applied, none-applied}
+use Rattle.wl_desk.proofs.Applying.{all-applied, more-applied, none-applied}
 use Rattle.wl_desk.proofs.desks.Desk.apply_each.Goals as goal
 
 pub loop-action-init : goal.loop-action-init

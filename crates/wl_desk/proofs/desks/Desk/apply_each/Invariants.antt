@@ -1,6 +1,6 @@
 use Rattle.std.proofs.Common.{◌≡◌}
 use Rattle.wl_desk.proofs.Rests.{IsLeft}
-use Rattle.wl_desk.proofs.Rounds.{AreApplied}
+use Rattle.wl_desk.proofs.Applying.{AreApplied}
 use Rattle.wl_desk.proofs.desks.Desk.apply_each.Given as goal
 
 -- the actions before this one were done

@@ -1,5 +1,6 @@
 use Rattle.std.proofs.Common.{◌≢◌, ap, rules, tests, ◌∙◌}
 use Rattle.wl_client.specs.declared.served.Served.TheVariants as served
+use Rattle.wl_scene.specs.Focus.{target_or_none}
 use Rattle.wl_plain.specs.Desktop.{unpointed}
 use Rattle.wl_clients.specs.Feeding.{served_of}
 use Rattle.wl_desk.proofs.Followed.{served-whole, status-at}
@@ -8,8 +9,8 @@ use Rattle.wl_desk.proofs.desks.Desk.serve.Goals as goal
 pub returns-clause-leads : goal.returns-clause-leads
 returns-clause-leads g c = λ more.
     let some : c.take-taken.result.served ≢ served.More = search (rules, tests) in
-    served-whole c.args.client c.take-taken.result.pointer c.args.self.now c.take-taken.new.self c.follow.new.self c.settle.new.self (c.take-taken.ensures.took some) c.follow.ensures.follows
-    c.settle.ensures.settles
+    served-whole c.args.client c.take-taken.result.pointer c.movable-movable.result (target_or_none c.to_move.result) c.args.self.now c.take-taken.new.self c.follow.new.self c.settle.new.self
+    c.movable-movable.ensures c.to_move.ensures (c.take-taken.ensures.took some) c.follow.ensures.follows c.settle.ensures.settles
 
 pub returns-clause-told : goal.returns-clause-told
 returns-clause-told g c = λ more d a.

@@ -5,12 +5,12 @@ use Rattle.wl_desk.proofs.desks.Desk.tell_new.Goals as goal
 
 pub returns-in_default-clause-tells : goal.returns-in_default-clause-tells
 returns-in_default-clause-tells g c =
-    away-whole c.args.client _ c.args.self.now (none-away c.args.client _ (focus-at c.self.inside.clients _ c.self.inside.pointer c.args.self.now _ c.self.view_is c.in_default.ensures))
+    away-whole c.args.client c.args.id c.args.self.now (none-away c.args.client _ (focus-at c.self.inside.clients _ c.self.inside.pointer c.args.self.now _ c.self.view_is c.in_default.ensures))
 
 pub returns-then-focus-client-clause-tells : goal.returns-then-focus-client-clause-tells
 returns-then-focus-client-clause-tells g c =
     let apart : (c.in-Some.focus.client == c.args.client) ≡ false = search (rules, tests) in
-    away-whole c.args.client _ c.args.self.now
+    away-whole c.args.client c.args.id c.args.self.now
     (other-away c.args.client (target_of c.in-Some.focus) _ apart (focus-at c.self.inside.clients _ c.self.inside.pointer c.args.self.now _ c.self.view_is c.in-Some.ensures))
 
 pub returns-then-enter_new-clause-tells : goal.returns-then-enter_new-clause-tells

@@ -1,0 +1,112 @@
+-- What is moved stands, and a pointer that isn't anywhere has no focus: where clients end, and where the focus is settled.
+use Rattle.std.proofs.Common.{◌≡◌, ◌≢◌, ℕ, List, [], ◌∷◌, ◌++◌, map, Bool, true, false, Option, Some, None, if◌then◌else◌, refl, ap, ap₂, subst, sym, ◌∙◌}
+use Rattle.std.specs.List.{list_any}
+use Rattle.wl_peer.specs.declared.cause.Cause.{Cause}
+use Rattle.wl_stacking.specs.Pointer.{Pointer, Target}
+use Rattle.wl_stacking.specs.PointerActions.{PointerInput, Settle}
+use Rattle.wl_stacking.specs.Stacking.{Standing, is_of}
+use Rattle.wl_plain.specs.Changing.{kept_move}
+use Rattle.wl_plain.specs.declared.answers.Done.{Done}
+use Rattle.wl_plain.specs.Act.{Tick}
+use Rattle.wl_plain.specs.Desktop.{Desktop, Resident, client_at, unpointed}
+use Rattle.wl_plain.specs.Happenings.{Happening, Leads, Single}
+use Rattle.wl_plain.specs.LeftOut.{served_now}
+use Rattle.wl_plain.specs.Settling.{Midstep, PointerActs, Settles, Strike, ended_at, ended_by, pointer_without, unless_of}
+use Rattle.wl_laws.specs.Focus.{IsSettled}
+use Rattle.wl_laws.proofs.Runs.Settled.{has-settled}
+use Rattle.wl_pointed.specs.Apart.{SettlesOn}
+use Rattle.wl_pointed.specs.Happenings.{IsEndOf, pointer_left, unless_ended}
+use Rattle.wl_pointed.specs.Pointed.{MovedStands, keeping, pointed, pointer_if}
+use Rattle.wl_pointed.proofs.Frames.{frames-apart}
+use Rattle.wl_pointed.proofs.Happenings.{ends-apart}
+use Rattle.wl_pointed.proofs.Moved.{KeepsMoved, acts-keep, moved-stands-on}
+use Rattle.wl_pointed.proofs.Pointers.{kept-without}
+use Rattle.wl_pointed.proofs.Rounds.{settled-at-once}
+use Rattle.wl_desk.specs.Agreeing.{IsPlaced}
+use Rattle.wl_desk.specs.Beginning.{begun}
+
+-- ---- what the pointer does
+
+stands-on : (d e : Desktop) → KeepsMoved d e → MovedStands d → MovedStands e
+stands-on d e keeps stands =
+    keeps.kept e.pointer.move ∙ ap (λ (t : Option Target). kept_move t d.standing) keeps.move ∙ stands ∙ sym keeps.move
+
+-- whatever it does, what is moved stands
+pub acts-stand : (input : PointerInput) (old new : Midstep) → PointerActs input old new → MovedStands old.desktop → MovedStands new.desktop
+acts-stand input old new acts stands = stands-on old.desktop new.desktop (acts-keep input old new acts) stands
+
+-- where it is somewhere, and the focus is settled
+pub settled-placed : (m n : Midstep) → m.desktop.pointer.place ≢ None → Settles m n → IsPlaced m.desktop → IsPlaced n.desktop
+settled-placed m n some settles placed = record {
+  nowhere = λ none. absurd (some (sym (ap (λ (p : Pointer). p.place) (has-settled m n settles).pointer) ∙ none));
+  moved = acts-stand Settle m n settles placed.moved;
+}
+
+-- with the same pointer, where the same toplevels stand
+pub placed-as : (d e : Desktop) → e.pointer ≡ d.pointer → e.standing ≡ d.standing → IsPlaced d → IsPlaced e
+placed-as d e pointer standing placed = record {
+  nowhere = subst (λ (p : Pointer). p.place ≡ None → p.focus ≡ None) (sym pointer) placed.nowhere;
+  moved = ap₂ (λ (p : Pointer) (ss : List Standing). kept_move p.move ss) pointer standing ∙ placed.moved ∙ sym (ap (λ (p : Pointer). p.move) pointer);
+}
+
+-- ---- a client ends
+
+pub ended-placed : (s : Strike) (d : Desktop) → IsPlaced d → IsPlaced (ended_by s d)
+ended-placed s d placed = at (client_at s.client d)
+  where
+    at : (o : Option Resident) → IsPlaced (ended_at s.client s.cause o d)
+    at None = placed
+    at (Some r) = record {
+      nowhere = λ none. ap (unless_of s.client) (placed.nowhere none);
+      moved = kept-without s.client d.pointer.move d.standing ∙ ap (unless_of s.client) placed.moved;
+    }
+
+-- ---- with the pointer put aside
+
+-- the same, with the pointer nowhere
+abbrev nowhere : Desktop → Desktop
+nowhere d = pointed (record { place = None; buttons = []; hold = None; focus = None; move = d.pointer.move }) d
+
+-- A step with the pointer put aside, and then put back: nothing is settled where the pointer is nowhere, and what is moved stands.
+stands-back : (h : Happening) (d : Desktop) (put : Desktop → Desktop) (path : List Desktop) (e : Desktop) → MovedStands (nowhere d) → IsSettled (put e)
+    → SettlesOn put (Leads served_now h (nowhere d)) path e → MovedStands (put e)
+stands-back h d put path e stands still on =
+    moved-stands-on.1 served_now h (nowhere d) (map put on.0 ++ put e ∷ put e ∷ []) (put e) stands (on.2 (put e ∷ []) (put e) (settled-at-once (put e) still))
+
+-- the pointer leaves a client that ends
+pub end-placed : (c : ℕ) (h : Happening) (d : Desktop) (path : List Desktop) (e : Desktop) → IsEndOf c h → Leads served_now h (unpointed d) path e → IsPlaced d
+    → IsPlaced (pointed (pointer_without c d.pointer) e)
+end-placed c h d path e end leads placed = record {
+  nowhere = λ none. ap (unless_of c) (placed.nowhere none);
+  moved = stands-back h d (pointed (pointer_without c (nowhere d).pointer)) path e placed.moved refl (ends-apart served_now c h (nowhere d) path e end leads);
+}
+
+-- or those that end where a frame is shown
+pub frame-placed : (time : ℕ) (done : Done) (d : Desktop) (path : List Desktop) (e : Desktop) → Leads served_now (Single (Tick time) done) (unpointed d) path e → IsPlaced d
+    → IsPlaced (pointed (pointer_left d e) e)
+frame-placed time done d path e leads placed = record {
+  nowhere = λ none. ap (unless_ended d e) (placed.nowhere none);
+  moved = stands-back (Single (Tick time) done) d (λ x. pointed (pointer_left (nowhere d) x) x) path e placed.moved refl
+      (frames-apart served_now time done (nowhere d) path e leads);
+}
+
+-- ---- after a message
+
+-- what is kept is kept again
+kept-again : (t : Option Target) (ss : List Standing) → kept_move (kept_move t ss) ss ≡ kept_move t ss
+kept-again None ss = refl
+kept-again (Some t) ss = at (list_any (is_of t.client t.surface) ss) refl
+  where
+    at : (b : Bool) → list_any (is_of t.client t.surface) ss ≡ b → kept_move (if b then Some t else None) ss ≡ (if b then Some t else None)
+    at true e = ap (λ (b : Bool). if b then Some t else None) e
+    at false e = refl
+
+pub after-placed : (s : Option Cause) (c : ℕ) (t : Option Target) (p : Pointer) (e : Desktop) → (p.place ≡ None → p.focus ≡ None)
+    → IsPlaced (pointed (keeping e.standing (pointer_if s c (begun t p))) e)
+after-placed s c t p e none = record { nowhere = at s t; moved = kept-again (pointer_if s c (begun t p)).move e.standing }
+  where
+    at : (s : Option Cause) (t : Option Target) → (pointer_if s c (begun t p)).place ≡ None → (pointer_if s c (begun t p)).focus ≡ None
+    at None None nowhere = none nowhere
+    at None (Some t) nowhere = none nowhere
+    at (Some why) None nowhere = ap (unless_of c) (none nowhere)
+    at (Some why) (Some t) nowhere = ap (unless_of c) (none nowhere)

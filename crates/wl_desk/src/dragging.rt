@@ -1,0 +1,103 @@
+//! Motions: the pointer goes to a point, and a toplevel that it moves goes along.
+
+ghost use Rattle.std.specs.Prelude.{◌≡◌, None, Some, map};
+ghost use Rattle.wl_scene.specs.Focus.{action_of, target_of};
+ghost use Rattle.wl_marking.specs.Marking.{IsAsLarge};
+ghost use Rattle.wl_plain.specs.Act.{Motion};
+ghost use Rattle.wl_plain.specs.Happenings.{Single};
+ghost use Rattle.wl_plain.specs.Happens.{within};
+ghost use Rattle.wl_plain.specs.Pointing.{moved_standing};
+ghost use Rattle.wl_plain.specs.Settling.{Midstep, with_standing};
+ghost use Rattle.wl_desk.specs.Agreeing.{LeadsBy};
+ghost use Rattle.wl_desk.specs.Midway.{IsTelling};
+ghost use Rattle.wl_desk.specs.Restacking.{HasNumber, MarksChange, dragged, first_dragged, first_moved, moved_of};
+
+use crate::desks::Desk;
+use std::alloc::Allocator;
+use wl_clients::Done;
+use wl_scene::{Action, Actions, Point, Target};
+
+impl<A: Allocator + Copy> Desk<A> {
+    /// The pointer goes to a point of the output in pixels, held within it, at a time in milliseconds. A toplevel that it moves goes along,
+    /// and its windows are marked. The surface that keeps the focus is told of the motion, unless a toplevel is moved; where the focus moves,
+    /// the one that had it is left and the other entered (wayland.xml, wl_pointer.motion, leave and enter). The windows of each client that
+    /// can't be told, and so ends, are marked.
+    pub fn motion(&mut self, time: u32, x: i32, y: i32)
+        ensures leads { LeadsBy (Single (Motion time x y) Done.Motion) self.old self.new }
+        ensures sides { IsAsLarge self.old.damage self.new.damage }
+        ensures output { self.new.desk.kept.output ≡ self.old.desk.kept.output }
+    {
+        let output = self.clients.output();
+        let place = Point {
+            x: within(output.width, x),
+            y: within(output.height, y),
+        };
+        let moves = self.pointer.motion(place);
+        self.drag(&moves);
+        let (hit, is_stacked) = self.seen();
+        let actions = self.pointer.went(time, hit, is_stacked);
+        self.apply_all(&actions);
+        self.settle();
+    }
+
+    /// A toplevel goes along with the pointer, if it moves one. That is marked, and no more.
+    fn drag(&mut self, moves: &Actions)
+        ensures moves { (m : Midstep) → IsTelling self.old.desk m → HasNumber self.old.desk (first_moved (map action_of moves.now.items))
+            → IsTelling self.new.desk (with_standing (first_dragged (map action_of moves.now.items) m.desktop.standing) m) }
+        ensures marks { (m : Midstep) → IsTelling self.old.desk m → HasNumber self.old.desk (first_moved (map action_of moves.now.items))
+            → MarksChange None m.desktop (with_standing (first_dragged (map action_of moves.now.items) m.desktop.standing) m).desktop self.old.damage
+            self.new.damage }
+        ensures pointer { self.new.desk.pointer ≡ self.old.desk.pointer }
+        ensures sides { IsAsLarge self.old.damage self.new.damage }
+        ensures output { self.new.desk.kept.output ≡ self.old.desk.kept.output }
+    {
+        let Some(action) = moves.as_slice().first() else {
+            return;
+        };
+        self.drag_by(*action);
+    }
+
+    /// So it does where this is what the pointer does.
+    fn drag_by(&mut self, action: Action)
+        ensures moves { (m : Midstep) → IsTelling self.old.desk m → HasNumber self.old.desk (moved_of (action_of action))
+            → IsTelling self.new.desk (with_standing (dragged (action_of action) m.desktop.standing) m) }
+        ensures marks { (m : Midstep) → IsTelling self.old.desk m → HasNumber self.old.desk (moved_of (action_of action))
+            → MarksChange None m.desktop (with_standing (dragged (action_of action) m.desktop.standing) m).desktop self.old.damage self.new.damage }
+        ensures pointer { self.new.desk.pointer ≡ self.old.desk.pointer }
+        ensures sides { IsAsLarge self.old.damage self.new.damage }
+        ensures output { self.new.desk.kept.output ≡ self.old.desk.kept.output }
+    {
+        let Action::MoveWindow(toplevel, x, y) = action else {
+            return;
+        };
+        self.move_by(toplevel, x, y);
+    }
+
+    /// A toplevel moves by a difference. That is marked, and no more.
+    fn move_by(&mut self, toplevel: Target, x: i64, y: i64)
+        ensures moves { (m : Midstep) → IsTelling self.old.desk m → HasNumber self.old.desk (Some (target_of toplevel))
+            → IsTelling self.new.desk (with_standing (moved_standing (target_of toplevel) x y m.desktop.standing) m) }
+        ensures marks { (m : Midstep) → IsTelling self.old.desk m → HasNumber self.old.desk (Some (target_of toplevel))
+            → MarksChange None m.desktop (with_standing (moved_standing (target_of toplevel) x y m.desktop.standing) m).desktop self.old.damage
+            self.new.damage }
+        ensures pointer { self.new.desk.pointer ≡ self.old.desk.pointer }
+        ensures sides { IsAsLarge self.old.damage self.new.damage }
+        ensures output { self.new.desk.kept.output ≡ self.old.desk.kept.output }
+    {
+        let Some(number) = self
+            .clients
+            .surface_number(toplevel.client, toplevel.surface)
+        else {
+            return;
+        };
+        self.clients.move_toplevel(toplevel.client, number, x, y);
+    }
+}
+
+/// A coordinate held within a side of the output.
+fn within(side: u32, at: i32) -> i32
+    ensures { result ≡ within side at }
+{
+    let last = side.saturating_sub(1);
+    last.min(at.max(0) as u32) as i32
+}

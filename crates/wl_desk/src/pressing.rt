@@ -1,0 +1,128 @@
+//! Buttons: a press raises a toplevel and begins a hold, and clients are told of presses and releases.
+
+ghost use Rattle.std.specs.Prelude.{◌≡◌, false, true};
+ghost use Rattle.wl_stacking.specs.Pointer.{hit_now};
+ghost use Rattle.wl_scene.specs.Focus.{target_or_none, toplevel_of};
+ghost use Rattle.wl_marking.specs.Marking.{IsAsLarge};
+ghost use Rattle.wl_plain.specs.Act.{Button};
+ghost use Rattle.wl_plain.specs.Desktop.{Desktop};
+ghost use Rattle.wl_plain.specs.Happenings.{Single};
+ghost use Rattle.wl_plain.specs.Happens.{hold_from, press_serial};
+ghost use Rattle.wl_plain.specs.Settling.{Midstep, with_standing};
+ghost use Rattle.wl_plain.specs.Stacked.{all_windows};
+ghost use Rattle.wl_desk.specs.Agreeing.{Agrees, LeadsBy};
+ghost use Rattle.wl_desk.specs.Midway.{IsTelling};
+ghost use Rattle.wl_desk.specs.Restacking.{HasNumber, MarksChange, moved_up, raised_to};
+
+use crate::desks::Desk;
+use crate::seats::seat_of;
+use std::alloc::Allocator;
+use wl_clients::Done;
+use wl_scene::Target;
+
+impl<A: Allocator + Copy> Desk<A> {
+    /// A button, named by its code, is pressed or released at a time in milliseconds. The surface that has the focus is told of it
+    /// (wayland.xml, wl_pointer.button). A press brings the toplevel that it hits to the top. A press of a button that is down, or of one
+    /// past 16, and a release of one that isn't down do nothing. The windows of each client that can't be told, and so ends, are marked, and
+    /// those of a toplevel that came to the top.
+    pub fn button(&mut self, time: u32, button: u32, pressed: bool)
+        ensures leads { LeadsBy (Single (Button time button pressed) Done.Button) self.old self.new }
+        ensures sides { IsAsLarge self.old.damage self.new.damage }
+        ensures output { self.new.desk.kept.output ≡ self.old.desk.kept.output }
+    {
+        if pressed {
+            self.press(time, button);
+        } else {
+            self.release(time, button);
+        }
+    }
+
+    /// A button is pressed.
+    fn press(&mut self, time: u32, button: u32)
+        ensures leads { LeadsBy (Single (Button time button true) Done.Button) self.old self.new }
+        ensures sides { IsAsLarge self.old.damage self.new.damage }
+        ensures output { self.new.desk.kept.output ≡ self.old.desk.kept.output }
+    {
+        if !self.pointer.is_press(button) {
+            return;
+        }
+        let toplevel = self.toplevel_hit();
+        let serial = self.hold_serial();
+        let actions = self.pointer.press(time, button, toplevel, None);
+        self.pointer.begin_hold(serial);
+        self.raise(toplevel);
+        self.apply_all(&actions);
+        self.settle();
+    }
+
+    /// A button is released.
+    fn release(&mut self, time: u32, button: u32)
+        ensures leads { LeadsBy (Single (Button time button false) Done.Button) self.old self.new }
+        ensures sides { IsAsLarge self.old.damage self.new.damage }
+        ensures output { self.new.desk.kept.output ≡ self.old.desk.kept.output }
+    {
+        if !self.pointer.is_down(button) {
+            return;
+        }
+        let actions = self.pointer.release(time, button);
+        self.apply_all(&actions);
+        self.settle();
+    }
+
+    /// The toplevel in whose tree the window stands that the pointer hits, if it hits one.
+    fn toplevel_hit(&self) -> Option<Target>
+        ensures hit { (m : Midstep) → IsTelling self.now.desk m
+            → toplevel_of (hit_now m.desktop.pointer.place (all_windows m.desktop)) ≡ target_or_none result }
+        ensures number { HasNumber self.now.desk (target_or_none result) }
+    {
+        let place = self.pointer.place()?;
+        let window = self.clients.hit(place.x, place.y)?;
+        let client = window.client;
+        let surface = self.clients.surface_id(client, window.root)?;
+        Some(Target { client, surface })
+    }
+
+    /// The serial of the press that begins the hold in which a press comes now: of that press, where it is the first.
+    fn hold_serial(&self) -> Option<u32>
+        ensures { (d : Desktop) → Agrees self.now.desk d → result ≡ hold_from d.pointer.buttons d.pointer d }
+    {
+        if !self.pointer.is_free() {
+            return self.pointer.hold();
+        }
+        self.press_serial()
+    }
+
+    /// The serial that a press is told with that begins a hold now, where its client has wl_pointers.
+    fn press_serial(&self) -> Option<u32>
+        ensures { (d : Desktop) → Agrees self.now.desk d → result ≡ press_serial d.pointer.focus d }
+    {
+        let focus = self.pointer.focus()?;
+        if seat_of(&self.seats, focus.client).is_empty() {
+            return None;
+        }
+        self.clients.serial(focus.client)
+    }
+
+    /// A toplevel, if one is given, comes to the top of the others. That is marked, and no more.
+    fn raise(&mut self, toplevel: Option<Target>)
+        ensures raises { (m : Midstep) → IsTelling self.old.desk m → HasNumber self.old.desk (target_or_none toplevel)
+            → IsTelling self.new.desk (with_standing (raised_to (target_or_none toplevel) m.desktop.standing) m) }
+        ensures marks { (m : Midstep) → IsTelling self.old.desk m → HasNumber self.old.desk (target_or_none toplevel)
+            → MarksChange (moved_up (target_or_none toplevel) m.desktop.standing) m.desktop
+            (with_standing (raised_to (target_or_none toplevel) m.desktop.standing) m).desktop self.old.damage self.new.damage }
+        ensures pointer { self.new.desk.pointer ≡ self.old.desk.pointer }
+        ensures sides { IsAsLarge self.old.damage self.new.damage }
+        ensures output { self.new.desk.kept.output ≡ self.old.desk.kept.output }
+    {
+        let Some(toplevel) = toplevel else {
+            return;
+        };
+        let Some(number) = self
+            .clients
+            .surface_number(toplevel.client, toplevel.surface)
+        else {
+            return;
+        };
+        self.clients.raise(toplevel.client, number);
+    }
+}
