@@ -14,8 +14,8 @@ Each line of the text is one of these:
     gone 1                                client 1 goes
     ended 1                               client 1 has been refused something, so that its number is free; nothing is sent
 
-The lines `bytes`, `store`, `file`, `motion` and `tick` of a recording stand in the text as they are (docs/RECORDINGS.md), and so do comments,
-which begin with `#`.
+The lines `bytes`, `store`, `file`, `motion`, `button` and `tick` of a recording stand in the text as they are (docs/RECORDINGS.md), and so
+do comments, which begin with `#`.
 
 A client's names are its own, and `display` is its first object. A new object's id is one above the client's greatest, or the number
 that stands in the place of its NAME. An OBJECT may be given by its id too. An ARGUMENT is a number, an object, `null`, `argb8888`,
@@ -44,7 +44,7 @@ def pattern(text):
 
 
 HEX = "( ([0-9a-fA-F]{2})+)+"
-COPIED = pattern(rf"(bytes \d+|store \d+ \d+ \d+){HEX}|file \d+ \d+ \d+ [\w.-]+|motion \d+ -?\d+ -?\d+|tick \d+")
+COPIED = pattern(rf"(bytes \d+|store \d+ \d+ \d+){HEX}|file \d+ \d+ \d+ [\w.-]+|motion \d+ -?\d+ -?\d+|button \d+ \d+ 0*[01]|tick \d+")
 CLIENT = pattern(r"(client|gone|ended) (\d+)")
 FILL = pattern(r"fill (\w+) ([1-9]\d*) ([1-9]\d*) (0x[0-9a-fA-F]{1,8}) at (\d+)(?: stride (\d+))?")
 REQUEST = re.compile(r"(?:(\w+) *= *)?(\w+)\.(\w+) *\((.*)\)", re.ASCII)

@@ -7,5 +7,6 @@ mod hovering;
 mod limits;
 mod pools;
 mod positioners;
+mod pressing;
 mod reports;
 pub(crate) mod support;

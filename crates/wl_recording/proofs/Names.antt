@@ -1,6 +1,6 @@
--- Names are texts, and places and motions are made of numbers.
+-- Names are texts, places are made of numbers, and motions and buttons of three words.
 use Rattle.std.proofs.Common.{rules, ◌≡◌, ◌<◌, ℕ, Bool, true, false, not, List, Option, Some, None, Result, Ok, Err, Bor, get_or, length, refl, inl, inr, arith, ap, sym, ◌∙◌}
-use Rattle.std.specs.Prelude.{◌==◌, ◌&&◌, nat_le, nat_lt, option_map, MatchResult, slice_index}
+use Rattle.std.specs.Prelude.{if◌then◌else◌, ◌==◌, ◌&&◌, nat_le, nat_lt, option_map, MatchResult, slice_index}
 use Rattle.std.specs.Result.{result_ok}
 use Rattle.std.specs.Str.{IsUtf8}
 use Rattle.std.proofs.lemmas.Str.{IsUtf8-from_ascii}
@@ -8,7 +8,7 @@ use Rattle.std.proofs.lemmas.Bool.{cases_lt}
 use Rattle.std.proofs.lemmas.List.{get_or_past}
 use Rattle.std.proofs.lemmas.List.Elements.{All-get_or}
 use Rattle.std.proofs.lemmas.List.Sums.{AllPass-from_list_all}
-use Rattle.wl_recording.specs.Line.{Asked, after_three, after_word, asked_motion, asked_motion_by, first_word, is_blank, is_name, is_name_byte, name_in, place_at}
+use Rattle.wl_recording.specs.Line.{Asked, after_three, after_word, first_word, is_blank, is_name, is_name_byte, name_in, place_at}
 
 later : (x y : Bool) → (x && y) ≡ true → y ≡ true
 later true y is = is
@@ -49,10 +49,11 @@ named text word same blank fit =
     let fits : is_name (first_word text) ≡ true = ap is_name (sym same) ∙ fit in
     ap Some same ∙ rw (blank, fits) refl
 
--- a motion of the only three words of a text
-pub all_words : (text time x y : List ℕ) (asked : Option Asked) → time ≡ first_word text → x ≡ first_word (after_word text) → y ≡ first_word (after_word (after_word text))
-    → is_blank (after_three text) ≡ true → asked ≡ asked_motion_by time x y → asked ≡ asked_motion text
-all_words text time x y asked first second third blank is =
-    is ∙ (ap (λ (w : List ℕ). asked_motion_by w x y) first
-    ∙ (ap (λ (w : List ℕ). asked_motion_by (first_word text) w y) second
-    ∙ (ap (λ (w : List ℕ). asked_motion_by (first_word text) (first_word (after_word text)) w) third ∙ rw blank refl)))
+-- what is made of the only three words of a text
+pub all_words : (by : List ℕ → List ℕ → List ℕ → Option Asked) (text a b d : List ℕ) (asked : Option Asked) → a ≡ first_word text → b ≡ first_word (after_word text)
+    → d ≡ first_word (after_word (after_word text)) → is_blank (after_three text) ≡ true → asked ≡ by a b d
+    → asked ≡ (if is_blank (after_three text) then by (first_word text) (first_word (after_word text)) (first_word (after_word (after_word text))) else None)
+all_words by text a b d asked first second third blank is =
+    is ∙ (ap (λ (w : List ℕ). by w b d) first
+    ∙ (ap (λ (w : List ℕ). by (first_word text) w d) second
+    ∙ (ap (λ (w : List ℕ). by (first_word text) (first_word (after_word text)) w) third ∙ rw blank refl)))

@@ -1,5 +1,5 @@
 -- What a line of a recording asks. Here a line stands without its line feed.
-use Rattle.std.specs.Prelude.{ℕ, ℤ, pos, neg_ℤ, ◌+◌, ◌-◌, ◌*◌, ◌^◌, Bool, false, ◌==◌, ◌&&◌, ◌||◌, not, nat_le, nat_lt, if◌then◌else◌, List, [], ◌∷◌}
+use Rattle.std.specs.Prelude.{ℕ, ℤ, pos, neg_ℤ, ◌+◌, ◌-◌, ◌*◌, ◌^◌, Bool, true, false, ◌==◌, ◌&&◌, ◌||◌, not, nat_le, nat_lt, if◌then◌else◌, List, [], ◌∷◌}
 use Rattle.std.specs.Prelude.{length, drop, fold, slice_index, codes, Option, Some, None}
 use Rattle.std.specs.List.{prefix_len, take_while, list_all}
 use Rattle.std.specs.Option.{option_and_then, option_map}
@@ -54,6 +54,13 @@ has_minus (b ∷ word) = b == 45
 abbrev pub signed_of : List ℕ → Option ℤ
 signed_of word =
     if has_minus word then option_and_then negative_of (number_of (drop 1 word)) else option_and_then natural_of (number_of word)
+
+-- whether a button is pressed, by a word: the number 1 or 0
+abbrev pub is_pressed : ℕ → Option Bool
+is_pressed n = if n == 0 then Some false else if n == 1 then Some true else None
+
+abbrev pub pressed_of : List ℕ → Option Bool
+pressed_of word = option_and_then is_pressed (number_of word)
 
 -- the value of a hex digit in either case
 abbrev pub hex_value : ℕ → Option ℕ
@@ -128,6 +135,7 @@ pub data Asked : Type 0 where
   File : Place → List ℕ → Asked
   Gone : ℕ → Asked
   Motion : ℕ → ℤ → ℤ → Asked
+  Button : ℕ → ℕ → Bool → Asked
   Tick : ℕ → Asked
   Nothing : Asked
 
@@ -153,6 +161,18 @@ asked_motion text =
     (first_word (after_word (after_word text)))
     else None
 
+-- a press or a release by its words: the time, the button's number, and whether it is pressed
+abbrev pub asked_button_by : List ℕ → List ℕ → List ℕ → Option Asked
+asked_button_by time code pressed =
+    option_and_then (λ t. option_and_then (λ c. option_map (λ p. Button t c p) (pressed_of pressed)) (number_of code)) (number_of time)
+
+-- those are the only words of a text
+abbrev pub asked_button : List ℕ → Option Asked
+asked_button text =
+    if is_blank (after_three text) then asked_button_by (first_word text) (first_word (after_word text))
+    (first_word (after_word (after_word text)))
+    else None
+
 -- a line by its first word and what follows it
 abbrev pub asked_with : List ℕ → List ℕ → Option Asked
 asked_with word rest =
@@ -163,6 +183,7 @@ asked_with word rest =
     else if bytes_eq word (codes "file") then asked_file rest
     else if bytes_eq word (codes "gone") then option_map (λ client. Gone client) (only_number rest)
     else if bytes_eq word (codes "motion") then asked_motion rest
+    else if bytes_eq word (codes "button") then asked_button rest
     else if bytes_eq word (codes "tick") then option_map (λ time. Tick time) (only_number rest)
     else None
 
@@ -183,5 +204,6 @@ meaning piece (line.Store place) = Store place piece
 meaning piece (line.File place name) = File place name.now
 meaning piece (line.Gone client) = Gone client
 meaning piece (line.Motion time x y) = Motion time x y
+meaning piece (line.Button time code pressed) = Button time code pressed
 meaning piece (line.Tick time) = Tick time
 meaning piece line.Nothing = Nothing

@@ -1,8 +1,8 @@
 -- What a line of a pointer file asks. Here a line stands without its line feed; words and numbers are those of a recording.
-use Rattle.std.specs.Prelude.{ℕ, ◌==◌, Bool, true, false, if◌then◌else◌, unwrap_or, List, length, codes, Option, Some, None}
+use Rattle.std.specs.Prelude.{ℕ, ◌==◌, if◌then◌else◌, unwrap_or, List, length, codes, Option, None}
 use Rattle.std.specs.Option.{option_and_then, option_map}
 use Rattle.std.specs.Str.{bytes_eq}
-use Rattle.wl_recording.specs.Line.{after_three, after_word, first_word, is_blank, is_comment, number_of, signed_of}
+use Rattle.wl_recording.specs.Line.{after_three, after_word, first_word, is_blank, is_comment, number_of, pressed_of, signed_of}
 use Rattle.wl_recording.specs.declared.pointer.PointerLine.{PointerLine}
 use Rattle.wl_recording.specs.declared.pointer.PointerLine.TheVariants.{Motion, Button, Skip, Bad}
 
@@ -10,13 +10,6 @@ use Rattle.wl_recording.specs.declared.pointer.PointerLine.TheVariants.{Motion, 
 abbrev pub motion_by : List ℕ → List ℕ → List ℕ → Option PointerLine
 motion_by time x y =
     option_and_then (λ t. option_and_then (λ a. option_map (λ b. Motion t a b) (signed_of y)) (signed_of x)) (number_of time)
-
--- whether a button is pressed, by a word: the number 1 or 0
-abbrev pub is_pressed : ℕ → Option Bool
-is_pressed n = if n == 0 then Some false else if n == 1 then Some true else None
-
-abbrev pub pressed_of : List ℕ → Option Bool
-pressed_of word = option_and_then is_pressed (number_of word)
 
 -- a button by its words: the time, the button's number, and whether it is pressed
 abbrev pub button_by : List ℕ → List ℕ → List ℕ → Option PointerLine

@@ -2,11 +2,11 @@
 
 ghost use Rattle.std.specs.Prelude.{◌≡◌, ℕ, List, IfOk, Ok, Some, None, true, false};
 ghost use Rattle.std.specs.Option.{option_map};
-ghost use Rattle.wl_recording.specs.Line.{asked_by, asked_file, asked_motion, asked_motion_by, asked_piece, asked_store, asked_with, hex_in, is_comment, meaning, only_number};
+ghost use Rattle.wl_recording.specs.Line.{asked_button, asked_button_by, asked_by, asked_file, asked_motion, asked_motion_by, asked_piece, asked_store, asked_with, hex_in, is_comment, meaning, only_number};
 
 use crate::hex::decode;
 use crate::name::last_name;
-use crate::numbers::{number, signed};
+use crate::numbers::{number, pressed_of, signed};
 use crate::place::{Place, next_place};
 use crate::word::{is_blank, next_word};
 use std::alloc::{AllocError, Allocator};
@@ -24,6 +24,8 @@ pub enum Line<'a> {
     Gone { client: u32 },
     /// The pointer moves to this point of the output. `time` is in milliseconds; `x` and `y` are in pixels from the left top corner.
     Motion { time: u32, x: i32, y: i32 },
+    /// A button is pressed or released. `time` is in milliseconds, and `code` is the kernel's number of the button.
+    Button { time: u32, code: u32, pressed: bool },
     Tick { time: u32 },
     /// A comment, or no words.
     Nothing,
@@ -76,6 +78,8 @@ fn parse_words<'a, A: Allocator>(
         Ok(last_number(rest).map(|client| Line::Gone { client }))
     } else if word == b"motion".as_slice() {
         Ok(parse_motion(rest))
+    } else if word == b"button".as_slice() {
+        Ok(parse_button(rest))
     } else if word == b"tick".as_slice() {
         Ok(last_number(rest).map(|time| Line::Tick { time }))
     } else {
@@ -143,6 +147,33 @@ fn motion_by(time: &[u8], x: &[u8], y: &[u8]) -> Option<Line<'static>>
     let x = signed(x)?;
     let y = signed(y)?;
     Some(Line::Motion { time, x, y })
+}
+
+/// The press or release whose three words are the only ones of a text.
+fn parse_button(rest: &[u8]) -> Option<Line<'static>>
+    ensures { (piece : List ℕ) → option_map (meaning piece) result ≡ asked_button rest.now }
+{
+    let (time, rest) = next_word(rest);
+    let (code, rest) = next_word(rest);
+    let (pressed, rest) = next_word(rest);
+    if is_blank(rest) {
+        button_by(time, code, pressed)
+    } else {
+        None
+    }
+}
+
+fn button_by(time: &[u8], code: &[u8], pressed: &[u8]) -> Option<Line<'static>>
+    ensures { (piece : List ℕ) → option_map (meaning piece) result ≡ asked_button_by time.now code.now pressed.now }
+{
+    let time = number(time)?;
+    let code = number(code)?;
+    let pressed = pressed_of(pressed)?;
+    Some(Line::Button {
+        time,
+        code,
+        pressed,
+    })
 }
 
 /// Puts the bytes that a text spells into `piece`, at least one. False where it spells none.

@@ -1,7 +1,7 @@
-//! Decimal numbers, and coordinates.
+//! Decimal numbers, coordinates, and whether a button is pressed.
 
 ghost use Rattle.std.specs.Prelude.{◌≡◌};
-ghost use Rattle.wl_recording.specs.Line.{has_minus, natural_of, negative_of, number_of, signed_of};
+ghost use Rattle.wl_recording.specs.Line.{has_minus, natural_of, negative_of, number_of, pressed_of, signed_of};
 
 /// The number that a word of decimal digits spells, where it fits 32 bits. Leading zeros are free.
 pub fn number(word: &[u8]) -> Option<u32>
@@ -50,4 +50,15 @@ fn negative(number: u32) -> Option<i32>
     ensures { result ≡ negative_of number }
 {
     i32::try_from(-i64::from(number)).ok()
+}
+
+/// Whether a word that is 0 or 1 is 1.
+pub(crate) fn pressed_of(word: &[u8]) -> Option<bool>
+    ensures { result ≡ pressed_of word.now }
+{
+    match number(word)? {
+        0 => Some(false),
+        1 => Some(true),
+        _ => None,
+    }
 }

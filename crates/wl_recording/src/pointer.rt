@@ -1,10 +1,10 @@
 //! The lines of a pointer file.
 
 ghost use Rattle.std.specs.Prelude.{◌≡◌};
-ghost use Rattle.wl_recording.specs.Pointer.{button_by, button_in, motion_by, motion_in, pointer_by, pressed_of};
+ghost use Rattle.wl_recording.specs.Pointer.{button_by, button_in, motion_by, motion_in, pointer_by};
 
 use crate::line::is_comment;
-use crate::numbers::{number, signed};
+use crate::numbers::{number, pressed_of, signed};
 use crate::word::{is_blank, next_word};
 
 /// What a line of a pointer file asks.
@@ -87,15 +87,4 @@ fn button_by(time: &[u8], code: &[u8], pressed: &[u8]) -> Option<PointerLine>
         code,
         pressed,
     })
-}
-
-/// Whether a word that is 0 or 1 is 1.
-fn pressed_of(word: &[u8]) -> Option<bool>
-    ensures { result ≡ pressed_of word.now }
-{
-    match number(word)? {
-        0 => Some(false),
-        1 => Some(true),
-        _ => None,
-    }
 }

@@ -1,8 +1,9 @@
 -- What a step leads to, with what is told besides.
-use Rattle.std.proofs.Common.{◌≡◌, ℕ, ℤ, List, [], Option, refl, sym, subst, ◌∙◌, add-zero, append-nil}
+use Rattle.std.proofs.Common.{◌≡◌, ℕ, ℤ, Bool, List, [], Option, refl, sym, subst, ◌∙◌, add-zero, append-nil}
 use Rattle.std.specs.Io.KnownBytes.{Appends}
 use Rattle.std.proofs.KnownBytes.{Appends-nil, Appends-trans}
-use Rattle.wl_plain.specs.Act.{Motion}
+use Rattle.wl_plain.specs.Act.{Act, Button, Motion}
+use Rattle.wl_plain.specs.declared.answers.Done.{Done}
 use Rattle.wl_plain.specs.declared.answers.Done.TheVariants as gave
 use Rattle.wl_session.specs.Course.{TakesCourse}
 use Rattle.wl_session.specs.View.{SessionView}
@@ -10,9 +11,9 @@ use Rattle.wl_recording.specs.declared.line.Line.{Line}
 use Rattle.wl_recording.specs.declared.line.Line.TheVariants as line
 use Rattle.wl_recording.specs.Line.{Asked, meaning}
 use Rattle.wl_replay.specs.Clients.{TellsFirst}
-use Rattle.wl_replay.specs.Report.{TellsAll, TellsLine, TellsMotion, TellsNothing, TellsStep}
+use Rattle.wl_replay.specs.Report.{TellsAll, TellsButton, TellsLine, TellsMotion, TellsNothing, TellsStep}
 use Rattle.wl_recording.specs.Side.{Files}
-use Rattle.wl_replay.specs.Told.{Counts, IsSilent, Leads, Stage, Stands, Told, and_then, words}
+use Rattle.wl_replay.specs.Told.{Counts, IsSilent, Leads, Stage, Stands, Steps, Told, and_then, words}
 use Rattle.wl_replay.proofs.Stages.{stands-on, steps-on, after as after-step}
 
 pub Leads-weaker : (R S : Stage → Told → Stage → Type 0) (before after : SessionView) (report reported : Option (List ℕ)) (P Q : Told → Type 0)
@@ -56,6 +57,7 @@ TellsLine-all files from to (line.Store place) piece some old new told tells = t
 TellsLine-all files from to (line.File place name) piece some old new told tells = tells
 TellsLine-all files from to (line.Gone client) piece some old new told tells = tells
 TellsLine-all files from to (line.Motion time x y) piece some old new told tells = tells
+TellsLine-all files from to (line.Button time code pressed) piece some old new told tells = tells
 TellsLine-all files from to (line.Tick time) piece some old new told tells = tells
 TellsLine-all files from to line.Nothing piece some old new told tells = absurd (some refl)
 
@@ -74,18 +76,28 @@ pub Leads-nothing : (session : SessionView) (report images : Option (List ℕ))
 Leads-nothing session report images = λ old stands.
     (old, words [], (refl, refl), stands, Appends-nil report, (Appends-nil images, refl, refl))
 
--- the pointer moves
-pub Leads-motion : (time : ℕ) (x y : ℤ) (before after : SessionView) (report images : Option (List ℕ)) → TakesCourse (Motion time x y) gave.Motion before after
-    → Leads (TellsMotion time x y) before after report report (Counts images images 0 0)
-Leads-motion time x y before after report images takes = λ old stands.
+-- a step that isn't told of itself
+Leads-silently : (act : Act) (done : Done) (before after : SessionView) (report images : Option (List ℕ)) → TakesCourse act done before after
+    → Leads (λ old told new. Steps act done old new × (told ≡ words [])) before after report report (Counts images images 0 0)
+Leads-silently act done before after report images takes = λ old stands.
     let course = takes old.now.desktop stands.desk in (
-      after-step (Motion time x y) gave.Motion before after old course,
+      after-step act done before after old course,
       words [],
-      (steps-on (Motion time x y) gave.Motion before after old stands course, refl),
-      stands-on (Motion time x y) gave.Motion before after old stands course,
+      (steps-on act done before after old stands course, refl),
+      stands-on act done before after old stands course,
       Appends-nil report,
       (Appends-nil images, refl, refl),
     )
+
+-- the pointer moves
+pub Leads-motion : (time : ℕ) (x y : ℤ) (before after : SessionView) (report images : Option (List ℕ)) → TakesCourse (Motion time x y) gave.Motion before after
+    → Leads (TellsMotion time x y) before after report report (Counts images images 0 0)
+Leads-motion time x y before after report images takes = Leads-silently (Motion time x y) gave.Motion before after report images takes
+
+-- a button is pressed or released
+pub Leads-button : (time code : ℕ) (pressed : Bool) (before after : SessionView) (report images : Option (List ℕ)) → TakesCourse (Button time code pressed) gave.Button before after
+    → Leads (TellsButton time code pressed) before after report report (Counts images images 0 0)
+Leads-button time code pressed before after report images takes = Leads-silently (Button time code pressed) gave.Button before after report images takes
 
 -- a line that asks nothing
 pub Leads-passed : {S : Type 0} (files : Files S) (from : S) (l : Line) (piece : List ℕ) (session : SessionView) (report images : Option (List ℕ)) → l ≡ line.Nothing

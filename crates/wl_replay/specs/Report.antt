@@ -1,5 +1,5 @@
 -- What a recording leads to, and the report and the images that tell of it.
-use Rattle.std.specs.Prelude.{◌≡◌, ◌+◌, ℕ, ℤ, Option, Some, None, Result, Ok, Err, List, [], ◌∷◌, ◌++◌, length, ◌⊎◌, ◌≤◌, ⊤}
+use Rattle.std.specs.Prelude.{◌≡◌, ◌+◌, ℕ, ℤ, Bool, Option, Some, None, Result, Ok, Err, List, [], ◌∷◌, ◌++◌, length, ◌⊎◌, ◌≤◌, ⊤}
 use Rattle.std.specs.Io.KnownBytes.{Appends, IsAtEnd}
 use Rattle.std.specs.Option.{option_and_then}
 use Rattle.wl_session.specs.View.{SessionView}
@@ -18,7 +18,7 @@ use Rattle.wl_recording.specs.declared.error.ReplayError.{ReplayError}
 use Rattle.wl_recording.specs.declared.error.ReplayError.TheVariants as error
 use Rattle.wl_recording.specs.declared.error.Summary.{Summary}
 use Rattle.wl_replay.specs.Clients.{TellsFirst}
-use Rattle.wl_recording.specs.Line.{Asked, Connect, Bytes, Store, File, Gone, Motion, Tick, Nothing, asked_by}
+use Rattle.wl_recording.specs.Line.{Asked, Connect, Bytes, Store, File, Gone, Motion, Button, Tick, Nothing, asked_by}
 use Rattle.wl_recording.specs.Lines.{IsTooLong, TakesLine}
 use Rattle.wl_recording.specs.Side.{Files}
 use Rattle.wl_replay.specs.Storing.{LacksFile, TellsFile, TellsStore}
@@ -57,6 +57,10 @@ TellsGone client old told new =
 abbrev pub TellsMotion : ℕ → ℤ → ℤ → Stage → Told → Stage → Type 0
 TellsMotion time x y old told new = Steps (act.Motion time x y) gave.Motion old new × (told ≡ words [])
 
+-- A button is pressed or released, which isn't told of itself.
+abbrev pub TellsButton : ℕ → ℕ → Bool → Stage → Told → Stage → Type 0
+TellsButton time code pressed old told new = Steps (act.Button time code pressed) gave.Button old new × (told ≡ words [])
+
 -- A frame: `n` is how many points were to be painted, and the image is the frame's, which is the desktop painted from nothing.
 abbrev pub TellsTick : ℕ → Stage → Told → Stage → Type 0
 TellsTick time old told new =
@@ -79,6 +83,7 @@ TellsStep files (Store place bytes) from to old told new = TellsStore place byte
 TellsStep files (File place name) from to old told new = TellsFile files place name from to old told new
 TellsStep files (Gone client) from to old told new = TellsGone client old told new × (to ≡ from)
 TellsStep files (Motion time x y) from to old told new = TellsMotion time x y old told new × (to ≡ from)
+TellsStep files (Button time code pressed) from to old told new = TellsButton time code pressed old told new × (to ≡ from)
 TellsStep files (Tick time) from to old told new = TellsTick time old told new × (to ≡ from)
 TellsStep files Nothing from to old told new = TellsNothing old told new × (to ≡ from)
 
@@ -97,6 +102,7 @@ TellsLine files (Store place bytes) from to old told new = TellsAll files (Store
 TellsLine files (File place name) from to old told new = TellsAll files (File place name) from to old told new
 TellsLine files (Gone client) from to old told new = TellsAll files (Gone client) from to old told new
 TellsLine files (Motion time x y) from to old told new = TellsAll files (Motion time x y) from to old told new
+TellsLine files (Button time code pressed) from to old told new = TellsAll files (Button time code pressed) from to old told new
 TellsLine files (Tick time) from to old told new = TellsAll files (Tick time) from to old told new
 
 -- These lines lead from the first stage to the last, and the side files from one state to another, and this is told of it. The
@@ -143,6 +149,7 @@ LacksAsked files (Bytes client piece) d from to = ⊥
 LacksAsked files (Store place bytes) d from to = ⊥
 LacksAsked files (Gone client) d from to = ⊥
 LacksAsked files (Motion time x y) d from to = ⊥
+LacksAsked files (Button time code pressed) d from to = ⊥
 LacksAsked files (Tick time) d from to = ⊥
 LacksAsked files Nothing d from to = ⊥
 

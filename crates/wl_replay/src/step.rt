@@ -101,6 +101,14 @@ fn take_step<A: Allocator + Copy, W: Write, P: Write, S: SideFiles>(
             session.motion(time, x, y);
             Ok(NOTHING)
         }
+        Line::Button {
+            time,
+            code,
+            pressed,
+        } => {
+            session.button(time, code, pressed);
+            Ok(NOTHING)
+        }
         Line::Tick { time } => {
             tick(session, time, writer, ppm)?;
             Ok(Shown {

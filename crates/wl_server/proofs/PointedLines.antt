@@ -10,7 +10,7 @@ use Rattle.wl_recording.specs.declared.pointer.PointerLine.TheVariants.{Motion, 
 use Rattle.wl_session.specs.Course.{TakesCourse}
 use Rattle.wl_session.specs.View.{SessionView}
 use Rattle.wl_server.specs.Acting.{Stretch, Takes}
-use Rattle.wl_server.specs.Due.{due_at, is_due, left_at, motions_of}
+use Rattle.wl_server.specs.Due.{due_at, is_due, left_at, asked_of}
 use Rattle.wl_server.specs.Phases.{Points}
 use Rattle.wl_server.proofs.Taking.{Takes-none, Takes-one, Takes-then, Takes-weaker}
 
@@ -41,14 +41,14 @@ left-none time lines none =
     let n = prefix_len (is_due time) lines in
     sym (ap (λ (front : List PointerLine). front ++ drop n lines) none) ∙ take-append-drop n lines
 
--- ---- the motions among lines
+-- ---- what lines ask
 
-motions-then : (first next : List PointerLine) → motions_of (first ++ next) ≡ motions_of first ++ motions_of next
-motions-then [] next = refl
-motions-then (Motion time x y ∷ first) next = ap (λ (acts : List Act). act.Motion time x y ∷ acts) (motions-then first next)
-motions-then (Button time code pressed ∷ first) next = motions-then first next
-motions-then (Skip ∷ first) next = motions-then first next
-motions-then (Bad ∷ first) next = motions-then first next
+asked-then : (first next : List PointerLine) → asked_of (first ++ next) ≡ asked_of first ++ asked_of next
+asked-then [] next = refl
+asked-then (Motion time x y ∷ first) next = ap (λ (acts : List Act). act.Motion time x y ∷ acts) (asked-then first next)
+asked-then (Button time code pressed ∷ first) next = ap (λ (acts : List Act). act.Button time code pressed ∷ acts) (asked-then first next)
+asked-then (Skip ∷ first) next = asked-then first next
+asked-then (Bad ∷ first) next = asked-then first next
 
 -- ---- line after line
 
@@ -68,7 +68,7 @@ pointed-more time from mid to line old between new is due first next =
       p.0 ++ line ∷ [],
       p.1 ∙ (ap (λ (lines : List PointerLine). p.0 ++ due_at time lines) is ∙ (ap (λ (lines : List PointerLine). p.0 ++ lines) (due-more time line to due)
           ∙ sym (append_assoc p.0 (line ∷ []) (due_at time to)))),
-      ap (λ (front : List Act). front ++ b) p.2 ∙ (ap (λ (back : List Act). motions_of p.0 ++ back) q ∙ sym (motions-then p.0 (line ∷ []))),
+      ap (λ (front : List Act). front ++ b) p.2 ∙ (ap (λ (back : List Act). asked_of p.0 ++ back) q ∙ sym (asked-then p.0 (line ∷ []))),
     ))
 
 pub pointed-all : (time : ℕ) (from to : List PointerLine) (old new : SessionView) → due_at time to ≡ [] → Takes (PointedTo time from to) old new → Takes (Points (due_at time from)) old new
@@ -76,7 +76,7 @@ pointed-all time from to old new none takes =
     Takes-weaker (PointedTo time from to) (Points (due_at time from)) old new takes
     (λ d e a es ad ae runs p.
     let all : due_at time from ≡ p.0 = p.1 ∙ (ap (λ (lines : List PointerLine). p.0 ++ lines) none ∙ append-nil p.0) in
-    p.2 ∙ ap motions_of (sym all))
+    p.2 ∙ ap asked_of (sym all))
 
 -- ---- one line
 
@@ -84,4 +84,10 @@ pub point-motion : (line : PointerLine) (time : ℕ) (x y : ℤ) (old new : Sess
     → Takes (Points (line ∷ [])) old new
 point-motion line time x y old new is course =
     Takes-one (Points (line ∷ [])) (act.Motion time x y) gave.Motion old new course
-    (λ d e events agrees parts. ap (λ (l : PointerLine). motions_of (l ∷ [])) (sym is))
+    (λ d e events agrees parts. ap (λ (l : PointerLine). asked_of (l ∷ [])) (sym is))
+
+pub point-button : (line : PointerLine) (time code : ℕ) (pressed : Bool) (old new : SessionView) → line ≡ Button time code pressed
+    → TakesCourse (act.Button time code pressed) gave.Button old new → Takes (Points (line ∷ [])) old new
+point-button line time code pressed old new is course =
+    Takes-one (Points (line ∷ [])) (act.Button time code pressed) gave.Button old new course
+    (λ d e events agrees parts. ap (λ (l : PointerLine). asked_of (l ∷ [])) (sym is))

@@ -22,7 +22,7 @@ use Rattle.wl_recording.specs.Side.{Files}
 use Rattle.wl_recording.specs.declared.pointer.PointerLine.{PointerLine}
 use Rattle.wl_recording.specs.declared.pointer.PointerLine.TheVariants as line
 use Rattle.wl_server.specs.Acting.{InTurn, Stretch, Takes}
-use Rattle.wl_server.specs.Due.{motions_of}
+use Rattle.wl_server.specs.Due.{asked_of}
 use Rattle.wl_server.specs.Phases.{Accepts, AcceptsAll, AtSeat, Closes, ClosesIf, EndsReading, Fills, FillsIf, FillsSeat, FillsUpTo, IfSeated, Link, Place, Points, PutsIf, PutsSized, Reads, ReadsClient, StopsReading, Writes, WritesClient, WritesSome, leaves_if, puts_from}
 use Rattle.wl_server.specs.Ways.{Ways}
 use Rattle.wl_server.specs.Telling.{Reports, Telling, Tells, gathered, if_painted, pictured, reported}
@@ -204,16 +204,16 @@ at-seat-pass quiet Own each k from to start end acts events some = each k _ _ st
 
 -- pointing
 
-motions-pass : (lines : List PointerLine) → AllPass has_no_line (motions_of lines)
+asked-pass : (lines : List PointerLine) → AllPass has_no_line (asked_of lines)
 unfolding has_no_line
-motions-pass [] = All-nil (λ a. has_no_line a ≡ true)
-motions-pass (line.Motion time x y ∷ lines) = All-cons (λ a. has_no_line a ≡ true) (Motion time x y) (motions_of lines) refl (motions-pass lines)
-motions-pass (line.Button time code pressed ∷ lines) = motions-pass lines
-motions-pass (line.Skip ∷ lines) = motions-pass lines
-motions-pass (line.Bad ∷ lines) = motions-pass lines
+asked-pass [] = All-nil (λ a. has_no_line a ≡ true)
+asked-pass (line.Motion time x y ∷ lines) = All-cons (λ a. has_no_line a ≡ true) (Motion time x y) (asked_of lines) refl (asked-pass lines)
+asked-pass (line.Button time code pressed ∷ lines) = All-cons (λ a. has_no_line a ≡ true) (Button time code pressed) (asked_of lines) refl (asked-pass lines)
+asked-pass (line.Skip ∷ lines) = asked-pass lines
+asked-pass (line.Bad ∷ lines) = asked-pass lines
 
 pub points-pass : (lines : List PointerLine) → PassesAll has_no_line (Points lines)
-points-pass lines start end acts events are = subst (AllPass has_no_line) (sym are) (motions-pass lines)
+points-pass lines start end acts events are = subst (AllPass has_no_line) (sym are) (asked-pass lines)
 
 -- reading
 

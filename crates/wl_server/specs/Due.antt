@@ -26,10 +26,10 @@ abbrev pub TakesDue : ℕ → Option PointerLine → List PointerLine → List P
 TakesDue time (Some line) old new = (old ≡ line ∷ new) × (is_due time line ≡ true)
 TakesDue time None old new = (new ≡ old) × (due_at time old ≡ [])
 
--- The motions among lines, in their order, each at its own time. A button has no effect yet.
-abbrev pub motions_of : List PointerLine → List Act
-motions_of [] = []
-motions_of (Motion time x y ∷ lines) = act.Motion time x y ∷ motions_of lines
-motions_of (Button time code pressed ∷ lines) = motions_of lines
-motions_of (Skip ∷ lines) = motions_of lines
-motions_of (Bad ∷ lines) = motions_of lines
+-- The motions and buttons among lines, in their order, each at its own time.
+abbrev pub asked_of : List PointerLine → List Act
+asked_of [] = []
+asked_of (Motion time x y ∷ lines) = act.Motion time x y ∷ asked_of lines
+asked_of (Button time code pressed ∷ lines) = act.Button time code pressed ∷ asked_of lines
+asked_of (Skip ∷ lines) = asked_of lines
+asked_of (Bad ∷ lines) = asked_of lines

@@ -17,15 +17,15 @@ use Rattle.wl_session.specs.Events.{Event, Moment}
 use Rattle.wl_session.specs.NextStore.{next_store_of}
 use Rattle.wl_server.specs.declared.seat.Seat.{Seat}
 use Rattle.wl_server.specs.Acting.{Idle, InTurn, Stretch, Then}
-use Rattle.wl_server.specs.Due.{due_at, left_at, motions_of}
+use Rattle.wl_server.specs.Due.{due_at, left_at, asked_of}
 use Rattle.wl_server.specs.Seats.{Seated, seat_of, with_seat}
 use Rattle.wl_server.specs.Ways.{Serving, Ways}
 
 -- ---- the pointer's lines are taken
 
--- the pointer goes where the motions among these lines say
+-- the pointer goes where these lines say, and buttons are pressed and released
 abbrev pub Points : List PointerLine → Stretch
-Points lines start acts events end = acts ≡ motions_of lines
+Points lines start acts events end = acts ≡ asked_of lines
 
 -- ---- connections are accepted
 
@@ -355,7 +355,7 @@ FromFrame w n = Then (ForEach (Writes w) 32) (ForEach (Closes w) n)
 abbrev pub Serves : {H C S : Type 0} → Ways H C → Files S → ℕ → ℕ → Serving H C S → Serving H C S → Stretch
 Serves w files time n = Then (UpToFrame w files time) (FromFrame w n)
 
--- First the pointer goes where it is to, and then all clients are served.
+-- First the pointer does what it is to, and then all clients are served.
 abbrev pub IsTurn : {H C S : Type 0} → Ways H C → Files S → ℕ → Serving H C S → Serving H C S → Stretch
 IsTurn w files time = Then (Pointing time) (Serves w files time 32)
 
@@ -368,6 +368,6 @@ StartsServing w files time from to start acts events end =
     ⊎ (UpToFrame w files time from to start acts events end
     ⊎ ((n : ℕ) × (n ≤ 32) × Serves w files time n from to start acts events end))
 
--- A turn begins so: the pointer goes where it is to, and the clients begin to be served.
+-- A turn begins so: the pointer does what it is to, and the clients begin to be served.
 abbrev pub StartsTurn : {H C S : Type 0} → Ways H C → Files S → ℕ → Serving H C S → Serving H C S → Stretch
 StartsTurn w files time = Then (Pointing time) (StartsServing w files time)

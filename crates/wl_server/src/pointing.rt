@@ -24,12 +24,17 @@ pub(crate) fn point_all<A: Allocator + Copy>(
     }
 }
 
-/// The pointer goes where a line says, at the line's own time. A button has no effect yet.
+/// The pointer goes where a line says, or a button is pressed or released, at the line's own time.
 fn point<A: Allocator + Copy>(session: &mut Session<A>, line: PointerLine)
     ensures { Takes (Points (line ∷ [])) session.old session.new }
 {
     match line {
         PointerLine::Motion { time, x, y } => session.motion(time, x, y),
-        PointerLine::Button { .. } | PointerLine::Skip | PointerLine::Bad => {}
+        PointerLine::Button {
+            time,
+            code,
+            pressed,
+        } => session.button(time, code, pressed),
+        PointerLine::Skip | PointerLine::Bad => {}
     }
 }

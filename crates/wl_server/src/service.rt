@@ -38,8 +38,7 @@ pub struct Service<A: Allocator, H, S> {
 }
 
 impl<A: Allocator, H, S> Service<A, H, S> {
-    /// A session before its first turn. It takes no memory. Of the pointer lines those that are skipped or bad ask nothing; buttons have no effect
-    /// yet.
+    /// A session before its first turn. It takes no memory. Of the pointer lines those that are skipped or bad ask nothing.
     pub fn new(session: Session<A>, hub: H, side: S, lines: Vec<PointerLine, A>) -> Service<A, H, S>
         ensures session { result.session ≡ session }
         ensures hub { result.hub ≡ hub }
@@ -56,10 +55,11 @@ impl<A: Allocator, H, S> Service<A, H, S> {
 }
 
 /// Takes one turn of a session with its clients' connections at this time: of the pointer's lines those that are due are taken, in their order up
-/// to the first that isn't, and the pointer goes where each motion says, at the motion's own time; connections that wait are accepted, 32 at most,
-/// each a client's or closed at once; clients are read, one after another, 16 times each at most, and fed what each read gave; for those that sent
-/// bytes each live store gets its side file, from its start up to the store's size; a frame is shown; clients are written to, one after another, and
-/// the hub's answer is what was sent; and those that ended are closed, with their connections, once their bytes went out or a write failed.
+/// to the first that isn't: the pointer goes where each motion says, and buttons are pressed and released, at each line's own time; connections that
+/// wait are accepted, 32 at most, each a client's or closed at once; clients are read, one after another, 16 times each at most, and fed what each
+/// read gave; for those that sent bytes each live store gets its side file, from its start up to the store's size; a frame is shown; clients are
+/// written to, one after another, and the hub's answer is what was sent; and those that ended are closed, with their connections, once their bytes
+/// went out or a write failed.
 ///
 /// What it takes are steps of a session, event by event: the frame that it shows is the desktop as the frame began, painted from nothing, at
 /// each point that no window covers of a client that broke its promises (wayland.xml, wl_surface.damage and wl_buffer.release). Told are each client

@@ -1,4 +1,4 @@
-//! Motions of a pointer file, which a client with a wl_pointer is told.
+//! Motions and buttons of a pointer file, which a client with a wl_pointer is told.
 
 use crate::memory::{Client, MemoryHub, OneFile};
 use crate::turns::{CONFIG, takes};
@@ -26,7 +26,8 @@ const WINDOW: &[u8] = b"\x01\0\0\0\x01\0\x0c\0\x02\0\0\0\
 \x06\0\0\0\x01\0\x14\0\x0a\0\0\0\0\0\0\0\0\0\0\0\
 \x06\0\0\0\x06\0\x08\0";
 
-/// The first motion is due in the second turn, the two after it in the third, and the last in the fifth.
+/// The first motion is due in the second turn, the two after it in the third, the press in the fourth, and what is behind it in the sixth: the
+/// release waits for the motion before it.
 const LINES: &[PointerLine] = &[
     PointerLine::Skip,
     PointerLine::Motion {
@@ -44,10 +45,25 @@ const LINES: &[PointerLine] = &[
         x: 7,
         y: -7,
     },
+    PointerLine::Button {
+        time: 4,
+        code: 272,
+        pressed: true,
+    },
     PointerLine::Motion {
-        time: 5,
+        time: 6,
         x: 0,
         y: 0,
+    },
+    PointerLine::Button {
+        time: 1,
+        code: 272,
+        pressed: false,
+    },
+    PointerLine::Button {
+        time: 6,
+        code: 272,
+        pressed: false,
     },
 ];
 
@@ -57,6 +73,13 @@ const ENTER: &[u8] = b"\x0d\0\0\0\0\0\x18\0\x02\0\0\0\x06\0\0\0\0\x01\0\0\0\0\0\
 /// wl_pointer.motion at the time 3 at (0, 0), and at the time 2 at (1, 0), which is as far as the output goes.
 const MOTIONS: &[u8] = b"\x0d\0\0\0\x02\0\x14\0\x03\0\0\0\0\0\0\0\0\0\0\0\
 \x0d\0\0\0\x02\0\x14\0\x02\0\0\0\0\x01\0\0\0\0\0\0";
+
+/// wl_pointer.button with the serial 3: the button 272 is pressed, at the time 4.
+const PRESS: &[u8] = b"\x0d\0\0\0\x03\0\x18\0\x03\0\0\0\x04\0\0\0\x10\x01\0\0\x01\0\0\0";
+
+/// wl_pointer.motion at the time 6 at (0, 0); then the button is released, at the time 1, with the serial 4. It isn't again.
+const RELEASE: &[u8] = b"\x0d\0\0\0\x02\0\x14\0\x06\0\0\0\0\0\0\0\0\0\0\0\
+\x0d\0\0\0\x03\0\x18\0\x04\0\0\0\x01\0\0\0\x10\x01\0\0\0\0\0\0";
 
 /// What the client took in so many turns. None where there is no memory.
 fn taken_in(alloc: Global, turns: u32) -> Option<Vec<u8>> {
@@ -88,7 +111,14 @@ fn gives(alloc: Global, number: u32, bytes: &[u8]) -> Option<bool> {
 
 #[test]
 fn motions_are_told_once_they_are_due(rt: HostRuntime) {
-    for (number, bytes) in [(2, ENTER), (3, MOTIONS), (4, b"".as_slice())] {
+    for (number, bytes) in [(2, ENTER), (3, MOTIONS)] {
+        assert_eq!(rt; gives(rt.alloc(), number, bytes), Some(true), "{number}");
+    }
+}
+
+#[test]
+fn buttons_are_told_once_they_are_due(rt: HostRuntime) {
+    for (number, bytes) in [(4, PRESS), (5, b"".as_slice()), (6, RELEASE)] {
         assert_eq!(rt; gives(rt.alloc(), number, bytes), Some(true), "{number}");
     }
 }

@@ -18,7 +18,6 @@ use Rattle.wl_plain.specs.Marks.{AreDistinct}
 use Rattle.wl_plain.specs.Moments.{marks_at_least, marks_at_most_through}
 use Rattle.wl_plain.specs.Stacked.{all_windows}
 use Rattle.wl_plain.specs.Step.{with_peer}
-use Rattle.wl_plain.specs.Through.{raised_in}
 use Rattle.wl_laws.proofs.Lists.Keys.{differ}
 use Rattle.wl_laws.proofs.Marks.Through.{marked_through}
 use Rattle.wl_laws.proofs.Runs.Through.{happens_leads_through, messages_lead_through}
@@ -28,11 +27,11 @@ use Rattle.wl_clients.proofs.Steps.{kept-still}
 use Rattle.wl_clients.proofs.Still.{IsStill, still-unmarked}
 use Rattle.wl_desk.specs.Agreeing.{Agrees, LeadsBy, LeadsQuietly, MarksNothing, TakesStep}
 use Rattle.wl_desk.specs.Feeding.{kept_at, kept_by, kept_of}
-use Rattle.wl_desk.specs.Leading.{Led}
-use Rattle.wl_desk.specs.Marking.{MarksThrough}
+use Rattle.wl_desk.specs.Leading.{Led, raised_by}
+use Rattle.wl_desk.specs.Marking.{MarksThroughBy}
 use Rattle.wl_desk.specs.View.{DeskView, MarkedDesk}
 use Rattle.wl_session.specs.Course.{AreParts, Course, TakesCourse, Took, happenings, moment}
-use Rattle.wl_session.specs.Events.{AreApart, AreEvents, Event, IsAsDamaged, IsMarked, MarksFew, Moment, PaintsIf, is_frame, is_quiet, is_quiet_act, is_tick, raised_by}
+use Rattle.wl_session.specs.Events.{AreApart, AreEvents, Event, IsAsDamaged, IsMarked, Moment, PaintsIf, is_frame, is_quiet, is_quiet_act, is_tick}
 use Rattle.wl_session.specs.Liars.{AreLiars, IsRightBut}
 use Rattle.wl_session.specs.Run.{IsNextFrame}
 use Rattle.wl_session.specs.View.{SessionView}
@@ -75,15 +74,15 @@ right-so old new d e events apart leads liars last broke right = stays_right ser
 
 -- It marks what it has to and what it may.
 led-marks : (h : Happening) (old new : SessionView) (d : Desktop) → Agrees old.desk d → (led : Led (Agrees new.desk) h old.damage new.damage d) → new.frame ≡ old.frame
-    → HasItsSides old.damage new.damage → raised_by h d ≡ None → (is_quiet h ≡ true → IsAsDamaged old.damage new.damage) → IsMarked h (moment d old) led.path (moment led.desktop new)
-led-marks h old new d a led frame sides raised quiet = record {
+    → HasItsSides old.damage new.damage → (is_quiet h ≡ true → IsAsDamaged old.damage new.damage) → IsMarked h (moment d old) led.path (moment led.desktop new)
+led-marks h old new d a led frame sides quiet = record {
   frame = frame;
   sides = sides;
   marks = λ x y wide high clean.
       let unmarked = (led.marks x y wide high).0 clean in
       (unmarked.0, marked_through served_now h d led.path led.desktop (pos x) (pos y) (apart-at old.desk d a) led.leads unmarked.1);
   each = λ x y wide high clean. ((led.marks x y wide high).0 clean).1;
-  most = subst (λ (r : Option (ℕ × ℕ)). MarksFew r d led.path old.damage new.damage) (sym raised) (λ x y wide high again. (led.marks x y wide high).1 again);
+  most = λ x y wide high again. (led.marks x y wide high).1 again;
   quiet = quiet;
 }
 
@@ -106,14 +105,14 @@ event-course act done h old new d e path a b happens parts led paints =
     }
 
 -- what shows no frame
-pub marked-course : (act : Act) (done : Done) (old new : SessionView) → is_tick act ≡ false → ((d : Desktop) → raised_in act d ≡ None) → AreParts act done (Single act done ∷ [])
+pub marked-course : (act : Act) (done : Done) (old new : SessionView) → is_tick act ≡ false → AreParts act done (Single act done ∷ [])
     → new.frame ≡ old.frame → HasItsSides old.damage new.damage → LeadsBy (Single act done) (marked old) (marked new)
     → (is_quiet_act act ≡ true → MarksNothing (marked old) (marked new)) → TakesCourse act done old new
-marked-course act done old new tick raised parts frame sides leads quiet = λ d a.
+marked-course act done old new tick parts frame sides leads quiet = λ d a.
     let led = leads d a in
     event-course act done (Single act done) old new d led.desktop led.path a led.agrees (led-happens act done (Agrees new.desk) old.damage new.damage d led) parts led.leads
     (subst (λ b. PaintsIf b (Single act done) (moment d old) led.path (moment led.desktop new)) (sym tick)
-    (led-marks (Single act done) old new d a led frame sides (raised d) (λ is. quiet is d a)))
+    (led-marks (Single act done) old new d a led frame sides (λ is. quiet is d a)))
 
 -- there was no memory to keep a piece, and nothing was marked by that
 pub starved-course : (client : ℕ) (piece : List ℕ) (done : Done) (old new : SessionView) (before : Damaged) (d : Desktop) → before ≡ old.damage → new.frame ≡ old.frame
@@ -125,10 +124,10 @@ starved-course client piece done old new before d same frame sides a led happens
       desktop = led.desktop;
       leads = led.leads;
       agrees = led.agrees;
-      marks = subst (λ (m : Damaged). MarksThrough d led.path m new.damage) same led.marks;
+      marks = subst (λ (m : Damaged). MarksThroughBy (raised_by (Starve client) d) d led.path m new.damage) same led.marks;
     } in
     event-course (Feed client piece) done (Starve client) old new d led.desktop led.path a led.agrees happens (inr (inl refl)) led.leads
-    (led-marks (Starve client) old new d a from frame (subst (λ (m : Damaged). HasItsSides m new.damage) same sides) refl (λ no. absurd (differ (sym no))))
+    (led-marks (Starve client) old new d a from frame (subst (λ (m : Damaged). HasItsSides m new.damage) same sides) (λ no. absurd (differ (sym no))))
 
 -- A frame: what was to be painted was handed over, and nothing was to be painted then.
 pub tick-course : (time : ℕ) (old new : SessionView) (none : Damaged) → ((x y : ℕ) → has none x y ≡ false) → HasItsSides old.damage none → HasItsSides none new.damage
@@ -179,7 +178,7 @@ served-more client old mid new d s frame sides led =
     let e : Desktop = led.desktop in
     let serves : Serves served_now client s.desktop e = (messages_lead_through served_now client s.desktop e).0 led.path led.leads in
     let event : Event = record { happening = Message client; before = moment s.desktop mid; path = led.path; after = moment e new } in
-    let marks : IsMarked (Message client) (moment s.desktop mid) led.path (moment e new) = led-marks (Message client) mid new s.desktop s.agrees led frame sides refl (λ no. absurd (differ (sym no))) in
+    let marks : IsMarked (Message client) (moment s.desktop mid) led.path (moment e new) = led-marks (Message client) mid new s.desktop s.agrees led frame sides (λ no. absurd (differ (sym no))) in
     let last : AreEvents served_now (moment s.desktop mid) (event ∷ []) (moment e new) = (refl, record { leads = led.leads; paints = marks }, refl) in
     record {
       count = suc s.count;

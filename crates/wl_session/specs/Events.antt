@@ -10,8 +10,8 @@ use Rattle.wl_plain.specs.LeftOut.{LeftOut}
 use Rattle.wl_plain.specs.Marks.{AreDistinct}
 use Rattle.wl_plain.specs.Moments.{marks_at_least, marks_at_least_through, marks_at_most_through}
 use Rattle.wl_plain.specs.Stacked.{all_windows}
-use Rattle.wl_plain.specs.Through.{raised_in}
 use Rattle.wl_marking.specs.Marking.{IsAsLarge as HasItsSides}
+use Rattle.wl_desk.specs.Leading.{raised_by}
 use Rattle.wl_desk.specs.Marking.{MarksAtLeast}
 use Rattle.wl_session.specs.Run.{IsNextFrame}
 
@@ -52,11 +52,6 @@ is_quiet (Receive client piece) = true
 is_quiet (Message client) = false
 is_quiet (Starve client) = false
 is_quiet (Single act done) = is_quiet_act act
-
--- the toplevel that a press raised, if it did
-abbrev pub raised_by : Happening → Desktop → Option (ℕ × ℕ)
-raised_by (Single act done) d = raised_in act d
-raised_by happening d = None
 
 -- Nothing is marked but what was, and what may be: by the step's own change, and by each end and each settling in turn.
 abbrev pub MarksFew : Option (ℕ × ℕ) → Desktop → List Desktop → Damaged → Damaged → Type 0

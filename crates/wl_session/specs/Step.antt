@@ -1,5 +1,5 @@
 -- Steps as values are those of the plain desktop.
-use Rattle.wl_plain.specs.Act.{Act, Connect, Feed, Store, Leave, Tick, Send, Close, Motion}
+use Rattle.wl_plain.specs.Act.{Act, Connect, Feed, Store, Leave, Tick, Send, Close, Motion, Button}
 use Rattle.wl_session.specs.declared.steps.Step.{Step}
 use Rattle.wl_session.specs.declared.steps.Step.TheVariants as step
 
@@ -13,3 +13,4 @@ act_of (step.Tick time) = Tick time
 act_of (step.Sent client count) = Send client count
 act_of (step.Close client) = Close client
 act_of (step.Motion time x y) = Motion time x y
+act_of (step.Button time button pressed) = Button time button pressed

@@ -8,7 +8,7 @@ ghost use Rattle.std.specs.Vec.{vec_capacity};
 ghost use Rattle.wl_paint.specs.Damage.{has};
 ghost use Rattle.wl_plain.specs.Desktop.{Desktop, empty};
 ghost use Rattle.wl_paint.specs.Frame.{color_at, filled, is_side};
-ghost use Rattle.wl_plain.specs.Act.{Connect, Feed, Store, Leave, Tick, Send, Close, Motion, peer_at, unsent_of, status_of, store_size_of};
+ghost use Rattle.wl_plain.specs.Act.{Connect, Feed, Store, Leave, Tick, Send, Close, Motion, Button, peer_at, unsent_of, status_of, store_size_of};
 ghost use Rattle.wl_desk.specs.NextStore.{next_store_of};
 ghost use Rattle.wl_desk.specs.Feeding.{IsIdleIn};
 ghost use Rattle.wl_session.specs.Run.{AreRuns};
@@ -234,6 +234,18 @@ impl<A: Allocator + Copy> Session<A> {
         self.desk.motion(time, x, y);
     }
 
+    /// A button of the pointer, by the kernel's number of it, is pressed or released at a time in milliseconds. The surface that has the focus is
+    /// told (wayland.xml, wl_pointer.button), and a press over a toplevel puts that and all that is stacked with it on top of the others. Until the
+    /// last button that is down is released the focus stays, and what xdg_toplevel.move moves goes along with the pointer. A press where 16
+    /// buttons are down or this one is, and a release of one that isn't, do nothing. A client that can't be told ends.
+    pub fn button(&mut self, time: u32, button: u32, pressed: bool)
+        ensures step { TakesStep (Button time button pressed) Done.Button self.old.desk self.new.desk }
+        ensures course { TakesCourse (Button time button pressed) Done.Button self.old self.new }
+        ensures frame { self.new.frame ≡ self.old.frame }
+    {
+        self.desk.button(time, button, pressed);
+    }
+
     /// Any one step. A tick's frame isn't given back.
     pub fn step(&mut self, step: &Step) -> Done
         ensures step { TakesStep (act_of step.now) result self.old.desk self.new.desk }
@@ -258,6 +270,14 @@ impl<A: Allocator + Copy> Session<A> {
             Step::Motion { time, x, y } => {
                 self.motion(time, x, y);
                 Done::Motion
+            }
+            Step::Button {
+                time,
+                button,
+                pressed,
+            } => {
+                self.button(time, button, pressed);
+                Done::Button
             }
         }
     }
@@ -303,7 +323,8 @@ impl<A: Allocator + Copy> Session<A> {
             | Step::Gone { .. }
             | Step::Sent { .. }
             | Step::Close { .. }
-            | Step::Motion { .. } => {
+            | Step::Motion { .. }
+            | Step::Button { .. } => {
                 self.step(step);
                 true
             }

@@ -44,6 +44,13 @@ pub enum Step<'a> {
         x: i32,
         y: i32,
     },
+    /// A button of the pointer is pressed or released. `time` is in milliseconds, from any start, and `button` is the kernel's number of the
+    /// button.
+    Button {
+        time: u32,
+        button: u32,
+        pressed: bool,
+    },
 }
 
 /// Why a run stopped.

@@ -385,7 +385,7 @@ pub(crate) const GREEN_SQUARE: &[Row] = &[
 ];
 
 /// Nine points of the client 1's window change, the left three of them beside the window of the client 2 and the others below it.
-const CHANGES_NINE: &[Row] = &[
+pub(crate) const CHANGES_NINE: &[Row] = &[
     Row::Sends(ATTACH_11),
     Row::Sends(Message(
         6,
@@ -397,7 +397,7 @@ const CHANGES_NINE: &[Row] = &[
 ];
 
 /// What changed below another window is painted again, and shown where that one doesn't hide it.
-const SHOWS_THREE_RED: &[Row] = &[Row::Shows(
+pub(crate) const SHOWS_THREE_RED: &[Row] = &[Row::Shows(
     9,
     9,
     &[

@@ -7,14 +7,14 @@ use wl_session::{Cause, Done, Fed, Step};
 use wl_wire::{Arg, Fixed};
 
 /// The wl_seat 12, and its wl_pointer 13.
-const SEATED: &[Row] = &[
+pub(crate) const SEATED: &[Row] = &[
     Row::Binds(5, b"wl_seat", 1, 12, Fed::Alive),
     Row::Takes,
     Row::Sends(Message(12, 0, &[Arg::NewId(13)])),
 ];
 
 /// The pointer goes to (5, 4), over the window.
-const COMES: Row = Row::Calls(
+pub(crate) const COMES: Row = Row::Calls(
     Step::Motion {
         time: 1,
         x: 5,
@@ -24,7 +24,7 @@ const COMES: Row = Row::Calls(
 );
 
 /// The surface 6 is entered there, in 256ths of a pixel.
-const ENTERED: Message = Message(
+pub(crate) const ENTERED: Message = Message(
     13,
     0,
     &[

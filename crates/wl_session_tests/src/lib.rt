@@ -33,6 +33,8 @@ mod plays;
 #[cfg(test)]
 mod pools;
 #[cfg(test)]
+mod pressing;
+#[cfg(test)]
 mod recorded;
 #[cfg(test)]
 mod recordings;

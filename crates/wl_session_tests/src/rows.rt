@@ -306,6 +306,14 @@ fn called(session: &mut Session<Global>, step: &Step) -> Done {
             session.motion(time, x, y);
             Done::Motion
         }
+        Step::Button {
+            time,
+            button,
+            pressed,
+        } => {
+            session.button(time, button, pressed);
+            Done::Button
+        }
     }
 }
 

@@ -3,7 +3,7 @@
 use crate::replay::support::{SQUARE, first_missed};
 
 /// A client with a window of 40 by 40 pixels at (0, 0) on the surface 6, and with the wl_pointer 13.
-const ONE: &[u8] = b"connect
+pub(crate) const ONE: &[u8] = b"connect
 bytes 1 01000000 01000c00 02000000
 bytes 1 02000000 00002800 01000000 0e000000 776c5f63 6f6d706f 7369746f 72000000 02000000 03000000
 bytes 1 02000000 00002000 03000000 07000000 776c5f73 686d0000 01000000 04000000
@@ -24,7 +24,7 @@ bytes 1 0c000000 00000c00 0d000000
 ";
 
 /// Two such clients; the window of the second is at (32, 32).
-const TWO: &[u8] = b"connect
+pub(crate) const TWO: &[u8] = b"connect
 bytes 1 01000000 01000c00 02000000
 bytes 1 02000000 00002800 01000000 0e000000 776c5f63 6f6d706f 7369746f 72000000 02000000 03000000
 bytes 1 02000000 00002000 03000000 07000000 776c5f73 686d0000 01000000 04000000

@@ -2,11 +2,11 @@ use Rattle.std.proofs.Common.{refl, rules, w32}
 use Rattle.std.proofs.lemmas.Int.{to_z-of_z}
 use Rattle.std.specs.Prelude.{FitsSigned}
 use Rattle.wl_session.proofs.Courses.{motion-courses}
-use Rattle.wl_replay.specs.Report.{TellsBytes, TellsConnect, TellsGone, TellsMotion, TellsNothing, TellsTick}
+use Rattle.wl_replay.specs.Report.{TellsButton, TellsBytes, TellsConnect, TellsGone, TellsMotion, TellsNothing, TellsTick}
 use Rattle.wl_recording.specs.Side.{files_of}
 use Rattle.wl_replay.specs.Storing.{TellsFile, TellsStore}
 use Rattle.wl_recording.specs.declared.line.Line.TheVariants as line
-use Rattle.wl_replay.proofs.Leading.{Counts-silent, Leads-at, Leads-motion, Leads-nothing}
+use Rattle.wl_replay.proofs.Leading.{Counts-silent, Leads-at, Leads-button, Leads-motion, Leads-nothing}
 use Rattle.wl_replay.proofs.step.take_step.Goals as goal
 
 pub returns-in_ok-feed-in-Bytes-clause-told : goal.returns-in_ok-feed-in-Bytes-clause-told
@@ -37,6 +37,14 @@ returns-in-Motion-clause-told g c =
     (λ old new told tells. (tells, refl)) (λ told counts. counts)
     (Leads-motion m.time m.x m.y c.args.session.now c.motion.new.self (g.W.Write.contents c.args.writer.now) _
     (motion-courses m.time m.x m.y _ _ (to_z-of_z w32 m.x x) (to_z-of_z w32 m.y y) _ _ c.motion.ensures.course))
+
+pub returns-in-Button-clause-told : goal.returns-in-Button-clause-told
+returns-in-Button-clause-told g c =
+    let b = c.in-Button in
+    Leads-at (files_of g.S.SideFiles.opens g.S.SideFiles.gives g.S.SideFiles.fault_count) c.args.side.now c.args.side.now c.args.asked.line (line.Button b.time b.code b.pressed) c.args.asked.piece.now
+    (TellsButton b.time b.code b.pressed) _ _ _ _ _ _ b.is
+    (λ old new told tells. (tells, refl)) (λ told counts. counts)
+    (Leads-button b.time b.code b.pressed c.args.session.now c.button.new.self (g.W.Write.contents c.args.writer.now) _ c.button.ensures.course)
 
 pub returns-in-Nothing-clause-told : goal.returns-in-Nothing-clause-told
 returns-in-Nothing-clause-told g c =

@@ -2,7 +2,7 @@ use Rattle.std.proofs.Common.{rules, w32}
 use Rattle.std.proofs.lemmas.Int.{to_z-of_z}
 use Rattle.std.specs.Prelude.{FitsSigned}
 use Rattle.wl_session.proofs.Courses.{motion-courses}
-use Rattle.wl_server.proofs.PointedLines.{point-motion}
+use Rattle.wl_server.proofs.PointedLines.{point-button, point-motion}
 use Rattle.wl_server.proofs.pointing.point.Goals as goal
 
 pub returns-in-Motion : goal.returns-in-Motion
@@ -12,3 +12,8 @@ returns-in-Motion g c =
     let y : FitsSigned w32 m.y = search rules in
     point-motion c.args.line m.time m.x m.y c.args.session.now c.motion.new.self m.is
     (motion-courses m.time m.x m.y _ _ (to_z-of_z w32 m.x x) (to_z-of_z w32 m.y y) _ _ c.motion.ensures.course)
+
+pub returns-in-Button : goal.returns-in-Button
+returns-in-Button g c =
+    let b = c.in-Button in
+    point-button c.args.line b.time b.code b.pressed c.args.session.now c.button.new.self b.is c.button.ensures.course

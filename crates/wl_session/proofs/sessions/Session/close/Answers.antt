@@ -9,4 +9,4 @@ returns-clause-step g c = rw (← c.self.view_is) (leads-step (Close c.args.clie
 
 pub returns-clause-course : goal.returns-clause-course
 returns-clause-course g c =
-    rw (← c.self.view_is) (marked-course (Close c.args.client) (gave.Close c.close.result) _ _ refl (λ d. refl) refl refl c.close.ensures.sides c.close.ensures.leads (λ _. c.close.ensures.nothing))
+    rw (← c.self.view_is) (marked-course (Close c.args.client) (gave.Close c.close.result) _ _ refl refl refl c.close.ensures.sides c.close.ensures.leads (λ _. c.close.ensures.nothing))

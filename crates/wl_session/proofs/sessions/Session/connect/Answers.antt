@@ -9,4 +9,4 @@ returns-clause-step g c = rw (← c.self.view_is) (leads-step Connect (gave.Conn
 
 pub returns-clause-course : goal.returns-clause-course
 returns-clause-course g c =
-    rw (← c.self.view_is) (marked-course Connect (gave.Connect c.connect.result) _ _ refl (λ d. refl) refl refl c.connect.ensures.sides c.connect.ensures.leads (λ _. c.connect.ensures.nothing))
+    rw (← c.self.view_is) (marked-course Connect (gave.Connect c.connect.result) _ _ refl refl refl c.connect.ensures.sides c.connect.ensures.leads (λ _. c.connect.ensures.nothing))

@@ -9,4 +9,4 @@ returns-clause-step g c = rw (← c.self.view_is) (leads-step (Leave c.args.clie
 
 pub returns-clause-course : goal.returns-clause-course
 returns-clause-course g c =
-    rw (← c.self.view_is) (marked-course (Leave c.args.client) (gave.Gone c.gone.result) _ _ refl (λ d. refl) refl refl c.gone.ensures.sides c.gone.ensures.leads (λ e. absurd (cc)))
+    rw (← c.self.view_is) (marked-course (Leave c.args.client) (gave.Gone c.gone.result) _ _ refl refl refl c.gone.ensures.sides c.gone.ensures.leads (λ e. absurd (cc)))

@@ -18,4 +18,4 @@ returns-clause-course g c =
     let x : FitsSigned w32 c.args.x = search rules in
     let y : FitsSigned w32 c.args.y = search rules in
     let leads = motion-leads c.args.time c.args.x c.args.y _ _ (to_z-of_z w32 c.args.x x) (to_z-of_z w32 c.args.y y) _ _ c.motion.ensures.leads in
-    rw (← c.self.view_is) (marked-course (Motion c.args.time c.args.x c.args.y) gave.Motion _ _ refl (λ d. refl) refl refl c.motion.ensures.sides leads (λ e. absurd (cc)))
+    rw (← c.self.view_is) (marked-course (Motion c.args.time c.args.x c.args.y) gave.Motion _ _ refl refl refl c.motion.ensures.sides leads (λ e. absurd (cc)))

@@ -9,4 +9,4 @@ returns-clause-step g c = rw (← c.self.view_is) (leads-step (Send c.args.clien
 
 pub returns-clause-course : goal.returns-clause-course
 returns-clause-course g c =
-    rw (← c.self.view_is) (marked-course (Send c.args.client c.args.count) (gave.Sent c.sent.result) _ _ refl (λ d. refl) refl refl c.sent.ensures.sides c.sent.ensures.leads (λ _. c.sent.ensures.nothing))
+    rw (← c.self.view_is) (marked-course (Send c.args.client c.args.count) (gave.Sent c.sent.result) _ _ refl refl refl c.sent.ensures.sides c.sent.ensures.leads (λ _. c.sent.ensures.nothing))

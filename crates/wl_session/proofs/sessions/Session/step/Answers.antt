@@ -59,3 +59,9 @@ returns-in-Motion-clause-course g c =
     let y : FitsSigned w32 c.in-Motion.y = search rules in
     rw c.in-Motion.is
     (motion-courses c.in-Motion.time c.in-Motion.x c.in-Motion.y _ _ (to_z-of_z w32 c.in-Motion.x x) (to_z-of_z w32 c.in-Motion.y y) _ _ c.motion.ensures.course)
+
+pub returns-in-Button-clause-step : goal.returns-in-Button-clause-step
+returns-in-Button-clause-step g c = rw c.in-Button.is c.button.ensures.step
+
+pub returns-in-Button-clause-course : goal.returns-in-Button-clause-course
+returns-in-Button-clause-course g c = rw c.in-Button.is c.button.ensures.course

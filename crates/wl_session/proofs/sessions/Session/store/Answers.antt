@@ -9,4 +9,4 @@ returns-clause-step g c = rw (← c.self.view_is) (leads-step (Store c.args.clie
 
 pub returns-clause-course : goal.returns-clause-course
 returns-clause-course g c =
-    rw (← c.self.view_is) (marked-course (Store c.args.client c.args.store c.args.at c.args.bytes.now) (gave.Store c.store.result) _ _ refl (λ d. refl) refl refl c.store.ensures.sides c.store.ensures.leads (λ _. c.store.ensures.nothing))
+    rw (← c.self.view_is) (marked-course (Store c.args.client c.args.store c.args.at c.args.bytes.now) (gave.Store c.store.result) _ _ refl refl refl c.store.ensures.sides c.store.ensures.leads (λ _. c.store.ensures.nothing))

@@ -15,7 +15,8 @@ returns-in-Feed g c =
       | inr (inr (inl h)) ↦ ap (λ s. is_tick (act_of s)) h.1
       | inr (inr (inr (inl h))) ↦ ap (λ s. is_tick (act_of s)) h.2
       | inr (inr (inr (inr (inl h)))) ↦ ap (λ s. is_tick (act_of s)) h.1
-      | inr (inr (inr (inr (inr h)))) ↦ ap (λ s. is_tick (act_of s)) h.3
+      | inr (inr (inr (inr (inr (inl h))))) ↦ ap (λ s. is_tick (act_of s)) h.3
+      | inr (inr (inr (inr (inr (inr h))))) ↦ ap (λ s. is_tick (act_of s)) h.3
     ] in record {
       taken = λ _. ([], sym (append-nil _), quiet-leads _ c.step.result c.args.self.now c.step.new.self quiet c.step.ensures.course);
       refused = λ h. absurd (cc);
