@@ -1,9 +1,10 @@
+use crate::windows::{has_family, window as placed};
 use std::alloc::Allocator;
 use test_support::Refusing;
-use wl_linked::SurfaceNo;
+use wl_linked::{Linked, SurfaceNo};
 use wl_stacked::StackedWindows;
 use wl_store::Transform;
-use wl_windows::TreeWindow;
+use wl_windows::{TreeWindow, add_windows};
 
 fn window(surface: SurfaceNo) -> TreeWindow {
     TreeWindow {
@@ -120,6 +121,46 @@ fn a_tree_comes_to_the_top(rt: HostRuntime) {
     );
 }
 
+// Whether the tree of the surface 0 of the client 1 has just these windows.
+fn has_tree_of<A: Allocator>(all: &StackedWindows<A>, wanted: &[TreeWindow]) -> bool {
+    let tree = all.tree(1, 0);
+    if tree.len() != wanted.len() {
+        return false;
+    }
+    for (stacked, window) in tree.iter().zip(wanted) {
+        if stacked.window != *window {
+            return false;
+        }
+    }
+    true
+}
+
+// xdg_toplevel.move: the windows of a tree come to another place of the output, and stay where they are in the stack.
+#[test]
+fn a_tree_comes_to_another_place(rt: HostRuntime) {
+    let mut linked = Linked::new(rt.alloc());
+    let mut all = StackedWindows::new(rt.alloc());
+    let mut windows = Vec::new(rt.alloc());
+    assert!(rt; has_family(&mut linked) && add_windows(&linked, 0, 10, 20, &mut windows).is_ok());
+    assert!(rt; !all.has_tree(1, 0) && all.push(1, 0, &windows).is_ok());
+    assert!(rt; !all.has_tree(1, 7) && all.push(1, 7, &[window(7)]).is_ok());
+    all.move_tree(1, 0, &linked, -30, 5);
+    assert!(rt;
+        has_tree_of(
+            &all,
+            &[
+                placed(3, -21, 5),
+                placed(0, -28, 5),
+                placed(1, -24, 10),
+                placed(2, -25, 10)
+            ]
+        )
+    );
+    assert!(rt; all.windows().len() == 5 && all.tree(1, 7).len() == 1);
+    all.remove(1, 0);
+    assert!(rt; has(&all, &[(1, 7, 7)]));
+}
+
 // Without memory for other windows of a tree nothing changes.
 #[test]
 fn other_windows_need_memory(rt: HostRuntime) {
@@ -148,7 +189,7 @@ fn other_windows_need_memory(rt: HostRuntime) {
 // Where there is room for the windows of a tree, they want no memory.
 #[test]
 fn windows_come_into_room(rt: HostRuntime) {
-    let heap = Refusing::new(rt.alloc(), 1);
+    let heap = Refusing::new(rt.alloc(), 2);
     let mut all = StackedWindows::new(&heap);
     assert!(rt; all.reserve(3).is_ok() && all.reserve(100).is_err());
     assert!(rt; !all.has_tree(1, 3) && all.push(1, 3, &[window(3), window(4), window(5)]).is_ok());

@@ -33,7 +33,7 @@ fn made<A: Allocator + Copy>(linked: &mut Linked<A>, count: usize) -> bool {
 }
 
 // A root, a child of it at (4, 5) with one of its own at (-1, 0), and another child below the root.
-fn has_family<A: Allocator + Copy>(linked: &mut Linked<A>) -> bool {
+pub(crate) fn has_family<A: Allocator + Copy>(linked: &mut Linked<A>) -> bool {
     made(linked, 4)
         && linked.subsurface(1, 0) == Ok(())
         && linked.subsurface(2, 1) == Ok(())
@@ -47,7 +47,7 @@ fn has_family<A: Allocator + Copy>(linked: &mut Linked<A>) -> bool {
         && shows(linked, 0, 10, 2)
 }
 
-fn window(surface: SurfaceNo, x: i32, y: i32) -> TreeWindow {
+pub(crate) fn window(surface: SurfaceNo, x: i32, y: i32) -> TreeWindow {
     TreeWindow {
         surface,
         root: 0,

@@ -9,3 +9,4 @@ pub mod Standing
 pub mod Hits
 pub mod Numbered
 pub mod Raised
+pub mod Moved

@@ -58,16 +58,16 @@ tree-owned (suc n) owner all surface place =
 
 -- ---- the windows of toplevels, one after another
 
-abbrev owner_at : Standing → Owner
+abbrev pub owner_at : Standing → Owner
 owner_at s = record { client = s.client; root = s.surface; toplevel = s.surface }
 
-abbrev windows_at : (ℕ → Owned) → Standing → List Window
+abbrev pub windows_at : (ℕ → Owned) → Standing → List Window
 windows_at owned s = tree 17 (owner_at s) (owned s.client).surfaces s.surface s.place
 
-windows-first : (owned : ℕ → Owned) (s : Standing) (ss : List Standing) → windows_on owned (s ∷ ss) ≡ windows_at owned s ++ windows_on owned ss
+pub windows-first : (owned : ℕ → Owned) (s : Standing) (ss : List Standing) → windows_on owned (s ∷ ss) ≡ windows_at owned s ++ windows_on owned ss
 windows-first owned s ss = ap (λ ws. ws ++ windows_on owned ss) (append-nil _)
 
-windows-both : (owned : ℕ → Owned) (ss rs : List Standing) → windows_on owned (ss ++ rs) ≡ windows_on owned ss ++ windows_on owned rs
+pub windows-both : (owned : ℕ → Owned) (ss rs : List Standing) → windows_on owned (ss ++ rs) ≡ windows_on owned ss ++ windows_on owned rs
 windows-both owned [] rs = refl
 windows-both owned (s ∷ ss) rs =
     windows-first owned s (ss ++ rs)
@@ -80,11 +80,11 @@ windows-last owned s ss = windows-both owned ss (s ∷ []) ∙ ap (λ ws. window
 
 -- ---- which of them are of one tree
 
-keep-all : (q : Window → Bool) (ws vs : List Window) → Each (λ w. q w ≡ true) ws → filter q (ws ++ vs) ≡ ws ++ filter q vs
+pub keep-all : (q : Window → Bool) (ws vs : List Window) → Each (λ w. q w ≡ true) ws → filter q (ws ++ vs) ≡ ws ++ filter q vs
 keep-all q [] vs each = refl
 keep-all q (w ∷ ws) vs each = ap (λ b. cond b (w ∷ filter q (ws ++ vs)) (filter q (ws ++ vs))) each.0 ∙ ap (λ xs. w ∷ xs) (keep-all q ws vs each.1)
 
-keep-none : (q : Window → Bool) (ws vs : List Window) → Each (λ w. q w ≡ false) ws → filter q (ws ++ vs) ≡ filter q vs
+pub keep-none : (q : Window → Bool) (ws vs : List Window) → Each (λ w. q w ≡ false) ws → filter q (ws ++ vs) ≡ filter q vs
 keep-none q [] vs each = refl
 keep-none q (w ∷ ws) vs each = ap (λ b. cond b (w ∷ filter q (ws ++ vs)) (filter q (ws ++ vs))) each.0 ∙ keep-none q ws vs each.1
 
@@ -92,15 +92,15 @@ each-same : (P Q : Window → Type 0) → ((w : Window) → P w → Q w) → (ws
 each-same P Q f [] each = tt
 each-same P Q f (w ∷ ws) each = (f w each.0, each-same P Q f ws each.1)
 
-not-so : (b : Bool) → not b ≡ true → b ≡ false
+pub not-so : (b : Bool) → not b ≡ true → b ≡ false
 not-so true e = absurd (cc)
 not-so false e = refl
 
 module _ (client surface : ℕ) where
-  abbrev its : Window → Bool
+  abbrev pub its : Window → Bool
   its w = has_root client surface w
 
-  abbrev other : Window → Bool
+  abbrev pub other : Window → Bool
   other w = not (has_root client surface w)
 
   equal-turned : (a b : ℕ) → (a == b) ≡ (b == a)
@@ -111,7 +111,7 @@ module _ (client surface : ℕ) where
       ap (λ (o : Owner). (client == o.client) && (surface == o.root)) is
       ∙ ap₂ (λ a b. a && b) (equal-turned client s.client) (equal-turned surface s.surface)
 
-  all-its : (owned : ℕ → Owned) (s : Standing) (b : Bool) → is_standing client surface s ≡ b → Each (λ w. its w ≡ b) (windows_at owned s)
+  pub all-its : (owned : ℕ → Owned) (s : Standing) (b : Bool) → is_standing client surface s ≡ b → Each (λ w. its w ≡ b) (windows_at owned s)
   all-its owned s b is =
       each-same (λ w. w.owner ≡ owner_at s) (λ w. its w ≡ b) (λ w e. of-toplevel s w e ∙ is) (windows_at owned s)
       (tree-owned 17 (owner_at s) (owned s.client).surfaces s.surface s.place)
@@ -119,7 +119,7 @@ module _ (client surface : ℕ) where
   all-other : (owned : ℕ → Owned) (s : Standing) (b : Bool) → is_standing client surface s ≡ b → Each (λ w. other w ≡ not b) (windows_at owned s)
   all-other owned s b is = each-same (λ w. its w ≡ b) (λ w. other w ≡ not b) (λ w e. ap not e) (windows_at owned s) (all-its owned s b is)
 
-  none-its : (owned : ℕ → Owned) (ss : List Standing) → list_any (is_standing client surface) ss ≡ false → filter its (windows_on owned ss) ≡ []
+  pub none-its : (owned : ℕ → Owned) (ss : List Standing) → list_any (is_standing client surface) ss ≡ false → filter its (windows_on owned ss) ≡ []
   none-its owned [] none = refl
   none-its owned (s ∷ ss) none =
       ap (λ ws. filter its ws) (windows-first owned s ss)

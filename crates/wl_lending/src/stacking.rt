@@ -1,5 +1,6 @@
 //! How what is kept of the windows of the output goes on standing for those of the desktop.
 
+ghost use Rattle.wl_lending.specs.Moved.{KeptTreeIsAsLong, MovedTreesAreAsLong, StackedMoved, TreesAreMoved};
 ghost use Rattle.wl_lending.specs.StackedLaws.{BothAreStacked, FirstAreStacked, StackedAreTold, StackedClientGone, StackedPushed, StackedRaised, StackedRemoved, StackedRenumbered, StackedReplaced, StackedTreeGone, StackedTreeRaised, TreeIsStacked, TreeIsThere};
 
 /// Of what stands for windows one above another, the first stand for the first and the others for the others.
@@ -65,4 +66,24 @@ pub fn stacked_tree_raised()
 /// It does where a toplevel comes to the top of the others, and its windows on top of theirs.
 pub fn stacked_raised()
     ensures { StackedRaised }
+{}
+
+/// Wherever a tree is placed, it has the same windows but for where they stand.
+pub fn trees_are_moved()
+    ensures { TreesAreMoved }
+{}
+
+/// It has as many of them.
+pub fn moved_trees_are_as_long()
+    ensures { MovedTreesAreAsLong }
+{}
+
+/// As many windows are kept of the tree of a toplevel that stands as it has, wherever it is placed.
+pub fn kept_tree_is_as_long()
+    ensures { KeptTreeIsAsLong }
+{}
+
+/// It goes on standing for the windows where a toplevel comes to another place, and its windows with it.
+pub fn stacked_moved()
+    ensures { StackedMoved }
 {}

@@ -1,7 +1,10 @@
+pub mod Acting
+pub mod ByRounds
 pub mod Ended
 pub mod Entering
 pub mod Frames
 pub mod Happenings
+pub mod Lives
 pub mod Marking
 pub mod Messages
 pub mod Moved

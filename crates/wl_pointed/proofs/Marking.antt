@@ -178,7 +178,7 @@ applied_by d owned client surface x y =
     && is_applied_by (history_of d client surface) (history_in surface (owned client).surfaces) (unsigned_abs x) (unsigned_abs y)
 
 -- what is marked goes by what stands and by what the clients own
-same-marks : (raised : Option (ℕ × ℕ)) (d told settled : Desktop) (x y : ℤ) → ShowsSame told settled
+pub same-marks : (raised : Option (ℕ × ℕ)) (d told settled : Desktop) (x y : ℤ) → ShowsSame told settled
     → (marks_at_least_of all_windows d settled x y ≡ marks_at_least_of all_windows d told x y)
     × (marks_at_most_of all_windows d settled raised x y ≡ marks_at_most_of all_windows d told raised x y)
 unfolding windows_by applied_by
@@ -211,6 +211,12 @@ itself : (e : Desktop) → ShowsSame e e
 itself e = record { standing = refl; owned = λ c. refl }
 
 -- of two desktops that are the same the second marks nothing
+pub same-least : (d : Desktop) → AreDistinct (all_windows d) → (x y : ℤ) → marks_at_least_of all_windows d d x y ≡ false
+same-least d apart x y = least-shown d d (itself d) apart x y
+
+pub same-most : (d : Desktop) → AreDistinct (all_windows d) → (x y : ℤ) → marks_at_most_of all_windows d d None x y ≡ false
+same-most d apart x y = most-shown d d (itself d) apart x y
+
 twice : (a c none : Bool) → none ≡ false → (a || c) ≡ ((a || (none || false)) || c)
 twice a c none e = ap (λ (b : Bool). b || c) (sym (none-more a)) ∙ ap (λ (b : Bool). (a || (b || false)) || c) (sym e)
 

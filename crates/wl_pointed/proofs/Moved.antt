@@ -32,8 +32,9 @@ use Rattle.wl_plain.specs.Stacked.{all_windows}
 use Rattle.wl_plain.specs.Step.{with_peer}
 use Rattle.wl_plain.specs.Through.{EndsFirstThrough, SettlesAllThrough, ending_through, settling_through}
 use Rattle.wl_laws.proofs.Lists.Standings.{any-last}
-use Rattle.wl_pointed.specs.Moved.{MovedStandsOn}
+use Rattle.wl_pointed.specs.Moved.{MovedStandsFirst, MovedStandsMid, MovedStandsOn}
 use Rattle.wl_pointed.specs.Pointed.{MovedStands}
+use Rattle.wl_pointed.specs.Rounds.{AreRounds, IsRound}
 use Rattle.wl_pointed.proofs.Pointers.{kept-without}
 
 -- ---- what is moved stays, and stands where it did
@@ -150,6 +151,20 @@ ended-stands s d stands = at (client_at s.client d)
     at None = stands
     at (Some r) = becomes-stands s.client r (ended s.cause r.peer) d stands
 
+acts-stand : (input : PointerInput) (old new : Midstep) → MovedStands old.desktop → PointerActs input old new → MovedStands new.desktop
+acts-stand input old new stands h = stands-on old.desktop new.desktop (acts-keep input old new h) stands
+
+round-stands : (old new : Midstep) (path : List Desktop) → MovedStands old.desktop → IsRound old path new → MovedStands new.desktop
+round-stands old new path stands round =
+    subst (λ (m : Midstep). MovedStands m.desktop) (sym round.6) (ended-stands round.1 round.0.desktop (acts-stand Settle old round.0 stands round.3))
+
+rounds-stand : (n : ℕ) (old new : Midstep) (path : List Desktop) → MovedStands old.desktop → AreRounds n old path new → MovedStands new.desktop
+rounds-stand zero old new path stands rounds = subst (λ (m : Midstep). MovedStands m.desktop) (sym rounds.1) stands
+rounds-stand (suc n) old new path stands rounds = round-stands rounds.1 new rounds.2 (rounds-stand n old rounds.1 rounds.0 stands rounds.3) rounds.4
+
+pub moved-stands-mid : MovedStandsMid
+moved-stands-mid = (ended-stands, acts-stand, λ old new stands h. acts-stand Settle old new stands h, rounds-stand)
+
 all-stand : (ss : List Strike) (d : Desktop) → MovedStands d → MovedStands (ended_all ss d)
 all-stand [] d stands = stands
 all-stand (s ∷ ss) d stands = all-stand ss (ended_by s d) (ended-stands s d stands)
@@ -171,6 +186,19 @@ settling-stands path new mid stands h =
 
 ending-stands : (path : List Desktop) (new : Desktop) (mid : Midstep) → MovedStands mid.desktop → ending_through path new mid → MovedStands new
 ending-stands path new mid stands h = first-stands (SettlesAllThrough 32) (settles-stand 32) mid.struck mid.desktop h.0 new stands h.2
+
+-- ---- before the pointer does anything
+
+-- after the last release nothing is moved
+released-stands : (button : ℕ) (d : Desktop) → MovedStands d → MovedStands (with_release button d)
+released-stands button d stands = at (without_button button d.pointer.buttons)
+  where
+    at : (buttons : List ℕ) → kept_move (released_to buttons d.pointer).move d.standing ≡ (released_to buttons d.pointer).move
+    at [] = refl
+    at (b ∷ bs) = stands
+
+pub moved-stands-first : MovedStandsFirst
+moved-stands-first = (λ at m stands. stands, λ button d stands. stands, released-stands)
 
 -- ---- a message
 
@@ -247,11 +275,7 @@ module _ (d : Desktop) (path : List Desktop) (new : Desktop) (stands : MovedStan
 
   released : (b : Bool) (time button : ℕ) → ReleasesThen b time button d (ending_through path new) → MovedStands new
   released false time button h = ending-stands path new (unstruck d) stands h
-  released true time button h = acted (Release time button) (with_release button d) (let_go (without_button button d.pointer.buttons)) h
-    where
-      let_go : (buttons : List ℕ) → kept_move (released_to buttons d.pointer).move d.standing ≡ (released_to buttons d.pointer).move
-      let_go [] = refl
-      let_go (b ∷ bs) = stands
+  released true time button h = acted (Release time button) (with_release button d) (released-stands button d stands) h
 
   happened : (left : LeftOut) (h : Happening) → Leads left h d path new → MovedStands new
   happened left (Receive c piece) h = at (client_at c d) h

@@ -178,7 +178,7 @@ told-shows change events keeps c old new h = at (client_at c old.desktop) refl h
     at None there h = stays h
     at (Some r) there h = unless (is_some r.peer.status || is_struck c old.struck) r there h
 
-same-target : (s t : Option Target) → is_same s t ≡ true → s ≡ t
+pub same-target : (s t : Option Target) → is_same s t ≡ true → s ≡ t
 same-target None None e = refl
 same-target None (Some t) e = absurd (differ e)
 same-target (Some s) None e = absurd (differ e)

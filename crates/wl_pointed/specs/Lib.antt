@@ -1,6 +1,9 @@
+pub mod Acting
 pub mod Apart
+pub mod ByRounds
 pub mod Entering
 pub mod Happenings
+pub mod Lives
 pub mod Marking
 pub mod Moved
 pub mod Pointed

@@ -13,11 +13,11 @@ use Rattle.wl_pointed.specs.Apart.{SettlesOn}
 use Rattle.wl_pointed.specs.Pointed.{pointed}
 use Rattle.wl_pointed.specs.Rounds.{AreRounds}
 
--- These rounds follow from a desktop, and then a settling after which nobody is to end.
-pub record AreAllRounds (start : Desktop) (rounds : List Desktop) (mid last : Midstep) : Type 0 where
+-- These rounds follow from the middle of a step, and then a settling after which nobody is to end.
+pub record AreAllRounds (start : Midstep) (rounds : List Desktop) (mid last : Midstep) : Type 0 where
   pub count : ℕ
   pub few : count < 33
-  pub each : AreRounds count (unstruck start) rounds mid
+  pub each : AreRounds count start rounds mid
   pub settles : Settles mid last
   pub over : last.struck ≡ []
 
@@ -35,7 +35,7 @@ MarksBoth raised d aside start rounds path =
 abbrev pub StepsByRounds : Type 0
 StepsByRounds =
     (left : LeftOut) (h : Happening) (p : Desktop → Pointer) (d : Desktop) (aside : List Desktop) (e : Desktop) (rounds : List Desktop)
-    (mid last : Midstep) → SettlesOn (λ a. pointed (p a) a) (Leads left h d) aside e → AreAllRounds (pointed (p e) e) rounds mid last
+    (mid last : Midstep) → SettlesOn (λ a. pointed (p a) a) (Leads left h d) aside e → AreAllRounds (unstruck (pointed (p e) e)) rounds mid last
     → (path : List Desktop) × Leads left h d path last.desktop × IsSettled last.desktop
     × ((raised : Option (ℕ × ℕ)) → AreDistinct (all_windows e) → AreDistinct (all_windows mid.desktop)
     → MarksBoth raised d aside (pointed (p e) e) rounds path)

@@ -2,13 +2,16 @@
 //! the ends that follow, round by round; and which wl_pointers clients have. Each function does nothing and promises one law.
 #![tactic(auto)]
 
+ghost use Rattle.wl_pointed.specs.Acting.{GoesAlong, MotionsAct, PressesAct, ReleasesAct};
 ghost use Rattle.wl_pointed.specs.Apart.{PointerApart, PointerApartThrough};
+ghost use Rattle.wl_pointed.specs.ByRounds.{ButtonsByRounds, ButtonsMayBeIdle, ButtonsRaise, MotionsByRounds};
 ghost use Rattle.wl_pointed.specs.Entering.{NewPointerApart, NewPointerApartThrough};
 ghost use Rattle.wl_pointed.specs.Happenings.{EndApart, EndedApart, EndsApart, FramesApart, QuietApart, QuietIsSettled};
 ghost use Rattle.wl_pointed.specs.Happenings.{SettlesOnHappens, TellsApart};
+ghost use Rattle.wl_pointed.specs.Lives.{FocusLives, HitLives};
 ghost use Rattle.wl_pointed.specs.Marking.{LastMarksNothing, MarksApart, MarksInParts, MarksOwnThenRounds, NewPointerMarks, RoundsMarkEnds};
 ghost use Rattle.wl_pointed.specs.Marking.{RoundsMarkInTurn, SettlingMarksNothing};
-ghost use Rattle.wl_pointed.specs.Moved.{MovedStandsOn};
+ghost use Rattle.wl_pointed.specs.Moved.{MovedStandsFirst, MovedStandsMid, MovedStandsOn};
 ghost use Rattle.wl_pointed.specs.Rounds.{ButtonsEnd, MotionsEnd, RoundsAreFew, RoundsSettle, SettledAtOnce, SettlesAtLast, SettlesIdly, StruckLive};
 ghost use Rattle.wl_pointed.specs.Seats.{EndedStay, NewPointerShowsNothing, PointersStay, RoundsEndClients};
 ghost use Rattle.wl_pointed.specs.Whole.{StepsByRounds};
@@ -72,6 +75,16 @@ pub fn settles_on_happens()
 /// A toplevel that is moved with the pointer stands, whatever happens.
 pub fn moved_stands_on()
     ensures { MovedStandsOn }
+{}
+
+/// So it does in the middle of a step.
+pub fn moved_stands_mid()
+    ensures { MovedStandsMid }
+{}
+
+/// So it does where the pointer has another place, or a button is pressed or released.
+pub fn moved_stands_first()
+    ensures { MovedStandsFirst }
 {}
 
 // ---- the parts of a settling
@@ -175,6 +188,60 @@ pub fn new_pointer_marks()
 /// A step with the pointer put aside, and then the rounds that follow with the pointer put back, are the step; and it marks what those mark.
 pub fn steps_by_rounds()
     ensures { StepsByRounds }
+{}
+
+/// So are a motion and a button, and they mark what their own change marks, and what the ends of the rounds mark.
+pub fn motions_by_rounds()
+    ensures { MotionsByRounds }
+{}
+
+/// The same of a press that counts, and of a release that does.
+pub fn buttons_by_rounds()
+    ensures { ButtonsByRounds }
+{}
+
+/// A press or a release that doesn't count does nothing and marks nothing.
+pub fn buttons_may_be_idle()
+    ensures { ButtonsMayBeIdle }
+{}
+
+/// A press that counts raised the toplevel that holds the hit, where that wasn't topmost.
+pub fn buttons_raise()
+    ensures { ButtonsRaise }
+{}
+
+// ---- what the pointer does
+
+/// As the pointer goes to a point, the toplevel that it moves goes along, and nothing else is done.
+pub fn goes_along()
+    ensures { GoesAlong }
+{}
+
+/// After a motion the pointer is at its point, and its focus is settled.
+pub fn motions_act()
+    ensures { MotionsAct }
+{}
+
+/// Where nobody holds a grab, a press raises the toplevel that holds the hit and is told to the focus, and nothing else is done.
+pub fn presses_act()
+    ensures { PressesAct }
+{}
+
+/// A release is told to the focus, and nothing else is done.
+pub fn releases_act()
+    ensures { ReleasesAct }
+{}
+
+// ---- who lives
+
+/// Where the focus is settled, the client that has it lives.
+pub fn focus_lives()
+    ensures { FocusLives }
+{}
+
+/// The client whose window the pointer hits lives, and the toplevel of that window stands.
+pub fn hit_lives()
+    ensures { HitLives }
 {}
 
 // ---- the seats of clients

@@ -1,7 +1,7 @@
 -- The windows of the output from bottom to top, and what becomes of those of one tree (xdg-shell.xml, xdg_surface; wayland.xml,
 -- wl_subsurface).
 use Rattle.std.specs.Prelude.{ℕ, suc, ◌-◌, ◌≡◌, ◌==◌, ◌&&◌, not, if◌then◌else◌, List, [], ◌∷◌, ◌++◌}
-use Rattle.std.specs.Prelude.{Bool, true, false, drop, filter, length, map, take}
+use Rattle.std.specs.Prelude.{Bool, true, false, drop, filter, length, map, min, take}
 use Rattle.std.specs.List.{list_all, list_any}
 use Rattle.wl_windows.specs.declared.window.TreeWindow.{TreeWindow}
 use Rattle.wl_stacked.specs.declared.stacked.Stacked.{Stacked}
@@ -26,6 +26,10 @@ raised client root all = without_tree client root all ++ tree_of client root all
 
 abbrev pub without_client : ℕ → List Stacked → List Stacked
 without_client client all = filter (λ s. not (s.client == client)) all
+
+-- how many windows more fit where so many are kept, and both capacities have to hold them
+abbrev pub room_for : ℕ → ℕ → ℕ → ℕ
+room_for count capacity spare = min capacity spare - count
 
 -- The windows, and how many more fit without memory.
 pub record WindowsKept : Type 0 where

@@ -119,3 +119,39 @@ pub(crate) fn raise_in(all: &mut [Stacked], client: u32, root: SurfaceNo)
     };
     put_above(all, run.start, run.count);
 }
+
+/// Other windows of the tree of a root are written over those from `start` on.
+fn write_over(
+    all: &mut [Stacked],
+    start: usize,
+    client: u32,
+    root: SurfaceNo,
+    windows: &[TreeWindow],
+)
+    requires { start + length windows.now ≤ length all.old }
+    ensures len { length all.new ≡ length all.old }
+    ensures written { all.new ≡ take start all.old ++ (map (stacked client root) windows.now ++ drop (start + length windows.now) all.old) }
+{
+    for (k, window) in windows.iter().enumerate() {
+        all[start + k] = Stacked {
+            client,
+            root,
+            window: *window,
+        };
+    }
+}
+
+/// The windows of the tree of a root are these now, one by one in the place of those that stood there. Nothing changes where it hadn't as many.
+pub(crate) fn move_in(all: &mut [Stacked], client: u32, root: SurfaceNo, windows: &[TreeWindow])
+    requires { AreTogether all.old }
+    ensures len { length all.new ≡ length all.old }
+    ensures together { AreTogether all.new }
+    ensures moved { length windows.now ≡ length (tree_of client root all.old) → all.new ≡ replaced client root windows.now all.old }
+{
+    let Some(run) = run_of(all, client, root) else {
+        return;
+    };
+    if windows.len() == run.count {
+        write_over(all, run.start, client, root, windows);
+    }
+}

@@ -29,6 +29,28 @@ pub(crate) fn is_of_client(stacked: &Stacked, client: u32) -> bool
     stacked.client == client
 }
 
+/// There is room for so many windows more, both where they are kept and where those of a tree are told.
+///
+/// # Errors
+///
+/// An `Err` is for want of memory, and changes no window.
+pub(crate) fn reserve_both<A: Allocator>(
+    all: &mut Vec<Stacked, A>,
+    spare: &mut Vec<TreeWindow, A>,
+    count: usize,
+) -> Result<(), AllocError>
+    ensures items { all.new.items ≡ all.old.items }
+    ensures capacity { vec_capacity all.old ≤ vec_capacity all.new }
+    ensures spare { vec_capacity spare.old ≤ vec_capacity spare.new }
+    ensures ok { OnOk result (vec_len all.old + count ≤ vec_capacity all.new) }
+    ensures ok_spare { OnOk result (vec_len all.old + count ≤ vec_capacity spare.new) }
+    ensures succeeds { vec_len all.old + count ≤ vec_capacity all.old → vec_len all.old + count ≤ vec_capacity spare.old → IsOk result }
+{
+    all.try_reserve(count)?;
+    spare.clear();
+    spare.try_reserve(all.len() + count)
+}
+
 /// The windows of the tree of a root come on top of the others.
 ///
 /// # Errors

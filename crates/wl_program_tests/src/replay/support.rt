@@ -1,6 +1,7 @@
 //! What the tests share.
 
 ghost use Rattle.std.specs.Prelude.{◌≡◌, ◌++◌, true};
+ghost use Rattle.wl_session.specs.Frame.{is_side};
 
 use std::alloc::{Allocator, Global};
 use std::io::{BufRead, Write};
@@ -155,7 +156,10 @@ fn played_on(
     alloc: Global,
     config: Config,
     recording: &[u8],
-) -> (Result<Summary, ReplayError>, Vec<u8>) {
+) -> (Result<Summary, ReplayError>, Vec<u8>)
+    requires width { is_side config.width ≡ true }
+    requires height { is_side config.height ≡ true }
+{
     let mut reader = recording;
     let mut written = Vec::new(alloc);
     let mut none = None::<Vec<u8>>;
@@ -171,13 +175,10 @@ fn played_on(
 }
 
 /// Whether lines behind those of a beginning are played to their end, and this is reported of them.
-fn is_reported(
-    alloc: Global,
-    config: Config,
-    beginning: &[u8],
-    lines: &[u8],
-    report: &[u8],
-) -> bool {
+fn is_reported(alloc: Global, config: Config, beginning: &[u8], lines: &[u8], report: &[u8]) -> bool
+    requires width { is_side config.width ≡ true }
+    requires height { is_side config.height ≡ true }
+{
     let (_, before) = played_on(alloc, config, beginning);
     let mut recording = Vec::new(alloc);
     if recording.extend_from_slice(beginning).is_err()
@@ -198,7 +199,10 @@ pub(crate) fn first_missed(
     config: Config,
     beginning: &[u8],
     rows: &[(&[u8], &[u8])],
-) -> Option<usize> {
+) -> Option<usize>
+    requires width { is_side config.width ≡ true }
+    requires height { is_side config.height ≡ true }
+{
     for (place, &(lines, report)) in rows.iter().enumerate() {
         if !is_reported(alloc, config, beginning, lines, report) {
             return Some(place);

@@ -9,8 +9,10 @@ pub invariant_of-self : goal.invariant_of-self
 invariant_of-self g c =
     let whole : take c.self.inside.windows.len (c.raise_in.new.all ++ drop (length c.raise_in.new.all) c.self.inside.windows.items) ≡ raised c.args.client c.args.root c.self.inside.windows.items =
     take_at c.raise_in.new.all (drop (length c.raise_in.new.all) c.self.inside.windows.items) c.self.inside.windows.len (c.raise_in.ensures.len ∙ c.deref_mut.ensures.len)
-    ∙ (c.raise_in.ensures.raised ∙ ap (λ (xs : List Stacked). raised c.args.client c.args.root xs) c.deref_mut.ensures.value) in
-    subst (λ (xs : List Stacked). AreTogether xs) (sym whole) (together-raised c.args.client c.args.root c.self.inside.windows.items c.self.invariant)
+    ∙ (c.raise_in.ensures.raised ∙ ap (λ (xs : List Stacked). raised c.args.client c.args.root xs) c.deref_mut.ensures.value) in (
+      subst (λ (xs : List Stacked). AreTogether xs) (sym whole) (together-raised c.args.client c.args.root c.self.inside.windows.items c.self.invariant.0),
+      c.self.invariant.1,
+    )
 
 pub returns-clause-windows : goal.returns-clause-windows
 returns-clause-windows g c =

@@ -1,4 +1,4 @@
-use Rattle.std.proofs.Common.{rules, ◌≡◌, List, ap, subst, sym, ◌∙◌}
+use Rattle.std.proofs.Common.{rules, ◌≡◌, List, ap, arith, subst, sym, ◌∙◌}
 use Rattle.std.specs.Prelude.{not}
 use Rattle.std.proofs.lemmas.Fn.{filter_same}
 use Rattle.wl_stacked.specs.declared.stacked.Stacked.{Stacked}
@@ -9,8 +9,10 @@ use Rattle.wl_stacked.proofs.windows.StackedWindows.remove.Goals as goal
 pub invariant_of-self : goal.invariant_of-self
 invariant_of-self g c =
     let same : c.retain.new.self.items ≡ without_tree c.args.client c.args.root c.self.inside.windows.items =
-    filter_same _ (λ (s : Stacked). not (is_of c.args.client c.args.root s)) _ (λ x b f' k. search rules) _ _ c.retain.ensures.filtered in
-    subst (λ (xs : List Stacked). AreTogether xs) (sym same) (together-filter (λ (s : Stacked). not (is_of c.args.client c.args.root s)) c.self.inside.windows.items c.self.invariant)
+    filter_same _ (λ (s : Stacked). not (is_of c.args.client c.args.root s)) _ (λ x b f' k. search rules) _ _ c.retain.ensures.filtered in (
+      subst (λ (xs : List Stacked). AreTogether xs) (sym same) (together-filter (λ (s : Stacked). not (is_of c.args.client c.args.root s)) c.self.inside.windows.items c.self.invariant.0),
+      omega (arith, c.retain.ensures.bound, c.retain.ensures.capacity, c.self.invariant.1),
+    )
 
 pub returns-clause-windows : goal.returns-clause-windows
 returns-clause-windows g c =

@@ -1,0 +1,63 @@
+-- What is kept of the windows of the output goes on standing for those of the desktop where a toplevel comes to another place.
+use Rattle.std.specs.Prelude.{ℕ, ◌≡◌, true, List, [], ◌∷◌, Some, length, map}
+use Rattle.std.specs.List.{list_any}
+use Rattle.wl_peer.specs.Objects.{ById}
+use Rattle.wl_surface.specs.Surfaces.{Surfaces}
+use Rattle.wl_stacking.specs.Stacking.{Owned, Standing, is_of as is_standing, moved_to, windows_on}
+use Rattle.wl_stacking.specs.Windows.{Owner, Place, Window, tree}
+use Rattle.wl_stacked.specs.declared.stacked.Stacked.{Stacked}
+use Rattle.wl_stacked.specs.Stacked.{replaced, tree_of}
+use Rattle.wl_lending.specs.Stacked.{AreNumberedBy, AreNumberedOnce, AreStacked, told_by}
+use Rattle.wl_lending.specs.StackedLaws.{stands_once}
+
+-- ---- the windows of a tree
+
+-- the same window, wherever it stands
+abbrev pub IsMoved : Window → Window → Type 0
+IsMoved v w = w ≡ record v { corner = w.corner }
+
+-- the same windows one by one, wherever they stand
+abbrev pub AreMoved : List Window → List Window → Type 0
+AreMoved [] [] = Unit {0}
+AreMoved (v ∷ vs) (w ∷ ws) = IsMoved v w × AreMoved vs ws
+AreMoved [] (w ∷ ws) = ⊥
+AreMoved (v ∷ vs) [] = ⊥
+
+-- Wherever a tree is placed, it has the same windows but for where they stand.
+abbrev pub TreesAreMoved : Type 0
+TreesAreMoved =
+    (levels : ℕ) (owner : Owner) (all : Surfaces) (surface : ℕ) (p q : Place)
+    → AreMoved (tree levels owner all surface p) (tree levels owner all surface q)
+
+-- It has as many of them.
+abbrev pub MovedTreesAreAsLong : Type 0
+MovedTreesAreAsLong =
+    (levels : ℕ) (owner : Owner) (all : Surfaces) (surface : ℕ) (p q : Place)
+    → length (tree levels owner all surface p) ≡ length (tree levels owner all surface q)
+
+-- ---- a toplevel that comes to another place
+
+-- the windows of the tree of a client's surface, where that is placed there
+abbrev pub tree_at : (ℕ → Owned) → ℕ → ℕ → Place → List Window
+tree_at owned client surface place =
+    tree 17 (record { client = client; root = surface; toplevel = surface }) (owned client).surfaces surface place
+
+-- As many windows are kept of the tree of a toplevel that stands as it has, wherever it is placed.
+abbrev pub KeptTreeIsAsLong : Type 0
+KeptTreeIsAsLong =
+    (numbers : ℕ → ById ℕ) (all : List Stacked) (owned : ℕ → Owned) (standing : List Standing) (client surface k : ℕ) (place : Place)
+    → AreStacked numbers all (windows_on owned standing) → stands_once client surface standing ≡ true
+    → list_any (is_standing client surface) standing ≡ true
+    → numbers client surface ≡ Some k → AreNumberedOnce (numbers client)
+    → length (tree_at owned client surface place) ≡ length (tree_of client k all)
+
+-- Where a toplevel comes to another place, and its windows with it, what is kept stands for the windows again.
+abbrev pub StackedMoved : Type 0
+StackedMoved =
+    (numbers : ℕ → ById ℕ) (all : List Stacked) (owned : ℕ → Owned) (standing : List Standing) (client surface k : ℕ) (f : ℕ → ℕ)
+    (place : Place)
+    → AreStacked numbers all (windows_on owned standing) → stands_once client surface standing ≡ true
+    → numbers client surface ≡ Some k → AreNumberedOnce (numbers client)
+    → AreNumberedBy (numbers client) f (tree_at owned client surface place)
+    → AreStacked numbers (replaced client k (map (told_by f) (tree_at owned client surface place)) all)
+    (windows_on owned (moved_to client surface place standing))
