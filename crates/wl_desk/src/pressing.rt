@@ -48,6 +48,7 @@ impl<A: Allocator + Copy> Desk<A> {
         }
         let toplevel = self.toplevel_hit();
         let serial = self.hold_serial();
+        // No client holds a grab: there are no popups.
         let actions = self.pointer.press(time, button, toplevel, None);
         self.pointer.begin_hold(serial);
         self.raise(toplevel);
