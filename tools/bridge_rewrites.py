@@ -175,8 +175,8 @@ REWRITINGS = (
         "wl_seat.capabilities",
         "event",
         "takes the pointer off the capabilities",
-        "the server's pointer has no buttons yet, and there are no popups, which toolkits ask for where it rests (tooltips)",
-        "as for a client that nobody points at; one that asks for a pointer all the same is told of motions as the server tells them, without wl_pointer.frame",
+        "there are no popups yet, which toolkits ask for where the pointer rests (tooltips) or is pressed (menus), and which would end them",
+        "as for a client that nobody points at; one that asks for a pointer all the same is told of motions and buttons as the server tells them, without wl_pointer.frame",
         hide_capabilities,
     ),
     Rewriting(
