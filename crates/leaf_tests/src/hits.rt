@@ -36,7 +36,7 @@ impl<'a, A: Allocator> Surfaced for Only<'a, A> {
 fn window(client: u32, surface: usize, x: i32, y: i32) -> Stacked {
     Stacked {
         client,
-        root: 0,
+        toplevel: 0,
         window: TreeWindow {
             surface,
             root: 0,

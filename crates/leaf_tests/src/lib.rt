@@ -23,6 +23,8 @@ mod linked;
 #[cfg(test)]
 mod painting;
 #[cfg(test)]
+mod places;
+#[cfg(test)]
 mod pointer;
 #[cfg(test)]
 mod popups;

@@ -36,6 +36,8 @@ enum Row {
     /// Whether a grab is allowed by its serial and the other clients.
     Grabs(SurfaceNo, bool, Result<bool, ShellError>),
     Dismisses(SurfaceNo, Option<SurfaceNo>),
+    Orphans(SurfaceNo),
+    EndsToplevel(SurfaceNo),
     Destroys(SurfaceNo, Result<(), ShellError>),
     HasChild(SurfaceNo, bool),
     IsAfter(u64, Option<SurfaceNo>),
@@ -104,6 +106,14 @@ fn is_met<A: Allocator>(shell: &mut Shell<A>, row: &Row) -> bool {
         Row::Acknowledges(surface, serial, wanted) => shell.ack(surface, serial) == wanted,
         Row::Grabs(surface, is_allowed, wanted) => shell.grab(surface, is_allowed) == wanted,
         Row::Dismisses(surface, wanted) => shell.dismiss(surface) == wanted,
+        Row::Orphans(surface) => {
+            shell.orphan(surface);
+            true
+        }
+        Row::EndsToplevel(surface) => {
+            shell.destroy_toplevel(surface);
+            true
+        }
         Row::Destroys(surface, wanted) => shell.destroy_popup(surface) == wanted,
         _ => is_seen(shell, row),
     }
@@ -226,11 +236,49 @@ const GRABS: &[Row] = &[
     Row::Grabs(1, true, Ok(true)),
 ];
 
+// The toplevel goes: all are dismissed, and 2 and 4 lose their parent, and 3 doesn't.
+const TOPLEVEL_GONE: &[Row] = &[
+    Row::GetsPopup(2, Some(1), 5, true, false, Ok(())),
+    Row::GetsPopup(3, Some(2), 6, true, false, Ok(())),
+    Row::GetsPopup(4, Some(1), 7, true, false, Ok(())),
+    Row::Grabs(2, true, Ok(true)),
+    Row::Dismisses(1, Some(4)),
+    Row::Dismisses(1, Some(3)),
+    Row::Dismisses(1, Some(2)),
+    Row::Dismisses(1, None),
+    Row::IsPopup(2, true, false, None),
+    Row::Orphans(9),
+    Row::HasChild(1, true),
+    Row::Orphans(1),
+    Row::HasChild(1, false),
+    Row::HasChild(2, true),
+    Row::EndsToplevel(1),
+    Row::Destroys(2, Err(ShellError::NotTheTopmostPopup)),
+    Row::Destroys(3, Ok(())),
+    Row::Destroys(2, Ok(())),
+    Row::Destroys(4, Ok(())),
+];
+
+// 4 is the oldest and the surfaces 2 and 3 are on it, one on the other: it goes by their creation, not by the surfaces. What was dismissed
+// before isn't answered again.
+const DISMISSED_BY_AGE: &[Row] = &[
+    Row::GetsPopup(4, Some(1), 5, true, false, Ok(())),
+    Row::GetsPopup(2, Some(4), 6, true, false, Ok(())),
+    Row::GetsPopup(3, Some(2), 7, true, false, Ok(())),
+    Row::Dismisses(3, Some(3)),
+    Row::Dismisses(4, Some(2)),
+    Row::Dismisses(4, Some(4)),
+    Row::Dismisses(4, None),
+    Row::Dismisses(1, None),
+];
+
 const CASES: &[(&str, &[Row])] = &[
     ("a popup from its making on", FROM_ITS_MAKING_ON),
     ("what is refused", REFUSED),
     ("the newest are dismissed first", DISMISSED),
     ("grabs", GRABS),
+    ("the end of a toplevel", TOPLEVEL_GONE),
+    ("dismissed by age", DISMISSED_BY_AGE),
 ];
 
 // The surfaces 1 to 4 have xdg_surfaces, and 1 has a toplevel.

@@ -1,11 +1,11 @@
 //! Each request that is served, where it is accepted: its client lives on, and is told what the protocol says (wayland.xml and xdg-shell.xml).
 
-use crate::begun::{
+use crate::registry::GLOBALS as ANNOUNCED;
+use session_rows::begun::{
     ACKNOWLEDGES, ATTACH_10, BUFFER_10, BUFFERS, COMMIT, CONFIGURED, CONFIGURES, GLOBALS, GREEN,
     MADE, MAPS,
 };
-use crate::registry::GLOBALS as ANNOUNCED;
-use crate::rows::{CLIENT, Fault, Message, Pixel, REGISTRY, Row, play, play_after};
+use session_rows::rows::{CLIENT, Fault, Message, Pixel, REGISTRY, Row, play, play_after};
 use std::alloc::Global;
 use wl_session::Fed;
 use wl_wire::Arg;

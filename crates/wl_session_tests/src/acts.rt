@@ -1,7 +1,7 @@
 //! Sessions of clients with windows, as lists of acts: what clients do, what they are told, and what is shown. The same list is taken by the calls of a
 //! session, as steps of a run, and as the stream of one of its clients.
 
-use crate::rows::{Message, bytes_of};
+use session_rows::rows::{Message, bytes_of};
 use std::alloc::Global;
 use wl_session::{Config, Rgb, Step};
 use wl_wire::put;

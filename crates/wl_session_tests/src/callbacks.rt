@@ -1,7 +1,7 @@
 //! wl_surface.frame: after a frame a client is told that those of its callbacks are done whose requests a commit applied.
 
-use crate::begun::{ATTACH_NONE, COMMIT, MAPS, RED_10, missed_after_buffers};
-use crate::rows::{Case, Message, Pixel, Row};
+use session_rows::begun::{ATTACH_NONE, COMMIT, MAPS, RED_10, missed_after_buffers};
+use session_rows::rows::{Case, Message, Pixel, Row};
 use wl_session::{Cause, Done, Fed, Step};
 use wl_wire::Arg;
 

@@ -1,10 +1,10 @@
 //! Frames of windows: what they show, and which points are painted again.
 
-use crate::begun::{
+use session_rows::begun::{
     ACKNOWLEDGES, ATTACH_NONE, BUFFERS, COMMIT, CONFIGURED, CONFIGURES, GLOBALS, GREEN, MADE, MAPS,
     RED, RED_10, missed_after_buffers,
 };
-use crate::rows::{
+use session_rows::rows::{
     Case, Fault, Message, Pixel, REGISTRY, Row, bytes_of, first_missed_case, is_pixel, play_after,
 };
 use std::alloc::Global;

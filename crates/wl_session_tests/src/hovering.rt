@@ -1,8 +1,8 @@
 //! The pointer over a window (wayland.xml, wl_pointer): what its client is told; and who can't be told that it is entered ends, and its window
 //! goes.
 
-use crate::begun::{MAPS, RED_10, missed_after_buffers};
-use crate::rows::{Case, Message, Pixel, Row};
+use session_rows::begun::{MAPS, RED_10, missed_after_buffers};
+use session_rows::rows::{Case, Message, Pixel, Row};
 use wl_session::{Cause, Done, Fed, Step};
 use wl_wire::{Arg, Fixed};
 

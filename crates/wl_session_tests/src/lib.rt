@@ -9,8 +9,6 @@ mod acting;
 #[cfg(test)]
 mod acts;
 #[cfg(test)]
-mod begun;
-#[cfg(test)]
 mod broken;
 #[cfg(test)]
 mod callbacks;
@@ -24,6 +22,8 @@ mod frames;
 mod hovering;
 #[cfg(test)]
 mod memory;
+#[cfg(test)]
+mod menus;
 #[cfg(test)]
 mod painter;
 #[cfg(test)]
@@ -48,8 +48,6 @@ mod registry;
 mod releases;
 #[cfg(test)]
 mod requests;
-#[cfg(test)]
-mod rows;
 #[cfg(test)]
 mod subsurfaces;
 #[cfg(test)]

@@ -1,6 +1,6 @@
 //! Each allocation of a session refused in turn. The heap refuses every allocation after its last.
 
-use crate::rows::{Message, SYNC, bytes_of};
+use session_rows::rows::{Message, SYNC, bytes_of};
 use std::alloc::{Allocator, Global};
 use test_support::Refusing;
 use wl_session::{Cause, Config, ConnectError, Fed, FrameError, Rgb, RunError, Session, Step};

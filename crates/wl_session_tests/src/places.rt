@@ -1,8 +1,8 @@
 //! Windows far away, and what a client spoils that draws into what it shows.
 
-use crate::begun::{COMMIT, MAPS, RED, RED_10, missed_after_buffers};
 use crate::frames::{GREEN_SQUARE, NINE_RED, SECOND, SHOWS_BLACK};
-use crate::rows::{Case, Message, Pixel, Row, Span};
+use session_rows::begun::{COMMIT, MAPS, RED, RED_10, missed_after_buffers};
+use session_rows::rows::{Case, Message, Pixel, Row, Span};
 use wl_wire::Arg;
 
 /// wl_surface.attach of the buffer 11 as far to the right as can be said, and of the buffer 10 as far to the left as a place goes.

@@ -1,7 +1,7 @@
 //! Pools, buffers and the stores behind them.
 
-use crate::begun::{BUFFER_10, BUFFER_11, BUFFERS, POOL_12800, SHM};
-use crate::rows::{Case, Fault, Message, REGISTRY, Row, first_missed_case};
+use session_rows::begun::{BUFFER_10, BUFFER_11, BUFFERS, POOL_12800, SHM};
+use session_rows::rows::{Case, Fault, Message, REGISTRY, Row, first_missed_case};
 use std::alloc::Global;
 use wl_session::{Cause, Done, Fed, Step, Stored};
 use wl_wire::Arg;

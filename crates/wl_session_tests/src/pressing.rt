@@ -1,10 +1,12 @@
 //! Buttons of the pointer over windows (wayland.xml, wl_pointer.button, and xdg-shell.xml, xdg_toplevel.move): what a client is told, which window
 //! is raised, and how one is moved.
 
-use crate::begun::{ATTACH_NONE, COMMIT, CONFIGURED, GREEN, MAPS, RED_10, missed_after_buffers};
 use crate::frames::{CHANGES_NINE, GREEN_SQUARE, NINE_RED, SECOND, SHOWS_BLACK, SHOWS_THREE_RED};
 use crate::hovering::{COMES, ENTERED, SEATED};
-use crate::rows::{Case, Message, Pixel, Row};
+use session_rows::begun::{
+    ATTACH_NONE, COMMIT, CONFIGURED, GREEN, MAPS, RED_10, missed_after_buffers,
+};
+use session_rows::rows::{Case, Message, Pixel, Row};
 use wl_session::{Cause, Done, Fed, Step};
 use wl_wire::{Arg, Fixed};
 

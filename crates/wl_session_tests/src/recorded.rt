@@ -1,9 +1,9 @@
 //! Worked sessions as acts: two clients whose windows overlap, one with a subsurface, and one whose buffer two surfaces show.
 
 use crate::acts::{Act, Layer};
-use crate::begun::{ATTACH_10, BUFFER_10, BUFFER_11, COMMIT, CONFIGURED, POOL_12800};
 use crate::registry::GLOBALS;
-use crate::rows::Message;
+use session_rows::begun::{ATTACH_10, BUFFER_10, BUFFER_11, COMMIT, CONFIGURED, POOL_12800};
+use session_rows::rows::Message;
 use wl_wire::Arg;
 
 /// The registry 2, the wl_compositor 3, the wl_shm 4, the xdg_wm_base 5, and the toplevel 8 of the surface 6, which was configured.
@@ -263,7 +263,7 @@ const HOLDS_20: &[Message] = &[
 const COMMITS: &[Message] = &[COMMIT];
 
 /// The window of the client 1 in grey, and the subsurface in it with its first and its last point.
-const PARENT: Layer = Layer {
+pub(crate) const PARENT: Layer = Layer {
     client: 1,
     x: 0,
     y: 0,

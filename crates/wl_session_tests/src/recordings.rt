@@ -1,6 +1,6 @@
 //! Worked recordings, with the answers that the protocol asks for.
 
-use crate::rows::{CLIENT, CONFIG, Case, Row, SYNC, first_missed_case, has_out};
+use session_rows::rows::{CLIENT, CONFIG, Case, Row, SYNC, first_missed_case, has_out};
 use std::alloc::Global;
 use wl_session::{Cause, Config, ConnectError, Done, Fed, FrameError, Rgb, Session, Shot, Step};
 

@@ -5,6 +5,7 @@ use crate::acts::{
     Act, Layer, OUTPUT, Part, Places, Plan, Planned, is_painted, place_of, plan_of, step_of,
     steps_of,
 };
+use crate::menus::MENU;
 use crate::recorded::{SHOWN_TWICE, SUBSURFACE, TWO_WINDOWS};
 use std::alloc::{Allocator, Global};
 use test_support::Refusing;
@@ -302,6 +303,15 @@ fn a_subsurface_without_memory(rt: HostRuntime) {
 }
 
 #[test]
+fn a_popup_without_memory(rt: HostRuntime) {
+    let Some((all, alone)) = tallies_of(rt.alloc(), MENU) else {
+        panic!(rt; "something happened that may not")
+    };
+    assert!(rt; all.none > 30 && all.one > 0, "{all:?}");
+    assert!(rt; alone.none > 30 && alone.one > 0, "{alone:?}");
+}
+
+#[test]
 fn a_buffer_shown_twice_without_memory(rt: HostRuntime) {
     let Some((all, alone)) = tallies_of(rt.alloc(), SHOWN_TWICE) else {
         panic!(rt; "something happened that may not")
@@ -504,6 +514,14 @@ fn a_run_of_two_windows_stops_where_memory_is_refused(rt: HostRuntime) {
 #[test]
 fn a_run_with_a_subsurface_stops_where_memory_is_refused(rt: HostRuntime) {
     let Some((all, alone)) = all_stops_of(rt.alloc(), SUBSURFACE) else {
+        panic!(rt; "something happened that may not")
+    };
+    assert!(rt; all.at_tick > 10 && alone.at_tick > 5, "{all:?} {alone:?}");
+}
+
+#[test]
+fn a_run_with_a_popup_stops_where_memory_is_refused(rt: HostRuntime) {
+    let Some((all, alone)) = all_stops_of(rt.alloc(), MENU) else {
         panic!(rt; "something happened that may not")
     };
     assert!(rt; all.at_tick > 10 && alone.at_tick > 5, "{all:?} {alone:?}");

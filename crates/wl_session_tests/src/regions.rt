@@ -1,7 +1,7 @@
 //! Regions.
 
-use crate::begun::SHM;
-use crate::rows::{Case, Message, REGISTRY, Row, first_missed_case};
+use session_rows::begun::SHM;
+use session_rows::rows::{Case, Message, REGISTRY, Row, first_missed_case};
 use wl_wire::Arg;
 
 const RECT: &[Arg] = &[Arg::Int(0), Arg::Int(0), Arg::Int(4), Arg::Int(4)];

@@ -1,6 +1,6 @@
 //! The registry, binds, and the order in which messages are refused.
 
-use crate::rows::{
+use session_rows::rows::{
     CLIENT, Case, Fault, INVALID_OBJECT, Message, REGISTRY, Row, SYNC, first_missed_case,
     first_missed_row, play,
 };
@@ -154,19 +154,21 @@ const KEYBOARD: &[Row] = &[
     Row::ErrorTold(7, 0, b"missing_capability"),
 ];
 
-/// The xdg_positioner 9, and the xdg_surface 11 of the wl_surface 10.
-const POSITIONER: &[Row] = &[
+/// The xdg_popup 15 of the surface 10, on the toplevel 14, by the xdg_positioner 9.
+const POPUP: &[Row] = &[
     Row::Sends(Message(8, 1, &[Arg::NewId(9)])),
+    Row::Sends(Message(9, 1, &[Arg::Int(1), Arg::Int(1)])),
+    Row::Sends(Message(9, 2, &[Arg::Int(0), Arg::Int(0), Arg::Int(1), Arg::Int(1)])),
     Row::Sends(Message(3, 0, &[Arg::NewId(10)])),
     Row::Sends(Message(8, 2, &[Arg::NewId(11), Arg::Object(10)])),
+    Row::Sends(Message(3, 0, &[Arg::NewId(12)])),
+    Row::Sends(Message(8, 2, &[Arg::NewId(13), Arg::Object(12)])),
+    Row::Sends(Message(13, 1, &[Arg::NewId(14)])),
+    Row::Sends(Message(11, 2, &[Arg::NewId(15), Arg::Object(13), Arg::Object(9)])),
 ];
 
-/// xdg_surface.get_popup.
-const NOT_SERVED: &[Row] = &[Row::Errs(
-    Message(11, 2, &[Arg::NewId(12), Arg::Object(0), Arg::Object(9)]),
-    1,
-    3,
-)];
+/// xdg_popup.grab.
+const NOT_SERVED: &[Row] = &[Row::Errs(Message(15, 1, &[Arg::Object(7), Arg::Uint(1)]), 1, 3)];
 
 /// The wl_surface 9 becomes a subsurface of 10.
 const SUBSURFACE: &[Row] = &[
@@ -410,7 +412,7 @@ const ROWS: &[(Case, &[Row])] = &[
     (
         (
             "what is not served is refused as a limit",
-            &[REGISTRY, ALL_GLOBALS, POSITIONER],
+            &[REGISTRY, ALL_GLOBALS, POPUP],
         ),
         NOT_SERVED,
     ),

@@ -1,7 +1,7 @@
 //! wl_buffer.release: a buffer that no surface shows any more is told, while its wl_buffer is there.
 
-use crate::begun::{ATTACH_NONE, BUFFERS, COMMIT, CONFIGURES, GLOBALS, missed_after_map};
-use crate::rows::{Case, Message, Pixel, REGISTRY, Row, play};
+use session_rows::begun::{ATTACH_NONE, BUFFERS, COMMIT, CONFIGURES, GLOBALS, missed_after_map};
+use session_rows::rows::{Case, Message, Pixel, REGISTRY, Row, play};
 use wl_session::{Cause, Done, Fed, Step};
 use wl_wire::Arg;
 

@@ -1,7 +1,7 @@
 //! Subsurfaces: when what they commit is shown, where they stand, and how deep they go.
 
-use crate::begun::{COMMIT, GLOBALS, GREEN, RED, missed_after_map};
-use crate::rows::{Case, Fault, Message, Pixel, REGISTRY, Row, first_missed_case};
+use session_rows::begun::{COMMIT, GLOBALS, GREEN, RED, missed_after_map};
+use session_rows::rows::{Case, Fault, Message, Pixel, REGISTRY, Row, first_missed_case};
 use std::alloc::Global;
 use wl_session::Fed;
 use wl_wire::Arg;

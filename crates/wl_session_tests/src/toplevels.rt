@@ -1,10 +1,12 @@
 //! Surfaces and toplevels: what is told of them, their errors, and how long their buffers keep stores.
 
-use crate::begun::{
+use session_rows::begun::{
     ACKNOWLEDGES, ATTACH_10, ATTACH_NONE, BUFFER_10, BUFFERS, COMMIT, CONFIGURED, CONFIGURES,
     GLOBALS, MADE, missed_after_map,
 };
-use crate::rows::{Case, Fault, Message, REGISTRY, Row, first_missed_case, first_missed_row};
+use session_rows::rows::{
+    Case, Fault, Message, REGISTRY, Row, first_missed_case, first_missed_row,
+};
 use std::alloc::Global;
 use wl_session::{Done, Fed, Step, Stored};
 use wl_wire::Arg;

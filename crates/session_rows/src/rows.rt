@@ -4,7 +4,7 @@ use std::alloc::Global;
 use wl_session::{Cause, Config, Done, Fed, Rgb, Session, Step, Stored};
 use wl_wire::{Arg, put};
 
-pub(crate) const CONFIG: Config = Config {
+pub const CONFIG: Config = Config {
     width: 64,
     height: 48,
     background: Rgb { r: 0, g: 0, b: 0 },
@@ -12,22 +12,22 @@ pub(crate) const CONFIG: Config = Config {
 
 /// A message: the object that it is to or from, its opcode and its arguments.
 #[derive(Clone, Copy)]
-pub(crate) struct Message<'a>(pub u32, pub u16, pub &'a [Arg<'a>]);
+pub struct Message<'a>(pub u32, pub u16, pub &'a [Arg<'a>]);
 
 /// A pixel of a frame: its column, its row, and its colour as red, green and blue.
 #[derive(Clone, Copy)]
-pub(crate) struct Pixel(pub usize, pub usize, pub u8, pub u8, pub u8);
+pub struct Pixel(pub usize, pub usize, pub u8, pub u8, pub u8);
 
 /// From which column and row to before which.
 #[derive(Clone, Copy)]
-pub(crate) struct Span {
+pub struct Span {
     pub from: usize,
     pub past: usize,
 }
 
 /// Something that is done in a session, or how the session is, with what is wanted of it.
 #[derive(Clone, Copy)]
-pub(crate) enum Row<'a> {
+pub enum Row<'a> {
     /// A step, made by its own call, and its answer.
     Calls(Step<'a>, Done),
     /// A step, made by `step`, and its answer.
@@ -92,31 +92,31 @@ pub(crate) enum Row<'a> {
 
 /// What wasn't as wanted.
 #[derive(Clone, Copy, Debug, PartialEq, Eq)]
-pub(crate) enum Fault {
+pub enum Fault {
     NoSession,
     /// A row, by its part and its place there.
     Row(usize, usize),
 }
 
 /// A client connects as the first.
-pub(crate) const CLIENT: &[Row] = &[Row::Calls(Step::Connect, Done::Connect(Ok(1)))];
+pub const CLIENT: &[Row] = &[Row::Calls(Step::Connect, Done::Connect(Ok(1)))];
 
 /// A client with the registry 2, whose globals were sent.
-pub(crate) const REGISTRY: &[Row] = &[
+pub const REGISTRY: &[Row] = &[
     Row::Calls(Step::Connect, Done::Connect(Ok(1))),
     Row::Sends(Message(1, 1, &[Arg::NewId(2)])),
     Row::Takes,
 ];
 
 /// How a client is after wl_display.error of wl_display with invalid_object.
-pub(crate) const INVALID_OBJECT: Fed = Fed::Ended(Cause::Protocol { object: 1, code: 0 });
+pub const INVALID_OBJECT: Fed = Fed::Ended(Cause::Protocol { object: 1, code: 0 });
 
 fn protocol(object: u32, code: u32) -> Fed {
     Fed::Ended(Cause::Protocol { object, code })
 }
 
 /// The bytes of messages. None where there is no memory for them.
-pub(crate) fn bytes_of(alloc: Global, messages: &[Message]) -> Option<Vec<u8, Global>> {
+pub fn bytes_of(alloc: Global, messages: &[Message]) -> Option<Vec<u8, Global>> {
     let mut bytes = Vec::new(alloc);
     for &Message(object, opcode, args) in messages {
         match put(&mut bytes, object, opcode, args) {
@@ -203,7 +203,7 @@ fn fill(session: &mut Session<Global>, place: &Place, count: u32, pixel: &[u8]) 
 }
 
 /// Whether a pixel of an image that is so wide is as wanted.
-pub(crate) fn is_pixel(bytes: &[u8], width: usize, pixel: &Pixel) -> bool {
+pub fn is_pixel(bytes: &[u8], width: usize, pixel: &Pixel) -> bool {
     let &Pixel(x, y, red, green, blue) = pixel;
     let at = y.saturating_mul(width).saturating_add(x).saturating_mul(4);
     match bytes.get(at..) {
@@ -259,7 +259,7 @@ fn spoil(
     }
 }
 
-pub(crate) fn has_out(session: &Session<Global>, client: u32, bytes: &[u8]) -> bool {
+pub fn has_out(session: &Session<Global>, client: u32, bytes: &[u8]) -> bool {
     match session.out(client) {
         Some(out) => out == bytes,
         None => false,
@@ -327,7 +327,7 @@ fn drip(session: &mut Session<Global>, piece: &[u8]) -> bool {
 }
 
 /// wl_display.sync with the new callback 2.
-pub(crate) const SYNC: &[u8] = &[1, 0, 0, 0, 0, 0, 12, 0, 2, 0, 0, 0];
+pub const SYNC: &[u8] = &[1, 0, 0, 0, 0, 0, 12, 0, 2, 0, 0, 0];
 
 fn sync(session: &mut Session<Global>, count: u32) -> bool {
     for _ in 0..count {
@@ -479,7 +479,7 @@ fn first_missed(alloc: Global, session: &mut Session<Global>, rows: &[Row]) -> O
 }
 
 /// Plays the parts of a case in a session.
-pub(crate) fn play_in(
+pub fn play_in(
     alloc: Global,
     session: &mut Session<Global>,
     parts: &[&[Row]],
@@ -493,14 +493,24 @@ pub(crate) fn play_in(
 }
 
 /// A case: its name, and the parts of rows that are played in turn in a session of its own.
-pub(crate) type Case<'a> = (&'a str, &'a [&'a [Row<'a>]]);
+pub type Case<'a> = (&'a str, &'a [&'a [Row<'a>]]);
 
-/// Plays the parts of a case after those that it shares with others.
-pub(crate) fn play_after(alloc: Global, first: &[&[Row]], parts: &[&[Row]]) -> Result<(), Fault> {
-    match Session::new(alloc, CONFIG) {
+/// Plays the parts of a case after those that it shares with others, on an output of this size.
+fn play_after_on(
+    alloc: Global,
+    config: &Config,
+    first: &[&[Row]],
+    parts: &[&[Row]],
+) -> Result<(), Fault> {
+    match Session::new(alloc, *config) {
         Ok(mut session) => play_both(alloc, &mut session, first, parts),
         Err(_) => Err(Fault::NoSession),
     }
+}
+
+/// Plays the parts of a case after those that it shares with others.
+pub fn play_after(alloc: Global, first: &[&[Row]], parts: &[&[Row]]) -> Result<(), Fault> {
+    play_after_on(alloc, &CONFIG, first, parts)
 }
 
 fn play_both(
@@ -514,7 +524,7 @@ fn play_both(
 }
 
 /// Plays the parts of a case.
-pub(crate) fn play(alloc: Global, parts: &[&[Row]]) -> Result<(), Fault> {
+pub fn play(alloc: Global, parts: &[&[Row]]) -> Result<(), Fault> {
     match Session::new(alloc, CONFIG) {
         Ok(mut session) => play_in(alloc, &mut session, parts),
         Err(_) => Err(Fault::NoSession),
@@ -544,11 +554,7 @@ fn play_row(alloc: Global, parts: &[&[Row]], row: &Row) -> Result<(), Fault> {
 }
 
 /// The first of the rows that isn't as wanted, each in a session of its own after these parts, and what wasn't.
-pub(crate) fn first_missed_row(
-    alloc: Global,
-    parts: &[&[Row]],
-    rows: &[Row],
-) -> Option<(usize, Fault)> {
+pub fn first_missed_row(alloc: Global, parts: &[&[Row]], rows: &[Row]) -> Option<(usize, Fault)> {
     for (place, row) in rows.iter().enumerate() {
         if let Err(fault) = play_row(alloc, parts, row) {
             return Some((place, fault));
@@ -557,16 +563,27 @@ pub(crate) fn first_missed_row(
     None
 }
 
-/// The first of the cases that isn't as wanted, each in a session of its own after the parts that they share, and what wasn't.
-pub(crate) fn first_missed_case(
+/// The first of the cases that isn't as wanted, each in a session of its own of an output of this size, which is 64 pixels wide, after the parts
+/// that they share, and what wasn't.
+pub fn first_missed_case_on(
     alloc: Global,
+    config: &Config,
     first: &[&[Row]],
     cases: &[Case],
 ) -> Option<(usize, Fault)> {
     for (place, &(_, parts)) in cases.iter().enumerate() {
-        if let Err(fault) = play_after(alloc, first, parts) {
+        if let Err(fault) = play_after_on(alloc, config, first, parts) {
             return Some((place, fault));
         }
     }
     None
+}
+
+/// The first of the cases that isn't as wanted, each in a session of its own after the parts that they share, and what wasn't.
+pub fn first_missed_case(
+    alloc: Global,
+    first: &[&[Row]],
+    cases: &[Case],
+) -> Option<(usize, Fault)> {
+    first_missed_case_on(alloc, &CONFIG, first, cases)
 }

@@ -6,14 +6,14 @@ use wl_session::Fed;
 use wl_wire::Arg;
 
 /// The wl_compositor 3 and the wl_shm 4, by the registry 2.
-pub(crate) const SHM: &[Row] = &[
+pub const SHM: &[Row] = &[
     Row::Binds(1, b"wl_compositor", 2, 3, Fed::Alive),
     Row::Binds(3, b"wl_shm", 1, 4, Fed::Alive),
     Row::Takes,
 ];
 
 /// The wl_compositor 3, the wl_shm 4 and the xdg_wm_base 5, by the registry 2.
-pub(crate) const GLOBALS: &[Row] = &[
+pub const GLOBALS: &[Row] = &[
     Row::Binds(1, b"wl_compositor", 2, 3, Fed::Alive),
     Row::Binds(3, b"wl_shm", 1, 4, Fed::Alive),
     Row::Binds(6, b"xdg_wm_base", 1, 5, Fed::Alive),
@@ -21,10 +21,10 @@ pub(crate) const GLOBALS: &[Row] = &[
 ];
 
 /// The pool 9 of so many bytes.
-pub(crate) const POOL_12800: Message = Message(4, 0, &[Arg::NewId(9), Arg::Int(12800)]);
+pub const POOL_12800: Message = Message(4, 0, &[Arg::NewId(9), Arg::Int(12800)]);
 
 /// The buffer 10 of the pool 9 at its start, and the buffer 11 behind it: 40 by 40 pixels with a stride of 160, of the format 1.
-pub(crate) const BUFFER_10: Message = Message(
+pub const BUFFER_10: Message = Message(
     9,
     0,
     &[
@@ -37,7 +37,7 @@ pub(crate) const BUFFER_10: Message = Message(
     ],
 );
 
-pub(crate) const BUFFER_11: Message = Message(
+pub const BUFFER_11: Message = Message(
     9,
     0,
     &[
@@ -51,56 +51,56 @@ pub(crate) const BUFFER_11: Message = Message(
 );
 
 /// The pool 9 of 12,800 bytes and its buffers 10 and 11.
-pub(crate) const BUFFERS: &[Row] = &[
+pub const BUFFERS: &[Row] = &[
     Row::Sends(POOL_12800),
     Row::Sends(BUFFER_10),
     Row::Sends(BUFFER_11),
 ];
 
 /// Pixels as a store has them: blue, green, red and alpha.
-pub(crate) const RED: &[u8] = &[0, 0, 255, 0];
+pub const RED: &[u8] = &[0, 0, 255, 0];
 
-pub(crate) const GREEN: &[u8] = &[0, 255, 0, 0];
+pub const GREEN: &[u8] = &[0, 255, 0, 0];
 
 /// The buffer 10 is all red before it is shown.
-pub(crate) const RED_10: &[Row] = &[Row::Fills(1, 1, 0, 1600, RED)];
+pub const RED_10: &[Row] = &[Row::Fills(1, 1, 0, 1600, RED)];
 
 /// The surface 6 with its xdg_surface 7 and its toplevel 8.
-pub(crate) const MADE: &[Row] = &[
+pub const MADE: &[Row] = &[
     Row::Sends(Message(3, 0, &[Arg::NewId(6)])),
     Row::Sends(Message(5, 2, &[Arg::NewId(7), Arg::Object(6)])),
     Row::Sends(Message(7, 1, &[Arg::NewId(8)])),
     Row::Waits(1, Some(&[])),
 ];
 
-pub(crate) const COMMIT: Message = Message(6, 6, &[]);
+pub const COMMIT: Message = Message(6, 6, &[]);
 
 /// xdg_toplevel.configure of the toplevel 8: of no size, and activated.
-pub(crate) const CONFIGURED: Message = Message(
+pub const CONFIGURED: Message = Message(
     8,
     0,
     &[Arg::Int(0), Arg::Int(0), Arg::Array(&[4, 0, 0, 0])],
 );
 
 /// Its first commit is answered with a configure.
-pub(crate) const CONFIGURES: &[Row] = &[
+pub const CONFIGURES: &[Row] = &[
     Row::Sends(COMMIT),
     Row::Told(&[CONFIGURED, Message(7, 0, &[Arg::Uint(1)])]),
     Row::Takes,
 ];
 
-pub(crate) const ACKNOWLEDGES: &[Row] = &[
+pub const ACKNOWLEDGES: &[Row] = &[
     Row::Sends(Message(7, 4, &[Arg::Uint(1)])),
     Row::Waits(1, Some(&[])),
 ];
 
 /// wl_surface.attach of a buffer, or of none for null.
-pub(crate) const ATTACH_10: Message = Message(6, 1, &[Arg::Object(10), Arg::Int(0), Arg::Int(0)]);
+pub const ATTACH_10: Message = Message(6, 1, &[Arg::Object(10), Arg::Int(0), Arg::Int(0)]);
 
-pub(crate) const ATTACH_NONE: Message = Message(6, 1, &[Arg::Object(0), Arg::Int(0), Arg::Int(0)]);
+pub const ATTACH_NONE: Message = Message(6, 1, &[Arg::Object(0), Arg::Int(0), Arg::Int(0)]);
 
 /// The buffer 10 is attached, all of it is damaged, and the toplevel is mapped.
-pub(crate) const MAPS: &[Row] = &[
+pub const MAPS: &[Row] = &[
     Row::Sends(ATTACH_10),
     Row::Sends(Message(
         6,
@@ -115,7 +115,7 @@ pub(crate) const MAPS: &[Row] = &[
 const BUFFERED: &[&[Row]] = &[REGISTRY, GLOBALS, MADE, CONFIGURES, ACKNOWLEDGES, BUFFERS];
 
 /// A toplevel that shows the buffer 10, with the buffer 11 beside it.
-const MAPPED: &[&[Row]] = &[
+pub const MAPPED: &[&[Row]] = &[
     REGISTRY,
     GLOBALS,
     MADE,
@@ -126,11 +126,11 @@ const MAPPED: &[&[Row]] = &[
 ];
 
 /// The first of the cases that isn't as wanted after the toplevel's configure was acknowledged and its buffers were made, and what wasn't.
-pub(crate) fn missed_after_buffers(alloc: Global, cases: &[Case]) -> Option<(usize, Fault)> {
+pub fn missed_after_buffers(alloc: Global, cases: &[Case]) -> Option<(usize, Fault)> {
     first_missed_case(alloc, BUFFERED, cases)
 }
 
 /// The first of the cases that isn't as wanted after the toplevel was mapped, and what wasn't.
-pub(crate) fn missed_after_map(alloc: Global, cases: &[Case]) -> Option<(usize, Fault)> {
+pub fn missed_after_map(alloc: Global, cases: &[Case]) -> Option<(usize, Fault)> {
     first_missed_case(alloc, MAPPED, cases)
 }
