@@ -8,7 +8,8 @@ program: one client with a window of the whole output that damages all of it, 8 
 argb8888 opaque by its pixels, by its region, half through and letting all through; 8 such windows on each other of which the topmost commits; one
 client with a window of 8 by 8 points; 8 and 32 clients with such windows; ticks for which nobody committed; ticks before each of which
 the last of 1, 8 or 32 clients with such windows went and came again; and a toplevel of 128 by 128 with 1, 16 and 255 subsurfaces of 8 by 8 points,
-beside each other or each the child of the one before, of which the last commits before each tick: at once, or held until its toplevel's commit. Each is played with few and with many ticks, one right after the other, and
+beside each other or each the child of the one before, of which the last commits before each tick: at once, or held until its toplevel's commit; and the
+same toplevel with 1 and 16 popups of 8 by 8 points, of which the last commits before each tick, or all move with the toplevel's window geometry. Each is played with few and with many ticks, one right after the other, and
 the difference is divided by the ticks between them, so that starting the program, making the image and mapping the windows aren't counted.
 
 Times are processor time, the program's own and the system's for it: the median of the rounds, with the least and the greatest. Pictures aren't
@@ -130,6 +131,28 @@ def tree(subsurfaces, chain, synchronised, ticks):
     return "\n".join(lines).encode() + b"\n"
 
 
+def menus(popups, moves, ticks):
+    """So many ticks of a toplevel of 128 by 128 points with popups of 8 by 8 on it. Before each tick the last of them commits all of it, or the
+    toplevel's window geometry moves to and fro by a pixel, and all of them with it."""
+    side, child = 128, 8
+    surfaces = [13 + 3 * number for number in range(popups)]
+    sent = [mapped(side, side), message(9, 0, 12, 0, child, child, 4 * side, XRGB8888), message(5, 1, 11)]
+    sent += [message(11, 1, child, child), message(11, 3, 5), message(11, 4, 8)]
+    for number, surface in enumerate(surfaces):
+        sent += [message(11, 2, child * (number % 16), child * (number // 16), 1, 1), message(3, 0, surface), message(5, 2, surface + 1, surface)]
+        sent += [message(surface + 1, 2, surface + 2, 7, 11), message(surface, 6), message(surface + 1, 4, 2 + number)]
+        sent += [message(surface, 1, 12, 0, 0), message(surface, 2, 0, 0, child, child), message(surface, 6)]
+    lines = ["connect"]
+    first = b"".join(sent)
+    lines += [f"bytes 1 {first[at : at + 4096].hex()}" for at in range(0, len(first), 4096)]
+    lines.append("tick 0")
+    commit = message(surfaces[-1], 1, 12, 0, 0) + message(surfaces[-1], 2, 0, 0, child, child) + message(surfaces[-1], 6)
+    for tick in range(ticks):
+        move = message(7, 3, 1 - tick % 2, 0, side, side) + message(6, 6)
+        lines += [f"bytes 1 {(move if moves else commit).hex()}", f"tick {tick + 1}"]
+    return "\n".join(lines).encode() + b"\n"
+
+
 def seconds(text, size, pictures=None):
     """The processor time of a run."""
     words = [PROGRAM, "replay", "--size", "x".join(map(str, size)), *(["--ppm", pictures] if pictures else [])]
@@ -190,6 +213,12 @@ class Bench:
                 how = f"{subsurfaces} {'chained ' * chain}subsurface{'s' * (subsurfaces > 1)}, the last commits, {'synchronised' if synchronised else 'desynchronised'}"
                 self.measure(how, self.small, lambda ticks: tree(subsurfaces, chain, synchronised, ticks))
 
+    def popups(self):
+        for popups in 1, 16:
+            for moves in False, True:
+                how = f"{popups} popup{'s' * (popups > 1)}, {'all move with their parent' if moves else 'the last commits'}"
+                self.measure(how, self.small, lambda ticks, popups=popups, moves=moves: menus(popups, moves, ticks))
+
     def pictures(self):
         """Frames as PPM, and the same bytes copied and written by one call a frame."""
         with tempfile.TemporaryDirectory(dir="/dev/shm") as room:
@@ -217,6 +246,7 @@ def main():
     bench.whole_frames()
     bench.small_frames()
     bench.trees()
+    bench.popups()
     bench.pictures()
 
 

@@ -36,7 +36,7 @@ CAUSES = {
     ("xdg_popup", "invalid_grab"): "xdg_popup.grab",
 }
 # Requests that the server doesn't serve yet: it refuses them as passing a limit.
-UNSERVED = ("xdg_surface.get_popup",)
+UNSERVED = ("xdg_popup.grab",)
 MAX_CLIENT_ID = 0xFEFFFFFF
 
 

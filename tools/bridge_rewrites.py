@@ -13,8 +13,8 @@ from wayland_wire import message, spell
 
 # The versions that clients are shown, where the server offers an earlier one.
 SHOWN = {"wl_compositor": 4, "wl_output": 3, "wl_seat": 7, "xdg_wm_base": 2}
-# What a seat can do by the server's word and not yet by its deeds: its pointer has no buttons, and there are no popups. Once there are, this is 0, and a row is wanted
-# for wl_pointer.frame, which a seat of version 5 and later owes behind what belongs together.
+# What a seat can do by the server's word and not yet by its deeds: no popup takes a grab. Once one does, this is 0, and a row is wanted for wl_pointer.frame, which a
+# seat of version 5 and later owes behind what belongs together.
 HIDDEN_CAPABILITIES = INTERFACES["wl_seat"].enums["capability"].values["pointer"]
 # A global of the bridge's own, with a name that no server gives.
 OWN_GLOBAL, OWN_NAME, OWN_VERSION = "wl_data_device_manager", 0xFFFF0000, 3
@@ -175,7 +175,7 @@ REWRITINGS = (
         "wl_seat.capabilities",
         "event",
         "takes the pointer off the capabilities",
-        "there are no popups yet, which toolkits ask for where the pointer rests (tooltips) or is pressed (menus), and which would end them",
+        "no popup takes a grab yet, which toolkits ask for where a press opens a menu, and which would end them",
         "as for a client that nobody points at; one that asks for a pointer all the same is told of motions and buttons as the server tells them, without wl_pointer.frame",
         hide_capabilities,
     ),
