@@ -3,4 +3,5 @@ pub mod Naming
 pub mod Numbers
 pub mod Shown
 pub mod Told
+pub mod Toplevels
 pub mod Turned

@@ -15,7 +15,7 @@ use Rattle.wl_plain.specs.Step.{with_peer}
 use Rattle.wl_invariants.specs.TreeMarksLaws.{AreUndamaged, among}
 use Rattle.wl_invariants.specs.TreeStepsLaws.{IsRootOf}
 use Rattle.wl_repaint.specs.Laws.{ChangesOneTree}
-use Rattle.wl_plain.specs.LeftOut.{served_now}
+use Rattle.wl_plain.specs.LeftOut.{popups_left_out}
 use Rattle.wl_invariants.specs.Simple.{changed_simply, stacked_simply}
 use Rattle.wl_changes.specs.Trees.{touched_by, windows_at}
 
@@ -52,7 +52,7 @@ pub record IsDone (c : ℕ) (demand : Demand) (r : Resident) (d e : Desktop) : T
 
 -- the message at the front of what came is whole, and demands this
 abbrev pub IsDemanded : Split → Resident → Demand → Type 0
-IsDemanded (Whole object opcode size) r demand = judge_all served_now r object opcode (take (size - 8) (drop 8 r.peer.rest)) ≡ Ok demand
+IsDemanded (Whole object opcode size) r demand = judge_all popups_left_out r object opcode (take (size - 8) (drop 8 r.peer.rest)) ≡ Ok demand
 IsDemanded Bad r demand = ⊥
 IsDemanded More r demand = ⊥
 

@@ -13,7 +13,7 @@ use Rattle.wl_named.specs.Renaming.{IsRenaming, has_surface}
 use Rattle.wl_repaint.specs.Repaint.{marks}
 use Rattle.wl_changes.specs.RenamedMarks.{AreNamedApart, IsAppliedByName}
 use Rattle.wl_changes.specs.RenamedWindows.{told_by}
-use Rattle.wl_plain.specs.LeftOut.{served_now}
+use Rattle.wl_plain.specs.LeftOut.{popups_left_out}
 use Rattle.wl_changes.specs.Changes.{ChangesAt, ChangesTree, IsDone, MessageChanges, StaysPainted}
 use Rattle.wl_changes.specs.Trees.{HasTrees, touched_by}
 
@@ -27,7 +27,7 @@ OneTreeChanges =
 -- So does a message of a client that lives on: by what it demands, the windows of one tree change, or none.
 abbrev pub MessagesChangeOneTree : Type 0
 MessagesChangeOneTree =
-    (c : ℕ) (r : Resident) (d e : Desktop) → HasTrees d → HasTrees e → client_at c d ≡ Some r → Serves served_now c d e
+    (c : ℕ) (r : Resident) (d e : Desktop) → HasTrees d → HasTrees e → client_at c d ≡ Some r → Serves popups_left_out c d e
     → status_in c e ≡ None → MessageChanges c r d e
 
 -- A demand that touches a surface makes no new one.

@@ -13,7 +13,7 @@ use Rattle.wl_plain.specs.Demand.{Demand}
 use Rattle.wl_plain.specs.Demanding.{judge_all}
 use Rattle.wl_plain.specs.Desktop.{Desktop, Resident, owned_in, status_in}
 use Rattle.wl_plain.specs.Happens.{wants_memory}
-use Rattle.wl_plain.specs.LeftOut.{served_now}
+use Rattle.wl_plain.specs.LeftOut.{popups_left_out}
 use Rattle.wl_plain.specs.Step.{with_peer}
 use Rattle.wl_invariants.specs.Simple.{Becomes, DoesSimply, stacked_simply}
 use Rattle.wl_changes.specs.Changes.{IsDemanded, IsDone}
@@ -32,7 +32,7 @@ AnswersAs false (Err refusal) c r d new = Becomes (Errs refusal r.peer) c r d ne
 -- the first message of what has come is taken so
 abbrev pub TakesAs : Bool → Split → ℕ → Resident → Desktop → Desktop → Type 0
 TakesAs b (Whole object opcode size) c r d new =
-    AnswersAs b (judge_all served_now r object opcode (take (size - 8) (drop 8 r.peer.rest))) c
+    AnswersAs b (judge_all popups_left_out r object opcode (take (size - 8) (drop 8 r.peer.rest))) c
     (with_peer (with_rest (drop size r.peer.rest) r.peer) r) d new
 TakesAs true Bad c r d new = ⊥
 TakesAs false Bad c r d new = Becomes (Errs (display_error InvalidMethod) r.peer) c r d new

@@ -9,7 +9,7 @@ use Rattle.wl_plain.specs.Act.{Leave}
 use Rattle.wl_plain.specs.Desktop.{Desktop, Resident, client_at, status_in}
 use Rattle.wl_plain.specs.Framing.{FramesToldAt}
 use Rattle.wl_plain.specs.Happens.{Happens, Serves}
-use Rattle.wl_plain.specs.LeftOut.{served_now}
+use Rattle.wl_plain.specs.LeftOut.{popups_left_out}
 use Rattle.wl_plain.specs.Marks.{in_output}
 use Rattle.wl_plain.specs.Moments.{marks_at_least, marks_at_least_through, marks_at_most, marks_at_most_through}
 use Rattle.wl_plain.specs.Settling.{EndsAndSettles, becomes, unstruck}
@@ -32,14 +32,14 @@ OrderlyHasTrees = (d : Desktop) → Orderly d → MappedStand d → HasTrees d
 abbrev pub MessagesLeadSo : Type 0
 MessagesLeadSo =
     (b : Bool) (c : ℕ) (r : Resident) (d e : Desktop) → Orderly d → MappedStand d → client_at c d ≡ Some r → r.peer.status ≡ None
-    → TakesAs b (split_of r.peer.rest) c r d e → (path : List Desktop) × ServesThrough served_now c d path e × RouteBy b c r d path e
+    → TakesAs b (split_of r.peer.rest) c r d e → (path : List Desktop) × ServesThrough popups_left_out c d path e × RouteBy b c r d path e
 
 -- ---- a client that ends
 
 -- By a message of its own: it was told an error, or not all that it was to be told was queued, or there was no memory.
 abbrev pub EndedIsGone : Type 0
 EndedIsGone =
-    (c : ℕ) (r : Resident) (d e : Desktop) → Orderly d → client_at c d ≡ Some r → Serves served_now c d e
+    (c : ℕ) (r : Resident) (d e : Desktop) → Orderly d → client_at c d ≡ Some r → Serves popups_left_out c d e
     → is_some (status_in c e) ≡ true → IsGone c d e
 
 -- By itself, as where there is no memory for what it sent.
@@ -55,7 +55,7 @@ UntoldIsGone =
 
 -- As it leaves, whether it was there and lived, or not.
 abbrev pub LeftIsGone : Type 0
-LeftIsGone = (c : ℕ) (done : Done) (d e : Desktop) → Orderly d → Happens served_now (Leave c) done d e → IsGone c d e
+LeftIsGone = (c : ℕ) (done : Done) (d e : Desktop) → Orderly d → Happens popups_left_out (Leave c) done d e → IsGone c d e
 
 -- ---- the windows of a client that ended
 

@@ -63,8 +63,8 @@ use Rattle.wl_peer.specs.Buffers.{Buffer, Laid, buffer_asked}
 use Rattle.wl_peer.specs.Judgement.{Known, action_of, binds, buffer_destroyed, buffer_laid, display_action, is_free, pool_action, pool_created, pool_resized, region_action}
 use Rattle.wl_peer.specs.Judgement.{positioner_action, set_if_allowed}
 use Rattle.wl_peer.specs.Requests.{rect, request_of}
-use Rattle.wl_peer.specs.Objects.{Global, KeepsSurfaces, bound_interface, entry_at_version, globals, is_bound, is_of_surface, object_of, objects_in, of_surface}
-use Rattle.wl_client.specs.Serving.{ChangesTable, is_own}
+use Rattle.wl_peer.specs.Objects.{Global, bound_interface, entry_at_version, globals, is_bound, object_of, objects_in}
+use Rattle.wl_client.specs.Serving.{ChangesTable, KeepsSurfaces, is_of_surface, is_own, of_surface}
 use Rattle.wl_client.proofs.Peers.{differ}
 
 -- ---- what is held, or no longer

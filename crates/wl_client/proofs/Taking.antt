@@ -20,10 +20,10 @@ use Rattle.wl_client.specs.Agreement.{IsPeer, known_in}
 use Rattle.wl_client.specs.First.{IsRefused, passing}
 use Rattle.wl_peer.specs.Judgement.{Known, action_of, judge, judged_at}
 use Rattle.wl_peer.specs.Requests.{request_of}
-use Rattle.wl_peer.specs.Objects.{KeepsSurfaces, Object, object_of, objects_in, with_id}
+use Rattle.wl_peer.specs.Objects.{Object, object_of, objects_in, with_id}
 use Rattle.wl_client.specs.View.{ClientView}
 use Rattle.wl_peer.specs.Peer.{Acts, Errs, Peer, Queues, QueuesOr, changed, ended, has_room, known_of, queued, removed, with_rest}
-use Rattle.wl_client.specs.Serving.{ActsWith, AnswersWith, AreUsed, ChangesTable, IsOwnMessage, ServesWith, TakesWith}
+use Rattle.wl_client.specs.Serving.{ActsWith, AnswersWith, AreUsed, ChangesTable, IsOwnMessage, KeepsSurfaces, ServesWith, TakesWith}
 use Rattle.wl_peer.specs.Used.{has_used, keeps_store}
 use Rattle.wl_peer.specs.Told.{code_number, display_error, error_told, id_deleted}
 use Rattle.wl_client.proofs.Passing.{judged-passing, judged-refused}

@@ -6,12 +6,13 @@ use Rattle.wl_wire.specs.declared.header.Split.{Split}
 use Rattle.wl_wire.specs.declared.header.Split.TheVariants.{Message as Whole, More, Bad}
 use Rattle.wl_interface.specs.declared.interface.Interface.{Interface}
 use Rattle.wl_interface.specs.declared.interface.Interface.TheVariants.{WlDisplay, WlRegistry, WlRegion, WlShm, WlShmPool, WlBuffer}
-use Rattle.wl_interface.specs.declared.interface.Interface.TheVariants.{XdgPositioner}
+use Rattle.wl_interface.specs.declared.interface.Interface.TheVariants.{WlSurface, XdgPopup, XdgPositioner, XdgSurface, XdgToplevel}
 use Rattle.wl_proto.specs.Messages.{Message, request_message}
 use Rattle.wl_proto.specs.declared.request.Request.{Request}
 use Rattle.wl_wire.specs.Wire.{split_of}
 use Rattle.wl_surface.specs.Slots.{IsAny, Numbered, Slots, StandForAll, has_at}
 use Rattle.wl_table.specs.Objects.{Held, HoldsAt, entry_of}
+use Rattle.wl_table.specs.declared.entry.Entry.{Entry}
 use Rattle.wl_peer.specs.declared.actions.Action.{Action}
 use Rattle.wl_peer.specs.declared.actions.Action.TheVariants.{GetRegistry, Bind, CreateRegion, DestroyRegion, CreatePool, CreateBuffer}
 use Rattle.wl_peer.specs.declared.actions.Action.TheVariants.{DestroyPool, DestroyBuffer, CreatePositioner, DestroyPositioner}
@@ -43,6 +44,23 @@ is_own WlShmPool = true
 is_own WlBuffer = true
 is_own XdgPositioner = true
 is_own interface = false
+
+-- the interfaces whose objects name a surface: wl_surface, xdg_surface, and those of role objects
+abbrev pub is_of_surface : Interface → Bool
+is_of_surface WlSurface = true
+is_of_surface XdgSurface = true
+is_of_surface XdgToplevel = true
+is_of_surface XdgPopup = true
+is_of_surface interface = false
+
+-- what is held, where it is one of those objects
+abbrev pub of_surface : Option Entry → Option Entry
+of_surface None = None
+of_surface (Some entry) = if is_of_surface entry.interface then Some entry else None
+
+-- those are the same under each id
+abbrev pub KeepsSurfaces : Held → Held → Type 0
+KeepsSurfaces old new = (id : ℕ) → of_surface (entry_of new id) ≡ of_surface (entry_of old id)
 
 -- the numbers of the buffers that the surfaces use, which are kept so: pending, held or applied
 abbrev pub AreUsed : Slots → (ℕ → Bool) → Type 0

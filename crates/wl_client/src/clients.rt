@@ -360,6 +360,20 @@ impl<A: Allocator + Copy> Client<A> {
         self.buffers.get(&id)
     }
 
+    /// The values of the xdg_positioner with this id, if there is one.
+    pub fn positioner(&self, id: u32) -> Option<&Positioner>
+        ensures { option_copied result ≡ held_at self.now.positioners id }
+    {
+        self.positioners.get(&id)
+    }
+
+    /// How many requests the client made, up to the greatest number of 64 bits.
+    pub fn requests(&self) -> u64
+        ensures { result ≡ self.now.requests }
+    {
+        self.requests
+    }
+
     /// The serial that the next event with one has. It isn't drawn by that.
     pub fn serial(&self) -> u32
         ensures { result ≡ self.now.serial }
@@ -379,6 +393,11 @@ impl<A: Allocator + Copy> Client<A> {
         ensures { self.new ≡ record self.old { stores = released store self.old.stores } }
     {
         let _live = self.stores.let_go(store);
+    }
+
+    /// The allocator that it has its memory from.
+    pub fn allocator(&self) -> A {
+        self.alloc
     }
 
     /// Why the client ended, if it did.

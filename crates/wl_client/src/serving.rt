@@ -1,9 +1,8 @@
 //! One message at a time, of a client whose surfaces use some of its buffers.
 
 ghost use Rattle.std.specs.Prelude.{ℕ, Bool, ◌≡◌, ◌≤◌, ◌<◌, is_some, length, true, false, None};
-ghost use Rattle.wl_peer.specs.Objects.{KeepsSurfaces};
 ghost use Rattle.wl_peer.specs.Peer.{Errs, IsIdleAt, Peer, counted};
-ghost use Rattle.wl_client.specs.Serving.{ActsWith, AreUsed, ChangesTable, EndsSo, IsNext, IsOwnMessage, PassesTo, ServesWith, was_taken};
+ghost use Rattle.wl_client.specs.Serving.{ActsWith, AreUsed, ChangesTable, EndsSo, IsNext, IsOwnMessage, KeepsSurfaces, PassesTo, ServesWith, was_taken};
 
 use crate::clients::Client;
 use crate::first_message::First;

@@ -5,7 +5,8 @@ use Rattle.wl_plain.specs.Desktop.{Desktop}
 use Rattle.wl_plain.specs.Marks.{AreDistinct}
 use Rattle.wl_plain.specs.Moments.{marks_at_least}
 use Rattle.wl_plain.specs.Stacked.{all_windows}
-use Rattle.wl_changes.proofs.MessageWays.Trees.{all-distinct, orderly_has_trees}
+use Rattle.wl_laws.proofs.Soundness.Windows.{sound_is_distinct}
+use Rattle.wl_invariants.proofs.InOrder.Sound.{in_order_is_sound}
 use Rattle.wl_resident.specs.View.{DeskView}
 use Rattle.wl_clients.specs.Agreeing.{Agrees}
 use Rattle.wl_clients.specs.Feeding.{kept_at}
@@ -14,8 +15,8 @@ use Rattle.wl_clients.proofs.Still.{still-unmarked}
 
 -- no surface has two windows
 pub agrees-apart : (v : DeskView) (d : Desktop) → Agrees v d → AreDistinct (all_windows d)
-agrees-apart v d a = all-distinct d (orderly_has_trees d a.orderly a.matches.mapped)
+agrees-apart v d a = sound_is_distinct d (in_order_is_sound d a.ordered.in_order)
 
 -- where a piece is kept, nothing is marked
 pub kept-unmarked : (v : DeskView) (c : ℕ) (piece : List ℕ) (d : Desktop) → Agrees v d → (x y : ℕ) → marks_at_least d (kept_at c piece d) (pos x) (pos y) ≡ false
-kept-unmarked v c piece d a x y = still-unmarked d (kept_at c piece d) a.orderly a.matches.mapped (kept-still c piece d) (pos x) (pos y)
+kept-unmarked v c piece d a x y = still-unmarked d (kept_at c piece d) a.ordered (kept-still c piece d) (pos x) (pos y)

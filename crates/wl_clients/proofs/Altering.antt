@@ -1,5 +1,5 @@
 -- What a call of a desk that takes no message and shows no frame does to the plain desktop, and that it happens so.
-use Rattle.std.proofs.Common.{◌≡◌, ℕ, List, [], ◌∷◌, Bool, true, false, Option, Some, None, cond, refl, ap, sym, ◌∙◌}
+use Rattle.std.proofs.Common.{◌≡◌, ℕ, List, [], ◌∷◌, Bool, true, false, Option, Some, None, cond, refl, ap, subst, sym, ◌∙◌}
 use Rattle.std.specs.Prelude.{◌==◌, filter, is_none, is_some, not}
 use Rattle.wl_peer.specs.declared.cause.Cause.{Cause}
 use Rattle.wl_peer.specs.declared.cause.Cause.TheVariants.{Gone}
@@ -21,7 +21,8 @@ use Rattle.wl_laws.proofs.Runs.OneRun.{held}
 use Rattle.wl_laws.proofs.Runs.Places.{client-kept}
 use Rattle.wl_laws.proofs.Runs.Stays.{sent-status, stored-status}
 use Rattle.wl_invariants.proofs.KeptRecords.Toplevels.Serves.{becomes-same, settles-to}
-use Rattle.wl_invariants.specs.Orderly.{Orderly, OrderlyAt, OrderlyBy}
+use Rattle.wl_invariants.specs.InOrder.{InOrderAt, InOrderBy}
+use Rattle.wl_ordered.specs.Ordered.{Ordered}
 
 -- ---- what is done
 
@@ -60,12 +61,17 @@ none-taken c (s ∷ ss) none = at (s.client == c) none (none-taken c ss)
     at true none later = absurd (cc)
     at false none later = ap (λ ts. s ∷ ts) (later none)
 
-ended-owns : (s : Option Cause) (cause : Cause) (r : Resident) (standing : List Standing) → s ≡ Some cause → OrderlyBy s r standing → (r ≡ resident_of r.peer) × (standing ≡ [])
+ended-owns : (s : Option Cause) (cause : Cause) (r : Resident) (standing : List Standing) → s ≡ Some cause → InOrderBy s r standing → (r ≡ resident_of r.peer) × (standing ≡ [])
 ended-owns None cause r standing e owns = absurd (cc)
 ended-owns (Some other) cause r standing e owns = owns
 
+-- one that ended owns nothing, and none of its toplevels stands
+pub ended-bare : (d : Desktop) (c : ℕ) (r : Resident) (cause : Cause) → Ordered d → client_at c d ≡ Some r → r.peer.status ≡ Some cause → (r ≡ resident_of r.peer) × (toplevels_of c d ≡ [])
+ended-bare d c r cause ordered is over =
+    ended-owns r.peer.status cause r (toplevels_of c d) over (subst (λ (o : Option Resident). InOrderAt o (toplevels_of c d)) is (ordered.in_order.each c))
+
 -- what becomes of a client that has the status that it had
-module _ (c : ℕ) (r : Resident) (d : Desktop) (owns : OrderlyBy r.peer.status r (toplevels_of c d)) where
+module _ (c : ℕ) (r : Resident) (d : Desktop) (owns : InOrderBy r.peer.status r (toplevels_of c d)) where
   pub stays-by : (s : Option Cause) (x : Peer) → r.peer.status ≡ s → become_by s c r x d ≡ with_client c (Some (with_peer x r)) d
   stays-by None x e = refl
   stays-by (Some cause) x e =
@@ -91,7 +97,7 @@ Leaves R =
     (p : Peer) (done : Done) (q : Option Peer) → R p done q
     → ((x : Peer) → q ≡ Some x → x.status ≡ p.status) × (q ≡ None → (cause : Cause) × (p.status ≡ Some cause))
 
-pub changes-whole : (R : Peer → Done → Option Peer → Type 0) → Leaves R → (absent done : Done) (c : ℕ) (o : Option Resident) (d new : Desktop) → OrderlyAt o (toplevels_of c d)
+pub changes-whole : (R : Peer → Done → Option Peer → Type 0) → Leaves R → (absent done : Done) (c : ℕ) (o : Option Resident) (d new : Desktop) → InOrderAt o (toplevels_of c d)
     → ChangesAt R absent c o d done new → StepChangesAt R absent c o d done new
 unfolding Leaves
 changes-whole R leaves absent done c None d new owns h = h
@@ -131,7 +137,7 @@ leaves-over R leaves p done h = let gone = (leaves p done None h).1 refl in ap i
 so : Option Cause → Resident → Resident
 so s r = record r { peer = record r.peer { status = s } }
 
-left-so : (s : Option Cause) (c : ℕ) (r : Resident) (d new : Desktop) (done : Done) (q : Option Peer) → d.pointer ≡ first_pointer → OrderlyBy s (so s r) (toplevels_of c d)
+left-so : (s : Option Cause) (c : ℕ) (r : Resident) (d new : Desktop) (done : Done) (q : Option Peer) → d.pointer ≡ first_pointer → InOrderBy s (so s r) (toplevels_of c d)
     → client_at c d ≡ Some (so s r)
     → q ≡ Some (left_by s (so s r).peer) → done ≡ gave.Gone (is_none s) → new ≡ left_so c (so s r) q d → LeavesAt c (Some (so s r)) d done new
 unfolding so
@@ -144,7 +150,7 @@ left-so None c r d new done q still owns is e answer last =
     let gone : Peer = ended Gone (so None r).peer in
     (answer, settles-to (becomes c (so None r) gone d) (become c (so None r) gone d) new (becomes-same c (so None r) gone d still) (last ∙ ap (λ p. left_so c (so None r) p d) e) still)
 
-leaves-whole : (c : ℕ) (o : Option Resident) (d new : Desktop) (done : Done) → d.pointer ≡ first_pointer → client_at c d ≡ o → OrderlyAt o (toplevels_of c d)
+leaves-whole : (c : ℕ) (o : Option Resident) (d new : Desktop) (done : Done) → d.pointer ≡ first_pointer → client_at c d ≡ o → InOrderAt o (toplevels_of c d)
     → ChangesAt IsLeft (gave.Gone false) c o d done new → LeavesAt c o d done new
 unfolding so
 leaves-whole c None d new done still is owns h = h
@@ -152,15 +158,15 @@ leaves-whole c (Some r) d new done still is owns h = left-so r.peer.status c r d
 
 -- ---- a call
 
--- It happens to an orderly desktop.
-pub alters-whole : (act : Act) (d e : Desktop) (done : Done) → Orderly d → Alters act done d e → Happens served_now act done d e
-alters-whole Connect d e done orderly h = h
-alters-whole (Feed c piece) d e done orderly h = absurd h
-alters-whole (Store c store at bytes) d e done orderly h =
-    changes-whole (IsStored store at bytes) (stored-leaves store at bytes) _ done c (client_at c d) d e (orderly.each c) h
-alters-whole (Leave c) d e done orderly h = leaves-whole c (client_at c d) d e done orderly.pointer refl (orderly.each c) h
-alters-whole (Tick time) d e done orderly h = absurd h
-alters-whole (Send c n) d e done orderly h = changes-whole (IsSent n) (sent-leaves n) _ done c (client_at c d) d e (orderly.each c) h
-alters-whole (Close c) d e done orderly h = changes-whole IsClosed closed-leaves _ done c (client_at c d) d e (orderly.each c) h
-alters-whole (Motion time x y) d e done orderly h = absurd h
-alters-whole (Button time button pressed) d e done orderly h = absurd h
+-- It happens to a desktop on which what each client owns is in order.
+pub alters-whole : (act : Act) (d e : Desktop) (done : Done) → Ordered d → Alters act done d e → Happens served_now act done d e
+alters-whole Connect d e done ordered h = h
+alters-whole (Feed c piece) d e done ordered h = absurd h
+alters-whole (Store c store at bytes) d e done ordered h =
+    changes-whole (IsStored store at bytes) (stored-leaves store at bytes) _ done c (client_at c d) d e (ordered.in_order.each c) h
+alters-whole (Leave c) d e done ordered h = leaves-whole c (client_at c d) d e done ordered.in_order.pointer refl (ordered.in_order.each c) h
+alters-whole (Tick time) d e done ordered h = absurd h
+alters-whole (Send c n) d e done ordered h = changes-whole (IsSent n) (sent-leaves n) _ done c (client_at c d) d e (ordered.in_order.each c) h
+alters-whole (Close c) d e done ordered h = changes-whole IsClosed closed-leaves _ done c (client_at c d) d e (ordered.in_order.each c) h
+alters-whole (Motion time x y) d e done ordered h = absurd h
+alters-whole (Button time button pressed) d e done ordered h = absurd h

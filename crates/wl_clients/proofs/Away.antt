@@ -14,11 +14,11 @@ use Rattle.wl_plain.specs.Stacked.{all_windows}
 use Rattle.wl_laws.proofs.Lists.Standings.{any-gone}
 use Rattle.wl_laws.proofs.Marks.Stacks.{and-both, and-left, and-right, any-more, differ, equal-numbers, fields, or-left, or-right, unless}
 use Rattle.wl_invariants.specs.Touching.{has_window_at}
-use Rattle.wl_invariants.specs.Orderly.{Orderly, OrderlyAt}
-use Rattle.wl_invariants.proofs.OrderlyClients.Clients.{ended_own_nothing, orderly_has_no_popups}
-use Rattle.wl_changes.specs.Ways.{IsGone}
-use Rattle.wl_changes.proofs.MessageWays.Gone.{gone_windows}
-use Rattle.wl_clients.proofs.Altering.{none-taken}
+use Rattle.wl_invariants.specs.InOrder.{InOrderAt}
+use Rattle.wl_ordered.specs.Ordered.{Ordered}
+use Rattle.wl_ways.specs.Ways.{IsGone}
+use Rattle.wl_ways.proofs.MessageWays.Gone.{gone_windows}
+use Rattle.wl_clients.proofs.Altering.{ended-bare, none-taken}
 
 -- it isn't there, or has ended
 abbrev pub IsAway : ℕ → Desktop → Type 0
@@ -27,23 +27,23 @@ IsAway c d = (client_at c d ≡ None) ⊎ (is_some (status_in c d) ≡ true)
 -- ---- what it owns
 
 -- it owns nothing, and none of its toplevels stands
-away-owns : (c : ℕ) (d : Desktop) → Orderly d → IsAway c d → (owned_in d c ≡ nothing_owned) × (toplevels_of c d ≡ [])
-away-owns c d orderly (inl none) = (ap owned_of none, subst (λ o. OrderlyAt o (toplevels_of c d)) none (orderly.each c))
-away-owns c d orderly (inr over) = at (client_at c d) refl over
+away-owns : (c : ℕ) (d : Desktop) → Ordered d → IsAway c d → (owned_in d c ≡ nothing_owned) × (toplevels_of c d ≡ [])
+away-owns c d ordered (inl none) = (ap owned_of none, subst (λ o. InOrderAt o (toplevels_of c d)) none (ordered.in_order.each c))
+away-owns c d ordered (inr over) = at (client_at c d) refl over
   where
     by : (s : Option Cause) (r : Resident) → r.peer.status ≡ s → client_at c d ≡ Some r → is_some s ≡ true → (owned_in d c ≡ nothing_owned) × (toplevels_of c d ≡ [])
     by None r status is over = absurd (differ over)
     by (Some cause) r status is over =
-        let nothing = ended_own_nothing d c r cause orderly is status in
+        let nothing = ended-bare d c r cause ordered is status in
         (ap owned_of is ∙ ap (λ (x : Resident). x.owned) nothing.0, nothing.1)
 
     at : (o : Option Resident) → client_at c d ≡ o → is_some (status_of o) ≡ true → (owned_in d c ≡ nothing_owned) × (toplevels_of c d ≡ [])
     at None is over = absurd (differ over)
     at (Some r) is over = by r.peer.status r refl is over
 
-pub away-gone : (c : ℕ) (d : Desktop) → Orderly d → IsAway c d → IsGone c d d
-away-gone c d orderly away =
-    let nothing = away-owns c d orderly away in
+pub away-gone : (c : ℕ) (d : Desktop) → Ordered d → IsAway c d → IsGone c d d
+away-gone c d ordered away =
+    let nothing = away-owns c d ordered away in
     record { nothing = nothing.0; others = λ other differ. refl; standing = sym (none-taken c d.standing nothing.1); output = refl }
 
 -- ---- its windows
@@ -56,18 +56,18 @@ others-left p (x ∷ xs) none =
     ∙ ap (λ ys. x ∷ ys) (others-left p xs (or-right (p x) (list_any p xs) none))
 
 -- where it is gone, no window is of it
-pub gone-windowless : (c : ℕ) (d e : Desktop) → Orderly d → Orderly e → IsGone c d e → list_any (λ (w : Window). w.owner.client == c) (all_windows e) ≡ false
-gone-windowless c d e was orderly gone =
-    ap (λ ws. list_any (λ (w : Window). w.owner.client == c) ws) (gone_windows c d e (orderly_has_no_popups d was) (orderly_has_no_popups e orderly) gone)
+pub gone-windowless : (c : ℕ) (d e : Desktop) → IsGone c d e → list_any (λ (w : Window). w.owner.client == c) (all_windows e) ≡ false
+gone-windowless c d e gone =
+    ap (λ ws. list_any (λ (w : Window). w.owner.client == c) ws) (gone_windows c d e gone)
     ∙ any-gone (λ (w : Window). w.owner.client == c) (λ w. not (w.owner.client == c)) (λ w f. ap (λ b. not b) f) (all_windows d)
 
-pub away-windowless : (c : ℕ) (d : Desktop) → Orderly d → IsAway c d → list_any (λ (w : Window). w.owner.client == c) (all_windows d) ≡ false
-away-windowless c d orderly away = gone-windowless c d d orderly orderly (away-gone c d orderly away)
+pub away-windowless : (c : ℕ) (d : Desktop) → Ordered d → IsAway c d → list_any (λ (w : Window). w.owner.client == c) (all_windows d) ≡ false
+away-windowless c d ordered away = gone-windowless c d d (away-gone c d ordered away)
 
-pub away-nowhere : (c : ℕ) (d : Desktop) → Orderly d → IsAway c d → (x y : ℤ) → has_window_at c x y d ≡ false
-away-nowhere c d orderly away x y =
+pub away-nowhere : (c : ℕ) (d : Desktop) → Ordered d → IsAway c d → (x y : ℤ) → has_window_at c x y d ≡ false
+away-nowhere c d ordered away x y =
     unless (has_window_at c x y d)
-    (λ there. differ (sym (away-windowless c d orderly away)
+    (λ there. differ (sym (away-windowless c d ordered away)
     ∙ any-more (λ (w : Window). (w.owner.client == c) && contains w x y) (λ w. w.owner.client == c) (λ w f. and-left (w.owner.client == c) (contains w x y) f) (all_windows d) there))
 
 -- ---- what is marked where it had some
@@ -88,13 +88,13 @@ lost-changed c x y was is none there =
         (λ v same. equal-numbers v.owner.client c (sym (fields w v same).client ∙ eqb-true w.owner.client c its)) is kept))
 
 -- A point of the output at which a client had a window that is away afterwards is among what is marked at most.
-pub lost-most : (c : ℕ) (d e : Desktop) (x y : ℤ) → Orderly d → Orderly e → IsAway c e → in_output d.output.width d.output.height x y ≡ true
+pub lost-most : (c : ℕ) (d e : Desktop) (x y : ℤ) → Ordered e → IsAway c e → in_output d.output.width d.output.height x y ≡ true
     → has_window_at c x y d ≡ true → marks_at_most d e None x y ≡ true
-lost-most c d e x y was orderly away inside there =
+lost-most c d e x y ordered away inside there =
     or_left (marks_at_least d e x y) _
     (and-both (in_output d.output.width d.output.height x y) _ inside
     (or_left _ _ (or_left _ _
-    (lost-changed c x y (all_windows d) (all_windows e) (away-windowless c e orderly away) there))))
+    (lost-changed c x y (all_windows d) (all_windows e) (away-windowless c e ordered away) there))))
 
 -- each point of an output's sides is in it
 pub within-output : (width height x y : ℕ) → x < width → y < height → in_output width height (pos x) (pos y) ≡ true

@@ -18,9 +18,8 @@ use Rattle.wl_stacked.specs.declared.stacked.Stacked.{Stacked}
 use Rattle.wl_stacked.specs.Stacked.{without_client as without_client_of}
 use Rattle.wl_lending.specs.Stacked.{AreStacked}
 use Rattle.wl_lending.proofs.Standing.{stacked-client-gone}
-use Rattle.wl_plain.specs.Act.{Close, Connect, IsClosed, closed_by, lowest, next_of, peer_at, peer_of}
+use Rattle.wl_plain.specs.Act.{Close, IsClosed, closed_by, lowest, next_of, peer_at, peer_of}
 use Rattle.wl_plain.specs.Desktop.{Desktop, Resident, arrival, become, become_by, client_at, empty, place, status_of, with_client, with_number}
-use Rattle.wl_plain.specs.LeftOut.{served_now}
 use Rattle.wl_plain.specs.Stacked.{all_windows}
 use Rattle.wl_plain.specs.declared.answers.ConnectError.TheVariants.{Full, Memory}
 use Rattle.wl_plain.specs.declared.answers.Done.{Done}
@@ -29,8 +28,8 @@ use Rattle.wl_laws.proofs.Lists.Keys.{differ, some-same}
 use Rattle.wl_laws.proofs.Marks.Stacks.{or-left, or-right}
 use Rattle.wl_laws.proofs.Runs.Forms.{ConnectsAt}
 use Rattle.wl_laws.proofs.Runs.Places.{client-kept}
-use Rattle.wl_invariants.specs.Orderly.{Orderly}
-use Rattle.wl_invariants.proofs.MappedToplevels.Steps.{empty_is_mapped, mapped_stays}
+use Rattle.wl_ordered.specs.Ordered.{Ordered}
+use Rattle.wl_invariants.proofs.ShownSurfaces.Laws.{empty_is_shown}
 use Rattle.wl_requests.specs.declared.residents.Resident.{Resident as Kept}
 use Rattle.wl_resident.specs.Agreement.{Matches, IsPlace, IsScene, IsStack, numbers_in, numbers_of, with_numbers}
 use Rattle.wl_resident.specs.Seats.{IsBare, IsChangedSo, IsSeated, ended_by}
@@ -44,7 +43,7 @@ use Rattle.wl_clients.proofs.Altering.{Changes, ChangesAt, alters-whole, left_so
 use Rattle.wl_clients.proofs.Away.{away-windowless, others-left}
 use Rattle.wl_clients.proofs.Desktops.{agrees-put, at, at-map, map-length, scene-out, seated-back, seated-out, stacked-by, windows-out}
 use Rattle.wl_clients.proofs.Seats.{IsHere, client-here, client-put, clients-within, here-of, lowest-map, marked, owned-here, owned-put, view_of}
-use Rattle.wl_clients.proofs.Still.{closed-still, connects-still, still-windows}
+use Rattle.wl_clients.proofs.Still.{IsStill, closed-still, connects-still, still-stands, still-windows}
 
 -- a client ends by this, where it lives
 abbrev pub ended_of : ℕ → Cause → Option Resident → Desktop → Desktop
@@ -98,6 +97,7 @@ stacked-others c old new others (s ∷ ss) (w ∷ ws) none are =
     ap (λ (b : Bool). if b then new else others s.client) other ∙ sym (ap (λ (b : Bool). if b then old else others s.client) other) in (
       record {
         client = are.0.client;
+        toplevel = ap (λ (numbers : ById ℕ). numbers w.owner.toplevel) same ∙ are.0.toplevel;
         root = ap (λ (numbers : ById ℕ). numbers w.owner.root) same ∙ are.0.root;
         surface = ap (λ (numbers : ById ℕ). numbers w.surface) same ∙ are.0.surface;
         told = are.0.told;
@@ -160,7 +160,7 @@ module _ {A : Type 0} (output : Output) (rs : List (Option (Kept A))) (pile : Pi
       )
 
   -- the client ended: it goes, and its toplevels with their windows go with it
-  module _ (now : Pile) (over : is_some v.client.ended ≡ true) (orderly : Orderly d) where
+  module _ (now : Pile) (over : is_some v.client.ended ≡ true) (ordered : Ordered d) where
     abbrev after : Desktop
     after = record d { clients = with_number c None d.clients; standing = without_client c d.standing }
 
@@ -177,9 +177,10 @@ module _ {A : Type 0} (output : Output) (rs : List (Option (Kept A))) (pile : Pi
     closed standing next windows =
         let us = client_views rs in
         let s = out in
-        let happens = alters-whole (Close c) d after (gave.Close true) orderly closes in
-        let away = away-windowless c d orderly (inr (ap (λ (o : Option Resident). is_some (status_of o)) s.1 ∙ ended)) in
-        let shown : all_windows after ≡ all_windows d = still-windows d after (closed-still c (gave.Close true) d after orderly happens) in
+        let happens = alters-whole (Close c) d after (gave.Close true) ordered closes in
+        let away = away-windowless c d ordered (inr (ap (λ (o : Option Resident). is_some (status_of o)) s.1 ∙ ended)) in
+        let still : IsStill d after = closed-still c (gave.Close true) d after ordered happens in
+        let shown : all_windows after ≡ all_windows d = still-windows d after still in
         let numbers = numbers_of (Some v.client) in
         let scene = closed-scene c numbers (numbers_in us) d after pile.scene now.scene s.2.scene refl refl standing next in
         let kept = subst (λ (ws : List Window). AreStacked (with_numbers c nothing (numbers_in us)) now.windows ws) (sym shown)
@@ -190,7 +191,7 @@ module _ {A : Type 0} (output : Output) (rs : List (Option (Kept A))) (pile : Pi
               (client-put rs k None is.within) (owned-put rs k None is.within) refl (rw is.number refl) tt
               (subst (λ (n : ℕ). IsScene (with_numbers n nothing (numbers_in us)) now.scene after) is.number scene)
               (subst (λ (n : ℕ). AreStacked (with_numbers n nothing (numbers_in us)) now.windows (all_windows after)) is.number kept)
-              (mapped_stays served_now (λ request left. left) (Close c) (gave.Close true) d after tt orderly a.mapped happens),
+              (still-stands d after still a.mapped),
         )
 
 -- ---- nobody is there
@@ -279,7 +280,8 @@ Connects-new {A} output rs pile k new d found within is bare none agrees =
     let nobody : at us k ≡ None = at-map (λ (r : Kept A). r.client) rs k ∙ ap (λ (o : Option (Kept A)). option_map (λ (r : Kept A). r.client) o) (lowest-at rs k (sym found)) in
     let scene = scene-out k None us pile.scene d nobody a.scene in
     let windows = windows-out k None us pile.windows (all_windows d) nobody a.windows in
-    let shown : all_windows after ≡ all_windows d = still-windows d after (connects-still d after (gave.Connect (Ok (k + 1))) connects) in (
+    let still : IsStill d after = connects-still d after (gave.Connect (Ok (k + 1))) connects in
+    let shown : all_windows after ≡ all_windows d = still-windows d after still in (
       after,
       connects,
       agrees-put (view_of output rs pile) k (Some v) (Some (owned_view new)) (Some (arrival d.output)) (client_views (set rs k (Some new)))
@@ -294,7 +296,7 @@ Connects-new {A} output rs pile k new d found within is bare none agrees =
           (subst (λ (ws : List Window). AreStacked (with_numbers (suc k) (numbers_of (Some v)) (numbers_in us)) pile.windows ws) (sym shown)
           (stacked-by (with_numbers (suc k) nothing (numbers_in us)) (with_numbers (suc k) (numbers_of (Some v)) (numbers_in us)) pile.windows (all_windows d)
           (numbers-more (suc k) (numbers_of (Some v)) (numbers_in us)) windows))
-          (mapped_stays served_now (λ request left. left) Connect (gave.Connect (Ok (k + 1))) d after tt agrees.orderly a.mapped connects),
+          (still-stands d after still a.mapped),
     )
 
 -- ---- no client
@@ -321,7 +323,7 @@ Agrees-empty {A} output rs pile nobody scene windows =
           (at-map (λ (r : Kept A). owned_view r) rs k ∙ ap (λ (o : Option (Kept A)). option_map (λ (r : Kept A). owned_view r) o) (here k));
       scene = subst (λ (s : Stack). IsScene (numbers_in (client_views rs)) s (empty (output_of output))) (sym scene) (record { standing = tt; next = refl });
       windows = subst (λ (ss : List Stacked). AreStacked (numbers_in (client_views rs)) ss []) (sym windows) tt;
-      mapped = empty_is_mapped (output_of output);
+      mapped = empty_is_shown (output_of output);
     }
   where
     each : (k : ℕ) (x : Option ClientView) (o : Option OwnedView) → x ≡ None → o ≡ None → IsPlace x o (place (replicate 32 None) k)

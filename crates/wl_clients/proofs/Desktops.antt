@@ -13,7 +13,7 @@ use Rattle.wl_lending.specs.Stacked.{AreStacked}
 use Rattle.wl_resident.specs.Agreement.{Matches, IsPlace, IsScene, IsSeat, numbers_in, numbers_of, with_numbers}
 use Rattle.wl_plain.specs.Desktop.{Desktop, Resident, client_at, place, with_number, with_place}
 use Rattle.wl_resident.specs.Seats.{IsSeated}
-use Rattle.wl_invariants.specs.Standing.{MappedStand}
+use Rattle.wl_invariants.specs.Shown.{ShownStand}
 use Rattle.wl_plain.specs.Act.{lowest, next_of}
 use Rattle.wl_plain.specs.Stacked.{all_windows}
 use Rattle.wl_resident.specs.View.{DeskView, OwnedView, Pile, owned_view}
@@ -126,7 +126,8 @@ stacked-by numbers others (s ∷ ss) [] same are = absurd are
 stacked-by numbers others (s ∷ ss) (w ∷ ws) same are = (
   record {
     client = are.0.client;
-    root = same s.client w.owner.root s.root are.0.root;
+    toplevel = same s.client w.owner.toplevel s.toplevel are.0.toplevel;
+    root = same s.client w.owner.root s.window.root are.0.root;
     surface = same s.client w.surface s.window.surface are.0.surface;
     told = are.0.told;
   },
@@ -147,7 +148,7 @@ pub agrees-put : (w : DeskView) (k : ℕ) (x : Option ClientView) (o : Option Ow
     (d e : Desktop) → Matches w d → k < length w.clients
     → IsPut k x w.clients us → IsPut k o w.owned os → e.output ≡ d.output → e.clients ≡ with_number (suc k) r d.clients → IsPlace x o r
     → IsScene (with_numbers (suc k) (numbers_of x) (numbers_in w.clients)) pile.scene e
-    → AreStacked (with_numbers (suc k) (numbers_of x) (numbers_in w.clients)) pile.windows (all_windows e) → MappedStand e
+    → AreStacked (with_numbers (suc k) (numbers_of x) (numbers_in w.clients)) pile.windows (all_windows e) → ShownStand e
     → Matches (record { output = w.output; clients = us; owned = os; pile = pile }) e
 agrees-put w k x o r us os pile d e a within puts owns output clients is scene windows mapped =
     record {

@@ -31,11 +31,11 @@ use Rattle.wl_laws.proofs.Runs.Output.{settles-still, tells-still}
 use Rattle.wl_laws.proofs.Runs.Places.{number-other}
 use Rattle.wl_laws.proofs.Runs.Settled.{ShowsSame, closed-none, come-shows, has-settled, never-none, put-shows, same-windows, shows-itself, tells-so, windows_by}
 use Rattle.wl_laws.proofs.Soundness.Trees.{each-append, each-flat}
-use Rattle.wl_invariants.specs.Orderly.{Orderly}
-use Rattle.wl_invariants.proofs.OrderlyClients.Clients.{ended_own_nothing}
+use Rattle.wl_ordered.specs.Ordered.{Ordered}
 use Rattle.wl_invariants.proofs.TreeSteps.Owners.{tree-owned}
-use Rattle.wl_changes.proofs.MessageWays.Gone.{same-applied}
-use Rattle.wl_changes.proofs.MessageWays.Lists.{any-left, filter-all, filter-every, filter-none, gone-least, least-gone}
+use Rattle.wl_ways.proofs.MessageWays.Gone.{same-applied}
+use Rattle.wl_ways.proofs.MessageWays.Lists.{any-left, filter-all, filter-every, filter-none, gone-least, least-gone}
+use Rattle.wl_clients.proofs.Altering.{ended-bare}
 
 -- ---- the windows of the others stay as a client ends
 
@@ -299,12 +299,12 @@ module _ (d : Desktop) (x y : ℤ) (apart : AreDistinct (all_windows d)) where
 -- ---- what happens but messages, motions and buttons
 
 -- one that ended owns nothing
-pub orderly-bare : (d : Desktop) → Orderly d → EndedAreBare d
-orderly-bare d orderly c r there over = at r.peer.status refl over
+pub ordered-bare : (d : Desktop) → Ordered d → EndedAreBare d
+ordered-bare d ordered c r there over = at r.peer.status refl over
   where
     at : (s : Option Cause) → r.peer.status ≡ s → is_some s ≡ true → r.owned ≡ nothing_owned
     at None is e = absurd (differ e)
-    at (Some cause) is e = ap (λ (q : Resident). q.owned) (ended_own_nothing d c r cause orderly there is).0
+    at (Some cause) is e = ap (λ (q : Resident). q.owned) (ended-bare d c r cause ordered there is).0
 
 -- its own change shows no window that wasn't there
 abbrev pub is_losing_act : Act → Bool

@@ -15,10 +15,10 @@ use Rattle.wl_laws.proofs.Marks.Through.{unmarked-on}
 use Rattle.wl_laws.proofs.Runs.Fates.{same-or}
 use Rattle.wl_invariants.specs.Touching.{has_window_at}
 use Rattle.wl_invariants.proofs.KeptRecords.Marks.Framing.{told-more}
-use Rattle.wl_invariants.specs.Orderly.{Orderly}
-use Rattle.wl_invariants.proofs.OrderlyClients.Clients.{frames_keep_order}
-use Rattle.wl_changes.specs.Ways.{IsGone}
-use Rattle.wl_changes.proofs.MessageWays.Ends.{untold_is_gone}
+use Rattle.wl_ordered.specs.Ordered.{Ordered}
+use Rattle.wl_ordered.proofs.Laws.{frames_keep_ordered}
+use Rattle.wl_ways.specs.Ways.{IsGone}
+use Rattle.wl_ways.proofs.MessageWays.Ends.{untold_is_gone}
 use Rattle.wl_marking.specs.Marking.{IsAsLarge}
 use Rattle.wl_requests.specs.declared.residents.Resident.{Resident as Kept}
 use Rattle.wl_resident.specs.Agreement.{Matches, numbers_in}
@@ -60,12 +60,12 @@ nobody-told time c old new d nobody a b same sized = nothing-told time c old new
 abbrev AddsIf : Option Cause → ℕ → Desktop → Damaged → Damaged → Type 0
 AddsIf ended c d old new = (x y : ℕ) → x < old.width → y < old.height → has new x y ≡ (has old x y || (is_some ended && has_window_at c (pos x) (pos y) d))
 
-marks-told : (time c : ℕ) (v : DeskView) (d e : Desktop) (ended : Option Cause) (old new : Damaged) → Agrees v d → Orderly e → FramesToldAt time c (client_at c d) d e → status_in c e ≡ ended
+marks-told : (time c : ℕ) (v : DeskView) (d e : Desktop) (ended : Option Cause) (old new : Damaged) → Agrees v d → FramesToldAt time c (client_at c d) d e → status_in c e ≡ ended
     → AddsIf ended c d old new → MarksAtLeast d e old new
-marks-told time c v d e (Some cause) old new a later told status adds =
-    let gone : IsGone c d e = untold_is_gone time c d e a.orderly told (ap (λ (s : Option Cause). is_some s) status) in
-    fate-marks c v d e old new a later (inr gone) adds
-marks-told time c v d e None old new a later told status adds = λ x y wide high clean.
+marks-told time c v d e (Some cause) old new a told status adds =
+    let gone : IsGone c d e = untold_is_gone time c d e a.ordered.in_order told (ap (λ (s : Option Cause). is_some s) status) in
+    fate-marks c v d e old new a (inr gone) adds
+marks-told time c v d e None old new a told status adds = λ x y wide high clean.
     (still-marks v d e old a (told-still time c d e told status)) x y wide high (or-none (has old x y) ∙ sym (adds x y wide high) ∙ clean)
 
 -- a client that lives is told
@@ -74,12 +74,12 @@ pub one-told : (time c : ℕ) (r : Resident) (old new : MarkedDesk) (d e : Deskt
     → AddsIf ended c d old.damage new.damage → IsSized old d → WasTold time c old new d e
 one-told time c r old new d e ended there alive a b told status marks sized =
     let at : FramesToldAt time c (client_at c d) d e = subst (λ (o : Option Resident). FramesToldAt time c o d e) (sym there) told in
-    let later : Orderly e = frames_keep_order time c d e a.orderly at in
+    let later : Ordered e = frames_keep_ordered time c d e a.ordered at in
     record {
       told = at;
       sized = sized;
-      agrees = record { matches = b; orderly = later };
-      marks = marks-told time c old.desk d e ended old.damage new.damage a later at status marks;
+      agrees = record { matches = b; ordered = later };
+      marks = marks-told time c old.desk d e ended old.damage new.damage a at status marks;
       within = λ x y wide high marked. own-or (has old.damage x y) (is_some ended) (has_window_at c (pos x) (pos y) d) (ap (λ (o : Option Cause). is_some o) status) (sym (marks x y wide high)
           ∙ marked);
       quiet = λ stays x y wide high.
@@ -131,7 +131,7 @@ pub more-told : (time n : ℕ) (old mid new : MarkedDesk) (d m e : Desktop) → 
 more-told time n old mid new d m e large a before here =
     let next : suc n ≡ n + 1 = omega arith in
     let number : n + 1 ≡ 1 + n = omega arith in
-    let fate : IsStill m e ⊎ IsGone (n + 1) m e = told-fate time (n + 1) m e before.agrees.orderly here.told in
+    let fate : IsStill m e ⊎ IsGone (n + 1) m e = told-fate time (n + 1) m e before.agrees.ordered here.told in
     let others = told-others time (n + 1) (client_at (n + 1) m) m e here.told in
     record {
       told = subst (λ k. FramesTold time k 1 d e) next (told-more time n 1 d m e before.told (subst (λ k. FramesToldAt time k (client_at k m) m e) number here.told));
@@ -143,7 +143,7 @@ more-told time n old mid new d m e large a before here =
           let first = before.marks x y wide high second.0 in
           (first.0, unmarked-on d m e (pos x) (pos y) (agrees-apart old.desk d a) before.output (fate-owns (n + 1) m e fate) first.1 second.1);
       within = λ x y wide high marked. within-on x y wide high (here.within x y (rw large.width wide) (rw large.height high) marked);
-      windows = λ p there. before.windows p (fate-windows (n + 1) m e before.agrees.orderly here.agrees.orderly fate p there);
+      windows = λ p there. before.windows p (fate-windows (n + 1) m e fate p there);
       quiet = λ stays x y wide high.
           let was : (c : ℕ) → status_in c m ≡ status_in c d = λ c. at c (same-or (n + 1) c) stays others in
           let one : status_in (n + 1) e ≡ status_in (n + 1) m = stays (n + 1) ∙ sym (was (n + 1)) in
@@ -174,7 +174,7 @@ told-most time n old new d e a told x y wide high marked = sized told.sized
     by : IsSized old d → (has old.damage x y ≡ true) ⊎ ((c : ℕ) × (is_some (status_in c e) ≡ true) × (has_window_at c (pos x) (pos y) d ≡ true))
         → (has old.damage x y || marks_at_most d e None (pos x) (pos y)) ≡ true
     by sides (inl was) = or_left (has old.damage x y) _ was
-    by sides (inr (c, over, there)) = away-most c old d e a.orderly told.agrees.orderly sides (inr over) x y wide high there
+    by sides (inr (c, over, there)) = away-most c old d e told.agrees.ordered sides (inr over) x y wide high there
 
     sized : (suc n ≡ 0) ⊎ IsSized old d → (has old.damage x y || marks_at_most d e None (pos x) (pos y)) ≡ true
     sized (inl none) = absurd (cc)
@@ -195,13 +195,13 @@ module _ {A : Type 0} (time : ℕ) (output : Output) (rs : List (Option (Kept A)
   sized = (sides.0 ∙ ap (λ (o : Sides). o.width) a.matches.output, sides.1 ∙ ap (λ (o : Sides). o.height) a.matches.output)
 
   pub here-told : (new : Kept A) (now : Pile) (after : Damaged)
-      → ((r : Resident) → IsSeated c (numbers_in (client_views rs)) d v pile d r → Orderly d
+      → ((r : Resident) → IsSeated c (numbers_in (client_views rs)) d v pile d r → Ordered d
       → (e : Desktop) × (s : Resident) × FramesToldAt time c (Some r) d e × IsSeated c (numbers_in (client_views rs)) d new now e s)
       → (v.client.ended ≡ None → MarksOwnIf (is_some new.client.ended) c v pile damage after) → (is_some v.client.ended ≡ true → (new ≡ v) × (now ≡ pile) × (after ≡ damage))
       → (e : Desktop) × WasTold time c (marked (view_of output rs pile) damage) (marked (view_of output (set rs k (Some new)) now) after) d e
   here-told new now after tells marks idle =
       let s = out output rs pile c k v is d a.matches in
-      let n = tells s.0 s.2 a.orderly in
+      let n = tells s.0 s.2 a.ordered in
       let matches = back output rs pile c k v is d a.matches new now n.0 n.1 n.3 in
       (n.0, at s.0 n.0 n.1 (view_of output (set rs k (Some new)) now) s.1 s.2 n.2 n.3 matches v.client.ended refl)
     where
@@ -210,10 +210,10 @@ module _ {A : Type 0} (time : ℕ) (output : Output) (rs : List (Option (Kept A)
           → (o : Option Cause) → v.client.ended ≡ o → WasTold time c (marked (view_of output rs pile) damage) (marked later after) d x
       at r x q later there seated told seated_after matches None ended =
           one-told time c r (marked (view_of output rs pile) damage) (marked later after) d x new.client.ended there (sym seated.seat.peer.status ∙ ended) a matches told
-          (ap status_of seated_after.based.there ∙ sym seated_after.seat.peer.status) ((marks ended).1 (numbers_in (client_views rs)) d d r seated a.orderly) sized
+          (ap status_of seated_after.based.there ∙ sym seated_after.seat.peer.status) ((marks ended).1 (numbers_in (client_views rs)) d d r seated a.ordered) sized
       at r x q later there seated told seated_after matches (Some cause) ended =
           let same = over-told time c r d x told (ap (λ (o : Option Cause). is_some o) (sym seated.seat.peer.status ∙ ended)) in
           let here : FramesToldAt time c (Some r) d d = subst (λ (y : Desktop). FramesToldAt time c (Some r) d y) same told in
           subst (λ (y : Desktop). WasTold time c (marked (view_of output rs pile) damage) (marked later after) d y) (sym same)
           (nothing-told time c (marked (view_of output rs pile) damage) (marked later after) d (subst (λ (o : Option Resident). FramesToldAt time c o d d) (sym there) here) a
-          (record { matches = subst (λ (y : Desktop). Matches later y) same matches; orderly = a.orderly }) (idle (ap (λ (o : Option Cause). is_some o) ended)).2 sized)
+          (record { matches = subst (λ (y : Desktop). Matches later y) same matches; ordered = a.ordered }) (idle (ap (λ (o : Option Cause). is_some o) ended)).2 sized)

@@ -25,8 +25,7 @@ use Rattle.wl_plain.specs.Through.{ServesThrough}
 use Rattle.wl_plain.specs.declared.answers.Fed.TheVariants as fed
 use Rattle.wl_laws.proofs.Lists.Keys.{differ}
 use Rattle.wl_laws.proofs.Runs.Places.{number-same, number-twice}
-use Rattle.wl_invariants.specs.Orderly.{Orderly}
-use Rattle.wl_invariants.proofs.MappedToplevels.Steps.{pieces_keep_mapped}
+use Rattle.wl_ordered.specs.Ordered.{Ordered}
 use Rattle.wl_requests.specs.declared.residents.Resident.{Resident as Kept}
 use Rattle.wl_resident.specs.Agreement.{Matches, numbers_in, with_numbers}
 use Rattle.wl_resident.specs.Marking.{MarksThrough}
@@ -36,7 +35,7 @@ use Rattle.wl_clients.specs.Feeding.{IsIdleIn, IsIdleOf, kept_at, kept_by, kept_
 use Rattle.wl_clients.specs.Residents.{client_views}
 use Rattle.wl_clients.proofs.Calls.{back, ended_at, ended_of, out, peer-here}
 use Rattle.wl_clients.proofs.Seats.{IsHere, client-here, client-put, put-here, view_of}
-use Rattle.wl_clients.proofs.Still.{rest-still, still-windows}
+use Rattle.wl_clients.proofs.Still.{IsStill, rest-still, still-stands, still-windows}
 
 pub ok-then : {A E P Q : Type 0} (r : Result A E) → (P → Q) → OnOk r P → OnOk r Q
 ok-then (Ok v) f p = f p
@@ -97,7 +96,8 @@ come-seated : {A : Type 0} (c : ℕ) (others : ℕ → ById ℕ) (base d : Deskt
     → IsSeated c others base (come_on piece v) pile (with_client c (Some (come_to piece r)) d) (come_to piece r)
 come-seated c others base d r piece v pile is lives =
     let came = with_client c (Some (come_to piece r)) d in
-    let shown : all_windows came ≡ all_windows d = still-windows d came (rest-still c r (r.peer.rest ++ piece) d is.based.there) in
+    let still : IsStill d came = rest-still c r (r.peer.rest ++ piece) d is.based.there in
+    let shown : all_windows came ≡ all_windows d = still-windows d came still in
     record {
       based = record {
         there = number-same d.clients c (Some (come_to piece r)) r is.based.there;
@@ -113,7 +113,7 @@ come-seated c others base d r piece v pile is lives =
       };
       scene = record { standing = is.scene.standing; next = is.scene.next };
       windows = subst (λ (ws : List Window). AreStacked (with_numbers c (targets_in WlSurface v.client.objects) others) pile.windows ws) (sym shown) is.windows;
-      mapped = pieces_keep_mapped c r (r.peer.rest ++ piece) d is.mapped is.based.there lives;
+      mapped = still-stands d came still is.mapped;
     }
   where
     peer : IsPeer (come_on piece v).client (come_to piece r).peer
@@ -153,13 +153,13 @@ module _ {A : Type 0} (output : Output) (rs : List (Option (Kept A))) (pile : Pi
   -- ---- a message
 
   -- it leads through desktops along which what is marked is what may be marked
-  pub serves-through : (new : Kept A) (now : Pile) (before after : Damaged) → Orderly d
-      → ((r : Resident) → before.width ≡ d.output.width → before.height ≡ d.output.height → IsSeated c (numbers_in us) d v pile d r → Orderly d
+  pub serves-through : (new : Kept A) (now : Pile) (before after : Damaged) → Ordered d
+      → ((r : Resident) → before.width ≡ d.output.width → before.height ≡ d.output.height → IsSeated c (numbers_in us) d v pile d r → Ordered d
       → (e : Desktop) × (q : Resident) × (path : List Desktop) × ServesThrough served_now c d path e × IsSeated c (numbers_in us) d new now e q × MarksThrough d path before after)
       → (before.width ≡ output.width) × (before.height ≡ output.height)
       → (e : Desktop) × (path : List Desktop) × ServesThrough served_now c d path e × Matches (put-back new now) e × MarksThrough d path before after
-  serves-through new now before after orderly through sides =
-      let n = through here.0 (sides.0 ∙ ap (λ (o : Shown). o.width) a.output) (sides.1 ∙ ap (λ (o : Shown). o.height) a.output) here.2 orderly in
+  serves-through new now before after ordered through sides =
+      let n = through here.0 (sides.0 ∙ ap (λ (o : Shown). o.width) a.output) (sides.1 ∙ ap (λ (o : Shown). o.height) a.output) here.2 ordered in
       (n.0, n.2, n.3, put new now n.0 n.1 n.4, n.5)
 
   -- what is there is left so

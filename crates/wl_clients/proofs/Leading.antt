@@ -27,7 +27,7 @@ use Rattle.wl_clients.specs.Feeding.{Ends, EndsBy, EndsOf}
 use Rattle.wl_clients.specs.Framing.{MarksIfEnds}
 use Rattle.wl_clients.specs.Leading.{Led}
 use Rattle.wl_clients.proofs.Agreed.{agrees-apart}
-use Rattle.wl_clients.proofs.EachEnd.{is_losing_act, orderly-bare, unmarked-each, unmarked-starving}
+use Rattle.wl_clients.proofs.EachEnd.{is_losing_act, ordered-bare, unmarked-each, unmarked-starving}
 use Rattle.wl_clients.proofs.Most.{most-through}
 
 -- ---- no more is marked than may be
@@ -62,7 +62,7 @@ act-marks : (act : Act) (done : Done) (v : DeskView) (d e : Desktop) (path : Lis
 act-marks act done v d e path before after losing a leads marks most = λ x y wide high. (
   λ clean.
       let unmarked = marks x y wide high clean in
-      (unmarked.0, unmarked-each served_now act done d path e (pos x) (pos y) losing (orderly-bare d a.orderly) (agrees-apart v d a) leads unmarked.1),
+      (unmarked.0, unmarked-each served_now act done d path e (pos x) (pos y) losing (ordered-bare d a.ordered) (agrees-apart v d a) leads unmarked.1),
   most-along (Single act done) v (raised_in act d) d e path before after a leads most x y wide high,
 )
 

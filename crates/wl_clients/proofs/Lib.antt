@@ -3,7 +3,6 @@ pub mod Altering
 pub mod Away
 pub mod Calls
 pub mod Desktops
-pub mod Else
 pub mod Framing
 pub mod Kept
 pub mod Lending

@@ -11,19 +11,17 @@ use Rattle.wl_client.specs.declared.outputs.Output.{Output}
 use Rattle.wl_paint.specs.Damage.{Damaged}
 use Rattle.wl_peer.specs.Objects.{ById}
 use Rattle.wl_peer.specs.declared.cause.Cause.{Cause}
-use Rattle.wl_plain.specs.Changing.{holds_grab, is_focus_in}
-use Rattle.wl_plain.specs.Desktop.{Desktop, Resident, client_at, toplevels_of}
+use Rattle.wl_plain.specs.Changing.{is_focus_in}
+use Rattle.wl_plain.specs.Desktop.{Desktop, Resident, client_at}
 use Rattle.wl_plain.specs.Replies.{focus_window}
 use Rattle.wl_plain.specs.Settling.{Midstep, Strike, is_struck}
 use Rattle.wl_plain.specs.Stacked.{all_windows}
 use Rattle.wl_laws.proofs.Lists.Keys.{differ}
-use Rattle.wl_invariants.specs.Orderly.{OrderlyAt, OrderlyBy}
-use Rattle.wl_invariants.proofs.KeptRecords.Toplevels.Changed.{no-popups}
-use Rattle.wl_invariants.proofs.NobodyPoints.Grabs.{nobody-holds}
+use Rattle.wl_ordered.proofs.Laws.{ordered_holds_none}
 use Rattle.wl_scene.specs.Kept.{standing_of}
 use Rattle.wl_scene.specs.declared.scene.Toplevel.{Toplevel}
 use Rattle.wl_stacking.specs.Pointer.{is_stacked}
-use Rattle.wl_stacking.specs.Stacking.{Standing, is_of}
+use Rattle.wl_stacking.specs.Stacking.{is_of}
 use Rattle.wl_stacked.specs.declared.stacked.Stacked.{Stacked}
 use Rattle.wl_stacked.proofs.Places.{absent}
 use Rattle.wl_lending.specs.Hit.{IsStackedOrNone, is_window_of}
@@ -200,18 +198,5 @@ serial-read {A} output rs pile damage ws w c v m same is view mid =
 
 -- ---- nobody holds a grab
 
-none-any : {X : Type 0} (p : X → Bool) (xs : List X) → xs ≡ [] → list_any p xs ≡ false
-none-any p [] e = refl
-none-any p (x ∷ xs) e = absurd (cc)
-
-free-of-grabs : (o : Option Resident) (tops : List Standing) → OrderlyAt o tops → holds_grab o ≡ false
-free-of-grabs None tops known = refl
-free-of-grabs (Some r) tops known = by r.peer.status known
-  where
-    by : (s : Option Cause) → OrderlyBy s r tops → holds_grab (Some r) ≡ false
-    by None known = none-any _ _ (no-popups r.owned.shell known.0.no_popups.roles)
-    by (Some cause) known = ap (λ (q : Resident). holds_grab (Some q)) known.0
-
 pub nobody_grabs : NobodyGrabs
-nobody_grabs v m mid =
-    nobody-holds m.desktop (λ c. free-of-grabs (client_at c m.desktop) (toplevels_of c m.desktop) (mid.agrees.orderly.each c))
+nobody_grabs v m mid = ordered_holds_none m.desktop mid.agrees.ordered

@@ -21,7 +21,7 @@ use Rattle.wl_peer.specs.Peer.{Peer, QueuesTo, ended}
 use Rattle.wl_peer.specs.Told.{Said}
 use Rattle.wl_plain.specs.Desktop.{Desktop, Resident, become, client_at, with_client}
 use Rattle.wl_plain.specs.Settling.{Midstep, Strike, Tells, TellsAt, TellsUnless, ended_at as plain_ended, ended_by, is_struck, struck_by}
-use Rattle.wl_invariants.specs.Orderly.{Orderly}
+use Rattle.wl_ordered.specs.Ordered.{Ordered}
 use Rattle.wl_invariants.proofs.KeptRecords.Toplevels.Serves.{becomes-same}
 use Rattle.wl_lending.specs.Hit.{AreKept}
 use Rattle.wl_lending.specs.Stacked.{AreNumberedOnce}
@@ -44,7 +44,7 @@ use Rattle.wl_clients.proofs.Opened.{desk-open, here-open, numbers-open, open-se
 use Rattle.wl_clients.proofs.Seats.{IsHere, client-here, clients-within, marked, nobody, view_of}
 use Rattle.wl_clients.proofs.Steps.{ended-has, ends-away}
 use Rattle.wl_clients.proofs.Strikes.{of-refused, refused_in, struck-at, struck-first, struck-more}
-use Rattle.wl_clients.proofs.Told.{noting, queues-only, told-orderly, told-seated}
+use Rattle.wl_clients.proofs.Told.{noting, queues-only, told-ordered, told-seated}
 
 -- ---- a step begins, and ends
 
@@ -211,14 +211,14 @@ module _ {A : Type 0} (output : Output) (rs : List (Option (Kept A))) (pile : Pi
 
   -- another is put at its place
   pub mid-put : (new : Kept A) (now : Pile) (e : Desktop) (s : Resident) (struck : List Strike)
-      → IsSeated c (numbers_in (client_views (open_all rs))) m.desktop (opened_kept new) now e s → Orderly e
+      → IsSeated c (numbers_in (client_views (open_all rs))) m.desktop (opened_kept new) now e s → Ordered e
       → strikes_from 1 (set (client_views rs) k (Some new.client)) ≡ struck → RefusedLives (Some new.client)
       → IsMid (view_of output (set rs k (Some new)) now) (record { desktop = e; struck = struck })
-  mid-put new now e s struck seated orderly strikes lives = record {
+  mid-put new now e s struck seated ordered strikes lives = record {
     agrees = subst (λ (w : DeskView). Agrees w e) (desk-open output (set rs k (Some new)) now) (record {
       matches = subst (λ (xs : List (Option (Kept A))). Matches (view_of output xs now) e) (sym (open-set rs k (Some new)))
           (back output (open_all rs) pile c k (opened_kept v) here m.desktop agreed.matches (opened_kept new) now e s seated);
-      orderly = orderly;
+      ordered = ordered;
     });
     struck = ap (strikes_from 1) (views-put output rs pile c k v is new) ∙ strikes;
     alive = λ j. subst (λ (vs : List (Option ClientView)). RefusedLives (at vs j)) (sym (views-put output rs pile c k v is new)) (lives-put (client_views rs) k (Some new.client) lives mid.alive j);
@@ -295,7 +295,7 @@ module _ {A : Type 0} (output : Output) (rs : List (Option (Kept A))) (pile : Pi
           (mid-put (record v { client = w }) pile _ _ (struck_by c w.refused m.struck)
           (told-seated c m.desktop s next.0 its.press its.release seat.1 status _ next.0.unsent only (numbers_in (client_views (open_all rs))) m.desktop (opened_kept v)
           (opened_kept (record v { client = w })) pile seat.2 next.2 refl refl (ap (λ (x : ClientView). x.objects) told.1))
-          (told-orderly c m.desktop s next.0 its.press its.release seat.1 status _ next.0.unsent only agreed.orderly)
+          (told-ordered c m.desktop s next.0 its.press its.release seat.1 status _ next.0.unsent only agreed.ordered)
           (struck-more c 1 k (client_views rs) (Some w) (let e = is.number in omega (arith, e)) (clients-within rs k is.within) (free-here output rs pile c k v is None free) ∙ ap (struck_by c w.refused) mid.struck)
           (λ some. ap (λ (x : ClientView). x.ended) told.1 ∙ lives))
 
@@ -357,16 +357,16 @@ module _ {A : Type 0} (output : Output) (rs : List (Option (Kept A))) (pile : Pi
   ends-after =
       ap (λ (n : ℕ). plain_ended n t.cause (client_at n d) d) own
       ∙ ap (λ (o : Option Resident). plain_ended c t.cause o d) there.1
-      ∙ becomes-same c there.0 (ended t.cause there.0.peer) d agrees-open.orderly.pointer
+      ∙ becomes-same c there.0 (ended t.cause there.0.peer) d agrees-open.ordered.in_order.pointer
 
   after-is : ended_at c t.cause d ≡ after
   after-is = ap (λ (o : Option Resident). ended_of c t.cause o d) there.1 ∙ ap (λ (o : Option Cause). become c there.0 (ended_while o t.cause there.0.peer) d) living
 
   after-ends : Ends c t.cause d after
-  after-ends = subst (λ (e : Desktop). Ends c t.cause d e) after-is (ended-has c t.cause d agrees-open.orderly).1
+  after-ends = subst (λ (e : Desktop). Ends c t.cause d e) after-is (ended-has c t.cause d agrees-open.ordered).1
 
-  after-orderly : Orderly after
-  after-orderly = subst Orderly after-is (ended-has c t.cause d agrees-open.orderly).0
+  after-ordered : Ordered after
+  after-ordered = subst Ordered after-is (ended-has c t.cause d agrees-open.ordered).0
 
   module _ (new : Kept A) (now : Pile)
       (parts : (r : Resident) → IsSeated c (numbers_in (client_views (open_all rs))) d (opened_kept v) pile d r
@@ -382,7 +382,7 @@ module _ {A : Type 0} (output : Output) (rs : List (Option (Kept A))) (pile : Pi
         subst (λ (e : Desktop). IsMid (view_of output (set rs k (Some new)) now) (record { desktop = e; struck = ts })) (sym ends-after)
         (mid-put output rs pile c k v is m mid new now after left.0 ts
         (subst (λ (x : ClientView). IsSeated c (numbers_in (client_views (open_all rs))) d (record new { client = x }) now after left.0) (sym (opened-same new.client unrefused)) left.1)
-        after-orderly (struck-first 1 k (client_views rs) (Some new.client) t ts placed unrefused mid.struck).1
+        after-ordered (struck-first 1 k (client_views rs) (Some new.client) t ts placed unrefused mid.struck).1
         (λ some. absurd (some unrefused)))
 
     module _ (before damage : Damaged) (marks : MarksOwnIf true c (opened_kept v) pile before damage) where
@@ -403,4 +403,4 @@ module _ {A : Type 0} (output : Output) (rs : List (Option (Kept A))) (pile : Pi
           subst (λ (e : Desktop). MarksMost d e before damage) (sym ends-after)
           (own-most c all (opened_desk (view_of output (set rs k (Some new)) now)) d after damage agrees-open
           (subst (λ (e : Desktop). Agrees (opened_desk (view_of output (set rs k (Some new)) now)) e) ends-after b.agrees) (sized all all d refl sides agrees-open)
-          (ends-away c t.cause d after agrees-open.orderly after-ends) (adds-within c d before damage (adds d agrees-open)))
+          (ends-away c t.cause d after agrees-open.ordered after-ends) (adds-within c d before damage (adds d agrees-open)))

@@ -124,9 +124,9 @@ tree-so numbers c k top n id once toplevel named ss ws are =
   where
     one : (s : Stacked) (w : Window) → IsStacked numbers s w → is_in_tree c k n s ≡ ((w.owner.client == c) && ((w.surface == id) && (w.owner.root == top)))
     one s w is =
-        by-client numbers c n id once named s w is ((s.window.surface == n) && (s.root == k)) ((w.surface == id) && (w.owner.root == top))
+        by-client numbers c n id once named s w is ((s.window.surface == n) && (s.window.root == k)) ((w.surface == id) && (w.owner.root == top))
         (λ own. ap₂ (λ a b. a && b) (surface-so numbers c n id once named s.window.surface w.surface (ap (λ (m : ℕ). numbers m w.surface) (sym own) ∙ is.surface))
-        (surface-so numbers c k top once toplevel s.root w.owner.root (ap (λ (m : ℕ). numbers m w.owner.root) (sym own) ∙ is.root)))
+        (surface-so numbers c k top once toplevel s.window.root w.owner.root (ap (λ (m : ℕ). numbers m w.owner.root) (sym own) ∙ is.root)))
 
 -- ---- toplevels
 

@@ -19,7 +19,8 @@ use Rattle.wl_laws.specs.Laws.{AreApart}
 use Rattle.wl_laws.specs.Own.{StandTheSame}
 use Rattle.wl_laws.proofs.Isolation.Own.{none-stand, of, stand-moved, stand-raised}
 use Rattle.wl_laws.proofs.Lists.Standings.{apart-left}
-use Rattle.wl_invariants.specs.Orderly.{Orderly, OrderlyAt, OrderlyBy}
+use Rattle.wl_invariants.specs.InOrder.{InOrderAt, InOrderBy}
+use Rattle.wl_ordered.specs.Ordered.{Ordered}
 use Rattle.wl_requests.specs.declared.residents.Resident.{Resident as Kept}
 use Rattle.wl_resident.specs.Agreement.{numbers_in, numbers_of}
 use Rattle.wl_resident.specs.Moving.{with_moved}
@@ -36,28 +37,31 @@ use Rattle.wl_clients.proofs.Seats.{IsHere, client-here, here-of, marked, view_o
 -- ---- the clients are in order
 
 -- where the same toplevels of a client stand, and none of them twice
-restood : (o : Option Resident) (before after : List Standing) → StandTheSame before after → AreApart after → OrderlyAt o before → OrderlyAt o after
+restood : (o : Option Resident) (before after : List Standing) → StandTheSame before after → AreApart after → InOrderAt o before → InOrderAt o after
 restood None before after same apart none = none-stand before after same none
 restood (Some r) before after same apart known = by r.peer.status known
   where
-    by : (s : Option Cause) → OrderlyBy s r before → OrderlyBy s r after
+    by : (s : Option Cause) → InOrderBy s r before → InOrderBy s r after
     by None known = (known.0, record { apart = apart; mapped = λ surface there. known.1.mapped surface (sym (same surface) ∙ there) })
     by (Some cause) known = (known.0, none-stand before after same known.1)
 
-restacked-orderly : (d : Desktop) (standing : List Standing) → ((k : ℕ) → StandTheSame (of k d.standing) (of k standing)) → AreApart standing → Orderly d
-    → Orderly (record d { standing = standing })
-restacked-orderly d standing same apart orderly = record {
-  pointer = orderly.pointer;
-  each = λ k. restood (client_at k d) (toplevels_of k d) (of k standing) (same k) (apart-left _ standing apart) (orderly.each k);
+restacked-ordered : (d : Desktop) (standing : List Standing) → ((k : ℕ) → StandTheSame (of k d.standing) (of k standing)) → AreApart standing → Ordered d
+    → Ordered (record d { standing = standing })
+restacked-ordered d standing same apart ordered = record {
+  in_order = record {
+    pointer = ordered.in_order.pointer;
+    each = λ k. restood (client_at k d) (toplevels_of k d) (of k standing) (same k) (apart-left _ standing apart) (ordered.in_order.each k);
+  };
+  each = ordered.each;
 }
 
-raised-orderly : (c surface : ℕ) (d : Desktop) → AreApart (raised c surface d.standing) → Orderly d → Orderly (with_raised c surface d)
-raised-orderly c surface d apart orderly = restacked-orderly d (raised c surface d.standing) (λ k. stand-raised k c surface d.standing) apart orderly
+raised-ordered : (c surface : ℕ) (d : Desktop) → AreApart (raised c surface d.standing) → Ordered d → Ordered (with_raised c surface d)
+raised-ordered c surface d apart ordered = restacked-ordered d (raised c surface d.standing) (λ k. stand-raised k c surface d.standing) apart ordered
 
-moved-orderly : (c surface : ℕ) (x y : ℤ) (d : Desktop) → AreApart (moved_standing (record { client = c; surface = surface }) x y d.standing) → Orderly d
-    → Orderly (with_moved c surface x y d)
-moved-orderly c surface x y d apart orderly =
-    restacked-orderly d (moved_standing (record { client = c; surface = surface }) x y d.standing) (λ k. stand-moved k c surface _ d.standing) apart orderly
+moved-ordered : (c surface : ℕ) (x y : ℤ) (d : Desktop) → AreApart (moved_standing (record { client = c; surface = surface }) x y d.standing) → Ordered d
+    → Ordered (with_moved c surface x y d)
+moved-ordered c surface x y d apart ordered =
+    restacked-ordered d (moved_standing (record { client = c; surface = surface }) x y d.standing) (λ k. stand-moved k c surface _ d.standing) apart ordered
 
 -- ---- whose surface it is
 
@@ -109,10 +113,10 @@ module _ {A : Type 0} (output : Output) (rs : List (Option (Kept A))) (pile : Pi
       sym (ap (λ (o : Option ClientView). numbers_of o top) (client-here rs k v is.here)) ∙ (ap (λ (i : ℕ). numbers_in (client_views rs) i top) (sym is.number) ∙ named)
 
   mid-restacked : (now : Pile) (standing : List Standing) (r : Resident) → IsSeated c numbers m.desktop (opened_kept v) now (record m.desktop { standing = standing }) r
-      → Orderly (record m.desktop { standing = standing }) → IsMid (view_of output rs now) (with_standing standing m)
-  mid-restacked now standing r seated orderly =
+      → Ordered (record m.desktop { standing = standing }) → IsMid (view_of output rs now) (with_standing standing m)
+  mid-restacked now standing r seated ordered =
       subst (λ (xs : List (Option (Kept A))). IsMid (view_of output xs now) (with_standing standing m)) (put-same output rs pile c k v is m mid)
-      (mid-put output rs pile c k v is m mid v now (record m.desktop { standing = standing }) r m.struck seated orderly
+      (mid-put output rs pile c k v is m mid v now (record m.desktop { standing = standing }) r m.struck seated ordered
       (ap (λ (vs : List (Option ClientView)). strikes_from 1 vs) same ∙ mid.struck)
       (subst RefusedLives (client-here rs k v is.here) (mid.alive k)))
     where
@@ -121,30 +125,30 @@ module _ {A : Type 0} (output : Output) (rs : List (Option (Kept A))) (pile : Pi
 
   -- what is known of the client, as if each event for it had been queued
   pub of-here : (P : Type 0) (top n : ℕ) → numbers_in (client_views rs) c top ≡ Some n
-      → ((r : Resident) → IsSeated c numbers m.desktop (opened_kept v) pile m.desktop r → Orderly m.desktop → targets_in WlSurface v.client.objects top ≡ Some n → P) → P
+      → ((r : Resident) → IsSeated c numbers m.desktop (opened_kept v) pile m.desktop r → Ordered m.desktop → targets_in WlSurface v.client.objects top ≡ Some n → P) → P
   of-here P top n named f =
       let s = seat output rs pile c k v is m mid in
-      f s.0 s.2 mid.agrees.orderly (own-named top n named)
+      f s.0 s.2 mid.agrees.ordered (own-named top n named)
 
   -- a toplevel of it is raised
   here-raised : (now : Pile) (top n : ℕ) → numbers_in (client_views rs) c top ≡ Some n
-      → ((r : Resident) → IsSeated c numbers m.desktop (opened_kept v) pile m.desktop r → Orderly m.desktop → targets_in WlSurface v.client.objects top ≡ Some n
+      → ((r : Resident) → IsSeated c numbers m.desktop (opened_kept v) pile m.desktop r → Ordered m.desktop → targets_in WlSurface v.client.objects top ≡ Some n
       → IsSeated c numbers m.desktop (opened_kept v) now (with_raised c top m.desktop) r)
       → IsMid (view_of output rs now) (with_standing (raised c top m.desktop.standing) m)
   here-raised now top n named raises =
       let s = seat output rs pile c k v is m mid in
-      let new = raises s.0 s.2 mid.agrees.orderly (own-named top n named) in
-      mid-restacked now (raised c top m.desktop.standing) s.0 new (raised-orderly c top m.desktop new.mapped.apart mid.agrees.orderly)
+      let new = raises s.0 s.2 mid.agrees.ordered (own-named top n named) in
+      mid-restacked now (raised c top m.desktop.standing) s.0 new (raised-ordered c top m.desktop new.mapped.apart mid.agrees.ordered)
 
   -- it moves
   pub here-moved : (now : Pile) (top n : ℕ) (x y : ℤ) → numbers_in (client_views rs) c top ≡ Some n
-      → ((r : Resident) → IsSeated c numbers m.desktop (opened_kept v) pile m.desktop r → Orderly m.desktop → targets_in WlSurface v.client.objects top ≡ Some n
+      → ((r : Resident) → IsSeated c numbers m.desktop (opened_kept v) pile m.desktop r → Ordered m.desktop → targets_in WlSurface v.client.objects top ≡ Some n
       → IsSeated c numbers m.desktop (opened_kept v) now (with_moved c top x y m.desktop) r)
       → IsMid (view_of output rs now) (with_standing (moved_standing (record { client = c; surface = top }) x y m.desktop.standing) m)
   here-moved now top n x y named moves =
       let s = seat output rs pile c k v is m mid in
-      let new = moves s.0 s.2 mid.agrees.orderly (own-named top n named) in
-      mid-restacked now (moved_standing (record { client = c; surface = top }) x y m.desktop.standing) s.0 new (moved-orderly c top x y m.desktop new.mapped.apart mid.agrees.orderly)
+      let new = moves s.0 s.2 mid.agrees.ordered (own-named top n named) in
+      mid-restacked now (moved_standing (record { client = c; surface = top }) x y m.desktop.standing) s.0 new (moved-ordered c top x y m.desktop new.mapped.apart mid.agrees.ordered)
 
 -- ---- by the surface's number
 
@@ -155,15 +159,15 @@ module _ {A : Type 0} (output : Output) (rs : List (Option (Kept A))) (pile : Pi
 
   -- what holds of whichever client has the surface
   pub of-named : (P : Type 0)
-      → ((v : Kept A) (r : Resident) → IsSeated c all_numbers m.desktop v pile m.desktop r → Orderly m.desktop → targets_in WlSurface v.client.objects top ≡ Some n → P) → P
+      → ((v : Kept A) (r : Resident) → IsSeated c all_numbers m.desktop v pile m.desktop r → Ordered m.desktop → targets_in WlSurface v.client.objects top ≡ Some n → P) → P
   of-named P f =
       let h = named-here rs c top n named in
-      of-here output rs pile c h.0 h.1 h.2 m mid P top n named (λ r seated orderly its. f (opened_kept h.1) r seated orderly its)
+      of-here output rs pile c h.0 h.1 h.2 m mid P top n named (λ r seated ordered its. f (opened_kept h.1) r seated ordered its)
 
   pub mid-raised : (now : Pile)
-      → ((v : Kept A) (r : Resident) → IsSeated c all_numbers m.desktop v pile m.desktop r → Orderly m.desktop → targets_in WlSurface v.client.objects top ≡ Some n
+      → ((v : Kept A) (r : Resident) → IsSeated c all_numbers m.desktop v pile m.desktop r → Ordered m.desktop → targets_in WlSurface v.client.objects top ≡ Some n
       → IsSeated c all_numbers m.desktop v now (with_raised c top m.desktop) r)
       → IsMid (view_of output rs now) (with_standing (raised c top m.desktop.standing) m)
   mid-raised now raises =
       let h = named-here rs c top n named in
-      here-raised output rs pile c h.0 h.1 h.2 m mid now top n named (λ r seated orderly its. raises (opened_kept h.1) r seated orderly its)
+      here-raised output rs pile c h.0 h.1 h.2 m mid now top n named (λ r seated ordered its. raises (opened_kept h.1) r seated ordered its)

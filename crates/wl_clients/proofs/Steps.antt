@@ -23,10 +23,11 @@ use Rattle.wl_laws.proofs.Runs.Through.{messages_lead_through}
 use Rattle.wl_invariants.specs.Acts.{LeavesPointer}
 use Rattle.wl_invariants.proofs.KeptRecords.Toplevels.Back.{settled-back}
 use Rattle.wl_invariants.proofs.KeptRecords.Toplevels.Serves.{becomes-same, settles-to}
-use Rattle.wl_invariants.specs.Orderly.{Orderly, OrderlyAt}
-use Rattle.wl_invariants.proofs.OrderlyClients.Clients.{empty_is_orderly, ends_keep_order, messages_keep_order, orderly_stays, pieces_keep_order}
-use Rattle.wl_changes.specs.Ways.{IsGone}
-use Rattle.wl_changes.proofs.MessageWays.Ends.{end_is_gone}
+use Rattle.wl_invariants.specs.InOrder.{InOrderAt}
+use Rattle.wl_ordered.specs.Ordered.{Ordered}
+use Rattle.wl_ordered.proofs.Laws.{empty_is_ordered, ends_keep_ordered, messages_keep_ordered, ordered_stays, pieces_keep_ordered}
+use Rattle.wl_ways.specs.Ways.{IsGone}
+use Rattle.wl_ways.proofs.MessageWays.Ends.{end_is_gone}
 use Rattle.wl_clients.specs.Agreeing.{Agrees, TakesStep}
 use Rattle.wl_clients.specs.Feeding.{Ends, EndsBy, EndsOf, IsIdleIn, kept_at, kept_by, kept_of}
 use Rattle.wl_clients.proofs.Altering.{Alters, alters-whole, stays-by}
@@ -41,8 +42,8 @@ pub steps-whole : (act : Act) → LeavesPointer act → (done : Done) (old new :
     → TakesStep act done old new
 steps-whole act alone done old new small = λ d a.
     let h = small d a in
-    let step = alters-whole act d h.0 done a.orderly h.1 in
-    (h.0, step, record { matches = h.2; orderly = orderly_stays act done d h.0 alone a.orderly step })
+    let step = alters-whole act d h.0 done a.ordered h.1 in
+    (h.0, step, record { matches = h.2; ordered = ordered_stays act done d h.0 alone a.ordered step })
 
 -- ---- a message
 
@@ -54,24 +55,24 @@ pub through-whole : (c : ℕ) (old new : DeskView) (before after : Damaged) → 
 through-whole c old new before after taken d a =
     let h = taken d a in
     let serves = (messages_lead_through served_now c d h.0).0 h.1 h.2 in
-    (h.0, h.1, h.2, record { matches = h.3; orderly = messages_keep_order c d h.0 a.orderly serves }, h.4)
+    (h.0, h.1, h.2, record { matches = h.3; ordered = messages_keep_ordered c d h.0 a.ordered serves }, h.4)
 
 pub idles-whole : (c : ℕ) (old new : DeskView) → ((d : Desktop) → Matches old d → Matches new d × IsIdleIn c d) → (d : Desktop) → Agrees old d → Agrees new d × IsIdleIn c d
 idles-whole c old new small d a =
     let h = small d a.matches in
-    (record { matches = h.0; orderly = a.orderly }, h.1)
+    (record { matches = h.0; ordered = a.ordered }, h.1)
 
 -- ---- a piece is kept
 
-pub kept-has : (c : ℕ) (piece : List ℕ) (d : Desktop) → Orderly d → Orderly (kept_at c piece d)
-kept-has c piece d orderly = at (client_at c d) refl
+pub kept-has : (c : ℕ) (piece : List ℕ) (d : Desktop) → Ordered d → Ordered (kept_at c piece d)
+kept-has c piece d ordered = at (client_at c d) refl
   where
-    by : (s : Option Cause) (r : Resident) → r.peer.status ≡ s → client_at c d ≡ Some r → Orderly (kept_by c piece s r d)
-    by (Some cause) r e is = orderly
-    by None r e is = pieces_keep_order c r (r.peer.rest ++ piece) d orderly is e
+    by : (s : Option Cause) (r : Resident) → r.peer.status ≡ s → client_at c d ≡ Some r → Ordered (kept_by c piece s r d)
+    by (Some cause) r e is = ordered
+    by None r e is = pieces_keep_ordered c r (r.peer.rest ++ piece) d ordered is
 
-    at : (o : Option Resident) → client_at c d ≡ o → Orderly (kept_of c piece o d)
-    at None is = orderly
+    at : (o : Option Resident) → client_at c d ≡ o → Ordered (kept_of c piece o d)
+    at None is = ordered
     at (Some r) is = by r.peer.status r refl is
 
 pub kept-still : (c : ℕ) (piece : List ℕ) (d : Desktop) → IsStill d (kept_at c piece d)
@@ -86,45 +87,45 @@ kept-still c piece d = at (client_at c d) refl
     at (Some r) is = by r.peer.status r is
 
 pub keeps-whole : (c : ℕ) (piece : List ℕ) (old new : DeskView) → ((d : Desktop) → Agrees old d → Matches new (kept_at c piece d)) → (d : Desktop) → Agrees old d → Agrees new (kept_at c piece d)
-keeps-whole c piece old new small d a = record { matches = small d a; orderly = kept-has c piece d a.orderly }
+keeps-whole c piece old new small d a = record { matches = small d a; ordered = kept-has c piece d a.ordered }
 
 pub stays-whole : (old new : DeskView) → ((d : Desktop) → Matches old d → Matches new d) → (d : Desktop) → Agrees old d → Agrees new d
-stays-whole old new small d a = record { matches = small d a.matches; orderly = a.orderly }
+stays-whole old new small d a = record { matches = small d a.matches; ordered = a.ordered }
 
 -- ---- a client ends
 
-module _ (c : ℕ) (cause : Cause) (d : Desktop) (orderly : Orderly d) where
+module _ (c : ℕ) (cause : Cause) (d : Desktop) (ordered : Ordered d) where
   -- one that lives
   lived : (r : Resident) → r.peer.status ≡ None → ended_of c cause (Some r) d ≡ become c r (ended cause r.peer) d
   lived r e = ap (λ s. become c r (ended_by s cause r.peer) d) e
 
   settles-lived : (r : Resident) (e : Desktop) → e ≡ become c r (ended cause r.peer) d → EndsAndSettles (unstruck (becomes c r (ended cause r.peer) d)) e
   settles-lived r e same =
-      settles-to (becomes c r (ended cause r.peer) d) (become c r (ended cause r.peer) d) e (becomes-same c r (ended cause r.peer) d orderly.pointer) same orderly.pointer
+      settles-to (becomes c r (ended cause r.peer) d) (become c r (ended cause r.peer) d) e (becomes-same c r (ended cause r.peer) d ordered.in_order.pointer) same ordered.in_order.pointer
 
   pub settled-lived : (r : Resident) (e : Desktop) → EndsAndSettles (unstruck (becomes c r (ended cause r.peer) d)) e → e ≡ become c r (ended cause r.peer) d
   settled-lived r e settles =
-      let same = becomes-same c r (ended cause r.peer) d orderly.pointer in
-      settled-back (becomes c r (ended cause r.peer) d) e (ap (λ (x : Desktop). x.pointer) same ∙ orderly.pointer) settles ∙ same
+      let same = becomes-same c r (ended cause r.peer) d ordered.in_order.pointer in
+      settled-back (becomes c r (ended cause r.peer) d) e (ap (λ (x : Desktop). x.pointer) same ∙ ordered.in_order.pointer) settles ∙ same
 
   -- one that ended before
   was-over : (was : Cause) (r : Resident) → r.peer.status ≡ Some was → client_at c d ≡ Some r → ended_of c cause (Some r) d ≡ d
   was-over was r e is =
       ap (λ s. become c r (ended_by s cause r.peer) d) e
-      ∙ stays-by c r d (subst (λ o. OrderlyAt o (toplevels_of c d)) is (orderly.each c)) r.peer.status r.peer refl
+      ∙ stays-by c r d (subst (λ o. InOrderAt o (toplevels_of c d)) is (ordered.in_order.each c)) r.peer.status r.peer refl
       ∙ ap (λ o. with_client c o d) (sym is) ∙ client-kept c d
 
-  ended-by : (s : Option Cause) (r : Resident) → r.peer.status ≡ s → client_at c d ≡ Some r → Orderly (ended_of c cause (Some r) d) × EndsBy c cause s r d (ended_of c cause (Some r) d)
+  ended-by : (s : Option Cause) (r : Resident) → r.peer.status ≡ s → client_at c d ≡ Some r → Ordered (ended_of c cause (Some r) d) × EndsBy c cause s r d (ended_of c cause (Some r) d)
   ended-by None r e is =
       let settles = settles-lived r (ended_of c cause (Some r) d) (lived r e) in
-      (ends_keep_order c r cause d (ended_of c cause (Some r) d) orderly is e settles, settles)
-  ended-by (Some was) r e is = (subst Orderly (sym (was-over was r e is)) orderly, was-over was r e is)
+      (ends_keep_ordered c r cause d (ended_of c cause (Some r) d) ordered is settles, settles)
+  ended-by (Some was) r e is = (subst Ordered (sym (was-over was r e is)) ordered, was-over was r e is)
 
-  pub ended-has : Orderly (ended_at c cause d) × Ends c cause d (ended_at c cause d)
+  pub ended-has : Ordered (ended_at c cause d) × Ends c cause d (ended_at c cause d)
   ended-has = at (client_at c d) refl
     where
-      at : (o : Option Resident) → client_at c d ≡ o → Orderly (ended_of c cause o d) × EndsOf c cause o d (ended_of c cause o d)
-      at None is = (orderly, refl)
+      at : (o : Option Resident) → client_at c d ≡ o → Ordered (ended_of c cause o d) × EndsOf c cause o d (ended_of c cause o d)
+      at None is = (ordered, refl)
       at (Some r) is = ended-by r.peer.status r refl is
 
   once-by : (s : Option Cause) (r : Resident) (e : Desktop) → r.peer.status ≡ s → client_at c d ≡ Some r → EndsBy c cause s r d e → e ≡ ended_of c cause (Some r) d
@@ -144,15 +145,15 @@ module _ (c : ℕ) (cause : Cause) (d : Desktop) (orderly : Orderly d) where
     where
       by : (s : Option Cause) (r : Resident) → client_at c d ≡ Some r → EndsBy c cause s r d e → IsStill d e ⊎ IsGone c d e
       by (Some was) r is same = inl (same-still d e same)
-      by None r is settles = inr (end_is_gone c r cause d e orderly is settles)
+      by None r is settles = inr (end_is_gone c r cause d e ordered.in_order is settles)
 
       at : (o : Option Resident) → client_at c d ≡ o → EndsOf c cause o d e → IsStill d e ⊎ IsGone c d e
       at None is same = inl (same-still d e same)
       at (Some r) is ends = by r.peer.status r is ends
 
 -- one that is ended is away then
-pub ends-away : (c : ℕ) (cause : Cause) (d e : Desktop) → Orderly d → Ends c cause d e → IsAway c e
-ends-away c cause d e orderly ends = at (client_at c d) refl (ended-once c cause d orderly e ends)
+pub ends-away : (c : ℕ) (cause : Cause) (d e : Desktop) → Ordered d → Ends c cause d e → IsAway c e
+ends-away c cause d e ordered ends = at (client_at c d) refl (ended-once c cause d ordered e ends)
   where
     over : (s : Option Cause) (p : Peer) → p.status ≡ s → is_some (ended_by s cause p).status ≡ true
     over None p e = refl
@@ -165,8 +166,8 @@ ends-away c cause d e orderly ends = at (client_at c d) refl (ended-once c cause
         ∙ ap (λ (s : Option Cause). is_some s) (status-become c r (ended_by r.peer.status cause r.peer) d r is) ∙ over r.peer.status r.peer refl)
 
 -- so is one that leaves
-pub leaves-away : (c : ℕ) (done : Done) (d e : Desktop) → Orderly d → Happens served_now (Leave c) done d e → IsAway c e
-leaves-away c done d e orderly step = at (client_at c d) refl step
+pub leaves-away : (c : ℕ) (done : Done) (d e : Desktop) → Ordered d → Happens served_now (Leave c) done d e → IsAway c e
+leaves-away c done d e ordered step = at (client_at c d) refl step
   where
     by : (s : Option Cause) (r : Resident) → r.peer.status ≡ s → client_at c d ≡ Some r → LeavesAt c (Some r) d done e → IsAway c e
     by (Some cause) r status is h =
@@ -174,22 +175,22 @@ leaves-away c done d e orderly step = at (client_at c d) refl step
         inr (ap (λ (x : Desktop). is_some (status_in c x)) same ∙ ap (λ (o : Option Resident). is_some (status_of o)) is ∙ ap (λ (s : Option Cause). is_some s) status)
     by None r status is h =
         let settles : EndsAndSettles (unstruck (becomes c r (ended Gone r.peer) d)) e = rw status at h.1 in
-        inr (ap (λ (x : Desktop). is_some (status_in c x)) (settled-lived c Gone d orderly r e settles)
+        inr (ap (λ (x : Desktop). is_some (status_in c x)) (settled-lived c Gone d ordered r e settles)
         ∙ ap (λ (s : Option Cause). is_some s) (status-become c r (ended Gone r.peer) d r is))
 
     at : (o : Option Resident) → client_at c d ≡ o → LeavesAt c o d done e → IsAway c e
     at None none h = inl (ap (λ (x : Desktop). client_at c x) h.1 ∙ none)
     at (Some r) is h = by r.peer.status r refl is h
 
-pub ends-orderly : (c : ℕ) (cause : Cause) (d e : Desktop) → Orderly d → Ends c cause d e → Orderly e
-ends-orderly c cause d e orderly h = subst Orderly (sym (ended-once c cause d orderly e h)) (ended-has c cause d orderly).0
+pub ends-ordered : (c : ℕ) (cause : Cause) (d e : Desktop) → Ordered d → Ends c cause d e → Ordered e
+ends-ordered c cause d e ordered h = subst Ordered (sym (ended-once c cause d ordered e h)) (ended-has c cause d ordered).0
 
 pub ends-whole : (c : ℕ) (cause : Cause) (old new : DeskView) → ((d : Desktop) → Agrees old d → Matches new (ended_at c cause d)) → (d : Desktop) → Agrees old d →
     (e : Desktop) × Ends c cause d e
     × Agrees new e
 ends-whole c cause old new small d a =
-    let has = ended-has c cause d a.orderly in
-    (ended_at c cause d, has.1, record { matches = small d a; orderly = has.0 })
+    let has = ended-has c cause d a.ordered in
+    (ended_at c cause d, has.1, record { matches = small d a; ordered = has.0 })
 
 -- ---- nobody is there
 
@@ -216,4 +217,4 @@ module _ (c : ℕ) (new old : MarkedDesk) (miss : IsMissing c old) (same : new �
 -- ---- nobody is there at first
 
 pub empty-agrees : (v : DeskView) (output : Shown) → Matches v (empty output) → Agrees v (empty output)
-empty-agrees v output is = record { matches = is; orderly = empty_is_orderly output }
+empty-agrees v output is = record { matches = is; ordered = empty_is_ordered output }

@@ -19,14 +19,15 @@ use Rattle.wl_plain.specs.Step.{with_peer}
 use Rattle.wl_laws.proofs.Marks.Stacks.{differ, unless}
 use Rattle.wl_laws.proofs.Runs.Forms.{ChangesAt, ConnectsAt}
 use Rattle.wl_laws.proofs.Runs.OneRun.{changed-held, held}
-use Rattle.wl_invariants.specs.Standing.{MappedStand}
-use Rattle.wl_invariants.specs.Orderly.{Orderly}
-use Rattle.wl_invariants.proofs.OrderlyClients.Clients.{ended_own_nothing}
-use Rattle.wl_invariants.proofs.OrderlyClients.Desktops.{comes-at}
-use Rattle.wl_changes.proofs.MessageWays.Gone.{same-applied}
-use Rattle.wl_changes.proofs.MessageWays.Lists.{any-never, filter-every, is_gone_at, least-gone}
-use Rattle.wl_changes.proofs.MessageWays.Trees.{all-distinct, orderly_has_trees}
-use Rattle.wl_clients.proofs.Altering.{closed-leaves, leaves-over, sent-leaves, stored-leaves}
+use Rattle.wl_laws.proofs.Soundness.Windows.{sound_is_distinct}
+use Rattle.wl_laws.specs.Laws.{AreApart}
+use Rattle.wl_invariants.specs.Shown.{AreShown, ShownStand}
+use Rattle.wl_ordered.specs.Ordered.{Ordered}
+use Rattle.wl_invariants.proofs.EachClient.Clients.{comes-at}
+use Rattle.wl_invariants.proofs.InOrder.Sound.{in_order_is_sound}
+use Rattle.wl_ways.proofs.MessageWays.Gone.{same-applied}
+use Rattle.wl_ways.proofs.MessageWays.Lists.{any-never, filter-every, is_gone_at, least-gone}
+use Rattle.wl_clients.proofs.Altering.{closed-leaves, ended-bare, leaves-over, sent-leaves, stored-leaves}
 
 -- The output is the same, each client owns what it did, and the same toplevels stand.
 pub record IsStill (d e : Desktop) : Type 0 where
@@ -50,17 +51,26 @@ windows_by owned standing = windows (λ c. (owned c).surfaces) (λ c. stacked_po
 pub still-windows : (d e : Desktop) → IsStill d e → all_windows e ≡ all_windows d
 still-windows d e still = ap₂ (λ (owned : ℕ → Owns) (standing : List Standing). windows_by owned standing) (fun_ext still.owned) still.standing
 
+-- just those stand that are mapped
+pub still-stands : (d e : Desktop) → IsStill d e → ShownStand d → ShownStand e
+still-stands d e still stand =
+    record {
+      apart = subst (λ (ss : List Standing). AreApart ss) (sym still.standing) stand.apart;
+      each = λ c. subst (λ (ss : List Standing). AreShown c (owned_in e c) ss) (sym still.standing)
+          (subst (λ (o : Owns). AreShown c o d.standing) (sym (still.owned c)) (stand.each c));
+    }
+
 -- ---- nothing is marked
 
 and-none : (b : Bool) → (b && false) ≡ false
 and-none true = refl
 and-none false = refl
 
-pub still-unmarked : (d e : Desktop) → Orderly d → MappedStand d → IsStill d e → (x y : ℤ) → marks_at_least d e x y ≡ false
-still-unmarked d e orderly stand still x y =
+pub still-unmarked : (d e : Desktop) → Ordered d → IsStill d e → (x y : ℤ) → marks_at_least d e x y ≡ false
+still-unmarked d e ordered still x y =
     unless (marks_at_least d e x y)
     (λ marked. differ (sym (any-never (is_gone_at (λ w. true) (all_windows d) x y) (λ w. and-none (contains w x y)) (all_windows d))
-    ∙ least-gone (λ w. true) (all_windows d) x y (applied_between d e) (all-distinct d (orderly_has_trees d orderly stand))
+    ∙ least-gone (λ w. true) (all_windows d) x y (applied_between d e) (sound_is_distinct d (in_order_is_sound d ordered.in_order))
     (λ w kept p q. same-applied d e w.owner.client w.surface p q (still.owned w.owner.client)) d.output.width d.output.height
     (subst (λ (ws : List Window). at_least d.output.width d.output.height (applied_between d e) (all_windows d) ws x y ≡ true)
     (still-windows d e still ∙ sym (filter-every (all_windows d))) marked)))
@@ -97,16 +107,16 @@ connects-still d e done connects = by (lowest d.clients) refl connects
 
 -- ---- a client is told something, and lives on or had ended; or one that ended goes
 
-ended-nothing : (d : Desktop) (c : ℕ) (r : Resident) (s : Option Cause) → Orderly d → client_at c d ≡ Some r → r.peer.status ≡ s → is_some s ≡ true → r.owned ≡ nothing_owned
-ended-nothing d c r None orderly is status over = absurd (differ over)
-ended-nothing d c r (Some cause) orderly is status over = ap (λ (x : Resident). x.owned) (ended_own_nothing d c r cause orderly is status).0
+ended-nothing : (d : Desktop) (c : ℕ) (r : Resident) (s : Option Cause) → Ordered d → client_at c d ≡ Some r → r.peer.status ≡ s → is_some s ≡ true → r.owned ≡ nothing_owned
+ended-nothing d c r None ordered is status over = absurd (differ over)
+ended-nothing d c r (Some cause) ordered is status over = ap (λ (x : Resident). x.owned) (ended-bare d c r cause ordered is status).0
 
-pub changes-still : (R : Peer → Done → Option Peer → Type 0) → ((p : Peer) (done : Done) → R p done None → is_some p.status ≡ true) → (absent done : Done) (c : ℕ) (d e : Desktop) → Orderly d
+pub changes-still : (R : Peer → Done → Option Peer → Type 0) → ((p : Peer) (done : Done) → R p done None → is_some p.status ≡ true) → (absent done : Done) (c : ℕ) (d e : Desktop) → Ordered d
     → ChangesAt R absent c (client_at c d) d done e → IsStill d e
-changes-still R goes absent done c d e orderly changes = by (client_at c d) refl changes
+changes-still R goes absent done c d e ordered changes = by (client_at c d) refl changes
   where
     left : (r : Resident) (q : Option Peer) → client_at c d ≡ Some r → R r.peer done q → IsStill d (held q c r d)
-    left r None is h = put-still c None d (sym (ap owned_of is ∙ ended-nothing d c r r.peer.status orderly is refl (goes r.peer done h)))
+    left r None is h = put-still c None d (sym (ap owned_of is ∙ ended-nothing d c r r.peer.status ordered is refl (goes r.peer done h)))
     left r (Some x) is h = put-still c (Some (with_peer x r)) d (sym (ap owned_of is))
 
     by : (o : Option Resident) → client_at c d ≡ o → ChangesAt R absent c o d done e → IsStill d e
@@ -115,15 +125,15 @@ changes-still R goes absent done c d e orderly changes = by (client_at c d) refl
         let k = changed-held R absent done c r d e h in
         subst (λ (x : Desktop). IsStill d x) (sym k.2) (left r k.0 is k.1)
 
-pub stored-still : (c store at : ℕ) (bytes : List ℕ) (done : Done) (d e : Desktop) → Orderly d → Happens served_now (Store c store at bytes) done d e → IsStill d e
-stored-still c store at bytes done d e orderly h =
-    changes-still (IsStored store at bytes) (leaves-over (IsStored store at bytes) (stored-leaves store at bytes)) _ done c d e orderly h
+pub stored-still : (c store at : ℕ) (bytes : List ℕ) (done : Done) (d e : Desktop) → Ordered d → Happens served_now (Store c store at bytes) done d e → IsStill d e
+stored-still c store at bytes done d e ordered h =
+    changes-still (IsStored store at bytes) (leaves-over (IsStored store at bytes) (stored-leaves store at bytes)) _ done c d e ordered h
 
-pub sent-still : (c n : ℕ) (done : Done) (d e : Desktop) → Orderly d → Happens served_now (Send c n) done d e → IsStill d e
-sent-still c n done d e orderly h = changes-still (IsSent n) (leaves-over (IsSent n) (sent-leaves n)) _ done c d e orderly h
+pub sent-still : (c n : ℕ) (done : Done) (d e : Desktop) → Ordered d → Happens served_now (Send c n) done d e → IsStill d e
+sent-still c n done d e ordered h = changes-still (IsSent n) (leaves-over (IsSent n) (sent-leaves n)) _ done c d e ordered h
 
-pub closed-still : (c : ℕ) (done : Done) (d e : Desktop) → Orderly d → Happens served_now (Close c) done d e → IsStill d e
-closed-still c done d e orderly h = changes-still IsClosed (leaves-over IsClosed closed-leaves) _ done c d e orderly h
+pub closed-still : (c : ℕ) (done : Done) (d e : Desktop) → Ordered d → Happens served_now (Close c) done d e → IsStill d e
+closed-still c done d e ordered h = changes-still IsClosed (leaves-over IsClosed closed-leaves) _ done c d e ordered h
 
 -- ---- a piece is kept of a client
 

@@ -12,11 +12,10 @@ use Rattle.wl_laws.proofs.Runs.Fates.{same-or}
 use Rattle.wl_laws.proofs.Runs.Following.{Owns}
 use Rattle.wl_laws.proofs.Runs.Places.{other-become, status-become}
 use Rattle.wl_laws.proofs.Soundness.ObjectsKeys.{any-of-filter}
-use Rattle.wl_invariants.specs.Orderly.{Orderly}
-use Rattle.wl_invariants.proofs.OrderlyClients.Clients.{orderly_has_no_popups}
-use Rattle.wl_changes.specs.Ways.{IsGone}
-use Rattle.wl_changes.proofs.MessageWays.Ends.{untold_is_gone}
-use Rattle.wl_changes.proofs.MessageWays.Gone.{gone_windows}
+use Rattle.wl_ordered.specs.Ordered.{Ordered}
+use Rattle.wl_ways.specs.Ways.{IsGone}
+use Rattle.wl_ways.proofs.MessageWays.Ends.{untold_is_gone}
+use Rattle.wl_ways.proofs.MessageWays.Gone.{gone_windows}
 use Rattle.wl_clients.proofs.Still.{IsStill, put-still, same-still, still-windows}
 
 -- ---- the client that is told
@@ -37,12 +36,12 @@ told-still time c d e told alive = at (client_at c d) refl told
     at (Some r) is h = by r.peer.status r is h
 
 -- so it is, or what the client had is gone
-pub told-fate : (time c : ℕ) (d e : Desktop) → Orderly d → FramesToldAt time c (client_at c d) d e → IsStill d e ⊎ IsGone c d e
-told-fate time c d e orderly told = at (status_in c e) refl
+pub told-fate : (time c : ℕ) (d e : Desktop) → Ordered d → FramesToldAt time c (client_at c d) d e → IsStill d e ⊎ IsGone c d e
+told-fate time c d e ordered told = at (status_in c e) refl
   where
     at : (s : Option Cause) → status_in c e ≡ s → IsStill d e ⊎ IsGone c d e
     at None alive = inl (told-still time c d e told alive)
-    at (Some cause) over = inr (untold_is_gone time c d e orderly told (ap (λ (s : Option Cause). is_some s) over))
+    at (Some cause) over = inr (untold_is_gone time c d e ordered.in_order told (ap (λ (s : Option Cause). is_some s) over))
 
 -- one that ended is told nothing
 pub over-told : (time c : ℕ) (r : Resident) (d e : Desktop) → FramesToldAt time c (Some r) d e → is_some r.peer.status ≡ true → e ≡ d
@@ -101,8 +100,8 @@ fate-output c d e (inr gone) = gone.output
 abbrev pub HasNoNew : Desktop → Desktop → Type 0
 HasNoNew d e = (p : Window → Bool) → list_any p (all_windows e) ≡ true → list_any p (all_windows d) ≡ true
 
-pub fate-windows : (c : ℕ) (d e : Desktop) → Orderly d → Orderly e → IsStill d e ⊎ IsGone c d e → HasNoNew d e
-fate-windows c d e was is (inl still) p there = ap (λ (ws : List Window). list_any p ws) (sym (still-windows d e still)) ∙ there
-fate-windows c d e was is (inr gone) p there =
+pub fate-windows : (c : ℕ) (d e : Desktop) → IsStill d e ⊎ IsGone c d e → HasNoNew d e
+fate-windows c d e (inl still) p there = ap (λ (ws : List Window). list_any p ws) (sym (still-windows d e still)) ∙ there
+fate-windows c d e (inr gone) p there =
     any-of-filter p (λ w. not (w.owner.client == c)) (all_windows d)
-    (ap (λ (ws : List Window). list_any p ws) (sym (gone_windows c d e (orderly_has_no_popups d was) (orderly_has_no_popups e is) gone)) ∙ there)
+    (ap (λ (ws : List Window). list_any p ws) (sym (gone_windows c d e gone)) ∙ there)

@@ -14,22 +14,22 @@ use Rattle.wl_interface.specs.declared.interface.Interface.TheVariants.{WlSurfac
 use Rattle.wl_owning.specs.Owning.{targets_in}
 use Rattle.wl_stacking.specs.Windows.{Window}
 use Rattle.wl_lending.specs.Stacked.{AreStacked}
-use Rattle.wl_plain.specs.Desktop.{Desktop, Resident, become_by, client_at, owned_of, toplevels_of, with_client, with_number}
+use Rattle.wl_plain.specs.Desktop.{Desktop, Resident, client_at, owned_of, toplevels_of, with_client, with_number}
 use Rattle.wl_plain.specs.Stacked.{all_windows}
 use Rattle.wl_plain.specs.Step.{with_peer}
-use Rattle.wl_laws.proofs.Lists.Keys.{differ}
+use Rattle.wl_laws.proofs.Lists.Keys.{differ, some-same}
 use Rattle.wl_laws.proofs.Runs.Fates.{same-or}
 use Rattle.wl_laws.proofs.Runs.Places.{number-other, number-same, number-twice}
-use Rattle.wl_invariants.specs.Orderly.{Orderly, OrderlyAt, OrderlyBy, OwnsOrderly}
+use Rattle.wl_invariants.specs.InOrder.{InOrderAt, InOrderBy, OwnsInOrder}
+use Rattle.wl_ordered.specs.Ordered.{Ordered, OwnsOrdered}
 use Rattle.wl_invariants.specs.Roots.{AreOwnSubsurfaces, HasSubsurface}
-use Rattle.wl_invariants.specs.Standing.{MappedStand}
-use Rattle.wl_invariants.proofs.KeptRecords.Keeping.StandingDesks.{become-stand}
-use Rattle.wl_invariants.proofs.OrderlyClients.Clients.{clients_are_orderly, only_peer_changes}
+use Rattle.wl_invariants.specs.Shown.{ShownStand}
+use Rattle.wl_ordered.proofs.Laws.{peers_keep_ordered}
 use Rattle.wl_requests.specs.declared.residents.Resident.{Resident as Kept}
 use Rattle.wl_resident.specs.Agreement.{with_numbers}
 use Rattle.wl_resident.specs.Seats.{IsSeated}
 use Rattle.wl_resident.specs.View.{Pile}
-use Rattle.wl_clients.proofs.Still.{put-still, still-windows}
+use Rattle.wl_clients.proofs.Still.{IsStill, put-still, still-stands, still-windows}
 
 -- ---- what is queued
 
@@ -62,15 +62,14 @@ noting-own press release r own = record { ids = own.ids; links = own.links; surf
 noting-has : (press release : Option ℕ) (r : Resident) (number child : ℕ) → HasSubsurface r number child → HasSubsurface (noting press release r) number child
 noting-has press release r number child has = record { subsurface = has.subsurface; here = has.here; lives = has.lives; link = has.link; surface = has.surface }
 
-pub noting-orderly : (press release : Option ℕ) (r : Resident) → OwnsOrderly r → OwnsOrderly (noting press release r)
-noting-orderly press release r o = record {
-  no_popups = record {
-    apart = o.no_popups.apart;
-    known = o.no_popups.known;
-    roles = o.no_popups.roles;
-    subsurfaces = o.no_popups.subsurfaces;
-    children = o.no_popups.children;
-    callbacks = o.no_popups.callbacks;
+noting-order : (press release : Option ℕ) (r : Resident) → OwnsInOrder r → OwnsInOrder (noting press release r)
+noting-order press release r o = record {
+  known = record {
+    apart = o.known.apart;
+    known = o.known.known;
+    subsurfaces = o.known.subsurfaces;
+    children = o.known.children;
+    callbacks = o.known.callbacks;
   };
   buffers = o.buffers;
   tied = o.tied;
@@ -87,7 +86,21 @@ noting-orderly press release r o = record {
   surfaces = o.surfaces;
   xdg_surfaces = o.xdg_surfaces;
   toplevels = o.toplevels;
+  popups = o.popups;
   xdg_apart = o.xdg_apart;
+  popups_apart = o.popups_apart;
+  popups_early = o.popups_early;
+}
+
+noting-ordered : (press release : Option ℕ) (r : Resident) → OwnsOrdered r → OwnsOrdered (noting press release r)
+noting-ordered press release r o = record {
+  order = noting-order press release r o.order;
+  younger = o.younger;
+  ungrabbed = o.ungrabbed;
+  few = o.few;
+  parents = o.parents;
+  placed = o.placed;
+  surfaces = o.surfaces;
 }
 
 -- ---- the desktop
@@ -104,39 +117,49 @@ module _ (c : ℕ) (d : Desktop) (s : Resident) (q : Peer) (press release : Opti
   pub still-alive : q.status ≡ None
   still-alive = ap (λ (p : Peer). p.status) only ∙ alive
 
-  told-owns : Orderly d → OwnsOrderly then_told
-  told-owns orderly =
+  told-owns : Ordered d → OwnsOrdered then_told
+  told-owns ordered =
       let requests : q.requests ≡ s.peer.requests = ap (λ (p : Peer). p.requests) only in
-      noting-orderly press release (with_peer q s)
-      (only_peer_changes s q (ap (λ (p : Peer). p.objects) only) (ap (λ (p : Peer). p.buffers) only) (omega (arith, requests))
-      (clients_are_orderly d c s orderly there alive))
+      noting-ordered press release (with_peer q s)
+      (peers_keep_ordered s q (ap (λ (p : Peer). p.objects) only) (ap (λ (p : Peer). p.buffers) only) (omega (arith, requests))
+      (ordered.each c s there alive))
 
-  pub told-orderly : Orderly d → Orderly told_desktop
-  told-orderly orderly = record { pointer = orderly.pointer; each = each }
+  pub told-ordered : Ordered d → Ordered told_desktop
+  told-ordered ordered = record { in_order = record { pointer = ordered.in_order.pointer; each = each }; each = owns }
     where
-      tops : OrderlyBy None s (toplevels_of c d)
-      tops = subst (λ (o : Option Cause). OrderlyBy o s (toplevels_of c d)) alive (subst (λ (o : Option Resident). OrderlyAt o (toplevels_of c d)) there (orderly.each c))
+      its : (k : ℕ) (r : Resident) → client_at k told_desktop ≡ Some r → r.peer.status ≡ None → (c ≡ k) ⊎ (c ≢ k) → OwnsOrdered r
+      its k r here lives (inl e) =
+          let its_own : client_at k told_desktop ≡ Some then_told = subst (λ (n : ℕ). client_at n told_desktop ≡ Some then_told) e (number-same d.clients c (Some then_told) s there) in
+          subst OwnsOrdered (some-same then_told r (sym its_own ∙ here)) (told-owns ordered)
+      its k r here lives (inr apart) = ordered.each k r (sym (number-other d.clients c k (Some then_told) apart) ∙ here) lives
 
-      own : OrderlyAt (client_at c told_desktop) (toplevels_of c d)
+      owns : (k : ℕ) (r : Resident) → client_at k told_desktop ≡ Some r → r.peer.status ≡ None → OwnsOrdered r
+      owns k r here lives = its k r here lives (same-or c k)
+
+      tops : InOrderBy None s (toplevels_of c d)
+      tops = subst (λ (o : Option Cause). InOrderBy o s (toplevels_of c d)) alive (subst (λ (o : Option Resident). InOrderAt o (toplevels_of c d)) there (ordered.in_order.each c))
+
+      own : InOrderAt (client_at c told_desktop) (toplevels_of c d)
       own =
-          subst (λ (o : Option Resident). OrderlyAt o (toplevels_of c d)) (sym (number-same d.clients c (Some then_told) s there))
-          (subst (λ (o : Option Cause). OrderlyBy o then_told (toplevels_of c d)) (sym still-alive) (told-owns orderly, record { apart = tops.1.apart; mapped = tops.1.mapped }))
+          subst (λ (o : Option Resident). InOrderAt o (toplevels_of c d)) (sym (number-same d.clients c (Some then_told) s there))
+          (subst (λ (o : Option Cause). InOrderBy o then_told (toplevels_of c d)) (sym still-alive) ((told-owns ordered).order, record { apart = tops.1.apart; mapped = tops.1.mapped }))
 
-      each : (k : ℕ) → OrderlyAt (client_at k told_desktop) (toplevels_of k told_desktop)
+      each : (k : ℕ) → InOrderAt (client_at k told_desktop) (toplevels_of k told_desktop)
       each k = at (same-or c k)
         where
-          at : (c ≡ k) ⊎ (c ≢ k) → OrderlyAt (client_at k told_desktop) (toplevels_of k told_desktop)
-          at (inl e) = subst (λ (n : ℕ). OrderlyAt (client_at n told_desktop) (toplevels_of n told_desktop)) e own
+          at : (c ≡ k) ⊎ (c ≢ k) → InOrderAt (client_at k told_desktop) (toplevels_of k told_desktop)
+          at (inl e) = subst (λ (n : ℕ). InOrderAt (client_at n told_desktop) (toplevels_of n told_desktop)) e own
           at (inr apart) =
-              subst (λ (o : Option Resident). OrderlyAt o (toplevels_of k d)) (sym (number-other d.clients c k (Some then_told) apart)) (orderly.each k)
+              subst (λ (o : Option Resident). InOrderAt o (toplevels_of k d)) (sym (number-other d.clients c k (Some then_told) apart)) (ordered.in_order.each k)
 
-  told-stand : MappedStand d → MappedStand told_desktop
-  told-stand stand =
-      subst (λ (o : Option Cause). MappedStand (become_by o c (noting press release s) q d)) still-alive
-      (become-stand c (noting press release s) s q d there refl stand)
+  told-still : IsStill d told_desktop
+  told-still = put-still c (Some then_told) d (sym (ap owned_of there))
+
+  told-stand : ShownStand d → ShownStand told_desktop
+  told-stand stand = still-stands d told_desktop told-still stand
 
   pub told-windows : all_windows told_desktop ≡ all_windows d
-  told-windows = still-windows d told_desktop (put-still c (Some then_told) d (sym (ap owned_of there)))
+  told-windows = still-windows d told_desktop told-still
 
   -- what is kept of the client stands for it
   pub told-seated : {A : Type 0} (others : ℕ → ById ℕ) (base : Desktop) (old new : Kept A) (pile : Pile) → IsSeated c others base old pile d s → IsPeer new.client q → new.owned ≡ old.owned

@@ -4,7 +4,7 @@ use Rattle.wl_paint.specs.Damage.{has}
 use Rattle.wl_plain.specs.declared.answers.Done.{Done}
 use Rattle.wl_plain.specs.Desktop.{Desktop}
 use Rattle.wl_plain.specs.LeftOut.{served_now}
-use Rattle.wl_invariants.specs.Orderly.{Orderly}
+use Rattle.wl_ordered.specs.Ordered.{Ordered}
 use Rattle.wl_plain.specs.Act.{Act}
 use Rattle.wl_plain.specs.Happens.{Happens}
 use Rattle.wl_resident.specs.Agreement.{Matches}
@@ -14,7 +14,7 @@ use Rattle.wl_resident.specs.View.{DeskView, MarkedDesk}
 -- What is kept is what the desktop has, and what each client owns there is in order.
 pub record Agrees (v : DeskView) (d : Desktop) : Type 0 where
   pub matches : Matches v d
-  pub orderly : Orderly d
+  pub ordered : Ordered d
 
 -- One step leads from old to new: whatever desktop agrees before, one to which the step leads agrees after.
 abbrev pub TakesStep : Act → Done → DeskView → DeskView → Type 0

@@ -63,7 +63,7 @@ MidNamesSurfaces =
     (v : DeskView) (m : Midstep) (c id : ℕ) (r : Resident) → IsMid v m → client_at c m.desktop ≡ Some r → r.peer.status ≡ None
     → is_some (numbers_in v.clients c id) ≡ is_some (history_in id r.owned.surfaces)
 
--- No client holds a grab: there are no popups.
+-- No client holds a grab.
 abbrev pub NobodyGrabs : Type 0
 NobodyGrabs = (v : DeskView) (m : Midstep) → IsMid v m → grab_holder m.desktop ≡ None
 

@@ -29,7 +29,7 @@ windows_numbered v d = by_numbers v.pile.windows (all_windows d)
 
 -- a window that is kept is that of the surface of this number of a client, in the tree of this toplevel
 abbrev pub is_in_tree : ℕ → ℕ → ℕ → Stacked → Bool
-is_in_tree client toplevel surface s = (s.client == client) && ((s.window.surface == surface) && (s.root == toplevel))
+is_in_tree client toplevel surface s = (s.client == client) && ((s.window.surface == surface) && (s.window.root == toplevel))
 
 -- The wl_pointers of a client are told an event: it draws the serial that the event has, and may keep it as that of its latest press or
 -- release.

@@ -39,7 +39,7 @@ use wl_subsurfaces::Subsurfaces;
 /// How many clients there may be at once.
 const CLIENT_LIMIT: usize = 32;
 
-/// All clients with what each owns, the mapped toplevels with the windows of their trees, and which points of the output are to be painted again.
+/// All clients with what each owns, the mapped toplevels with their windows, and which points of the output are to be painted again.
 /// It is seen as the output, what is kept of each client and of what it owns, by number from 1, and the pile of toplevels and windows; and that
 /// damage.
 #[derive(Drop)]
@@ -100,6 +100,7 @@ impl<A: Allocator + Copy> Clients<A> {
         ensures sides { IfOk result (λ v. (v.damage.width ≡ output.width) × (v.damage.height ≡ output.height)) }
     {
         let damage = Damage::new(alloc, output.width, output.height)?;
+        let screen = Screen::new(alloc, damage)?;
         let mut residents = Vec::with_capacity(alloc, CLIENT_LIMIT)?;
         for _ in 0..CLIENT_LIMIT {
             residents.push(None)?;
@@ -107,7 +108,7 @@ impl<A: Allocator + Copy> Clients<A> {
         Ok(Clients {
             output,
             residents,
-            screen: Screen::new(alloc, damage),
+            screen,
             nowhere: Region::new(alloc),
         })
     }

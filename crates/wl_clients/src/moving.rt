@@ -18,8 +18,8 @@ use wl_plain::ClientNo;
 use wl_surface::SurfaceNo;
 
 impl<A: Allocator + Copy> Clients<A> {
-    /// A press raises a toplevel of a client, given by the number of its surface: it comes to the top of the others with the windows of its
-    /// tree. These are marked where it wasn't topmost, and nothing is where it was.
+    /// A press raises a toplevel of a client, given by the number of its surface: it comes to the top of the others with its windows, those of
+    /// its popups too. These are marked where it wasn't topmost, and nothing is where it was.
     pub fn raise(&mut self, client: ClientNo, toplevel: SurfaceNo)
         ensures raises { (m : Midstep) (top : ℕ) → IsMid self.old.desk m → numbers_in self.old.desk.clients client top ≡ Some toplevel
             → IsMid self.new.desk (with_standing (raised client top m.desktop.standing) m) }
@@ -35,8 +35,8 @@ impl<A: Allocator + Copy> Clients<A> {
         self.screen.raise_tree(client, toplevel);
     }
 
-    /// A toplevel of a client, given by the number of its surface, moves by this difference of the output's pixels with the windows of its
-    /// tree, and is held within 16,777,216 either way. Where these move, they are marked as they were and as they are then.
+    /// A toplevel of a client, given by the number of its surface, moves by this difference of the output's pixels with its windows, those of
+    /// its popups too, and is held within 16,777,216 either way. Where these move, they are marked as they were and as they are then.
     pub fn move_toplevel(&mut self, client: ClientNo, toplevel: SurfaceNo, x: i64, y: i64)
         ensures moves { (m : Midstep) (top : ℕ) → IsMid self.old.desk m → numbers_in self.old.desk.clients client top ≡ Some toplevel
             → IsMid self.new.desk (with_standing (moved_standing (record { client = client; surface = top }) x y m.desktop.standing) m) }

@@ -63,7 +63,7 @@ fn window_in(windows: &[Stacked], client: ClientNo, surface: SurfaceNo) -> Optio
 fn is_in_tree(stacked: &Stacked, client: ClientNo, toplevel: SurfaceNo, surface: SurfaceNo) -> bool
     ensures { result ≡ is_in_tree client toplevel surface stacked.now }
 {
-    stacked.client == client && stacked.window.surface == surface && stacked.root == toplevel
+    stacked.client == client && stacked.window.surface == surface && stacked.window.root == toplevel
 }
 
 /// Whether one of these windows is.
@@ -302,7 +302,7 @@ pub fn mid_names_surfaces()
     ensures { MidNamesSurfaces }
 {}
 
-/// No client holds a grab: there are no popups.
+/// No client holds a grab.
 pub fn nobody_grabs()
     ensures { NobodyGrabs }
 {}

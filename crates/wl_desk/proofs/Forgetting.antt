@@ -18,7 +18,8 @@ use Rattle.wl_laws.specs.Focus.{EndedAreBare, IsSettled}
 use Rattle.wl_laws.proofs.Lists.Keys.{differ}
 use Rattle.wl_laws.proofs.Marks.ShownWindows.{IsShown, all-shown}
 use Rattle.wl_laws.proofs.Marks.Stacks.{Each, and-left, same-number}
-use Rattle.wl_invariants.specs.Orderly.{Orderly, OrderlyAt, OrderlyBy}
+use Rattle.wl_invariants.specs.InOrder.{InOrderAt, InOrderBy}
+use Rattle.wl_ordered.specs.Ordered.{Ordered}
 use Rattle.wl_pointed.specs.Happenings.{pointer_left, unless_ended}
 use Rattle.wl_pointed.specs.Pointed.{MovedStands, pointer_if}
 use Rattle.wl_desk.specs.Agreeing.{Agrees}
@@ -92,17 +93,17 @@ kept-stands t ss e = at (list_any (is_of t.client t.surface) ss) e
     at true e = refl
     at false e = absurd (cc)
 
-pub moved-lives : (d : Desktop) → Orderly (unpointed d) → MovedStands d → (t : Target) → d.pointer.move ≡ Some t → status_in t.client d ≡ None
-moved-lives d orderly moved t has = at (client_at t.client d) (orderly.each t.client)
+pub moved-lives : (d : Desktop) → Ordered (unpointed d) → MovedStands d → (t : Target) → d.pointer.move ≡ Some t → status_in t.client d ≡ None
+moved-lives d ordered moved t has = at (client_at t.client d) (ordered.in_order.each t.client)
   where
     standing : list_any (is_of t.client t.surface) d.standing ≡ true
     standing = kept-stands t d.standing (subst (λ (m : Option Target). kept_move m d.standing ≡ m) has moved)
 
-    by : (s : Option Cause) (r : Resident) → OrderlyBy s r (toplevels_of t.client d) → s ≡ None
+    by : (s : Option Cause) (r : Resident) → InOrderBy s r (toplevels_of t.client d) → s ≡ None
     by None r h = refl
     by (Some cause) r h = absurd (differ (sym standing ∙ none-of t.client t.surface d.standing h.1))
 
-    at : (o : Option Resident) → OrderlyAt o (toplevels_of t.client d) → status_of o ≡ None
+    at : (o : Option Resident) → InOrderAt o (toplevels_of t.client d) → status_of o ≡ None
     at None h = refl
     at (Some r) h = by r.peer.status r h
 
@@ -201,14 +202,14 @@ move-left (Some t) e p is = at (status_in t.client e) refl
 pub all-left : (old : DeskView) (d e : Desktop) → Agrees old d → (p q r : Pointer) (f m : Option Target) → p ≡ d.pointer → f ≡ p.focus → q ≡ left_of f e p → m ≡ q.move → r ≡ left_of m e q
     → r ≡ pointer_left d e
 all-left old d e a p q r f m same focus first move second =
-    let bare : EndedAreBare d = ended-bare (unpointed d) a.kept.orderly in
+    let bare : EndedAreBare d = ended-bare (unpointed d) a.kept.ordered in
     let still-focus : gone_if e q.focus ≡ q.focus = subst (λ (x : Pointer). gone_if e x.focus ≡ x.focus) (sym first) (focus-left f e p (sym focus)) in
     let still : gone_from e r ≡ r =
     subst (λ (x : Pointer). gone_from e x ≡ x) (sym second)
     (ap₂ (λ (x y : Option Target). record (left_of m e q) { focus = x; move = y }) (focus-still m e q still-focus) (move-left m e q (sym move))) in
     sym still ∙ ap (gone_from e) second ∙ gone-again m e q ∙ ap (gone_from e) first ∙ gone-again f e p ∙ ap (gone_from e) same
     ∙ ap₂ (λ (x y : Option Target). record d.pointer { focus = x; move = y })
-    (lived-left d e d.pointer.focus (focus-lives d a.settled bare)) (lived-left d e d.pointer.move (moved-lives d a.kept.orderly a.placed.moved))
+    (lived-left d e d.pointer.focus (focus-lives d a.settled bare)) (lived-left d e d.pointer.move (moved-lives d a.kept.ordered a.placed.moved))
 
 -- one that lives isn't
 pub lives-left : (t : Target) (e : Desktop) (p : Pointer) → status_in t.client e ≡ None → p ≡ left_of (Some t) e p

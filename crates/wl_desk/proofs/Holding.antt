@@ -38,7 +38,7 @@ module _ (v : DeskView) (d : Desktop) (a : Agrees v d) (t : Target) (has : Some 
   serial-so : press_serial d.pointer.focus d ≡ serial_if (has_any (seat_of v.seats t.client)) (client_at t.client d)
   serial-so =
       ap (λ (f : Option Target). press_serial f d) focused
-      ∙ serial-at (client_at t.client d) refl (focus-lives d a.settled (ended-bare (unpointed d) a.kept.orderly) t focused)
+      ∙ serial-at (client_at t.client d) refl (focus-lives d a.settled (ended-bare (unpointed d) a.kept.ordered) t focused)
 
   -- a client without wl_pointers isn't sent a press
   pub serial-none : (ps : List ℕ) → ps ≡ seat_of v.seats t.client → (empty : Bool) → empty ≡ (length ps == 0) → empty ≡ true → None ≡ press_serial d.pointer.focus d

@@ -51,7 +51,7 @@ midway-apart v m midway = agrees-apart (opened_desk v.kept) (unpointed m.desktop
 
 -- what agrees with a desktop where nobody points does so too with the pointer of that put aside
 pub kept-aside : (v : ClientsView) (p : Pointer) (e : Desktop) → KeptAgrees v e → KeptAgrees v (unpointed (pointed p e))
-kept-aside v p e a = subst (λ (q : Pointer). KeptAgrees v (pointed q e)) a.orderly.pointer a
+kept-aside v p e a = subst (λ (q : Pointer). KeptAgrees v (pointed q e)) a.ordered.in_order.pointer a
 
 -- ---- what is marked
 

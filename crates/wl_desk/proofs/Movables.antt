@@ -131,16 +131,16 @@ module _ (numbers : ById ℕ) (c : ℕ) (d : Desktop) where
 -- ---- one may be
 
 -- a window that is kept has a root with a number
-pub stacked-root : (numbers : ℕ → ById ℕ) (s : Stacked) (t : Target) (w : Window) → IsStacked numbers s w → w.owner.client ≡ t.client → numbers t.client w.owner.root ≡ Some s.root
-stacked-root numbers s t w is own = subst (λ (c : ℕ). numbers c w.owner.root ≡ Some s.root) (is.client ∙ own) is.root
+pub stacked-root : (numbers : ℕ → ById ℕ) (s : Stacked) (t : Target) (w : Window) → IsStacked numbers s w → w.owner.client ≡ t.client → numbers t.client w.owner.root ≡ Some s.window.root
+stacked-root numbers s t w is own = subst (λ (c : ℕ). numbers c w.owner.root ≡ Some s.window.root) (is.client ∙ own) is.root
 
 -- the window that is found
 pub found-one : (numbers : ℕ → ById ℕ) (s : Stacked) (t : Target) (ws : List Window) → IsStackedOrNone numbers (Some s) (focus_window (Some t) ws)
-    → (w : Window) × (focus_window (Some t) ws ≡ Some w) × (numbers t.client w.owner.root ≡ Some s.root)
+    → (w : Window) × (focus_window (Some t) ws ≡ Some w) × (numbers t.client w.owner.root ≡ Some s.window.root)
 found-one numbers s t ws is = at (focus_window (Some t) ws) refl is
   where
     at : (o : Option Window) → focus_window (Some t) ws ≡ o → IsStackedOrNone numbers (Some s) o
-        → (w : Window) × (focus_window (Some t) ws ≡ Some w) × (numbers t.client w.owner.root ≡ Some s.root)
+        → (w : Window) × (focus_window (Some t) ws ≡ Some w) × (numbers t.client w.owner.root ≡ Some s.window.root)
     at None found is = absurd is
     at (Some w) found is =
         (w, found, stacked-root numbers s t w is (eqb-true w.owner.client t.client (and-left (w.owner.client == t.client) (w.surface == t.surface) (found-passes (is_window t) ws w found))))
@@ -148,30 +148,30 @@ found-one numbers s t ws is = at (focus_window (Some t) ws) refl is
 module _ (numbers : ℕ → ById ℕ) (once : (c : ℕ) → AreNumberedOnce (numbers c)) (d : Desktop) (apart : AreDistinct (all_windows d)) (t : Target) (has : Some t ≡ d.pointer.focus)
     (s : Stacked) (is : IsStackedOrNone numbers (Some s) (focus_window (Some t) (all_windows d))) where
   -- its root has an id
-  pub rootless-may : {X : Type 0} → ((id : ℕ) → numbers t.client id ≢ Some s.root) → X
+  pub rootless-may : {X : Type 0} → ((id : ℕ) → numbers t.client id ≢ Some s.window.root) → X
   rootless-may none = let found = found-one numbers s t (all_windows d) is in absurd (none found.0.owner.root found.2)
 
-  pub one-may : (m : Movable) (id : ℕ) → Some m.serial ≡ d.pointer.hold → m.number ≡ s.root → target_of m.toplevel ≡ record { client = t.client; surface = id }
-      → numbers t.client id ≡ Some s.root → IsMovable (numbers t.client) t.client d (Some m)
+  pub one-may : (m : Movable) (id : ℕ) → Some m.serial ≡ d.pointer.hold → m.number ≡ s.window.root → target_of m.toplevel ≡ record { client = t.client; surface = id }
+      → numbers t.client id ≡ Some s.window.root → IsMovable (numbers t.client) t.client d (Some m)
   one-may m id held number toplevel named surface other serial asked = by (found-one numbers s t (all_windows d) is)
     where
-      both : (w : Window) → numbers t.client w.owner.root ≡ Some s.root → (a b e : Bool) → (w.owner.root == surface) ≡ b → (m.number == other) ≡ e
+      both : (w : Window) → numbers t.client w.owner.root ≡ Some s.window.root → (a b e : Bool) → (w.owner.root == surface) ≡ b → (m.number == other) ≡ e
           → (if a && b then Some (record { client = t.client; surface = surface }) else None) ≡ (if a && e then Some (target_of m.toplevel) else None)
       both w rooted false b e root it = refl
       both w rooted true false false root it = refl
       both w rooted true true true root it =
           ap (λ (n : ℕ). Some (record { client = t.client; surface = n }))
-          (sym (eqb-true w.owner.root surface root) ∙ once t.client w.owner.root id s.root rooted named) ∙ ap (λ (x : Target). Some x) (sym toplevel)
+          (sym (eqb-true w.owner.root surface root) ∙ once t.client w.owner.root id s.window.root rooted named) ∙ ap (λ (x : Target). Some x) (sym toplevel)
       both w rooted true true false root it =
           let same : m.number ≡ other =
-          number ∙ some-same s.root other (sym rooted ∙ ap (λ (n : ℕ). numbers t.client n) (eqb-true w.owner.root surface root) ∙ asked) in
+          number ∙ some-same s.window.root other (sym rooted ∙ ap (λ (n : ℕ). numbers t.client n) (eqb-true w.owner.root surface root) ∙ asked) in
           absurd (differ (sym (equal-numbers m.number other same) ∙ it))
       both w rooted true false true root it =
           let same : w.owner.root ≡ surface =
-          once t.client w.owner.root surface s.root rooted (asked ∙ ap (λ (n : ℕ). Some n) (sym (eqb-true m.number other it) ∙ number)) in
+          once t.client w.owner.root surface s.window.root rooted (asked ∙ ap (λ (n : ℕ). Some n) (sym (eqb-true m.number other it) ∙ number)) in
           absurd (differ (sym (equal-numbers w.owner.root surface same) ∙ root))
 
-      by : (w : Window) × (focus_window (Some t) (all_windows d) ≡ Some w) × (numbers t.client w.owner.root ≡ Some s.root)
+      by : (w : Window) × (focus_window (Some t) (all_windows d) ≡ Some w) × (numbers t.client w.owner.root ≡ Some s.window.root)
           → (if is_serial serial d.pointer.hold
           && is_focus_in t.client surface d.pointer.focus (all_windows d) then Some (record { client = t.client; surface = surface }) else None) ≡ chosen (Some m) other serial
       by (w, found, rooted) =
@@ -210,12 +210,12 @@ module _ (v : DeskView) (d : Desktop) (a : Agrees v d) (c : ℕ) where
     windowless-whole is = windowless-may (kept_numbers c) c d t (focus-is (Some t) has) own (none-of kept_numbers (focus_window (Some t) (all_windows d)) is)
 
     module _ (s : Stacked) (is : IsStackedOrNone kept_numbers (Some s) (focus_window (Some t) (all_windows d))) where
-      pub rootless-whole : {X : Type 0} → ((id : ℕ) → kept_numbers c id ≢ Some s.root) → X
+      pub rootless-whole : {X : Type 0} → ((id : ℕ) → kept_numbers c id ≢ Some s.window.root) → X
       rootless-whole none =
-          rootless-may kept_numbers once-at d apart-at t (focus-is (Some t) has) s is (subst (λ (n : ℕ). (id : ℕ) → kept_numbers n id ≢ Some s.root) (sym own) none)
+          rootless-may kept_numbers once-at d apart-at t (focus-is (Some t) has) s is (subst (λ (n : ℕ). (id : ℕ) → kept_numbers n id ≢ Some s.window.root) (sym own) none)
 
-      pub one-whole : (m : Movable) (id : ℕ) → Some m.serial ≡ v.pointer.hold → m.number ≡ s.root → target_of m.toplevel ≡ record { client = c; surface = id }
-          → kept_numbers c id ≡ Some s.root → IsMovable (kept_numbers c) c d (Some m)
+      pub one-whole : (m : Movable) (id : ℕ) → Some m.serial ≡ v.pointer.hold → m.number ≡ s.window.root → target_of m.toplevel ≡ record { client = c; surface = id }
+          → kept_numbers c id ≡ Some s.window.root → IsMovable (kept_numbers c) c d (Some m)
       one-whole m id held number =
-          subst (λ (n : ℕ). target_of m.toplevel ≡ record { client = n; surface = id } → kept_numbers n id ≡ Some s.root → IsMovable (kept_numbers n) n d (Some m)) own
+          subst (λ (n : ℕ). target_of m.toplevel ≡ record { client = n; surface = id } → kept_numbers n id ≡ Some s.window.root → IsMovable (kept_numbers n) n d (Some m)) own
           (one-may kept_numbers once-at d apart-at t (focus-is (Some t) has) s is m id (held ∙ ap (λ (p : Pointer). p.hold) a.pointer) number)

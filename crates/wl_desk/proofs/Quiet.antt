@@ -18,7 +18,8 @@ use Rattle.wl_plain.specs.Through.{ending_through, settling_through}
 use Rattle.wl_laws.specs.Focus.{EndedAreBare, IsSettled}
 use Rattle.wl_laws.proofs.Lists.Keys.{differ}
 use Rattle.wl_laws.proofs.Runs.Settled.{ShowsSame, closed-none, come-shows, never-none, put-shows, same-windows, shows-itself}
-use Rattle.wl_invariants.specs.Orderly.{Orderly, OrderlyAt, OrderlyBy}
+use Rattle.wl_invariants.specs.InOrder.{InOrderAt, InOrderBy}
+use Rattle.wl_ordered.specs.Ordered.{Ordered}
 use Rattle.wl_pointed.specs.Happenings.{is_quiet}
 use Rattle.wl_pointed.specs.Pointed.{pointed}
 use Rattle.wl_pointed.proofs.Happenings.{quiet-apart}
@@ -32,10 +33,10 @@ use Rattle.wl_desk.proofs.Leading.{kept-aside}
 use Rattle.wl_desk.proofs.Unraised.{marks-raised, marks-unraised, quiet-unraised}
 
 -- a client that ended owns nothing
-pub ended-bare : (d : Desktop) → Orderly d → EndedAreBare d
-ended-bare d orderly c r there over = at r.peer.status over (subst (λ (o : Option Resident). OrderlyAt o (toplevels_of c d)) there (orderly.each c))
+pub ended-bare : (d : Desktop) → Ordered d → EndedAreBare d
+ended-bare d ordered c r there over = at r.peer.status over (subst (λ (o : Option Resident). InOrderAt o (toplevels_of c d)) there (ordered.in_order.each c))
   where
-    at : (s : Option Cause) → is_some s ≡ true → OrderlyBy s r (toplevels_of c d) → r.owned ≡ nothing_owned
+    at : (s : Option Cause) → is_some s ≡ true → InOrderBy s r (toplevels_of c d) → r.owned ≡ nothing_owned
     at None over h = absurd (differ (sym over))
     at (Some cause) over h = ap (λ (x : Resident). x.owned) h.0
 
@@ -117,7 +118,7 @@ pub quiet-leads : (h : Happening) (d : Desktop) (old new : MarkedDesk) → is_qu
     → new.desk.pointer ≡ old.desk.pointer → AreSeats new.desk.seats led.desktop → Led (Agrees new.desk) h old.damage new.damage d
 quiet-leads h d old new quiet a led stays seats =
     let e : Desktop = led.desktop in
-    let shows = quiet-shows served_now h (unpointed d) led.path e quiet (ended-bare (unpointed d) a.kept.orderly) led.leads in
+    let shows = quiet-shows served_now h (unpointed d) led.path e quiet (ended-bare (unpointed d) a.kept.ordered) led.leads in
     let same : ShowsSame d e = record { standing = shows.1.standing; owned = shows.1.owned } in
     let on : Leads served_now h d (pointed d.pointer e ∷ []) (pointed d.pointer e) = quiet-apart served_now h d led.path e quiet led.leads in
     record {

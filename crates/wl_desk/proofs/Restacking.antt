@@ -1,13 +1,13 @@
 -- Toplevels by the numbers of their surfaces: the one that is hit, and the one that is moved; and what is kept where one is raised or moved.
-use Rattle.std.proofs.Common.{◌≡◌, ◌≢◌, ℕ, List, [], ◌∷◌, ◌++◌, Bool, true, false, Option, Some, None, refl, ap, ap₂, subst, sym, ◌∙◌}
-use Rattle.std.specs.Prelude.{ℤ, ◌==◌, ◌||◌, if◌then◌else◌, fold, is_some, map, pos, slice_get}
+use Rattle.std.proofs.Common.{◌≡◌, ◌≢◌, ℕ, List, [], ◌∷◌, Bool, true, false, Option, Some, None, refl, ap, ap₂, subst, sym, ◌∙◌}
+use Rattle.std.specs.Prelude.{ℤ, ◌==◌, ◌||◌, if◌then◌else◌, is_some, map, pos, slice_get}
 use Rattle.std.specs.List.{list_any}
 use Rattle.std.proofs.lemmas.Bool.{eqb-true}
 use Rattle.wl_paint.specs.Damage.{Damaged, has}
 use Rattle.wl_peer.specs.Objects.{ById}
 use Rattle.wl_stacking.specs.Pointer.{Target, hit_now}
-use Rattle.wl_stacking.specs.Stacking.{Owned, Standing, is_of, root_of, windows_on}
-use Rattle.wl_stacking.specs.Windows.{Place, Window, hit, hit_after, is_hit, owner_of, tree}
+use Rattle.wl_stacking.specs.Stacking.{Standing, is_of}
+use Rattle.wl_stacking.specs.Windows.{Place, Window, hit}
 use Rattle.wl_stacked.specs.declared.stacked.Stacked.{Stacked}
 use Rattle.wl_scene.specs.Focus.{action_of, place_of, toplevel_of}
 use Rattle.wl_scene.specs.declared.actions.Action.{Action}
@@ -15,19 +15,14 @@ use Rattle.wl_scene.specs.declared.actions.Action.TheVariants as does
 use Rattle.wl_scene.specs.declared.actions.Target.{Target as Named}
 use Rattle.wl_scene.specs.declared.focus.Point.{Point}
 use Rattle.wl_plain.specs.Changing.{kept_move}
-use Rattle.wl_plain.specs.Desktop.{Desktop, owned_in, unpointed}
+use Rattle.wl_plain.specs.Desktop.{Desktop, unpointed}
 use Rattle.wl_plain.specs.Marks.{AreDistinct}
 use Rattle.wl_plain.specs.Moments.{marks_at_least_of, marks_at_most_of}
 use Rattle.wl_plain.specs.Pointing.{moved_standing}
 use Rattle.wl_plain.specs.Settling.{Midstep, unstruck, with_standing}
 use Rattle.wl_plain.specs.Stacked.{all_windows}
-use Rattle.wl_laws.proofs.Lists.Keys.{none-some, some-same}
-use Rattle.wl_laws.proofs.Marks.Stacks.{Each, and-left, and-right, differ, each-map}
-use Rattle.wl_invariants.specs.Orderly.{Orderly}
-use Rattle.wl_invariants.proofs.OrderlyClients.Clients.{orderly_has_no_popups}
-use Rattle.wl_invariants.proofs.TreeMarks.Lists.{each-append}
-use Rattle.wl_invariants.proofs.TreeSteps.Owners.{tree-owned}
-use Rattle.wl_invariants.proofs.WithoutPopups.Windows.{windows_are_toplevels}
+use Rattle.wl_laws.proofs.Lists.Keys.{none-some}
+use Rattle.wl_laws.proofs.Marks.Stacks.{and-left, and-right, differ}
 use Rattle.wl_lending.specs.Hit.{IsStackedOrNone}
 use Rattle.wl_lending.specs.Stacked.{AreNumberedOnce}
 use Rattle.wl_pointed.proofs.Marking.{settling-marks-nothing}
@@ -42,36 +37,6 @@ use Rattle.wl_desk.specs.Midway.{IsTelling, unpointed_mid}
 use Rattle.wl_desk.specs.Restacking.{HasNumber, MarksChange, dragged, first_dragged, first_moved, moved_of}
 use Rattle.wl_desk.specs.View.{DeskView}
 
--- ---- each window is in the tree of a toplevel
-
-abbrev IsOfToplevel : Window → Type 0
-IsOfToplevel w = w.owner.toplevel ≡ w.owner.root
-
-each-on : (owned : ℕ → Owned) (ss : List Standing) → Each IsOfToplevel (windows_on owned ss)
-each-on owned [] = tt
-each-on owned (s ∷ ss) =
-    let own : List Window = tree 17 (owner_of (root_of owned s)) (owned s.client).surfaces s.surface s.place in
-    let each : Each IsOfToplevel own =
-    each-map (λ w. w.owner ≡ owner_of (root_of owned s)) IsOfToplevel (λ w e. ap (λ o. o.toplevel) e ∙ sym (ap (λ o. o.root) e)) own
-    (tree-owned 17 (owner_of (root_of owned s)) (owned s.client).surfaces s.surface s.place) in
-    each-append IsOfToplevel (own ++ []) (windows_on owned ss) (each-append IsOfToplevel own [] each tt) (each-on owned ss)
-
-each-of : (d : Desktop) → Orderly d → Each IsOfToplevel (all_windows d)
-each-of d orderly =
-    subst (λ (ws : List Window). Each IsOfToplevel ws) (sym (windows_are_toplevels d (orderly_has_no_popups d orderly))) (each-on (owned_in d) d.standing)
-
--- what is so of each window is so of the one that is hit
-hit-each : (P : Window → Type 0) (x y : ℤ) (ws : List Window) (found : Option Window) → Each P ws → ((w : Window) → found ≡ Some w → P w) → (w : Window) → fold (hit_after x y) found ws ≡ Some w → P w
-hit-each P x y [] found each is w e = is w e
-hit-each P x y (v ∷ vs) found each is w e = hit-each P x y vs (hit_after x y found v) each.1 (λ u. at (is_hit x y v) u) w e
-  where
-    at : (b : Bool) (u : Window) → (if b then Some v else found) ≡ Some u → P u
-    at true u e = subst P (some-same v u e) each.0
-    at false u e = is u e
-
-hit-own : (v : ClientsView) (m : Midstep) → IsMid v m → (x y : ℤ) (w : Window) → hit x y (all_windows m.desktop) ≡ Some w → IsOfToplevel w
-hit-own v m mid x y w e = hit-each IsOfToplevel x y (all_windows m.desktop) None (each-of m.desktop mid.agrees.orderly) (λ u none. absurd (none-some u none)) w e
-
 -- ---- the toplevel that is hit
 
 none-of : (numbers : ℕ → ById ℕ) (w : Option Window) → IsStackedOrNone numbers None w → w ≡ None
@@ -85,26 +50,26 @@ pub no-toplevel : (numbers : ℕ → ById ℕ) (x y : ℤ) (p : Point) (at : Opt
     → IsStackedOrNone numbers None (hit x y ws) → toplevel_of (hit_now at ws) ≡ None
 no-toplevel numbers x y p at ws across down there is = ap toplevel_of (sym (hit-at x y p at ws across down there) ∙ none-of numbers (hit x y ws) is)
 
-root-has : (numbers : ℕ → ById ℕ) (s : Stacked) (w : Option Window) → IsStackedOrNone numbers (Some s) w → ((id : ℕ) → numbers s.client id ≢ Some s.root) → ⊥
-root-has numbers s None is none = is
-root-has numbers s (Some w) is none = none w.owner.root is.root
+number-has : (numbers : ℕ → ById ℕ) (s : Stacked) (w : Option Window) → IsStackedOrNone numbers (Some s) w → ((id : ℕ) → numbers s.client id ≢ Some s.toplevel) → ⊥
+number-has numbers s None is none = is
+number-has numbers s (Some w) is none = none w.owner.toplevel is.toplevel
 
 -- it has a number
-pub toplevel-has : {X : Type 0} (numbers : ℕ → ById ℕ) (s : Stacked) (w : Option Window) → IsStackedOrNone numbers (Some s) w → ((id : ℕ) → numbers s.client id ≢ Some s.root) → X
-toplevel-has numbers s w is none = absurd (root-has numbers s w is none)
+pub toplevel-has : {X : Type 0} (numbers : ℕ → ById ℕ) (s : Stacked) (w : Option Window) → IsStackedOrNone numbers (Some s) w → ((id : ℕ) → numbers s.client id ≢ Some s.toplevel) → X
+toplevel-has numbers s w is none = absurd (number-has numbers s w is none)
 
-named-toplevel : (numbers : ℕ → ById ℕ) (once : (c : ℕ) → AreNumberedOnce (numbers c)) (s : Stacked) (w : Option Window) (id : ℕ) → ((u : Window) → w ≡ Some u → IsOfToplevel u)
-    → IsStackedOrNone numbers (Some s) w → numbers s.client id ≡ Some s.root → toplevel_of w ≡ Some (record { client = s.client; surface = id })
-named-toplevel numbers once s None id own is named = absurd is
-named-toplevel numbers once s (Some w) id own is named =
-    ap₂ (λ (c surface : ℕ). Some (record { client = c; surface = surface })) (sym is.client) (own w refl ∙ once s.client w.owner.root id s.root is.root named)
+named-toplevel : (numbers : ℕ → ById ℕ) (once : (c : ℕ) → AreNumberedOnce (numbers c)) (s : Stacked) (w : Option Window) (id : ℕ)
+    → IsStackedOrNone numbers (Some s) w → numbers s.client id ≡ Some s.toplevel → toplevel_of w ≡ Some (record { client = s.client; surface = id })
+named-toplevel numbers once s None id is named = absurd is
+named-toplevel numbers once s (Some w) id is named =
+    ap₂ (λ (c surface : ℕ). Some (record { client = c; surface = surface })) (sym is.client) (once s.client w.owner.toplevel id s.toplevel is.toplevel named)
 
 pub toplevel-named : (v : ClientsView) (m : Midstep) (x y : ℤ) (p : Point) (at : Option Place) (s : Stacked) (id : ℕ) → IsMid v m → x ≡ p.x → y ≡ p.y → Some (place_of p) ≡ at
-    → IsStackedOrNone (numbers_in v.clients) (Some s) (hit x y (all_windows m.desktop)) → numbers_in v.clients s.client id ≡ Some s.root
+    → IsStackedOrNone (numbers_in v.clients) (Some s) (hit x y (all_windows m.desktop)) → numbers_in v.clients s.client id ≡ Some s.toplevel
     → toplevel_of (hit_now at (all_windows m.desktop)) ≡ Some (record { client = s.client; surface = id })
 toplevel-named v m x y p at s id mid across down there is named =
     ap toplevel_of (sym (hit-at x y p at (all_windows m.desktop) across down there))
-    ∙ named-toplevel (numbers_in v.clients) (mid_is_numbered_once v m mid) s (hit x y (all_windows m.desktop)) id (hit-own v m mid x y) is named
+    ∙ named-toplevel (numbers_in v.clients) (mid_is_numbered_once v m mid) s (hit x y (all_windows m.desktop)) id is named
 
 pub some-number : (o : Option ℕ) (k : ℕ) → o ≡ Some k → is_some o ≡ true
 some-number o k e = ap is_some e

@@ -50,7 +50,7 @@ impl<A: Allocator + Copy> Desk<A> {
         if focus.client != client {
             return None;
         }
-        let number = self.window_of(focus)?.root;
+        let number = self.window_of(focus)?.window.root;
         let surface = self.clients.surface_id(client, number)?;
         Some(Movable {
             number,

@@ -48,7 +48,7 @@ impl<A: Allocator + Copy> Desk<A> {
         }
         let toplevel = self.toplevel_hit();
         let serial = self.hold_serial();
-        // No client holds a grab: there are no popups.
+        // No client holds a grab.
         let actions = self.pointer.press(time, button, toplevel, None);
         self.pointer.begin_hold(serial);
         self.raise(toplevel);
@@ -70,7 +70,7 @@ impl<A: Allocator + Copy> Desk<A> {
         self.settle();
     }
 
-    /// The toplevel in whose tree the window stands that the pointer hits, if it hits one.
+    /// The toplevel that the window is stacked with that the pointer hits, if it hits one.
     fn toplevel_hit(&self) -> Option<Target>
         ensures hit { (m : Midstep) → IsTelling self.now.desk m
             → toplevel_of (hit_now m.desktop.pointer.place (all_windows m.desktop)) ≡ target_or_none result }
@@ -79,7 +79,7 @@ impl<A: Allocator + Copy> Desk<A> {
         let place = self.pointer.place()?;
         let window = self.clients.hit(place.x, place.y)?;
         let client = window.client;
-        let surface = self.clients.surface_id(client, window.root)?;
+        let surface = self.clients.surface_id(client, window.toplevel)?;
         Some(Target { client, surface })
     }
 

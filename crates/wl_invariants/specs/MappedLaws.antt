@@ -9,7 +9,7 @@ use Rattle.wl_plain.specs.Act.{Act}
 use Rattle.wl_plain.specs.Desktop.{Desktop, Resident, client_at, empty, with_client}
 use Rattle.wl_plain.specs.Framing.{FramesToldAt}
 use Rattle.wl_plain.specs.Happens.{Happens, Serves}
-use Rattle.wl_plain.specs.LeftOut.{LeftOut, served_now}
+use Rattle.wl_plain.specs.LeftOut.{LeftOut, popups_left_out}
 use Rattle.wl_plain.specs.Settling.{EndsAndSettles, becomes, unstruck}
 use Rattle.wl_plain.specs.Step.{with_peer}
 use Rattle.wl_invariants.specs.Acts.{LeavesPointer}
@@ -23,13 +23,13 @@ EmptyIsMapped = (output : Output) → MappedStand (empty output)
 -- Whatever happens that leaves the pointer alone keeps it, where at least that is left out which is now.
 abbrev pub MappedStays : Type 0
 MappedStays =
-    (left : LeftOut) → LeavesOut served_now left → (act : Act) (done : Done) (d e : Desktop) → LeavesPointer act → Orderly d
+    (left : LeftOut) → LeavesOut popups_left_out left → (act : Act) (done : Done) (d e : Desktop) → LeavesPointer act → Orderly d
     → MappedStand d → Happens left act done d e → MappedStand e
 
 -- So does one message of a client.
 abbrev pub MessagesKeepMapped : Type 0
 MessagesKeepMapped =
-    (left : LeftOut) → LeavesOut served_now left → (c : ℕ) (d e : Desktop) → Orderly d → MappedStand d → Serves left c d e
+    (left : LeftOut) → LeavesOut popups_left_out left → (c : ℕ) (d e : Desktop) → Orderly d → MappedStand d → Serves left c d e
     → MappedStand e
 
 -- So does what is kept of the stream of a client that lives, before its messages are taken.

@@ -10,7 +10,7 @@ use Rattle.wl_plain.specs.Stacked.{all_windows}
 use Rattle.wl_laws.specs.Others.{client_of}
 use Rattle.wl_invariants.specs.Acts.{LeavesPointer}
 use Rattle.wl_invariants.specs.NoPopups.{HasNoPointers, NoPopups}
-use Rattle.wl_plain.specs.LeftOut.{served_now}
+use Rattle.wl_plain.specs.LeftOut.{popups_left_out}
 
 -- A desktop without clients has no popups.
 abbrev pub EmptyHasNoPopups : Type 0
@@ -18,7 +18,7 @@ EmptyHasNoPopups = (output : Output) → NoPopups (empty output)
 
 -- Nor has one to which an act that leaves the pointer alone leads from one that had none.
 abbrev pub NoPopupsStay : Type 0
-NoPopupsStay = (act : Act) (done : Done) (d e : Desktop) → LeavesPointer act → NoPopups d → Happens served_now act done d e → NoPopups e
+NoPopupsStay = (act : Act) (done : Done) (d e : Desktop) → LeavesPointer act → NoPopups d → Happens popups_left_out act done d e → NoPopups e
 
 -- Its windows are those of its toplevels with their subsurfaces.
 abbrev pub WindowsAreToplevels : Type 0
@@ -29,5 +29,5 @@ WindowsAreToplevels = (d : Desktop) → NoPopups d → all_windows d ≡ windows
 abbrev pub OthersStay : Type 0
 OthersStay =
     (act : Act) (done : Done) (old new : Desktop) (other : ℕ) → is_tick act ≡ false → NoPopups old
-    → LeavesPointer act ⊎ HasNoPointers (client_at other old) → Happens served_now act done old new → client_of act done ≢ Some other
+    → LeavesPointer act ⊎ HasNoPointers (client_at other old) → Happens popups_left_out act done old new → client_of act done ≢ Some other
     → (client_at other new ≡ client_at other old) × (toplevels_of other new ≡ toplevels_of other old)

@@ -14,7 +14,7 @@ use Rattle.wl_plain.specs.Desktop.{Desktop, Resident, Subsurface, client_at, emp
 use Rattle.wl_plain.specs.Desktop.{with_client}
 use Rattle.wl_plain.specs.Framing.{FramesToldAt}
 use Rattle.wl_plain.specs.Happens.{Happens, Serves}
-use Rattle.wl_plain.specs.LeftOut.{LeftOut, served_now}
+use Rattle.wl_plain.specs.LeftOut.{LeftOut, popups_left_out}
 use Rattle.wl_plain.specs.Settling.{EndsAndSettles, becomes, unstruck}
 use Rattle.wl_plain.specs.Step.{with_peer}
 use Rattle.wl_plain.specs.WlSubsurface.{subsurface_at}
@@ -76,19 +76,19 @@ SubsurfacesNameChildren =
 -- Whatever happens that leaves the pointer alone, where at least that is left out which is now.
 abbrev pub OrderlyStaysWhere : Type 0
 OrderlyStaysWhere =
-    (left : LeftOut) → LeavesOut served_now left → (act : Act) (done : Done) (d e : Desktop) → LeavesPointer act → Orderly d
+    (left : LeftOut) → LeavesOut popups_left_out left → (act : Act) (done : Done) (d e : Desktop) → LeavesPointer act → Orderly d
     → Happens left act done d e → Orderly e
 
 abbrev pub OrderlyStays : Type 0
-OrderlyStays = (act : Act) (done : Done) (d e : Desktop) → LeavesPointer act → Orderly d → Happens served_now act done d e → Orderly e
+OrderlyStays = (act : Act) (done : Done) (d e : Desktop) → LeavesPointer act → Orderly d → Happens popups_left_out act done d e → Orderly e
 
 -- One message of a client.
 abbrev pub MessagesKeepOrderWhere : Type 0
 MessagesKeepOrderWhere =
-    (left : LeftOut) → LeavesOut served_now left → (c : ℕ) (d e : Desktop) → Orderly d → Serves left c d e → Orderly e
+    (left : LeftOut) → LeavesOut popups_left_out left → (c : ℕ) (d e : Desktop) → Orderly d → Serves left c d e → Orderly e
 
 abbrev pub MessagesKeepOrder : Type 0
-MessagesKeepOrder = (c : ℕ) (d e : Desktop) → Orderly d → Serves served_now c d e → Orderly e
+MessagesKeepOrder = (c : ℕ) (d e : Desktop) → Orderly d → Serves popups_left_out c d e → Orderly e
 
 -- What is kept of the stream of a client that lives, before its messages are taken.
 abbrev pub PiecesKeepOrder : Type 0
@@ -117,7 +117,7 @@ OnlyPeerChanges =
 -- What an accepted message demands, done once its request is counted and its bytes are taken.
 abbrev pub DemandsKeepOrder : Type 0
 DemandsKeepOrder =
-    (left : LeftOut) → LeavesOut served_now left
+    (left : LeftOut) → LeavesOut popups_left_out left
     → (r : Resident) (rest : List ℕ) (object opcode : ℕ) (body : List ℕ) (demand : Demand) → OwnsOrderly r
     → judge_all left r object opcode body ≡ Ok demand
     → OwnsOrderly (changed_simply demand (with_peer (counted (with_rest rest r.peer)) r))

@@ -23,7 +23,7 @@ use Rattle.wl_plain.specs.Desktop.{Desktop, Resident, become}
 use Rattle.wl_plain.specs.Happens.{wants_memory}
 use Rattle.wl_plain.specs.Replies.{releases}
 use Rattle.wl_plain.specs.Step.{answers_to, changed_by, configures_told, making, removing, with_peer, with_surfaces, xdg_changed}
-use Rattle.wl_plain.specs.LeftOut.{served_now}
+use Rattle.wl_plain.specs.LeftOut.{popups_left_out}
 
 -- what a request that is served may demand: nothing of popups
 abbrev pub IsServed : Demand → Type 0
@@ -106,7 +106,7 @@ AnswersSimply (Err refusal) c r d new = Becomes (Errs refusal r.peer) c r d new
 
 abbrev pub TakesSimply : Split → ℕ → Resident → Desktop → Desktop → Type 0
 TakesSimply (Whole object opcode size) c r d new =
-    AnswersSimply (judge_all served_now r object opcode (take (size - 8) (drop 8 r.peer.rest))) c
+    AnswersSimply (judge_all popups_left_out r object opcode (take (size - 8) (drop 8 r.peer.rest))) c
     (with_peer (with_rest (drop size r.peer.rest) r.peer) r) d new
 TakesSimply Bad c r d new = Becomes (Errs (display_error InvalidMethod) r.peer) c r d new
 TakesSimply More c r d new = ⊥

@@ -9,13 +9,13 @@ use Rattle.wl_plain.specs.Desktop.{Desktop, Resident, client_at}
 use Rattle.wl_plain.specs.Happens.{Serves, done_for}
 use Rattle.wl_plain.specs.Replies.{releases, replies}
 use Rattle.wl_invariants.specs.NoPopups.{NoPopups, OwnsNoPopups}
-use Rattle.wl_plain.specs.LeftOut.{served_now}
+use Rattle.wl_plain.specs.LeftOut.{popups_left_out}
 use Rattle.wl_invariants.specs.Simple.{IsServed, ServesSimply, answers_simply, changed_simply, stacked_simply}
 
 -- A message that is accepted demands nothing of popups.
 abbrev pub DemandsAreServed : Type 0
 DemandsAreServed =
-    (r : Resident) (object opcode : ℕ) (body : List ℕ) (demand : Demand) → judge_all served_now r object opcode body ≡ Ok demand
+    (r : Resident) (object opcode : ℕ) (body : List ℕ) (demand : Demand) → judge_all popups_left_out r object opcode body ≡ Ok demand
     → IsServed demand
 
 -- What is demanded changes a client so: a wl_pointer that it makes is told nothing.
@@ -29,7 +29,7 @@ abbrev pub RepliesSimply : Type 0
 RepliesSimply =
     (c : ℕ) (demand : Demand) (r : Resident) (windows : List Window) (d : Desktop) → d.pointer ≡ first_pointer → OwnsNoPopups r
     → IsServed demand
-    → replies served_now c demand r (changed_for c demand r d) windows d
+    → replies popups_left_out c demand r (changed_for c demand r d) windows d
     ≡ answers_simply demand r ++ releases r (changed_for c demand r d)
 
 -- The stack of toplevels changes so.
@@ -49,4 +49,4 @@ DoesNoMore =
 abbrev pub MessagesAreSimple : Type 0
 MessagesAreSimple =
     (c : ℕ) (r : Resident) (d new : Desktop) → NoPopups d → client_at c d ≡ Some r
-    → Serves served_now c d new ↔ ServesSimply c r d new
+    → Serves popups_left_out c d new ↔ ServesSimply c r d new

@@ -1,6 +1,6 @@
 -- What is kept of the windows of the output goes on standing for those of the desktop where a toplevel comes to another place.
 use Rattle.std.proofs.Common.{◌≡◌, ℕ, zero, suc, Bool, true, false, Option, Some, None, List, [], ◌∷◌, ◌++◌, cond, flat_map, length, map, refl, ap, sym, subst, ◌∙◌, inl, inr, ◌⊎◌, eqb-true}
-use Rattle.std.specs.Prelude.{◌==◌, ◌||◌, filter, not}
+use Rattle.std.specs.Prelude.{◌==◌, ◌&&◌, ◌||◌, filter, fold, not}
 use Rattle.std.specs.List.{AllByRecursion as Each, list_all, list_any}
 use Rattle.std.proofs.lemmas.List.{append-nil}
 use Rattle.std.proofs.lemmas.List.Folds.{list_any-append}
@@ -8,16 +8,17 @@ use Rattle.wl_peer.specs.Objects.{ById}
 use Rattle.wl_state.specs.Request.{Buffer, Child, Itself, Member}
 use Rattle.wl_state.specs.State.{History, Values, applied, counting, order}
 use Rattle.wl_surface.specs.Surfaces.{Link, Surfaces, history_in, link_at}
-use Rattle.wl_stacking.specs.Stacking.{Owned, Standing, is_of as is_standing, moved_to, windows_on}
-use Rattle.wl_stacking.specs.Windows.{Owner, Place, Window, child_windows, corner_at, member_windows, shown_windows, surface_windows, tree, window_with}
+use Rattle.wl_stacking.specs.Stacking.{Owned, Standing, is_of as is_standing, moved_to, root_of, windows_on}
+use Rattle.wl_stacking.specs.Windows.{Owner, Place, Root, StackedPopup, Window, child_windows, corner_at, has_parent, member_windows, owner_of}
+use Rattle.wl_stacking.specs.Windows.{root_on, roots_of, shown_windows, stacked as stacked_with, stacked_on, surface_windows, tree, window_with}
 use Rattle.wl_stacked.specs.declared.stacked.Stacked.{Stacked}
-use Rattle.wl_stacked.specs.Stacked.{is_of, replaced, stacked, tree_of}
+use Rattle.wl_stacked.specs.Stacked.{is_of, replaced, stacked, run_of}
 use Rattle.wl_stacked.proofs.Together.{place-none}
-use Rattle.wl_lending.specs.Stacked.{AreNumberedBy, AreNumberedOnce, AreStacked, has_root, told_by}
+use Rattle.wl_lending.specs.Stacked.{AreNumberedBy, AreNumberedOnce, AreStacked, has_toplevel, told_by}
 use Rattle.wl_lending.specs.StackedLaws.{stands_once}
-use Rattle.wl_lending.specs.Moved.{AreMoved, KeptTreeIsAsLong, MovedTreesAreAsLong, StackedMoved, TreesAreMoved, tree_at}
+use Rattle.wl_lending.specs.Moved.{AreMoved, KeptRunIsAsLong, MovedTreesAreAsLong, RunsAreMoved, StackedMoved, TreesAreMoved, popups_at, run_at}
 use Rattle.wl_lending.proofs.Raised.{all-its, its, keep-all, none-its, not-so, windows-both, windows-first, windows_at}
-use Rattle.wl_lending.proofs.Standing.{stacked-replaced, tree-is-stacked, tree-is-there}
+use Rattle.wl_lending.proofs.Standing.{stacked-replaced, run-is-stacked, run-is-there}
 use Rattle.wl_lending.proofs.Truth.{and-both, and-left, and-right, differ, or-left, or-right}
 
 -- ---- the windows of a tree
@@ -74,6 +75,73 @@ moved-as-long (v ∷ vs) (w ∷ ws) are = ap suc (moved-as-long vs ws are.1)
 pub moved-trees-are-as-long : MovedTreesAreAsLong
 moved-trees-are-as-long levels owner all surface p q =
     moved-as-long (tree levels owner all surface p) (tree levels owner all surface q) (trees-are-moved levels owner all surface p q)
+
+-- ---- the windows of a toplevel
+
+-- the same root, wherever it is placed
+abbrev IsElsewhere : Root → Root → Type 0
+IsElsewhere r q = q ≡ record r { place = q.place }
+
+-- the same roots one by one, wherever they are placed
+abbrev AreElsewhere : List Root → List Root → Type 0
+AreElsewhere [] [] = Unit {0}
+AreElsewhere (r ∷ rs) (q ∷ qs) = IsElsewhere r q × AreElsewhere rs qs
+AreElsewhere [] (q ∷ qs) = ⊥
+AreElsewhere (r ∷ rs) [] = ⊥
+
+elsewhere-append : (rs qs ts us : List Root) → AreElsewhere rs qs → AreElsewhere ts us → AreElsewhere (rs ++ ts) (qs ++ us)
+elsewhere-append [] [] ts us first others = others
+elsewhere-append [] (q ∷ qs) ts us first others = absurd first
+elsewhere-append (r ∷ rs) [] ts us first others = absurd first
+elsewhere-append (r ∷ rs) (q ∷ qs) ts us first others = (first.0, elsewhere-append rs qs ts us first.1 others)
+
+-- a popup is on the same root
+on-elsewhere : (all : Surfaces) (p : StackedPopup) (rs qs : List Root) → AreElsewhere rs qs → AreElsewhere (stacked_on all p rs) (stacked_on all p qs)
+on-elsewhere all p [] [] are = tt
+on-elsewhere all p [] (q ∷ qs) are = absurd are
+on-elsewhere all p (r ∷ rs) [] are = absurd are
+on-elsewhere all p (r ∷ rs) (q ∷ qs) are =
+    subst (λ (x : Root). AreElsewhere (stacked_on all p (r ∷ rs)) (stacked_on all p (x ∷ qs))) (sym are.0)
+    (at (p.is_mapped && has_parent r.surface p) (on-elsewhere all p rs qs are.1))
+  where
+    at : (b : Bool) → AreElsewhere (stacked_on all p rs) (stacked_on all p qs)
+        → AreElsewhere (cond b (root_on all r p ∷ []) (stacked_on all p rs)) (cond b (root_on all (record r { place = q.place }) p ∷ []) (stacked_on all p qs))
+    at true rest = (refl, tt)
+    at false rest = rest
+
+roots-elsewhere : (all : Surfaces) (ps : List StackedPopup) (rs qs : List Root) → AreElsewhere rs qs → AreElsewhere (fold (stacked_with all) rs ps) (fold (stacked_with all) qs ps)
+roots-elsewhere all [] rs qs are = are
+roots-elsewhere all (p ∷ ps) rs qs are =
+    roots-elsewhere all ps (rs ++ stacked_on all p rs) (qs ++ stacked_on all p qs)
+    (elsewhere-append rs qs (stacked_on all p rs) (stacked_on all p qs) are (on-elsewhere all p rs qs are))
+
+-- the windows of the tree of a root
+abbrev its-tree : (ℕ → Surfaces) → Root → List Window
+its-tree surfaces r = tree 17 (owner_of r) (surfaces r.client) r.surface r.place
+
+trees-elsewhere : (surfaces : ℕ → Surfaces) (rs qs : List Root) → AreElsewhere rs qs
+    → AreMoved (flat_map (λ (r : Root). its-tree surfaces r) rs) (flat_map (λ (r : Root). its-tree surfaces r) qs)
+trees-elsewhere surfaces [] [] are = tt
+trees-elsewhere surfaces [] (q ∷ qs) are = absurd are
+trees-elsewhere surfaces (r ∷ rs) [] are = absurd are
+trees-elsewhere surfaces (r ∷ rs) (q ∷ qs) are =
+    moved-append (its-tree surfaces r) (its-tree surfaces q) (flat_map (λ (x : Root). its-tree surfaces x) rs) (flat_map (λ (x : Root). its-tree surfaces x) qs)
+    (subst (λ (x : Root). AreMoved (its-tree surfaces r) (its-tree surfaces x)) (sym are.0) (trees-are-moved 17 (owner_of r) (surfaces r.client) r.surface r.place q.place))
+    (trees-elsewhere surfaces rs qs are.1)
+
+-- the toplevel, where it is placed there
+abbrev root_at : (ℕ → Owned) → ℕ → ℕ → Place → Root
+root_at owned client surface place = root_of owned (record { client = client; surface = surface; place = place })
+
+pub runs-are-moved : RunsAreMoved
+runs-are-moved owned client surface p q =
+    trees-elsewhere (λ c. (owned c).surfaces) (roots_of (owned client).surfaces (root_at owned client surface p) (popups_at owned client))
+    (roots_of (owned client).surfaces (root_at owned client surface q) (popups_at owned client))
+    (roots-elsewhere (owned client).surfaces (popups_at owned client) (root_at owned client surface p ∷ []) (root_at owned client surface q ∷ []) (refl, tt))
+
+runs-as-long : (owned : ℕ → Owned) (client surface : ℕ) (p q : Place) → length (run_at owned client surface p) ≡ length (run_at owned client surface q)
+runs-as-long owned client surface p q =
+    moved-as-long (run_at owned client surface p) (run_at owned client surface q) (runs-are-moved owned client surface p q)
 
 -- ---- lists
 
@@ -156,13 +224,13 @@ module _ (client surface : ℕ) where
           })
       at false is rest more = later is (more rest)
 
-  -- no window of its tree is there where it doesn't stand
-  none-there : (owned : ℕ → Owned) (ss : List Standing) → list_any (is_standing client surface) ss ≡ false → list_any (has_root client surface) (windows_on owned ss) ≡ false
+  -- no window is stacked with it where it doesn't stand
+  none-there : (owned : ℕ → Owned) (ss : List Standing) → list_any (is_standing client surface) ss ≡ false → list_any (has_toplevel client surface) (windows_on owned ss) ≡ false
   none-there owned [] none = refl
   none-there owned (s ∷ ss) none =
-      ap (list_any (has_root client surface)) (windows-first owned s ss)
-      ∙ any-both (has_root client surface) (windows_at owned s) (windows_on owned ss)
-      (each-none (has_root client surface) (windows_at owned s) (all-its client surface owned s false (or-left (test s) (list_any (is_standing client surface) ss) none)))
+      ap (list_any (has_toplevel client surface)) (windows-first owned s ss)
+      ∙ any-both (has_toplevel client surface) (windows_at owned s) (windows_on owned ss)
+      (each-none (has_toplevel client surface) (windows_at owned s) (all-its client surface owned s false (or-left (test s) (list_any (is_standing client surface) ss) none)))
       (none-there owned ss (or-right (test s) (list_any (is_standing client surface) ss) none))
 
   windows-among : (owned : ℕ → Owned) (below : List Standing) (s : Standing) (above : List Standing)
@@ -170,12 +238,12 @@ module _ (client surface : ℕ) where
   windows-among owned below s above =
       windows-both owned below (s ∷ above) ∙ ap (λ ws. windows_on owned below ++ ws) (windows-first owned s above)
 
-  -- the windows of its tree at another place
-  windows-at : (owned : ℕ → Owned) (s : Standing) (place : Place) → test s ≡ true → windows_at owned (record s { place = place }) ≡ tree_at owned client surface place
+  -- its windows at another place
+  windows-at : (owned : ℕ → Owned) (s : Standing) (place : Place) → test s ≡ true → windows_at owned (record s { place = place }) ≡ run_at owned client surface place
   windows-at owned s place is =
-      ap (λ (n : ℕ). tree 17 (record { client = n; root = s.surface; toplevel = s.surface }) (owned n).surfaces s.surface place)
+      ap (λ (n : ℕ). run_at owned n s.surface place)
       (eqb-true s.client client (and-left (s.client == client) (s.surface == surface) is))
-      ∙ ap (λ (n : ℕ). tree_at owned client n place) (eqb-true s.surface surface (and-right (s.client == client) (s.surface == surface) is))
+      ∙ ap (λ (n : ℕ). run_at owned client n place) (eqb-true s.surface surface (and-right (s.client == client) (s.surface == surface) is))
 
   moved-none : (place : Place) (ss : List Standing) → list_any (is_standing client surface) ss ≡ false → moved_to client surface place ss ≡ ss
   moved-none place [] none = refl
@@ -192,9 +260,9 @@ module _ (client surface : ℕ) where
       (or-left (test r) (list_any (is_standing client surface) rs) none)
       ∙ ap (λ xs. r ∷ xs) (moved-among place rs s above (or-right (test r) (list_any (is_standing client surface) rs) none) is)
 
-  -- its windows are those of its tree
+  -- its windows are those stacked with it
   its-among : (owned : ℕ → Owned) (below : List Standing) (s : Standing) (above : List Standing) → list_any (is_standing client surface) below ≡ false → test s ≡ true
-      → list_any (is_standing client surface) above ≡ false → filter (λ w. has_root client surface w) (windows_on owned (below ++ s ∷ above)) ≡ windows_at owned s
+      → list_any (is_standing client surface) above ≡ false → filter (λ w. has_toplevel client surface w) (windows_on owned (below ++ s ∷ above)) ≡ windows_at owned s
   its-among owned below s above under is over =
       ap (filter (its client surface)) (windows-among owned below s above)
       ∙ (filter-both (its client surface) (windows_on owned below) (windows_at owned s ++ windows_on owned above)
@@ -202,32 +270,32 @@ module _ (client surface : ℕ) where
       ∙ (keep-all (its client surface) (windows_at owned s) (windows_on owned above) (all-its client surface owned s true is)
       ∙ (ap (λ ws. windows_at owned s ++ ws) (none-its client surface owned above over) ∙ append-nil (windows_at owned s)))))
 
-pub kept-tree-is-as-long : KeptTreeIsAsLong
-kept-tree-is-as-long numbers all owned standing client surface k place are once stands known apart = at (among client surface standing once)
+pub kept-run-is-as-long : KeptRunIsAsLong
+kept-run-is-as-long numbers all owned standing client surface k place are once stands known apart = at (among client surface standing once)
   where
-    at : (list_any (is_standing client surface) standing ≡ false) ⊎ Among client surface standing → length (tree_at owned client surface place) ≡ length (tree_of client k all)
+    at : (list_any (is_standing client surface) standing ≡ false) ⊎ Among client surface standing → length (run_at owned client surface place) ≡ length (run_of client k all)
     at (inl none) = absurd (differ (sym none ∙ stands))
     at (inr a) =
-        let its-windows : filter (λ w. has_root client surface w) (windows_on owned standing) ≡ tree_at owned client surface a.own.place =
-        ap (λ ss. filter (λ w. has_root client surface w) (windows_on owned ss)) a.whole
+        let its-windows : filter (λ w. has_toplevel client surface w) (windows_on owned standing) ≡ run_at owned client surface a.own.place =
+        ap (λ ss. filter (λ w. has_toplevel client surface w) (windows_on owned ss)) a.whole
         ∙ (its-among client surface owned a.below a.own a.above a.none_below a.is_own a.none_above ∙ windows-at client surface owned a.own a.own.place a.is_own) in
-        moved-trees-are-as-long 17 _ (owned client).surfaces surface place a.own.place
+        runs-as-long owned client surface place a.own.place
         ∙ (ap length (sym its-windows)
-        ∙ stacked-as-long numbers (tree_of client k all) (filter (λ w. has_root client surface w) (windows_on owned standing))
-        (tree-is-stacked numbers all (windows_on owned standing) client surface k are known apart))
+        ∙ stacked-as-long numbers (run_of client k all) (filter (λ w. has_toplevel client surface w) (windows_on owned standing))
+        (run-is-stacked numbers all (windows_on owned standing) client surface k are known apart))
 
 module _ (numbers : ℕ → ById ℕ) (all : List Stacked) (owned : ℕ → Owned) (standing : List Standing) (client surface k : ℕ) (f : ℕ → ℕ) (place : Place)
     (are : AreStacked numbers all (windows_on owned standing)) (known : numbers client surface ≡ Some k) (once : AreNumberedOnce (numbers client))
-    (named : AreNumberedBy (numbers client) f (tree_at owned client surface place)) where
+    (named : AreNumberedBy (numbers client) f (run_at owned client surface place)) where
   abbrev is : List Window
-  is = tree_at owned client surface place
+  is = run_at owned client surface place
 
   abbrev all-new : List Stacked
   all-new = replaced client k (map (told_by f) is) all
 
-  unchanged : list_any (has_root client surface) (windows_on owned standing) ≡ false → all-new ≡ all
+  unchanged : list_any (has_toplevel client surface) (windows_on owned standing) ≡ false → all-new ≡ all
   unchanged none =
-      place-none (is_of client k) (map (stacked client k) (map (told_by f) is)) all (tree-is-there numbers all (windows_on owned standing) client surface k are known once ∙ none)
+      place-none (is_of client k) (map (stacked client k) (map (told_by f) is)) all (run-is-there numbers all (windows_on owned standing) client surface k are known once ∙ none)
 
   nowhere : list_any (is_standing client surface) standing ≡ false → AreStacked numbers all-new (windows_on owned (moved_to client surface place standing))
   nowhere none =
@@ -256,48 +324,48 @@ module _ (numbers : ℕ → ById ℕ) (all : List Stacked) (owned : ℕ → Owne
         ∙ (ap (windows_on owned) (moved-among client surface place a.below a.own a.above a.none_below a.is_own)
         ∙ (windows-among client surface owned a.below (record (a.own) { place = place }) a.above ∙ ap (λ ws. below ++ (ws ++ above)) is-at))
 
-    rooted-was : list_all (has_root client surface) was ≡ true
-    rooted-was = each-all (has_root client surface) was (all-its client surface owned a.own true a.is_own)
+    with-was : list_all (has_toplevel client surface) was ≡ true
+    with-was = each-all (has_toplevel client surface) was (all-its client surface owned a.own true a.is_own)
 
-    rooted-is : list_all (has_root client surface) is ≡ true
-    rooted-is =
-        subst (λ ws. list_all (has_root client surface) ws ≡ true) is-at
-        (each-all (has_root client surface) (windows_at owned (record (a.own) { place = place })) (all-its client surface owned (record (a.own) { place = place }) true a.is_own))
+    with-is : list_all (has_toplevel client surface) is ≡ true
+    with-is =
+        subst (λ ws. list_all (has_toplevel client surface) ws ≡ true) is-at
+        (each-all (has_toplevel client surface) (windows_at owned (record (a.own) { place = place })) (all-its client surface owned (record (a.own) { place = place }) true a.is_own))
 
-    none-below : list_any (has_root client surface) below ≡ false
+    none-below : list_any (has_toplevel client surface) below ≡ false
     none-below = none-there client surface owned a.below a.none_below
 
-    none-above : list_any (has_root client surface) above ≡ false
+    none-above : list_any (has_toplevel client surface) above ≡ false
     none-above = none-there client surface owned a.above a.none_above
 
     stands : AreStacked numbers all-new (windows_on owned (moved_to client surface place standing))
-    stands = subst (λ (ws : List Window). AreStacked numbers all-new ws) (sym whole-new) (at (list_any (has_root client surface) was) refl)
+    stands = subst (λ (ws : List Window). AreStacked numbers all-new ws) (sym whole-new) (at (list_any (has_toplevel client surface) was) refl)
       where
         are-whole : AreStacked numbers all (below ++ (was ++ above))
         are-whole = subst (λ (ws : List Window). AreStacked numbers all ws) whole are
 
-        no-window : (ws : List Window) → list_all (has_root client surface) ws ≡ true → list_any (has_root client surface) ws ≡ false → ws ≡ []
+        no-window : (ws : List Window) → list_all (has_toplevel client surface) ws ≡ true → list_any (has_toplevel client surface) ws ≡ false → ws ≡ []
         no-window [] every none = refl
         no-window (w ∷ ws) every none =
-            absurd (differ (sym (or-left (has_root client surface w) (list_any (has_root client surface) ws) none) ∙ and-left (has_root client surface w) (list_all (has_root client surface) ws) every))
+            absurd (differ (sym (or-left (has_toplevel client surface w) (list_any (has_toplevel client surface) ws) none) ∙ and-left (has_toplevel client surface w) (list_all (has_toplevel client surface) ws) every))
 
         no-length : (ws : List Window) → length ws ≡ 0 → ws ≡ []
         no-length [] e = refl
         no-length (w ∷ ws) e = absurd (cc)
 
-        at : (b : Bool) → list_any (has_root client surface) was ≡ b → AreStacked numbers all-new (below ++ (is ++ above))
+        at : (b : Bool) → list_any (has_toplevel client surface) was ≡ b → AreStacked numbers all-new (below ++ (is ++ above))
         at true some =
-            stacked-replaced numbers all client surface k f below above was is are-whole rooted-was some
-            (any-both (has_root client surface) below above none-below none-above) known once rooted-is named
+            stacked-replaced numbers all client surface k f below above was is are-whole with-was some
+            (any-both (has_toplevel client surface) below above none-below none-above) known once with-is named
         at false none =
-            let no-was : was ≡ [] = no-window was rooted-was none in
+            let no-was : was ≡ [] = no-window was with-was none in
             let no-is : is ≡ [] =
             no-length is
-            (moved-trees-are-as-long 17 _ (owned client).surfaces surface place a.own.place
+            (runs-as-long owned client surface place a.own.place
             ∙ (ap length (sym (windows-at client surface owned a.own a.own.place a.is_own)) ∙ ap length no-was)) in
-            let none-at-all : list_any (has_root client surface) (windows_on owned standing) ≡ false =
-            ap (list_any (has_root client surface)) whole
-            ∙ any-both (has_root client surface) below (was ++ above) none-below (any-both (has_root client surface) was above none none-above) in
+            let none-at-all : list_any (has_toplevel client surface) (windows_on owned standing) ≡ false =
+            ap (list_any (has_toplevel client surface)) whole
+            ∙ any-both (has_toplevel client surface) below (was ++ above) none-below (any-both (has_toplevel client surface) was above none none-above) in
             subst (λ (xs : List Stacked). AreStacked numbers xs (below ++ (is ++ above))) (sym (unchanged none-at-all))
             (subst (λ (ws : List Window). AreStacked numbers all (below ++ (ws ++ above))) (no-was ∙ sym no-is) are-whole)
 
@@ -305,6 +373,6 @@ pub stacked-moved : StackedMoved
 stacked-moved numbers all owned standing client surface k f place are stood known once named = at (among client surface standing stood)
   where
     at : (list_any (is_standing client surface) standing ≡ false) ⊎ Among client surface standing
-        → AreStacked numbers (replaced client k (map (told_by f) (tree_at owned client surface place)) all) (windows_on owned (moved_to client surface place standing))
+        → AreStacked numbers (replaced client k (map (told_by f) (run_at owned client surface place)) all) (windows_on owned (moved_to client surface place standing))
     at (inl none) = nowhere numbers all owned standing client surface k f place are known once named none
     at (inr a) = stands numbers all owned standing client surface k f place are known once named a

@@ -41,10 +41,11 @@ hit-found numbers x y (s ∷ ss) (w ∷ ws) are named found is =
 same-numbered : (numbers : ℕ → ById ℕ) (s t : Stacked) (w : Window) → IsStacked numbers s w → IsStacked numbers t w → numbered s w ≡ numbered t w
 same-numbered numbers s t w is other =
     let client : s.client ≡ t.client = is.client ∙ sym other.client in
-    let root : s.root ≡ t.root = some-same s.root t.root (sym is.root ∙ ap (λ (c : ℕ). numbers c w.owner.root) client ∙ other.root) in
+    let toplevel : s.toplevel ≡ t.toplevel = some-same s.toplevel t.toplevel (sym is.toplevel ∙ ap (λ (c : ℕ). numbers c w.owner.toplevel) client ∙ other.toplevel) in
+    let root : s.window.root ≡ t.window.root = some-same s.window.root t.window.root (sym is.root ∙ ap (λ (c : ℕ). numbers c w.owner.root) client ∙ other.root) in
     let surface : s.window.surface ≡ t.window.surface =
     some-same s.window.surface t.window.surface (sym is.surface ∙ ap (λ (c : ℕ). numbers c w.surface) client ∙ other.surface) in
-    rw (client, root, surface) refl
+    rw (client, toplevel, root, surface) refl
 
 pub hits-by-numbers : HitsByNumbers
 hits-by-numbers numbers ss ws x y found are is = at found (hit x y (by_numbers ss ws)) (hit x y ws) (hit-found numbers x y ss ws are None None tt) is

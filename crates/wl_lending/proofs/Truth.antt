@@ -50,6 +50,11 @@ pub each-append : {X : Type 0} (P : X → Type 0) (xs ys : List X) → Each P xs
 each-append P [] ys e f = f
 each-append P (x ∷ xs) ys e f = (e.0, each-append P xs ys e.1 f)
 
+-- of those that have a property themselves
+pub each-flat-of : {X Y : Type 0} (Q : X → Type 0) (P : Y → Type 0) (g : X → List Y) → ((x : X) → Q x → Each P (g x)) → (xs : List X) → Each Q xs → Each P (flat_map g xs)
+each-flat-of Q P g each [] have = tt
+each-flat-of Q P g each (x ∷ xs) have = each-append P (g x) (flat_map g xs) (each x have.0) (each-flat-of Q P g each xs have.1)
+
 pub each-flat : {X Y : Type 0} (P : Y → Type 0) (g : X → List Y) → ((x : X) → Each P (g x)) → (xs : List X) → Each P (flat_map g xs)
 each-flat P g each [] = tt
 each-flat P g each (x ∷ xs) = each-append P (g x) (flat_map g xs) (each x) (each-flat P g each xs)

@@ -9,10 +9,10 @@ use Rattle.wl_lending.specs.Stacked.{AreNumberedOnce, AreStacked}
 
 -- ---- windows
 
--- A window by the numbers of its surface and of the root of its tree, which is its toplevel.
+-- A window by the numbers of its surface, of the root of its tree, and of the toplevel that it is stacked with.
 abbrev pub numbered : Stacked → Window → Window
 numbered s w =
-    record w { owner = record { client = s.client; root = s.root; toplevel = s.root }; surface = s.window.surface }
+    record w { owner = record { client = s.client; root = s.window.root; toplevel = s.toplevel }; surface = s.window.surface }
 
 -- those that are kept stand for these
 abbrev pub by_numbers : List Stacked → List Window → List Window

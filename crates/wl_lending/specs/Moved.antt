@@ -3,10 +3,10 @@ use Rattle.std.specs.Prelude.{ℕ, ◌≡◌, true, List, [], ◌∷◌, Some, l
 use Rattle.std.specs.List.{list_any}
 use Rattle.wl_peer.specs.Objects.{ById}
 use Rattle.wl_surface.specs.Surfaces.{Surfaces}
-use Rattle.wl_stacking.specs.Stacking.{Owned, Standing, is_of as is_standing, moved_to, windows_on}
-use Rattle.wl_stacking.specs.Windows.{Owner, Place, Window, tree}
+use Rattle.wl_stacking.specs.Stacking.{Owned, Standing, is_of as is_standing, moved_to, root_of, windows_on}
+use Rattle.wl_stacking.specs.Windows.{Owner, Place, StackedPopup, Window, tree, windows_of}
 use Rattle.wl_stacked.specs.declared.stacked.Stacked.{Stacked}
-use Rattle.wl_stacked.specs.Stacked.{replaced, tree_of}
+use Rattle.wl_stacked.specs.Stacked.{replaced, run_of}
 use Rattle.wl_lending.specs.Stacked.{AreNumberedBy, AreNumberedOnce, AreStacked, told_by}
 use Rattle.wl_lending.specs.StackedLaws.{stands_once}
 
@@ -37,19 +37,29 @@ MovedTreesAreAsLong =
 
 -- ---- a toplevel that comes to another place
 
--- the windows of the tree of a client's surface, where that is placed there
-abbrev pub tree_at : (ℕ → Owned) → ℕ → ℕ → Place → List Window
-tree_at owned client surface place =
-    tree 17 (record { client = client; root = surface; toplevel = surface }) (owned client).surfaces surface place
+-- The popups of a client that are stacked. None is served yet.
+abbrev pub popups_at : (ℕ → Owned) → ℕ → List StackedPopup
+popups_at owned client = []
 
--- As many windows are kept of the tree of a toplevel that stands as it has, wherever it is placed.
-abbrev pub KeptTreeIsAsLong : Type 0
-KeptTreeIsAsLong =
+-- the windows stacked with the toplevel of a client's surface, where that is placed there
+abbrev pub run_at : (ℕ → Owned) → ℕ → ℕ → Place → List Window
+run_at owned client surface place =
+    windows_of (λ client. (owned client).surfaces) (popups_at owned)
+    (root_of owned (record { client = client; surface = surface; place = place }))
+
+-- Wherever a toplevel is placed, the same windows are stacked with it but for where they stand.
+abbrev pub RunsAreMoved : Type 0
+RunsAreMoved =
+    (owned : ℕ → Owned) (client surface : ℕ) (p q : Place) → AreMoved (run_at owned client surface p) (run_at owned client surface q)
+
+-- As many windows are kept of a toplevel that stands as are stacked with it, wherever it is placed.
+abbrev pub KeptRunIsAsLong : Type 0
+KeptRunIsAsLong =
     (numbers : ℕ → ById ℕ) (all : List Stacked) (owned : ℕ → Owned) (standing : List Standing) (client surface k : ℕ) (place : Place)
     → AreStacked numbers all (windows_on owned standing) → stands_once client surface standing ≡ true
     → list_any (is_standing client surface) standing ≡ true
     → numbers client surface ≡ Some k → AreNumberedOnce (numbers client)
-    → length (tree_at owned client surface place) ≡ length (tree_of client k all)
+    → length (run_at owned client surface place) ≡ length (run_of client k all)
 
 -- Where a toplevel comes to another place, and its windows with it, what is kept stands for the windows again.
 abbrev pub StackedMoved : Type 0
@@ -58,6 +68,6 @@ StackedMoved =
     (place : Place)
     → AreStacked numbers all (windows_on owned standing) → stands_once client surface standing ≡ true
     → numbers client surface ≡ Some k → AreNumberedOnce (numbers client)
-    → AreNumberedBy (numbers client) f (tree_at owned client surface place)
-    → AreStacked numbers (replaced client k (map (told_by f) (tree_at owned client surface place)) all)
+    → AreNumberedBy (numbers client) f (run_at owned client surface place)
+    → AreStacked numbers (replaced client k (map (told_by f) (run_at owned client surface place)) all)
     (windows_on owned (moved_to client surface place standing))

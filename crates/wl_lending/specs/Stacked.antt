@@ -31,17 +31,19 @@ AreNumberedBy numbers f ws = All (IsNumberedBy numbers f) ws
 
 -- ---- windows
 
--- the root of the window's tree is this surface of this client
-abbrev pub has_root : ℕ → ℕ → Window → Bool
-has_root client root w = (client == w.owner.client) && (root == w.owner.root)
+-- the window is stacked with the toplevel of this surface of this client
+abbrev pub has_toplevel : ℕ → ℕ → Window → Bool
+has_toplevel client toplevel w = (client == w.owner.client) && (toplevel == w.owner.toplevel)
 
--- A window that is kept stands for one of the desktop: both are of one client, the root of its tree and its surface go by their numbers,
--- and it tells where the window stands, how large it is, and how its buffer is turned (wayland.xml, wl_surface.set_buffer_transform).
+-- A window that is kept stands for one of the desktop: both are of one client, the toplevel that it is stacked with, the root of its tree and
+-- its surface go by their numbers, and it tells where the window stands, how large it is, and how its buffer is turned (wayland.xml,
+-- wl_surface.set_buffer_transform).
 pub record IsStacked (numbers : ℕ → ById ℕ) (s : Stacked) (w : Window) : Type 0 where
   pub client : s.client ≡ w.owner.client
-  pub root : numbers s.client w.owner.root ≡ Some s.root
+  pub toplevel : numbers s.client w.owner.toplevel ≡ Some s.toplevel
+  pub root : numbers s.client w.owner.root ≡ Some s.window.root
   pub surface : numbers s.client w.surface ≡ Some s.window.surface
-  pub told : s.window ≡ told_as s.window.surface s.root w
+  pub told : s.window ≡ told_as s.window.surface s.window.root w
 
 -- so do all of them, one by one from the bottom
 abbrev pub AreStacked : (ℕ → ById ℕ) → List Stacked → List Window → Type 0

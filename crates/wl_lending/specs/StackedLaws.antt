@@ -1,12 +1,13 @@
--- What is kept of the windows of the output goes on standing for those of the desktop where the windows of one tree change, come or go.
+-- What is kept of the windows of the output goes on standing for those of the desktop where the windows stacked with one toplevel change, come
+-- or go.
 use Rattle.std.specs.Prelude.{ℕ, ◌≡◌, ◌==◌, Bool, true, false, if◌then◌else◌, not, List, [], ◌∷◌, ◌++◌, Some, filter, map}
 use Rattle.std.specs.List.{All, list_all, list_any}
 use Rattle.wl_peer.specs.Objects.{ById}
 use Rattle.wl_stacking.specs.Windows.{Window}
 use Rattle.wl_stacked.specs.declared.stacked.Stacked.{Stacked}
 use Rattle.wl_stacking.specs.Stacking.{Owned, Standing, is_of as is_standing, raised as raised_standing, windows_on}
-use Rattle.wl_stacked.specs.Stacked.{is_of, raised, replaced, stacked, tree_of, without_client, without_tree}
-use Rattle.wl_lending.specs.Stacked.{AreNumberedBy, AreNumberedOnce, AreStacked, has_root, told_by}
+use Rattle.wl_stacked.specs.Stacked.{is_of, raised, replaced, stacked, run_of, without_client, without_run}
+use Rattle.wl_lending.specs.Stacked.{AreNumberedBy, AreNumberedOnce, AreStacked, has_toplevel, told_by}
 
 -- ---- lists
 
@@ -25,28 +26,29 @@ BothAreStacked =
 
 -- ---- numbers
 
--- What stands for windows stands for them by other numbers that are the same for their roots and surfaces.
+-- What stands for windows stands for them by other numbers that are the same for their toplevels, roots and surfaces.
 abbrev pub StackedRenumbered : Type 0
 StackedRenumbered =
     (old new : ℕ → ById ℕ) (all : List Stacked) (ws : List Window)
+    → All (λ w. new w.owner.client w.owner.toplevel ≡ old w.owner.client w.owner.toplevel) ws
     → All (λ w. new w.owner.client w.owner.root ≡ old w.owner.client w.owner.root) ws
     → All (λ w. new w.owner.client w.surface ≡ old w.owner.client w.surface) ws → AreStacked old all ws → AreStacked new all ws
 
--- ---- the windows of one tree
+-- ---- the windows stacked with one toplevel
 
--- A window of a tree is kept where the desktop has one.
-abbrev pub TreeIsThere : Type 0
-TreeIsThere =
-    (numbers : ℕ → ById ℕ) (all : List Stacked) (ws : List Window) (client root k : ℕ) → AreStacked numbers all ws
-    → numbers client root ≡ Some k → AreNumberedOnce (numbers client)
-    → list_any (is_of client k) all ≡ list_any (has_root client root) ws
+-- A window stacked with a toplevel is kept where the desktop has one.
+abbrev pub RunIsThere : Type 0
+RunIsThere =
+    (numbers : ℕ → ById ℕ) (all : List Stacked) (ws : List Window) (client toplevel k : ℕ) → AreStacked numbers all ws
+    → numbers client toplevel ≡ Some k → AreNumberedOnce (numbers client)
+    → list_any (is_of client k) all ≡ list_any (has_toplevel client toplevel) ws
 
--- What is kept of the windows of a tree stands for them.
-abbrev pub TreeIsStacked : Type 0
-TreeIsStacked =
-    (numbers : ℕ → ById ℕ) (all : List Stacked) (ws : List Window) (client root k : ℕ) → AreStacked numbers all ws
-    → numbers client root ≡ Some k → AreNumberedOnce (numbers client)
-    → AreStacked numbers (tree_of client k all) (filter (λ w. has_root client root w) ws)
+-- What is kept of the windows stacked with a toplevel stands for them.
+abbrev pub RunIsStacked : Type 0
+RunIsStacked =
+    (numbers : ℕ → ById ℕ) (all : List Stacked) (ws : List Window) (client toplevel k : ℕ) → AreStacked numbers all ws
+    → numbers client toplevel ≡ Some k → AreNumberedOnce (numbers client)
+    → AreStacked numbers (run_of client k all) (filter (λ w. has_toplevel client toplevel w) ws)
 
 -- What is kept of a client's windows tells them by the numbers of their surfaces.
 abbrev pub StackedAreTold : Type 0
@@ -55,40 +57,40 @@ StackedAreTold =
     → list_all (λ w. client == w.owner.client) ws ≡ true → AreNumberedBy (numbers client) f ws
     → map (λ s. s.window) all ≡ map (told_by f) ws
 
--- Where other windows of a tree come to its place, which is where it has some, those below them and above them stay.
+-- Where other windows of a toplevel come to their place, which is where it has some, those below them and above them stay.
 abbrev pub StackedReplaced : Type 0
 StackedReplaced =
-    (numbers : ℕ → ById ℕ) (all : List Stacked) (client root k : ℕ) (f : ℕ → ℕ) (below above was is : List Window)
+    (numbers : ℕ → ById ℕ) (all : List Stacked) (client toplevel k : ℕ) (f : ℕ → ℕ) (below above was is : List Window)
     → AreStacked numbers all (below ++ (was ++ above))
-    → list_all (has_root client root) was ≡ true → list_any (has_root client root) was ≡ true
-    → list_any (has_root client root) (below ++ above) ≡ false
-    → numbers client root ≡ Some k → AreNumberedOnce (numbers client)
-    → list_all (has_root client root) is ≡ true → AreNumberedBy (numbers client) f is
+    → list_all (has_toplevel client toplevel) was ≡ true → list_any (has_toplevel client toplevel) was ≡ true
+    → list_any (has_toplevel client toplevel) (below ++ above) ≡ false
+    → numbers client toplevel ≡ Some k → AreNumberedOnce (numbers client)
+    → list_all (has_toplevel client toplevel) is ≡ true → AreNumberedBy (numbers client) f is
     → AreStacked numbers (replaced client k (map (told_by f) is) all) (below ++ (is ++ above))
 
--- The windows of a tree come on top of the others.
+-- The windows stacked with a toplevel come on top of the others.
 abbrev pub StackedPushed : Type 0
 StackedPushed =
-    (numbers : ℕ → ById ℕ) (all : List Stacked) (ws : List Window) (client root k : ℕ) (f : ℕ → ℕ) (is : List Window)
-    → AreStacked numbers all ws → numbers client root ≡ Some k
-    → list_all (has_root client root) is ≡ true → AreNumberedBy (numbers client) f is
+    (numbers : ℕ → ById ℕ) (all : List Stacked) (ws : List Window) (client toplevel k : ℕ) (f : ℕ → ℕ) (is : List Window)
+    → AreStacked numbers all ws → numbers client toplevel ≡ Some k
+    → list_all (has_toplevel client toplevel) is ≡ true → AreNumberedBy (numbers client) f is
     → AreStacked numbers (all ++ map (stacked client k) (map (told_by f) is)) (ws ++ is)
 
--- The windows of a tree go.
+-- The windows stacked with a toplevel go.
 abbrev pub StackedRemoved : Type 0
 StackedRemoved =
-    (numbers : ℕ → ById ℕ) (all : List Stacked) (ws : List Window) (client root k : ℕ) → AreStacked numbers all ws
-    → numbers client root ≡ Some k → AreNumberedOnce (numbers client)
-    → AreStacked numbers (without_tree client k all) (filter (λ w. not (has_root client root w)) ws)
+    (numbers : ℕ → ById ℕ) (all : List Stacked) (ws : List Window) (client toplevel k : ℕ) → AreStacked numbers all ws
+    → numbers client toplevel ≡ Some k → AreNumberedOnce (numbers client)
+    → AreStacked numbers (without_run client k all) (filter (λ w. not (has_toplevel client toplevel w)) ws)
 
 -- They are these alone: those below them and above them are left.
-abbrev pub StackedTreeGone : Type 0
-StackedTreeGone =
-    (numbers : ℕ → ById ℕ) (all : List Stacked) (client root k : ℕ) (below above was : List Window)
+abbrev pub StackedRunGone : Type 0
+StackedRunGone =
+    (numbers : ℕ → ById ℕ) (all : List Stacked) (client toplevel k : ℕ) (below above was : List Window)
     → AreStacked numbers all (below ++ (was ++ above))
-    → list_all (has_root client root) was ≡ true → list_any (has_root client root) (below ++ above) ≡ false
-    → numbers client root ≡ Some k → AreNumberedOnce (numbers client)
-    → AreStacked numbers (without_tree client k all) (below ++ above)
+    → list_all (has_toplevel client toplevel) was ≡ true → list_any (has_toplevel client toplevel) (below ++ above) ≡ false
+    → numbers client toplevel ≡ Some k → AreNumberedOnce (numbers client)
+    → AreStacked numbers (without_run client k all) (below ++ above)
 
 -- The windows of a client go.
 abbrev pub StackedClientGone : Type 0
@@ -98,13 +100,13 @@ StackedClientGone =
 
 -- ---- a toplevel that is raised
 
--- The windows of a tree come on top of the others.
-abbrev pub StackedTreeRaised : Type 0
-StackedTreeRaised =
-    (numbers : ℕ → ById ℕ) (all : List Stacked) (ws : List Window) (client root k : ℕ) → AreStacked numbers all ws
-    → numbers client root ≡ Some k → AreNumberedOnce (numbers client)
+-- The windows stacked with a toplevel come on top of the others.
+abbrev pub StackedRunRaised : Type 0
+StackedRunRaised =
+    (numbers : ℕ → ById ℕ) (all : List Stacked) (ws : List Window) (client toplevel k : ℕ) → AreStacked numbers all ws
+    → numbers client toplevel ≡ Some k → AreNumberedOnce (numbers client)
     → AreStacked numbers (raised client k all)
-    (filter (λ w. not (has_root client root w)) ws ++ filter (λ w. has_root client root w) ws)
+    (filter (λ w. not (has_toplevel client toplevel w)) ws ++ filter (λ w. has_toplevel client toplevel w) ws)
 
 -- no two of these toplevels are of this surface
 abbrev pub stands_once : ℕ → ℕ → List Standing → Bool

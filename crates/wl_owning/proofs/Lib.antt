@@ -1,1 +1,3 @@
 pub mod Keeping
+pub mod Popups
+pub mod Twins

@@ -1,3 +1,6 @@
 pub mod Freed
 pub mod Owning
+pub mod Popups
+pub mod RoleNames
 pub mod Subsurfaces
+pub mod Twins

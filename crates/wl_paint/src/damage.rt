@@ -56,6 +56,18 @@ impl<A: Allocator> Damage<A> {
         self.rows[y as usize].has(x)
     }
 
+    /// All points of the output.
+    pub fn bounds(&self) -> Rect
+        ensures { result ≡ record { x = pos 0; y = pos 0; w = pos self.now.width; h = pos self.now.height } }
+    {
+        Rect {
+            x: 0,
+            y: 0,
+            w: self.width as i32,
+            h: self.height as i32,
+        }
+    }
+
     /// Adds the points of the rectangle that lie in the output, whose sides are 4,096 pixels at most.
     pub fn add(&mut self, rect: Rect)
         ensures points { (x y : ℕ) → x < self.old.width → y < self.old.height

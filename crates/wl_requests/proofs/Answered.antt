@@ -4,7 +4,7 @@ use Rattle.std.specs.Prelude.{◌==◌, ◌||◌, is_some, slice_index_or, count
 use Rattle.std.specs.List.{list_any}
 use Rattle.std.specs.Option.{option_map}
 use Rattle.wl_interface.specs.declared.interface.Interface.{Interface}
-use Rattle.wl_interface.specs.declared.interface.Interface.TheVariants.{WlCallback, WlSurface, XdgSurface, XdgToplevel}
+use Rattle.wl_interface.specs.declared.interface.Interface.TheVariants.{WlCallback, WlSurface, XdgPopup, XdgSurface, XdgToplevel}
 use Rattle.wl_table.specs.Objects.{Held, HoldsAt, entry_of}
 use Rattle.wl_table.specs.declared.entry.Entry.{Entry}
 use Rattle.wl_client.specs.Agreement.{IsPeer}
@@ -23,10 +23,11 @@ use Rattle.wl_stacking.specs.Stacking.{Owned}
 use Rattle.wl_plain.specs.Desktop.{Resident}
 use Rattle.wl_plain.specs.Framing.{done_due}
 use Rattle.wl_plain.specs.Happens.{callbacks_due, frame_told, frames_told}
-use Rattle.wl_owning.specs.Owning.{AreKept, IsOwned, Names, by_number, number_in, names_in, names_surface, targets_in}
+use Rattle.wl_owning.specs.Owning.{AreKept, IsOwned, Names, by_number, number_in, targets_in}
+use Rattle.wl_owning.specs.RoleNames.{names_of}
 use Rattle.wl_owning.proofs.Keeping.FramingWaits.{framed-less}
 use Rattle.wl_laws.proofs.Soundness.ObjectsHas.{has_callback}
-use Rattle.wl_owning.proofs.Keeping.OwningNames.{names-other-gone}
+use Rattle.wl_requests.proofs.Roles.{names_object, names-other-gone}
 use Rattle.wl_requests.specs.declared.residents.Resident.{Resident as Kept}
 use Rattle.wl_requests.specs.Residents.{IsLeft, IsResident}
 use Rattle.wl_requests.proofs.Answering.{IsAnswered, all-answered, all-callbacks, answered-on, any-middle, counting-due, none-due, over-told, without_it}
@@ -37,16 +38,17 @@ use Rattle.wl_requests.proofs.Numbers.{keeps-names}
 
 -- ---- the table
 
-callback-names : (interface : Interface) → (interface_number interface == interface_number WlCallback) ≡ true → names_surface interface ≡ false
+callback-names : (interface : Interface) → (interface_number interface == interface_number WlCallback) ≡ true → names_object interface ≡ false
 callback-names WlSurface e = absurd (cc)
 callback-names XdgSurface e = absurd (cc)
 callback-names XdgToplevel e = absurd (cc)
+callback-names XdgPopup e = absurd (cc)
 callback-names interface e = refl
 
-callback-gone : (old new : Held) (id : ℕ) → is_of WlCallback (objects_in old id) ≡ true → HoldsAt old new id None → names_in new ≡ names_in old
+callback-gone : (old new : Held) (id : ℕ) → is_of WlCallback (objects_in old id) ≡ true → HoldsAt old new id None → names_of new ≡ names_of old
 callback-gone old new id is holds = at (entry_of old id) refl is
   where
-    at : (o : Option Entry) → entry_of old id ≡ o → is_of WlCallback (option_map object_of o) ≡ true → names_in new ≡ names_in old
+    at : (o : Option Entry) → entry_of old id ≡ o → is_of WlCallback (option_map object_of o) ≡ true → names_of new ≡ names_of old
     at None found is = absurd (cc)
     at (Some entry) found is = names-other-gone old new id entry found (callback-names entry.interface is) holds
 
@@ -119,7 +121,7 @@ module _ {A : Type 0} (time : ℕ) (old now new : Kept A) (r mid : Resident) (a 
 
   -- it lives on
   pub next-answered : new.client.ended ≡ None → HoldsAt now.client.objects new.client.objects id None → (next : Resident) × IsAnswered time r next × IsResident new next
-      × (names_in new.client.objects ≡ names_in now.client.objects)
+      × (names_of new.client.objects ≡ names_of now.client.objects)
   next-answered alive holds =
       let lives : m.status ≡ None = sym peer.status ∙ alive in
       let next : Resident = without_it time mid due.before due.after c m a.status due.all_are nothing-before counts told in
@@ -133,7 +135,7 @@ module _ {A : Type 0} (time : ℕ) (old now new : Kept A) (r mid : Resident) (a 
         record {
           lives = alive;
           peer = peer;
-          owns = owned-places (names_in now.client.objects) (names_in new.client.objects) now.owned.linked.surfaces new.owned.linked.surfaces now.owned.linked.family new.owned.linked.family
+          owns = owned-places (names_of now.client.objects) (names_of new.client.objects) now.owned.linked.surfaces new.owned.linked.surfaces now.owned.linked.family new.owned.linked.family
               now.owned.shell
               new.owned.shell mid.owned places ties names shell is.owns;
           frames = rw (requests, ap (λ (n : Names). n.surfaces) names) left;
@@ -144,7 +146,7 @@ module _ {A : Type 0} (time : ℕ) (old now new : Kept A) (r mid : Resident) (a 
 
 -- ---- none is due any more
 
-pub last-answered : {A : Type 0} (time : ℕ) (old now : Kept A) (r mid : Resident) → IsAnswered time r mid → IsResident now mid → names_in now.client.objects ≡ names_in old.client.objects
+pub last-answered : {A : Type 0} (time : ℕ) (old now : Kept A) (r mid : Resident) → IsAnswered time r mid → IsResident now mid → names_of now.client.objects ≡ names_of old.client.objects
     → AreUndue (numbered now.client.objects mid) mid.callbacks → (q : Peer) × Queues (frames_told time r) (done_due r).peer q × IsLeft old now (done_due r) q
 last-answered time old now r mid a is names undue =
     let none = none-due (targets_in WlSurface now.client.objects) now.owned.linked.surfaces now.owned.linked.family mid.owned.surfaces is.owns.surfaces mid.callbacks undue in (
@@ -152,7 +154,7 @@ last-answered time old now r mid a is names undue =
       all-answered time r mid a none,
       record {
         peer = is.peer;
-        owns = λ alive. subst (λ (o : Owned). IsOwned (names_in now.client.objects) now.owned.linked.surfaces now.owned.linked.family (kept_of now.owned.shell) o) a.owned is.owns;
+        owns = λ alive. subst (λ (o : Owned). IsOwned (names_of now.client.objects) now.owned.linked.surfaces now.owned.linked.family (kept_of now.owned.shell) o) a.owned is.owns;
         frames = λ alive. rw (all-callbacks time r mid a none, going-requests (callbacks_due r) r.peer, ← a.owned, ← a.requests) is.frames;
         subsurfaces = λ alive. rw (← a.subsurfaces) is.subsurfaces;
         numbers = λ alive. keeps-names old.client.objects now.client.objects names;

@@ -18,7 +18,8 @@ use Rattle.wl_proto.specs.declared.argument.NewId.{NewId}
 use Rattle.wl_peer.specs.Judgement.{is_free, judged_at}
 use Rattle.wl_peer.specs.Told.{code_number, display_error, error_told}
 use Rattle.wl_peer.specs.declared.cause.Cause.TheVariants.{Protocol}
-use Rattle.wl_xdg_state.specs.Shell.{Effect, Maps, Unmaps}
+use Rattle.wl_xdg_state.specs.Popups.{is_toplevel}
+use Rattle.wl_xdg_state.specs.Shell.{Effect, Maps, Unmaps, xdg_of}
 use Rattle.wl_table.specs.Objects.{Held}
 use Rattle.wl_interface.specs.declared.interface.Interface.TheVariants.{WlSurface}
 use Rattle.wl_owning.specs.Owning.{targets_in}
@@ -36,13 +37,18 @@ use Rattle.wl_plain.specs.Demand.{Demand, CommitTree, EndToplevel}
 use Rattle.wl_plain.specs.Demanding.{demand_of, effect_of_commit, judge_all}
 use Rattle.wl_plain.specs.Desktop.{Desktop, Resident, unpointed}
 use Rattle.wl_plain.specs.LeftOut.{served_now}
-use Rattle.wl_invariants.specs.Orderly.{OwnsOrderly}
-use Rattle.wl_requests.specs.Residents.{AnswersAs, AnswersDemand, AnswersDemandAs, AnswersSo, IsResident, NewIsFree, ObjectsFit, Stacks, StacksBy, StacksFor, StacksSo, StacksTo, TakesAs, TakesSo}
+use Rattle.wl_ordered.specs.Ordered.{OwnsOrdered}
+use Rattle.wl_requests.specs.Residents.{AnswersAs, AnswersPlaced, AnswersPlacedAs, AnswersSo, IsResident, NewIsFree, ObjectsFit, Stacks, StacksBy, StacksFor, StacksIf, StacksSo, StacksTo, TakesAs, TakesSo}
+use Rattle.wl_requests.specs.Placing.{IsPlacingFor}
+use Rattle.wl_requests.specs.declared.messages.Kind.{Kind}
+use Rattle.wl_requests.specs.declared.messages.Kind.TheVariants as kind
+use Rattle.wl_requests.specs.declared.residents.Placing.{Placing}
+use Rattle.wl_proto.specs.declared.wl_surface.WlSurfaceRequest.TheVariants as surface
 use Rattle.wl_plain.specs.Step.{with_peer}
-use Rattle.wl_invariants.proofs.OrderlyClients.Clients.{only_peer_changes}
 use Rattle.wl_requests.proofs.Framing.{no-more}
 use Rattle.wl_laws.proofs.Pieces.Changing.{judged-behind}
 use Rattle.wl_requests.proofs.Numbers.{left-from}
+use Rattle.wl_requests.proofs.Meeting.{ordered-peer}
 use Rattle.wl_requests.proofs.Shelling.{meets-from, new-free, refused-whole}
 
 -- a seat has no keyboard and no touch
@@ -108,7 +114,7 @@ new-passed mid old m same free = new-free mid m (λ new is. at (new_id_in m) new
     at (Some other) new is free = let same : other ≡ new = cc in subst (λ (n : NewId). is_free (objects_in mid.client.objects) n.id ≡ true) same free
 
 -- the client without its first message
-dropped : {A : Type 0} (old mid : Kept A) (r : Resident) (size : ℕ) → mid ≡ record old { client = record old.client { rest = drop size old.client.rest } } → IsResident old r
+pub dropped : {A : Type 0} (old mid : Kept A) (r : Resident) (size : ℕ) → mid ≡ record old { client = record old.client { rest = drop size old.client.rest } } → IsResident old r
     → IsResident mid (with_peer (with_rest (drop size r.peer.rest) r.peer) r)
 dropped old mid r size e is = rw e (record {
   lives = is.lives;
@@ -141,9 +147,14 @@ stacks-by-from old mid id Maps stacking same h = stacks-to-from old mid id on.To
 stacks-by-from old mid id Unmaps stacking same h = stacks-to-from old mid id on.Out stacking same h
 stacks-by-from old mid id effect stacking same h = h
 
+stacks-if-from : {A : Type 0} (old mid : Kept A) (toplevel : Bool) (id : ℕ) (effect : Effect) (stacking : Stacking) → mid.client.objects ≡ old.client.objects
+    → StacksIf toplevel mid id effect stacking → StacksIf toplevel old id effect stacking
+stacks-if-from old mid true id effect stacking same h = stacks-by-from old mid id effect stacking same h
+stacks-if-from old mid false id effect stacking same h = h
+
 stacks-for-from : {A : Type 0} (old mid : Kept A) (r : Resident) (rest : List ℕ) (demand : Demand) (stacking : Stacking) → mid.client.objects ≡ old.client.objects
     → StacksFor mid (with_peer (with_rest rest r.peer) r) demand stacking → StacksFor old r demand stacking
-stacks-for-from old mid r rest (CommitTree id) stacking same h = stacks-by-from old mid id (effect_of_commit r id) stacking same h
+stacks-for-from old mid r rest (CommitTree id) stacking same h = stacks-if-from old mid (is_toplevel (xdg_of id r.owned.shell)) id (effect_of_commit r id) stacking same h
 stacks-for-from old mid r rest (EndToplevel id xdg top) stacking same h = stacks-to-from old mid top on.Out stacking same h
 stacks-for-from old mid r rest demand stacking same h = h
 
@@ -151,6 +162,12 @@ stacks-from : {A : Type 0} (old mid : Kept A) (r : Resident) (rest : List ℕ) (
     → StacksSo mid (with_peer (with_rest rest r.peer) r) judged stacking → StacksSo old r judged stacking
 stacks-from old mid r rest (Ok demand) stacking same h = stacks-for-from old mid r rest demand stacking same h
 stacks-from old mid r rest (Err refusal) stacking same h = tt
+
+-- what popups are placed by stays so where only the peer changes
+pub placed-behind : (placing : Placing) (object : ℕ) (k : Kind) (c : ℕ) (r : Resident) (p : Peer) (d : Desktop) → IsPlacingFor placing object k c r d
+    → IsPlacingFor placing object k c (with_peer p r) d
+placed-behind placing object (kind.Surface surface.Commit) c r p d h = record { bounds = h.bounds; parent = h.parent }
+placed-behind placing object k c r p d h = h
 
 module _ {A : Type 0} (old : Kept A) (r : Resident) (object version size target : ℕ) (m : Message) (passes : Passes old.client object version size target m) (is : IsResident old r) where
   abbrev left : Resident
@@ -177,29 +194,30 @@ module _ {A : Type 0} (old : Kept A) (r : Resident) (object version size target 
   whole-first = ap split_of (sym is.peer.rest) ∙ passes.first
 
   pub first-taken : (mid new : Kept A) (stacking : Stacking) → mid ≡ record old { client = record old.client { rest = drop size old.client.rest } }
-      → AnswersDemand (λ r. demand_of served_now r object version m) mid new
-      → Stacks (λ r. demand_of served_now r object version m) mid stacking → (c : ℕ) (d : Desktop) → OwnsOrderly r → TakesSo (split_of r.peer.rest) c r d old new stacking
-  first-taken mid new stacking same answers stacks c d only =
+      → (placing : Placing) (k : Kind) → AnswersPlaced placing k object (λ r. demand_of served_now r object version m) mid new
+      → Stacks (λ r. demand_of served_now r object version m) mid stacking → (c : ℕ) (d : Desktop) → OwnsOrdered r → IsPlacingFor placing object k c r d
+      → TakesSo (split_of r.peer.rest) c r d old new stacking
+  first-taken mid new stacking same placing k answers stacks c d only placed =
       let there = dropped old mid r size same is in
       let objects : mid.client.objects ≡ old.client.objects = ap (λ (k : Kept A). k.client.objects) same in
-      let has : OwnsOrderly left = only_peer_changes r left.peer refl refl (no-more r.peer.requests) only in
+      let has : OwnsOrdered left = ordered-peer r left.peer refl refl (no-more r.peer.requests) only in
       subst (λ (s : Split). TakesSo s c r d old new stacking) (sym whole-first) (
         subst (λ (j : Result Demand Refusal). AnswersSo j c left d old new) (sym demanded-first) (answers-from old mid new c left d (demand_of served_now left object version m) objects
-            (answers c left d there has)),
+            (answers c left d there has (placed-behind placing object k c r left.peer d placed))),
         subst (λ (j : Result Demand Refusal). StacksSo old r j stacking) (sym demanded-first) (stacks-from old mid r (drop size r.peer.rest) (demand_of served_now left object version m) stacking
             objects (stacks left there has)),
       )
 
   -- the same where it is known whether it was done
   pub first-decided : (mid new : Kept A) (done : Bool) → mid ≡ record old { client = record old.client { rest = drop size old.client.rest } }
-      → AnswersDemandAs done (λ r. demand_of served_now r object version m) mid new
-      → (c : ℕ) (d : Desktop) → OwnsOrderly r → TakesAs done (split_of r.peer.rest) c r d old new
-  first-decided mid new done same answers c d only =
+      → (placing : Placing) (k : Kind) → AnswersPlacedAs done placing k object (λ r. demand_of served_now r object version m) mid new
+      → (c : ℕ) (d : Desktop) → OwnsOrdered r → IsPlacingFor placing object k c r d → TakesAs done (split_of r.peer.rest) c r d old new
+  first-decided mid new done same placing k answers c d only placed =
       let there = dropped old mid r size same is in
       let objects : mid.client.objects ≡ old.client.objects = ap (λ (k : Kept A). k.client.objects) same in
-      let has : OwnsOrderly left = only_peer_changes r left.peer refl refl (no-more r.peer.requests) only in
+      let has : OwnsOrdered left = ordered-peer r left.peer refl refl (no-more r.peer.requests) only in
       subst (λ (s : Split). TakesAs done s c r d old new) (sym whole-first)
       (subst (λ (j : Result Demand Refusal). AnswersAs done j c left d old new) (sym demanded-first) (decided-from done old mid new c left d (demand_of served_now left object version m) objects
-      (answers c left d there has)))
+      (answers c left d there has (placed-behind placing object k c r left.peer d placed))))
 
 -- ---- where there is no whole message

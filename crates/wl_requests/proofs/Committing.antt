@@ -1,84 +1,83 @@
 -- What a commit comes to for the shell, and what is told of it.
-use Rattle.std.proofs.Common.{◌≡◌, ℕ, [], ◌∷◌, Bool, Option, Some, None, refl, ap, sym, ◌∙◌, eq-eqb}
-use Rattle.std.specs.Prelude.{ℤ, if◌then◌else◌, Ok}
+use Rattle.std.proofs.Common.{◌≡◌, ℕ, [], ◌∷◌, ◌++◌, Bool, true, false, Option, Some, None, refl, ap, sym, ◌∙◌}
+use Rattle.std.specs.Prelude.{ℤ, Ok, is_some}
 use Rattle.wl_geom.specs.declared.rect.Rect.{Rect}
-use Rattle.wl_xdg_state.specs.Popups.{in_force, with_popup_role}
 use Rattle.std.specs.Option.{option_and_then, option_map}
 use Rattle.wl_peer.specs.Peer.{Peer}
 use Rattle.wl_family.specs.Family.{Tied}
 use Rattle.wl_surface.specs.Slots.{Slots}
-use Rattle.wl_xdg_state.specs.Kept.{Kept, changing, commit_answer, kept_after}
-use Rattle.wl_xdg_state.specs.Shell.{Effect, Stays, Unconfigured, Configures, Maps, Unmaps, RoleObject, XdgSurface, Waiting, at_stage, xdg_of}
+use Rattle.wl_xdg_state.specs.Kept.{Kept, commit_answer, kind_toplevel, toplevel_in}
+use Rattle.wl_xdg_state.specs.Popups.{is_toplevel, is_toplevel_kind}
+use Rattle.wl_xdg_state.specs.Shell.{Effect, Stays, Unconfigured, Configures, Maps, Unmaps, IsPopup, Kind, RoleObject, Toplevel, XdgSurface, xdg_of}
 use Rattle.wl_xdg_state.specs.declared.acts.Placed.{Placed}
 use Rattle.wl_xdg_state.specs.declared.acts.ShellAct.{ShellAct}
 use Rattle.wl_xdg_state.specs.declared.acts.ShellAct.TheVariants.{Configure, Map, Unmap, Nothing}
+use Rattle.wl_plain.specs.Changing.{Placing, effect_placing}
 use Rattle.wl_plain.specs.Desktop.{Resident}
+use Rattle.wl_plain.specs.Replies.{popup_told}
 use Rattle.wl_owning.specs.Owning.{IsOwned, Names, effect_by, kept_id}
-use Rattle.wl_requests.specs.Residents.{drawn_by, told_by, told_of}
-use Rattle.wl_plain.specs.Step.{configures_told, role_configured, toplevel_configured, xdg_configured}
-use Rattle.wl_owning.proofs.Keeping.OwningReads.{configures-read}
-use Rattle.wl_owning.proofs.Keeping.OwningXdg.{xdg-of}
-use Rattle.wl_invariants.specs.Simple.{answers_on, effect_on}
+use Rattle.wl_owning.specs.Popups.{act_told, object_told, role_told}
+use Rattle.wl_requests.specs.Residents.{drawn_by}
+use Rattle.wl_plain.specs.Step.{toplevel_configured, xdg_configured}
+use Rattle.wl_owning.proofs.Keeping.OwningXdg.{xdg-of, xdg-of-none}
 
 -- only a configure changes more of a client than its xdg_surface
-mapped-peer : (id : ℕ) (o : Option XdgSurface) (r : Resident) → (effect_on id Maps o r).peer ≡ r.peer
-mapped-peer id None r = refl
-mapped-peer id (Some x) r = refl
+mapped-peer : (where_to : Placing) (id : ℕ) (o : Option XdgSurface) (r : Resident) → (effect_placing where_to id Maps o r).peer ≡ r.peer
+mapped-peer where_to id None r = refl
+mapped-peer where_to id (Some x) r = refl
 
-unmapped-peer : (id : ℕ) (o : Option XdgSurface) (r : Resident) → (effect_on id Unmaps o r).peer ≡ r.peer
-unmapped-peer id None r = refl
-unmapped-peer id (Some x) r = refl
+unmapped-peer : (where_to : Placing) (id : ℕ) (o : Option XdgSurface) (r : Resident) → (effect_placing where_to id Unmaps o r).peer ≡ r.peer
+unmapped-peer where_to id None r = refl
+unmapped-peer where_to id (Some x) r = refl
 
-still-peer : (id : ℕ) (o : Option XdgSurface) (r : Resident) → (effect_on id Stays o r).peer ≡ r.peer
-still-peer id None r = refl
-still-peer id (Some x) r = refl
-
--- the role object keeps its id
-same-told : (serial id : ℕ) (change : RoleObject → RoleObject) (o : Option RoleObject) → ((r : RoleObject) → (change r).id ≡ r.id)
-    → role_configured serial id (option_map change o) ≡ role_configured serial id o
-same-told serial id change None keeps = refl
-same-told serial id change (Some object) keeps = ap (λ (i : ℕ). role_configured serial id (Some (record object { id = i }))) (keeps object)
+still-peer : (where_to : Placing) (id : ℕ) (o : Option XdgSurface) (r : Resident) → (effect_placing where_to id Stays o r).peer ≡ r.peer
+still-peer where_to id None r = refl
+still-peer where_to id (Some x) r = refl
 
 -- a surface without xdg_surface isn't configured
 unconfigured : (shows : Bool) (bounds : Rect) (at : ℤ × ℤ) (o : Option Kept) (placed : Option Placed) → commit_answer shows bounds at o ≡ Ok (Configure placed) → (k : Kept) × (o ≡ Some k)
 unconfigured shows bounds at None placed e = absurd (cc)
 unconfigured shows bounds at (Some k) placed e = (k, refl)
 
-module _ (names : Names) (slots : Slots) (tied : Tied) (kept : ℕ → Option Kept) (r : Resident) (is : IsOwned names slots tied kept r.owned) (id number : ℕ)
-    (named : names.surfaces id ≡ Some number) (shows : Bool) (bounds : Rect) (at : ℤ × ℤ) where
-  -- where a serial is drawn
-  pub commit-peer : (act : ShellAct) (after : Resident) → commit_answer shows bounds at (kept number) ≡ Ok act → (effect_on id (effect_by act) (xdg_of id r.owned.shell) after).peer ≡ drawn_by act after.peer
-  commit-peer (Configure placed) after answer =
-      let k = unconfigured shows bounds at (kept number) placed answer in
-      let xdg = xdg-of names slots tied kept r.owned is id number k.0 named k.1 in
-      ap (λ (o : Option XdgSurface). (effect_on id Configures o after).peer) xdg.3
-  commit-peer Map after answer = mapped-peer id (xdg_of id r.owned.shell) after
-  commit-peer Unmap after answer = unmapped-peer id (xdg_of id r.owned.shell) after
-  commit-peer Nothing after answer = still-peer id (xdg_of id r.owned.shell) after
+-- the kept role object is a toplevel where the xdg_surface has one
+toplevel-object : (o : Option RoleObject) (x : XdgSurface) → o ≡ x.role → is_some (toplevel_in o) ≡ is_toplevel (Some x)
+toplevel-object o x same = at o ∙ ap (λ role. is_toplevel (Some (record x { role = role }))) same
+  where
+    of-kind : (object : RoleObject) (kind : Kind) → object.kind ≡ kind → is_some (toplevel_in (Some object)) ≡ is_toplevel (Some (record x { role = Some object }))
+    of-kind object Toplevel is = ap (λ k. is_some (kind_toplevel object k)) is ∙ sym (ap is_toplevel_kind is)
+    of-kind object (IsPopup popup) is = ap (λ k. is_some (kind_toplevel object k)) is ∙ sym (ap is_toplevel_kind is)
 
-  -- and what is told of it
-  pub commit-told : (act : ShellAct) (serial : ℕ) → commit_answer shows bounds at (kept number) ≡ Ok act → serial ≡ r.peer.serial
-      → told_by act serial (changing number (kept_after serial act) kept number) ≡ answers_on (effect_by act) id r
-  commit-told (Configure placed) serial answer same =
+    at : (o : Option RoleObject) → is_some (toplevel_in o) ≡ is_toplevel (Some (record x { role = o }))
+    at None = refl
+    at (Some object) = of-kind object object.kind refl
+
+module _ (names : Names) (slots : Slots) (tied : Tied) (kept : ℕ → Option Kept) (r : Resident) (is : IsOwned names slots tied kept r.owned) (id number : ℕ)
+    (named : names.surfaces id ≡ Some number) where
+  -- where a serial is drawn
+  pub commit-peer : (where_to : Placing) (shows : Bool) (bounds : Rect) (at : ℤ × ℤ) (act : ShellAct) (after : Resident) → commit_answer shows bounds at (kept number) ≡ Ok act
+      → (effect_placing where_to id (effect_by act) (xdg_of id r.owned.shell) after).peer ≡ drawn_by act after.peer
+  commit-peer where_to shows bounds at (Configure placed) after answer =
       let k = unconfigured shows bounds at (kept number) placed answer in
       let xdg = xdg-of names slots tied kept r.owned is id number k.0 named k.1 in
-      let now : changing number (kept_after serial (Configure placed)) kept number ≡ Some (kept_after serial (Configure placed) k.0) =
-      ap (λ (b : Bool). if b then option_map (kept_after serial (Configure placed)) (kept number) else kept number) (eq-eqb number number refl)
-      ∙ ap (option_map (kept_after serial (Configure placed))) k.1 in
-      ap (told_of serial) now
-      ∙ same-told serial k.0.id (with_popup_role (in_force placed)) (option_map (at_stage Waiting) k.0.role) (λ object. refl)
-      ∙ same-told serial k.0.id (at_stage Waiting) k.0.role (λ object. refl)
-      ∙ sym (configures-read names kept r number k.0 xdg.0 xdg.1 xdg.2 0 serial)
-      ∙ ap (λ (o : Option XdgSurface). configures_told serial o) (sym xdg.3)
-      ∙ ap (λ n. configures_told n (xdg_of id r.owned.shell)) same
-  commit-told Map serial answer same = refl
-  commit-told Unmap serial answer same = refl
-  commit-told Nothing serial answer same = refl
+      ap (λ (o : Option XdgSurface). (effect_placing where_to id Configures o after).peer) xdg.3
+  commit-peer where_to shows bounds at Map after answer = mapped-peer where_to id (xdg_of id r.owned.shell) after
+  commit-peer where_to shows bounds at Unmap after answer = unmapped-peer where_to id (xdg_of id r.owned.shell) after
+  commit-peer where_to shows bounds at Nothing after answer = still-peer where_to id (xdg_of id r.owned.shell) after
+
+  -- whether its xdg_surface has a toplevel is read of what is kept
+  pub toplevel-read : is_some (option_and_then (λ k. toplevel_in k.role) (kept number)) ≡ is_toplevel (xdg_of id r.owned.shell)
+  toplevel-read = at (kept number) refl
+    where
+      at : (o : Option Kept) → kept number ≡ o → is_some (option_and_then (λ k. toplevel_in k.role) o) ≡ is_toplevel (xdg_of id r.owned.shell)
+      at None here = sym (ap is_toplevel (xdg-of-none names slots tied kept r.owned is id number named here))
+      at (Some k) here =
+          let xdg = xdg-of names slots tied kept r.owned is id number k named here in
+          toplevel-object k.role xdg.0 xdg.2.stands.role ∙ sym (ap is_toplevel xdg.3)
 
 -- ---- whatever a commit comes to for the shell, it leaves the surfaces, the callbacks and the wl_subsurfaces
 
-module _ (surface : ℕ) where
-  pub effect-surfaces : (effect : Effect) (o : Option XdgSurface) (r : Resident) → (effect_on surface effect o r).owned.surfaces ≡ r.owned.surfaces
+module _ (where_to : Placing) (surface : ℕ) where
+  pub effect-surfaces : (effect : Effect) (o : Option XdgSurface) (r : Resident) → (effect_placing where_to surface effect o r).owned.surfaces ≡ r.owned.surfaces
   effect-surfaces effect None r = refl
   effect-surfaces Stays (Some x) r = refl
   effect-surfaces Unconfigured (Some x) r = refl
@@ -86,7 +85,7 @@ module _ (surface : ℕ) where
   effect-surfaces Maps (Some x) r = refl
   effect-surfaces Unmaps (Some x) r = refl
 
-  pub effect-callbacks : (effect : Effect) (o : Option XdgSurface) (r : Resident) → (effect_on surface effect o r).callbacks ≡ r.callbacks
+  pub effect-callbacks : (effect : Effect) (o : Option XdgSurface) (r : Resident) → (effect_placing where_to surface effect o r).callbacks ≡ r.callbacks
   effect-callbacks effect None r = refl
   effect-callbacks Stays (Some x) r = refl
   effect-callbacks Unconfigured (Some x) r = refl
@@ -94,7 +93,7 @@ module _ (surface : ℕ) where
   effect-callbacks Maps (Some x) r = refl
   effect-callbacks Unmaps (Some x) r = refl
 
-  pub effect-requests : (effect : Effect) (o : Option XdgSurface) (r : Resident) → (effect_on surface effect o r).peer.requests ≡ r.peer.requests
+  pub effect-requests : (effect : Effect) (o : Option XdgSurface) (r : Resident) → (effect_placing where_to surface effect o r).peer.requests ≡ r.peer.requests
   effect-requests effect None r = refl
   effect-requests Stays (Some x) r = refl
   effect-requests Unconfigured (Some x) r = refl
@@ -102,7 +101,7 @@ module _ (surface : ℕ) where
   effect-requests Maps (Some x) r = refl
   effect-requests Unmaps (Some x) r = refl
 
-  pub effect-buffers : (effect : Effect) (o : Option XdgSurface) (r : Resident) → (effect_on surface effect o r).peer.buffers ≡ r.peer.buffers
+  pub effect-buffers : (effect : Effect) (o : Option XdgSurface) (r : Resident) → (effect_placing where_to surface effect o r).peer.buffers ≡ r.peer.buffers
   effect-buffers effect None r = refl
   effect-buffers Stays (Some x) r = refl
   effect-buffers Unconfigured (Some x) r = refl
@@ -110,7 +109,7 @@ module _ (surface : ℕ) where
   effect-buffers Maps (Some x) r = refl
   effect-buffers Unmaps (Some x) r = refl
 
-  pub effect-subsurfaces : (effect : Effect) (o : Option XdgSurface) (r : Resident) → (effect_on surface effect o r).subsurfaces ≡ r.subsurfaces
+  pub effect-subsurfaces : (effect : Effect) (o : Option XdgSurface) (r : Resident) → (effect_placing where_to surface effect o r).subsurfaces ≡ r.subsurfaces
   effect-subsurfaces effect None r = refl
   effect-subsurfaces Stays (Some x) r = refl
   effect-subsurfaces Unconfigured (Some x) r = refl
@@ -120,27 +119,56 @@ module _ (surface : ℕ) where
 
 -- ---- what is told of a surface, by what is kept of its xdg_surface
 
-abbrev toplevel_id : Option Kept → Option ℕ
-toplevel_id k = option_and_then (λ (k : Kept). option_map (λ (object : RoleObject). object.id) k.role) k
+abbrev role_id : Option Kept → Option ℕ
+role_id k = option_and_then (λ (k : Kept). option_map (λ (object : RoleObject). object.id) k.role) k
 
-pub told-some : (serial toplevel xdg : ℕ) (k : Option Kept) → Some toplevel ≡ toplevel_id k → xdg ≡ kept_id k → told_of serial k ≡ toplevel_configured toplevel ∷ xdg_configured xdg serial ∷ []
-told-some serial toplevel xdg None e same = absurd (cc)
-told-some serial toplevel xdg (Some k) e same = at k.role e ∙ ap (λ i. toplevel_configured toplevel ∷ xdg_configured i serial ∷ []) (sym same)
-  where
-    at : (o : Option RoleObject) → Some toplevel ≡ option_map (λ (object : RoleObject). object.id) o → role_configured serial k.id o ≡ toplevel_configured toplevel ∷ xdg_configured k.id serial ∷ []
-    at None e = absurd (cc)
-    at (Some object) e = let it : object.id ≡ toplevel = cc in ap (λ i. toplevel_configured i ∷ xdg_configured k.id serial ∷ []) it
+abbrev has_toplevel : Option Kept → Bool
+has_toplevel k = is_some (option_and_then (λ (k : Kept). toplevel_in k.role) k)
 
-pub told-none : (serial : ℕ) (k : Option Kept) → None ≡ toplevel_id k → told_of serial k ≡ []
-told-none serial None e = refl
-told-none serial (Some k) e = at k.role e
+-- that of a toplevel, and that of a popup
+module _ (placed : Option Placed) (serial object xdg : ℕ) where
+  toplevel-kind : (o : RoleObject) (kind : Kind) → o.kind ≡ kind → is_some (toplevel_in (Some o)) ≡ true → role_told placed object o.kind ≡ toplevel_configured object ∷ []
+  toplevel-kind o Toplevel is has = ap (role_told placed object) is
+  toplevel-kind o (IsPopup popup) is has = absurd (let gone : false ≡ true = sym (ap (λ k. is_some (kind_toplevel o k)) is) ∙ has in cc)
+
+  popup-kind : (o : RoleObject) (kind : Kind) → o.kind ≡ kind → is_some (toplevel_in (Some o)) ≡ false → role_told placed object o.kind ≡ popup_told object placed
+  popup-kind o (IsPopup popup) is has = ap (role_told placed object) is
+  popup-kind o Toplevel is has = absurd (let gone : true ≡ false = sym (ap (λ k. is_some (kind_toplevel o k)) is) ∙ has in cc)
+
+  pub told-toplevel : (k : Option Kept) → Some object ≡ role_id k → xdg ≡ kept_id k → has_toplevel k ≡ true
+      → act_told (Configure placed) serial k ≡ toplevel_configured object ∷ xdg_configured xdg serial ∷ []
+  told-toplevel None e same has = absurd (cc)
+  told-toplevel (Some k) e same has = at k.role e has ∙ ap (λ i. toplevel_configured object ∷ xdg_configured i serial ∷ []) (sym same)
+    where
+      at : (o : Option RoleObject) → Some object ≡ option_map (λ (object : RoleObject). object.id) o → is_some (toplevel_in o) ≡ true
+          → object_told placed serial k.id o ≡ toplevel_configured object ∷ xdg_configured k.id serial ∷ []
+      at None e has = absurd (cc)
+      at (Some o) e has =
+          let it : o.id ≡ object = cc in
+          ap (λ i. role_told placed i o.kind ++ xdg_configured k.id serial ∷ []) it ∙ ap (λ es. es ++ xdg_configured k.id serial ∷ []) (toplevel-kind o o.kind refl has)
+
+  pub told-popup : (k : Option Kept) → Some object ≡ role_id k → xdg ≡ kept_id k → has_toplevel k ≡ false
+      → act_told (Configure placed) serial k ≡ popup_told object placed ++ xdg_configured xdg serial ∷ []
+  told-popup None e same has = absurd (cc)
+  told-popup (Some k) e same has = at k.role e has ∙ ap (λ i. popup_told object placed ++ xdg_configured i serial ∷ []) (sym same)
+    where
+      at : (o : Option RoleObject) → Some object ≡ option_map (λ (object : RoleObject). object.id) o → is_some (toplevel_in o) ≡ false
+          → object_told placed serial k.id o ≡ popup_told object placed ++ xdg_configured k.id serial ∷ []
+      at None e has = absurd (cc)
+      at (Some o) e has =
+          let it : o.id ≡ object = cc in
+          ap (λ i. role_told placed i o.kind ++ xdg_configured k.id serial ∷ []) it ∙ ap (λ es. es ++ xdg_configured k.id serial ∷ []) (popup-kind o o.kind refl has)
+
+pub told-none : (placed : Option Placed) (serial : ℕ) (k : Option Kept) → None ≡ role_id k → act_told (Configure placed) serial k ≡ []
+told-none placed serial None e = refl
+told-none placed serial (Some k) e = at k.role e
   where
-    at : (o : Option RoleObject) → None ≡ option_map (λ (object : RoleObject). object.id) o → role_configured serial k.id o ≡ []
+    at : (o : Option RoleObject) → None ≡ option_map (λ (object : RoleObject). object.id) o → object_told placed serial k.id o ≡ []
     at None e = refl
     at (Some object) e = absurd (cc)
 
 -- a commit that configures nothing tells nothing, and draws no serial
-pub told-still : (act : ShellAct) (serial : ℕ) (k : Option Kept) (p : Peer) → ((placed : Option Placed) → act ≡ Configure placed → ⊥) → (told_by act serial k ≡ []) × (drawn_by act p ≡ p)
+pub told-still : (act : ShellAct) (serial : ℕ) (k : Option Kept) (p : Peer) → ((placed : Option Placed) → act ≡ Configure placed → ⊥) → (act_told act serial k ≡ []) × (drawn_by act p ≡ p)
 told-still (Configure placed) serial k p other = absurd (other placed refl)
 told-still Map serial k p other = (refl, refl)
 told-still Unmap serial k p other = (refl, refl)

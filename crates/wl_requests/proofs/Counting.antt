@@ -6,16 +6,16 @@ use Rattle.wl_peer.specs.Peer.{counted}
 use Rattle.wl_plain.specs.Demand.{Demand}
 use Rattle.wl_plain.specs.Desktop.{Desktop, Resident}
 use Rattle.wl_plain.specs.Step.{with_peer}
-use Rattle.wl_invariants.specs.Orderly.{OwnsOrderly}
+use Rattle.wl_ordered.specs.Ordered.{OwnsOrdered}
 use Rattle.wl_requests.specs.declared.residents.Resident.{Resident as Kept}
 use Rattle.wl_requests.specs.Residents.{IsResident, MeetsAs, MeetsTold}
 use Rattle.wl_requests.proofs.Shelling.{counted-on, meets-from, objects-counted}
-use Rattle.wl_requests.proofs.Simply.{counted-orderly}
+use Rattle.wl_requests.proofs.Meeting.{counted-ordered}
 
-pub counted-told : {A X : Type 0} (old mid new : Kept A) (result : Option X) (c : ℕ) (r : Resident) (d : Desktop) (demand : Resident → Demand) → IsResident old r → OwnsOrderly r
+pub counted-told : {A X : Type 0} (old mid new : Kept A) (result : Option X) (c : ℕ) (r : Resident) (d : Desktop) (demand : Resident → Demand) → IsResident old r → OwnsOrdered r
     → mid.client ≡ record old.client { requests = mid.client.requests } → mid.owned ≡ old.owned → mid.subsurfaces ≡ old.subsurfaces
     → IsPeer mid.client (counted r.peer) → MeetsTold demand result mid new → MeetsAs (is_some result) c (demand (with_peer (counted r.peer) r)) (with_peer (counted r.peer) r) d old new
 counted-told old mid new result c r d demand is has only same kept peer meets =
     let one_more = with_peer (counted r.peer) r in
     meets-from (is_some result) (demand one_more) c one_more d old mid new (objects-counted old.client mid.client only)
-    (meets c one_more d (counted-on old mid r is only same kept peer) (counted-orderly r has))
+    (meets c one_more d (counted-on old mid r is only same kept peer) (counted-ordered r has))

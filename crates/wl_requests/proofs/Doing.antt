@@ -28,7 +28,8 @@ use Rattle.wl_plain.specs.Desktop.{Resident}
 use Rattle.wl_interface.specs.declared.interface.Interface.TheVariants.{WlSurface}
 use Rattle.wl_table.specs.Objects.{Held, entry_of}
 use Rattle.wl_table.specs.declared.entry.Entry.{Entry}
-use Rattle.wl_owning.specs.Owning.{AreKept, by_number, names_in, targets_in}
+use Rattle.wl_owning.specs.Owning.{AreKept, by_number, targets_in}
+use Rattle.wl_owning.specs.RoleNames.{names_of}
 use Rattle.wl_owning.proofs.Keeping.OwningNames.{targets-at}
 use Rattle.wl_requests.specs.Residents.{IsLeft, IsResident, IsSurface, KeepsFrames, KeepsSubsurfaces, Owns}
 use Rattle.wl_plain.specs.Step.{changed_by}
@@ -74,7 +75,7 @@ pub asked-so : {A : Type 0} (old new : Kept A) (r : Resident) (id number : ℕ) 
     ≡ kept_of old.owned.shell
     → ((changed_by (AskSurface id request) r).peer ≡ r.peer) × IsLeft old new (changed_by (AskSurface id request) r) r.peer
 asked-so old new r id number request is named about plain keeps other asks_none frames changes ties same subs shell =
-    let names = names_in old.client.objects in
+    let names = names_of old.client.objects in
     let there = surface-named names.surfaces old.owned.linked.surfaces old.owned.linked.family r.owned.surfaces is.owns.surfaces id number named in
     let read = surface-read names.surfaces old.owned.linked.surfaces old.owned.linked.family r.owned.surfaces is.owns.surfaces id number named ∙ there.1 in
     let bounds = cut-bounds (kept_at old.owned.linked.surfaces number) there.0
@@ -91,7 +92,7 @@ asked-so old new r id number request is named about plain keeps other asks_none 
             (framed-asked old.owned.linked.surfaces.frames old.client.objects new.client.objects r (changed_by (AskSurface id request) r) refl (no-more r.peer.requests) is.frames
             old.owned.linked.surfaces old.owned.linked.family
             is.owns.surfaces id number request asks_none plain named
-            (ap names_in table) refl);
+            (ap names_of table) refl);
         subsurfaces = λ alive. rw (same, subs) is.subsurfaces;
         numbers = λ alive. keeps-same old.client.objects new.client.objects (ap (λ (w : ClientView). w.objects) same);
       },

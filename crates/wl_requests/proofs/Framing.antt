@@ -24,7 +24,8 @@ use Rattle.wl_surface.proofs.Counting.{asked-in-role, asked-still, at-new, at-on
 use Rattle.wl_table.specs.Objects.{Held}
 use Rattle.wl_plain.specs.Desktop.{Resident}
 use Rattle.wl_plain.specs.Framing.{AreFramed}
-use Rattle.wl_owning.specs.Owning.{AreKept, Names, by_number, names_in, targets_in}
+use Rattle.wl_owning.specs.Owning.{AreKept, Names, by_number, targets_in}
+use Rattle.wl_owning.specs.RoleNames.{names_of}
 use Rattle.wl_owning.proofs.Keeping.FramingWaits.{framed-more, framed-same, is-new}
 use Rattle.wl_laws.proofs.Soundness.ObjectsCalls.{any-filtered, is_left}
 use Rattle.wl_owning.proofs.Keeping.OwningSurfaces.{surface-read, surfaces-changed, surfaces-made}
@@ -60,7 +61,7 @@ module _ (frames : List Waiting) (old new : Held) (r after : Resident) (callback
       let same : numbered new after ≡ numbered old r = ap (λ n. by_number n after.owned.surfaces) names ∙ ap (λ all. by_number (targets_in WlSurface old) all) surfaces in
       framed-left (λ number. ap (λ (all : Numbered). frames_at (all number)) same) (λ number. ap (λ (all : Numbered). counted_at (all number)) same)
 
-  pub framed-names : names_in new ≡ names_in old → after.owned.surfaces ≡ r.owned.surfaces → IsFramed frames new after
+  pub framed-names : names_of new ≡ names_of old → after.owned.surfaces ≡ r.owned.surfaces → IsFramed frames new after
   framed-names names surfaces = framed-kept (ap (λ (n : Names). n.surfaces) names) surfaces
 
   module _ (slots : Slots) (tied : Tied) (is : AreKept (targets_in WlSurface old) slots tied r.owned.surfaces) (id number : ℕ) where
@@ -77,7 +78,7 @@ module _ (frames : List Waiting) (old new : Held) (r after : Resident) (callback
         (λ n. ap (λ (all : Numbered). counted_at (all n)) same ∙ at-one counted_at number change (numbered old r) counts n)
 
     -- this is asked of one, which asks for no frame
-    pub framed-asked : (request : Request) → frames_of (request ∷ []) ≡ [] → is_commit request ≡ false → targets_in WlSurface old id ≡ Some number → names_in new ≡ names_in old
+    pub framed-asked : (request : Request) → frames_of (request ∷ []) ≡ [] → is_commit request ≡ false → targets_in WlSurface old id ≡ Some number → names_of new ≡ names_of old
         → after.owned.surfaces ≡ with_change id (asking request) r.owned.surfaces → IsFramed frames new after
     framed-asked request none no_commit named names surfaces =
         framed-changed (asking request) (λ s. refl) (asked-still request none (numbered old r number))
@@ -166,7 +167,7 @@ module _ (old new : Held) (r after : Resident) (slots : Slots) (tied : Tied) (is
   pub framed-frame : (frames : List Waiting) (n callback : ℕ) → n ≡ r.peer.requests + 1 → after.peer.requests ≡ n
       → ((all : Numbered) (cs : List Callback) → StandForAll slots all → AreWaiting slots.frames all cs → is_some (all number) ≡ true → (n : ℕ) → IsNewNumber n all cs
       → AreWaiting frames (changed_at number (asking (Frame n)) all) (cs ++ record { number = n; id = callback } ∷ []))
-      → after.callbacks ≡ r.callbacks ++ record { number = n; id = callback } ∷ [] → names_in new ≡ names_in old → after.owned.surfaces ≡ with_change id (asking (Frame n)) r.owned.surfaces
+      → after.callbacks ≡ r.callbacks ++ record { number = n; id = callback } ∷ [] → names_of new ≡ names_of old → after.owned.surfaces ≡ with_change id (asking (Frame n)) r.owned.surfaces
       → IsFramed frames new after
   framed-frame frames n callback numbered_so counted waits calls names surfaces =
       let all = numbered old r in

@@ -6,7 +6,7 @@ use Rattle.std.specs.Option.{option_and_then, option_map}
 use Rattle.std.proofs.Math.Path.{fun_ext}
 use Rattle.std.proofs.lemmas.Bool.{eqb-true}
 use Rattle.wl_interface.specs.declared.interface.Interface.{Interface}
-use Rattle.wl_interface.specs.declared.interface.Interface.TheVariants.{WlCallback, WlSurface, XdgSurface, XdgToplevel}
+use Rattle.wl_interface.specs.declared.interface.Interface.TheVariants.{WlCallback, WlSurface, XdgPopup, XdgSurface, XdgToplevel}
 use Rattle.wl_table.specs.Objects.{Held, entry_of}
 use Rattle.wl_table.specs.declared.entry.Entry.{Entry}
 use Rattle.wl_peer.specs.Objects.{interface_number, is_of, object_of, objects_in}
@@ -21,12 +21,13 @@ use Rattle.wl_surface.specs.Surfaces.{history_in, surface_at}
 use Rattle.wl_surface.specs.Waiting.{Callback, frames_at, is_in}
 use Rattle.wl_plain.specs.Changing.{callbacks_of}
 use Rattle.wl_plain.specs.Desktop.{Resident}
-use Rattle.wl_invariants.specs.NoPopups.{OwnsNoPopups}
-use Rattle.wl_owning.specs.Owning.{AreKept, names_in, target_as, targets_in, with_surface}
+use Rattle.wl_invariants.specs.InOrder.{OwnsKnown}
+use Rattle.wl_owning.specs.Owning.{AreKept, target_as, targets_in, with_surface}
+use Rattle.wl_owning.specs.RoleNames.{is_of_role, names_of, role_target, roles_in}
 use Rattle.std.proofs.lemmas.List.{append-nil}
 use Rattle.wl_laws.proofs.Soundness.ObjectsKeys.{any-of-filter}
 use Rattle.wl_laws.proofs.Lists.Keys.{differ}
-use Rattle.wl_owning.proofs.Keeping.OwningNames.{names-with}
+use Rattle.wl_requests.proofs.Roles.{names-with}
 use Rattle.wl_owning.proofs.Keeping.OwningSurfaces.{surface-read}
 use Rattle.wl_requests.proofs.Framing.{numbered}
 use Rattle.wl_requests.proofs.Shelling.{entry-named}
@@ -40,33 +41,58 @@ unnamed one interface None apart is = refl
 unnamed one interface (Some entry) apart is =
     ap (λ (b : Bool). if b then Some entry.target else None) (ap (λ n. n == interface_number interface) (eqb-true (interface_number entry.interface) (interface_number one) is) ∙ apart)
 
+-- nor is it a role object
+no-role : (i : Interface) (target : ℕ) → is_of_role i ≡ false → (if is_of_role i then Some target else None) ≡ None
+no-role i target e = ap (λ (b : Bool). if b then Some target else None) e
+
+callback-role : (i : Interface) → (interface_number i == interface_number WlCallback) ≡ true → is_of_role i ≡ false
+callback-role XdgToplevel e = absurd (cc)
+callback-role XdgPopup e = absurd (cc)
+callback-role i e = refl
+
+surface-role : (i : Interface) → (interface_number i == interface_number WlSurface) ≡ true → is_of_role i ≡ false
+surface-role XdgToplevel e = absurd (cc)
+surface-role XdgPopup e = absurd (cc)
+surface-role i e = refl
+
+callback-unnamed : (o : Option Entry) → is_of WlCallback (option_map object_of o) ≡ true → option_and_then role_target o ≡ None
+callback-unnamed None is = refl
+callback-unnamed (Some entry) is = no-role entry.interface entry.target (callback-role entry.interface is)
+
+surface-unnamed : (o : Option Entry) → is_of WlSurface (option_map object_of o) ≡ true → option_and_then role_target o ≡ None
+surface-unnamed None is = refl
+surface-unnamed (Some entry) is = no-role entry.interface entry.target (surface-role entry.interface is)
+
 module _ (old new : Held) (id : ℕ) (calls : List ℕ) (heard : (other : ℕ) → list_any (λ i. other == i) calls ≡ true → is_of WlCallback (objects_in old other) ≡ true)
     (holds : HoldsWithout old new (id ∷ calls)) where
-  targets-but : (interface : Interface) → (interface_number WlCallback == interface_number interface) ≡ false → (other : ℕ)
-      → targets_in interface new other ≡ (if other == id then None else targets_in interface old other)
-  targets-but interface apart other = ap (option_and_then (target_as interface)) (holds other) ∙ at (other == id) (list_any (λ i. other == i) calls) refl
+  -- what objects name of which a wl_callback names nothing
+  named-but : (by : Entry → Option ℕ) → ((o : Option Entry) → is_of WlCallback (option_map object_of o) ≡ true → option_and_then by o ≡ None) → (other : ℕ)
+      → option_and_then by (entry_of new other) ≡ (if other == id then None else option_and_then by (entry_of old other))
+  named-but by nothing other = ap (option_and_then by) (holds other) ∙ at (other == id) (list_any (λ i. other == i) calls) refl
     where
       at : (a b : Bool) → list_any (λ i. other == i) calls ≡ b
-          → option_and_then (target_as interface) (if a || b then None else entry_of old other) ≡ (if a then None else targets_in interface old other)
+          → option_and_then by (if a || b then None else entry_of old other) ≡ (if a then None else option_and_then by (entry_of old other))
       at true b e = refl
-      at false true e = sym (unnamed WlCallback interface (entry_of old other) apart (heard other e))
+      at false true e = sym (nothing (entry_of old other) (heard other e))
       at false false e = refl
 
   -- what it didn't name it doesn't name now
-  targets-still : (interface : Interface) → (interface_number WlCallback == interface_number interface) ≡ false → targets_in interface old id ≡ None
-      → targets_in interface new ≡ targets_in interface old
-  targets-still interface apart none = fun_ext (λ other. targets-but interface apart other ∙ at other (other == id) refl)
+  named-still : (by : Entry → Option ℕ) → ((o : Option Entry) → is_of WlCallback (option_map object_of o) ≡ true → option_and_then by o ≡ None)
+      → option_and_then by (entry_of old id) ≡ None
+      → ◌≡◌ {A = ℕ → Option ℕ} (λ other. option_and_then by (entry_of new other)) (λ other. option_and_then by (entry_of old other))
+  named-still by nothing none = fun_ext (λ other. named-but by nothing other ∙ at other (other == id) refl)
     where
-      at : (other : ℕ) (b : Bool) → (other == id) ≡ b → (if b then None else targets_in interface old other) ≡ targets_in interface old other
-      at other true e = sym (ap (λ n. targets_in interface old n) (eqb-true other id e) ∙ none)
+      at : (other : ℕ) (b : Bool) → (other == id) ≡ b → (if b then None else option_and_then by (entry_of old other)) ≡ option_and_then by (entry_of old other)
+      at other true e = sym (ap (λ n. option_and_then by (entry_of old n)) (eqb-true other id e) ∙ none)
       at other false e = refl
 
-  pub surface-gone-with : (number : ℕ) → targets_in WlSurface old id ≡ Some number → names_in new ≡ with_surface id None (names_in old)
+  pub surface-gone-with : (number : ℕ) → targets_in WlSurface old id ≡ Some number → names_of new ≡ with_surface id None (names_of old)
   surface-gone-with number named =
       let entry = entry-named WlSurface old id number named in
       let is : is_of WlSurface (option_map object_of (entry_of old id)) ≡ true = ap (λ (o : Option Entry). is_of WlSurface (option_map object_of o)) entry.1 ∙ entry.2 in
-      names-with old new _ _ _ (fun_ext (targets-but WlSurface refl)) (targets-still XdgSurface refl (unnamed WlSurface XdgSurface (entry_of old id) refl is))
-      (targets-still XdgToplevel refl (unnamed WlSurface XdgToplevel (entry_of old id) refl is))
+      names-with old new _ _ (roles_in old) (fun_ext (named-but (target_as WlSurface) (λ o. unnamed WlCallback WlSurface o refl)))
+      (named-still (target_as XdgSurface) (λ o. unnamed WlCallback XdgSurface o refl) (unnamed WlSurface XdgSurface (entry_of old id) refl is))
+      (named-still role_target callback-unnamed (surface-unnamed (entry_of old id) is))
 
 -- ---- the callbacks
 
@@ -84,7 +110,7 @@ any-ids other [] = refl
 any-ids other (c ∷ cs) = ap (λ b. b || list_any (λ i. other == i) (map (λ (x : Callback). x.id) cs)) (turned other c.id) ∙ ap (λ b. (c.id == other) || b) (any-ids other cs)
 
 -- those of a surface are wl_callbacks
-pub are-heard : (id : ℕ) (r : Resident) (held : Held) (calls : List ℕ) → OwnsNoPopups r → objects_in held ≡ r.peer.objects → calls ≡ map (λ c. c.id) (callbacks_of id r)
+pub are-heard : (id : ℕ) (r : Resident) (held : Held) (calls : List ℕ) → OwnsKnown r → objects_in held ≡ r.peer.objects → calls ≡ map (λ c. c.id) (callbacks_of id r)
     → (other : ℕ) → list_any (λ i. other == i) calls ≡ true → is_of WlCallback (objects_in held other) ≡ true
 are-heard id r held calls only same ids other any =
     ap (λ objects. is_of WlCallback (objects other)) same

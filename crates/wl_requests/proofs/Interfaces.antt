@@ -3,15 +3,17 @@ use Rattle.std.proofs.Common.{◌≡◌, ℕ, true, Option, Some, refl, ap, eq-e
 use Rattle.std.specs.Prelude.{◌==◌}
 use Rattle.std.specs.Option.{option_map}
 use Rattle.wl_interface.specs.declared.interface.Interface.{Interface}
-use Rattle.wl_interface.specs.declared.interface.Interface.TheVariants.{WlSubcompositor, WlSubsurface, WlSurface, XdgSurface, XdgWmBase}
+use Rattle.wl_interface.specs.declared.interface.Interface.TheVariants.{WlSubcompositor, WlSubsurface, WlSurface, XdgPopup, XdgSurface, XdgWmBase}
 use Rattle.wl_peer.specs.Objects.{interface_number, is_of, object_of, objects_in}
-use Rattle.wl_proto.specs.Messages.{wl_subcompositor_request, wl_subsurface_request, wl_surface_request, xdg_surface_request, xdg_wm_base_request}
+use Rattle.wl_proto.specs.Messages.{wl_subcompositor_request, wl_subsurface_request, wl_surface_request, xdg_popup_request, xdg_surface_request, xdg_wm_base_request}
 use Rattle.wl_proto.specs.declared.wl_subcompositor.WlSubcompositorRequest.{WlSubcompositorRequest}
 use Rattle.wl_proto.specs.declared.wl_subcompositor.WlSubcompositorRequest.TheVariants as subcompositor
 use Rattle.wl_proto.specs.declared.wl_subsurface.WlSubsurfaceRequest.{WlSubsurfaceRequest}
 use Rattle.wl_proto.specs.declared.wl_subsurface.WlSubsurfaceRequest.TheVariants as subsurface
 use Rattle.wl_proto.specs.declared.wl_surface.WlSurfaceRequest.{WlSurfaceRequest}
 use Rattle.wl_proto.specs.declared.wl_surface.WlSurfaceRequest.TheVariants as surface
+use Rattle.wl_proto.specs.declared.xdg_popup.XdgPopupRequest.{XdgPopupRequest}
+use Rattle.wl_proto.specs.declared.xdg_popup.XdgPopupRequest.TheVariants as popup
 use Rattle.wl_proto.specs.declared.xdg_surface.XdgSurfaceRequest.{XdgSurfaceRequest}
 use Rattle.wl_proto.specs.declared.xdg_surface.XdgSurfaceRequest.TheVariants as xdg
 use Rattle.wl_proto.specs.declared.xdg_wm_base.XdgWmBaseRequest.{XdgWmBaseRequest}
@@ -53,6 +55,10 @@ of-xdg-surface (xdg.GetToplevel id) = refl
 of-xdg-surface (xdg.GetPopup id parent positioner) = refl
 of-xdg-surface (xdg.SetWindowGeometry x y width height) = refl
 of-xdg-surface (xdg.AckConfigure serial) = refl
+
+pub of-popup : (request : XdgPopupRequest) → (xdg_popup_request request).interface ≡ XdgPopup
+of-popup popup.Destroy = refl
+of-popup (popup.Grab by serial) = refl
 
 -- the object in the table is of the interface of its entry
 pub object-is : (interface : Interface) (held : Held) (id : ℕ) (entry : Entry) → entry_of held id ≡ Some entry → entry.interface ≡ interface → is_of interface (objects_in held id) ≡ true

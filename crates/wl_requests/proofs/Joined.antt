@@ -6,7 +6,7 @@ use Rattle.wl_interface.specs.declared.interface.Interface.TheVariants.{WlSubsur
 use Rattle.wl_client.specs.View.{ClientView}
 use Rattle.wl_family.specs.Family.{Tied}
 use Rattle.wl_laws.proofs.Lists.Keys.{any-found, found-any, found-map, found-passes}
-use Rattle.wl_invariants.specs.Orderly.{OwnsOrderly}
+use Rattle.wl_ordered.specs.Ordered.{OwnsOrdered}
 use Rattle.wl_owning.specs.Owning.{AreKept, by_number}
 use Rattle.wl_owning.proofs.Keeping.OwningSurfaces.{surface-read}
 use Rattle.wl_peer.specs.Objects.{ById, is_of}
@@ -121,19 +121,19 @@ counted-only old mid new same only = only ∙ ap (λ (w : ClientView). record w 
 -- ---- of a client whose surfaces are in order
 
 -- the number of a request that comes is that of no link
-pub new-number : (r : Resident) → OwnsOrderly r → link_at (r.peer.requests + 1) r.owned.surfaces ≡ None
+pub new-number : (r : Resident) → OwnsOrdered r → link_at (r.peer.requests + 1) r.owned.surfaces ≡ None
 new-number r orderly = at (link_at (r.peer.requests + 1) r.owned.surfaces) refl
   where
     at : (o : Option Link) → link_at (r.peer.requests + 1) r.owned.surfaces ≡ o → o ≡ None
     at None e = refl
-    at (Some l) e = absurd (let early = orderly.early (r.peer.requests + 1) l e in omega (arith, early))
+    at (Some l) e = absurd (let early = orderly.order.early (r.peer.requests + 1) l e in omega (arith, early))
 
 -- no wl_subsurface has an id that is free
-pub new-subsurface : (r : Resident) → OwnsOrderly r → (id : ℕ) → r.peer.objects id ≡ None → find (λ s. s.id == id) r.subsurfaces ≡ None
+pub new-subsurface : (r : Resident) → OwnsOrdered r → (id : ℕ) → r.peer.objects id ≡ None → find (λ s. s.id == id) r.subsurfaces ≡ None
 new-subsurface r orderly id free = at (find (λ s. s.id == id) r.subsurfaces) refl
   where
     at : (o : Option Subsurface) → find (λ s. s.id == id) r.subsurfaces ≡ o → o ≡ None
     at None e = refl
     at (Some s) e =
         let any = found-any (λ s. s.id == id) (λ s. s.id == id) r.subsurfaces s e (found-passes (λ (s : Subsurface). s.id == id) r.subsurfaces s e) in
-        absurd (let live = sym (ap (is_of WlSubsurface) free) ∙ orderly.no_popups.subsurfaces.1 id any in cc)
+        absurd (let live = sym (ap (is_of WlSubsurface) free) ∙ orderly.order.known.subsurfaces.1 id any in cc)

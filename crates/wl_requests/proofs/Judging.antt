@@ -9,7 +9,7 @@ use Rattle.wl_linked.proofs.Refusing.{both-refuse}
 use Rattle.wl_named.proofs.Reading.{refuses-named}
 use Rattle.wl_named.proofs.Tying.{finds-named}
 use Rattle.wl_named.specs.Named.{StandBy}
-use Rattle.wl_invariants.proofs.OrderlyClients.Whole.{child-there}
+use Rattle.wl_invariants.proofs.InOrder.Whole.{child-there}
 use Rattle.wl_owning.specs.Owning.{IsOwned, Names, number_in}
 use Rattle.wl_owning.specs.Subsurfaces.{AreOfSurfaces}
 use Rattle.wl_owning.proofs.Keeping.OwningLinks.{owned-linked}
@@ -142,7 +142,7 @@ module _ {A : Type 0} (v : Kept A) (names : Names) (r : Resident) (child below p
 
   has-none : has_subsurface child r ≡ true → is_some (slice_index_or v.subsurfaces below None) ≡ true
   has-none has =
-      let found = any-found (λ id (s : Subsurface). s.id == id) (λ s. is_of_child child s.surface) r.subsurfaces two.orderly.own.ids has in
+      let found = any-found (λ id (s : Subsurface). s.id == id) (λ s. is_of_child child s.surface) r.subsurfaces two.orderly.order.own.ids has in
       let named = two.subsurfaces.named found.0.id child
       (ap (option_and_then (λ (s : Subsurface). s.surface)) (found.2 found.0.id (eq-eqb found.0.id found.0.id refl)) ∙ of-child found.0.surface child found.1) in
       let same : named.0 ≡ below = some-same named.0 below (sym named.1 ∙ two.child_named) in
@@ -167,7 +167,7 @@ module _ {A : Type 0} (v : Kept A) (names : Names) (r : Resident) (child below p
       at None e = refl
       at (Some l) e =
           let finds = (finds-named f v.owned.linked.surfaces v.owned.linked.family all child l by-names e).0 in
-          let there = child-there r l.number l.child (two.orderly.links l.number l (record { here = finds.here; lives = finds.lives })) in
+          let there = child-there r l.number l.child (two.orderly.order.links l.number l (record { here = finds.here; lives = finds.lives })) in
           let its : has_subsurface child r ≡ true = ap (λ i. has_subsurface i r) (sym finds.of_child) ∙ there in
           absurd (let both = sym free ∙ its in cc)
 

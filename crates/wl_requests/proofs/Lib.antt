@@ -1,10 +1,13 @@
 pub mod Letting
+pub mod PopupsDismissed
+pub mod PopupsAnswered
 pub mod Numbers
 pub mod Naming
 pub mod Unlinking
 pub mod Calls
 pub mod Trees
-pub mod Simply
+pub mod Roles
+pub mod Meeting
 pub mod Doing
 pub mod Shelling
 pub mod Framing
@@ -16,7 +19,7 @@ pub mod Stackings
 pub mod Subsurfaces
 pub mod Linking
 pub mod Beside
-pub mod Placing
+pub mod Positions
 pub mod Pointing
 pub mod PointerAsks
 pub mod Asking
@@ -25,3 +28,6 @@ pub mod Counting
 pub mod Interfaces
 pub mod Judging
 pub mod Joined
+pub mod Holding
+pub mod HoldingFirst
+pub mod HoldingPopups

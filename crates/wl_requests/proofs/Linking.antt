@@ -5,12 +5,13 @@ use Rattle.std.specs.Option.{option_and_then, option_map}
 use Rattle.wl_interface.specs.declared.interface.Interface.TheVariants.{WlSurface}
 use Rattle.wl_family.specs.Family.{links_in}
 use Rattle.wl_laws.proofs.Lists.Keys.{found-by, none-some, some-same}
+use Rattle.wl_laws.specs.Soundness.{IsLive}
+use Rattle.wl_invariants.specs.InOrder.{OwnsInOrder}
 use Rattle.wl_named.proofs.Linking.{ends-there}
 use Rattle.wl_named.proofs.Tying.{finds-named, ties-named}
 use Rattle.wl_named.specs.Named.{StandBy}
 use Rattle.wl_named.specs.Reading.{kept_by}
-use Rattle.wl_invariants.specs.Orderly.{OwnsOrderly}
-use Rattle.wl_invariants.proofs.OrderlyClients.Children.{subsurfaces_name_children}
+use Rattle.wl_ordered.specs.Ordered.{OwnsOrdered}
 use Rattle.wl_owning.specs.Owning.{number_in, targets_in}
 use Rattle.wl_owning.proofs.Keeping.OwningTies.{number-of-name, renaming-of, stand-by}
 use Rattle.wl_plain.specs.Desktop.{Resident, Subsurface}
@@ -50,6 +51,15 @@ child-by : (o : Option Subsurface) (child : ℕ) → option_and_then (λ (s : Su
 child-by None child e = absurd (cc)
 child-by (Some s) child e = (s, refl, e)
 
+-- A wl_subsurface whose link lives is of the link's child.
+child-named : (r : Resident) (id : ℕ) (s : Subsurface) (link : Link) → OwnsInOrder r → subsurface_at id r ≡ Some s → IsLive s.link link r.owned.surfaces → s.surface ≡ Some link.child
+child-named r id s link owns here live =
+    let its = owns.links s.link link live in
+    let mine = found-by (λ number (t : Subsurface). t.link == number) (λ t. t.id == id) s.link r.subsurfaces s owns.own.links here (eq-eqb s.link s.link refl) in
+    let other = found-by (λ number (t : Subsurface). t.link == number) (λ t. t.id == its.subsurface.id) s.link r.subsurfaces its.subsurface owns.own.links its.here
+    (eq-eqb its.subsurface.link s.link its.link) in
+    ap (λ (t : Subsurface). t.surface) (some-same s its.subsurface (sym mine ∙ other)) ∙ its.surface
+
 -- The link of a wl_subsurface that lives, where its child has this number.
 pub record IsLinkOf {A : Type 0} (v : Kept A) (r : Resident) (object child : ℕ) : Type 0 where
   pub link : Link
@@ -61,7 +71,7 @@ pub record IsLinkOf {A : Type 0} (v : Kept A) (r : Resident) (object child : ℕ
   pub of_object : link_of_subsurface object r ≡ Some link
   pub found : link_of link.child r.owned.surfaces ≡ Some link
 
-module _ {A : Type 0} (v : Kept A) (r : Resident) (is : IsResident v r) (orderly : OwnsOrderly r) (object : ℕ) where
+module _ {A : Type 0} (v : Kept A) (r : Resident) (is : IsResident v r) (orderly : OwnsOrdered r) (object : ℕ) where
   abbrev numbers : ℕ → Option ℕ
   numbers = targets_in WlSurface v.client.objects
 
@@ -87,10 +97,10 @@ module _ {A : Type 0} (v : Kept A) (r : Resident) (is : IsResident v r) (orderly
       finds.lives in
       let parent = some-there (numbers one.0.parent) (is.owns.surfaces.numbered one.0.parent ∙ ends.1) in
       let mine = child-by (subsurface_at object r) known.0 known.2 in
-      let its = orderly.links one.0.number one.0 (record { here = finds.here; lives = finds.lives }) in
-      let first = found-by (λ surface (s : Subsurface). is_of_child surface s.surface) (λ s. s.id == object) known.0 r.subsurfaces mine.0 orderly.own.surfaces mine.1
+      let its = orderly.order.links one.0.number one.0 (record { here = finds.here; lives = finds.lives }) in
+      let first = found-by (λ surface (s : Subsurface). is_of_child surface s.surface) (λ s. s.id == object) known.0 r.subsurfaces mine.0 orderly.order.own.surfaces mine.1
       (ap (is_of_child known.0) mine.2 ∙ eq-eqb known.0 known.0 refl) in
-      let second = found-by (λ surface (s : Subsurface). is_of_child surface s.surface) (λ s. s.id == its.subsurface.id) known.0 r.subsurfaces its.subsurface orderly.own.surfaces its.here
+      let second = found-by (λ surface (s : Subsurface). is_of_child surface s.surface) (λ s. s.id == its.subsurface.id) known.0 r.subsurfaces its.subsurface orderly.order.own.surfaces its.here
       (ap (is_of_child known.0) its.surface ∙ eq-eqb one.0.child known.0 finds.of_child) in
       let same : mine.0 ≡ its.subsurface = some-same mine.0 its.subsurface (sym first ∙ second) in
       record {
@@ -115,7 +125,7 @@ module _ {A : Type 0} (v : Kept A) (r : Resident) (is : IsResident v r) (orderly
     where
       never : {P : Type 0} (s : Subsurface) (l : Link) → subsurface_at object r ≡ Some s → link_at s.link r.owned.surfaces ≡ Some l → l.has_ended ≡ false → P
       never s l found here lives =
-          let child = subsurfaces_name_children r object s l orderly found (record { here = here; lives = lives }) in
+          let child = child-named r object s l orderly.order found (record { here = here; lives = lives }) in
           let known = is.subsurfaces.named object l.child (ap (option_and_then (λ (s : Subsurface). s.surface)) found ∙ child) in
           let one = some-there (link_of l.child r.owned.surfaces) (live-some s.link l r.owned.surfaces.links here lives) in
           absurd (none-some (kept_by (number_in numbers) one.0) (sym (none _ _ is.subsurfaces known.0 known.2) ∙ kept-link l.child known.0 known.1

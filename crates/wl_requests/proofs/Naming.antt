@@ -4,12 +4,13 @@ use Rattle.wl_interface.specs.declared.interface.Interface.TheVariants.{WlSurfac
 use Rattle.wl_peer.specs.Objects.{ById}
 use Rattle.wl_plain.specs.Desktop.{Subsurface}
 use Rattle.wl_table.specs.Objects.{Held}
-use Rattle.wl_owning.specs.Owning.{Names, names_in, targets_in}
+use Rattle.wl_owning.specs.Owning.{Names, targets_in}
+use Rattle.wl_owning.specs.RoleNames.{names_of}
 use Rattle.wl_owning.specs.Subsurfaces.{AreOfSurfaces}
 
 module _ (ids : List (Option ℕ)) (ss : List Subsurface) (old new : Held) (are : AreOfSurfaces ids (targets_in WlSurface old) ss) where
   pub subsurfaces-named : targets_in WlSurface new ≡ targets_in WlSurface old → AreOfSurfaces ids (targets_in WlSurface new) ss
   subsurfaces-named same = subst (λ (numbers : ById ℕ). AreOfSurfaces ids numbers ss) (sym same) are
 
-  pub subsurfaces-names : names_in new ≡ names_in old → AreOfSurfaces ids (targets_in WlSurface new) ss
+  pub subsurfaces-names : names_of new ≡ names_of old → AreOfSurfaces ids (targets_in WlSurface new) ss
   subsurfaces-names same = subsurfaces-named (ap (λ (names : Names). names.surfaces) same)

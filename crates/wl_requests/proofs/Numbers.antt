@@ -8,7 +8,8 @@ use Rattle.wl_interface.specs.declared.interface.Interface.TheVariants.{WlSurfac
 use Rattle.wl_requests.specs.declared.residents.Resident.{Resident as Kept}
 use Rattle.wl_plain.specs.Desktop.{Resident}
 use Rattle.wl_peer.specs.Peer.{Peer}
-use Rattle.wl_owning.specs.Owning.{Names, names_in, targets_in, with_surface, with_toplevel, with_xdg}
+use Rattle.wl_owning.specs.Owning.{Names, targets_in, with_surface, with_toplevel, with_xdg}
+use Rattle.wl_owning.specs.RoleNames.{names_of}
 use Rattle.wl_requests.specs.Residents.{IsLeft, KeepsNumbers}
 
 same-number : (o : Option ℕ) (a b : ℕ) → o ≡ Some a → o ≡ Some b → a ≡ b
@@ -21,13 +22,13 @@ keeps-named old new same = λ id a b was is. same-number _ a b was (ap (λ (n : 
 pub keeps-same : (old new : Held) → new ≡ old → KeepsNumbers old new
 keeps-same old new same = keeps-named old new (ap (λ (held : Held). targets_in WlSurface held) same)
 
-pub keeps-names : (old new : Held) → names_in new ≡ names_in old → KeepsNumbers old new
+pub keeps-names : (old new : Held) → names_of new ≡ names_of old → KeepsNumbers old new
 keeps-names old new same = keeps-named old new (ap (λ (names : Names). names.surfaces) same)
 
-pub keeps-xdg : (old new : Held) (id : ℕ) (number : Option ℕ) → names_in new ≡ with_xdg id number (names_in old) → KeepsNumbers old new
+pub keeps-xdg : (old new : Held) (id : ℕ) (number : Option ℕ) → names_of new ≡ with_xdg id number (names_of old) → KeepsNumbers old new
 keeps-xdg old new id number same = keeps-named old new (ap (λ (names : Names). names.surfaces) same)
 
-pub keeps-toplevel : (old new : Held) (id : ℕ) (number : Option ℕ) → names_in new ≡ with_toplevel id number (names_in old) → KeepsNumbers old new
+pub keeps-toplevel : (old new : Held) (id : ℕ) (number : Option ℕ) → names_of new ≡ with_toplevel id number (names_of old) → KeepsNumbers old new
 keeps-toplevel old new id number same = keeps-named old new (ap (λ (names : Names). names.surfaces) same)
 
 -- one goes, or is made that wasn't there
@@ -39,11 +40,11 @@ keeps-one numbers now id number same at other a b was is = by (other == id) refl
     by true e is = at a b (ap numbers (sym (eqb-true other id e)) ∙ was) is
     by false e is = same-number _ a b was is
 
-pub keeps-gone : (old new : Held) (id : ℕ) → names_in new ≡ with_surface id None (names_in old) → KeepsNumbers old new
+pub keeps-gone : (old new : Held) (id : ℕ) → names_of new ≡ with_surface id None (names_of old) → KeepsNumbers old new
 keeps-gone old new id same =
     keeps-one (targets_in WlSurface old) (targets_in WlSurface new) id None (ap (λ (names : Names). names.surfaces) same) (λ a b was is. absurd (cc))
 
-pub keeps-made : (old new : Held) (id number : ℕ) → targets_in WlSurface old id ≡ None → names_in new ≡ with_surface id (Some number) (names_in old) → KeepsNumbers old new
+pub keeps-made : (old new : Held) (id number : ℕ) → targets_in WlSurface old id ≡ None → names_of new ≡ with_surface id (Some number) (names_of old) → KeepsNumbers old new
 keeps-made old new id number free same =
     keeps-one (targets_in WlSurface old) (targets_in WlSurface new) id (Some number) (ap (λ (names : Names). names.surfaces) same)
     (λ a b was is. absurd (let none = sym free ∙ was in cc))

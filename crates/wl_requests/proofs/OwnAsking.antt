@@ -7,14 +7,13 @@ use Rattle.wl_wire.specs.declared.header.Split.{Split}
 use Rattle.wl_wire.specs.declared.header.Split.TheVariants.{Message as Whole}
 use Rattle.wl_wire.specs.Wire.{split_of}
 use Rattle.wl_interface.specs.declared.interface.Interface.{Interface}
-use Rattle.wl_interface.specs.declared.interface.Interface.TheVariants.{WlDisplay, WlRegistry, WlRegion, WlSurface, WlShm, WlShmPool, WlBuffer, XdgPositioner, XdgSurface, XdgToplevel}
+use Rattle.wl_interface.specs.declared.interface.Interface.TheVariants.{WlDisplay, WlRegistry, WlRegion, WlSurface, WlShm, WlShmPool, WlBuffer, XdgPopup, XdgPositioner, XdgSurface, XdgToplevel}
 use Rattle.wl_proto.specs.Messages.{Message, request_message}
 use Rattle.wl_client.specs.Agreement.{IsPeer}
 use Rattle.wl_peer.specs.Judgement.{action_of, judge as judge_own}
 use Rattle.wl_peer.specs.Requests.{request_of}
-use Rattle.wl_peer.specs.Objects.{KeepsSurfaces, of_surface}
 use Rattle.wl_peer.specs.Peer.{Peer, known_of, with_rest, changed, counted}
-use Rattle.wl_client.specs.Serving.{AnswersWith, AreUsed, IsOwnMessage, PassesTo, ServesWith, TakesWith, is_own}
+use Rattle.wl_client.specs.Serving.{AnswersWith, AreUsed, IsOwnMessage, KeepsSurfaces, PassesTo, ServesWith, TakesWith, is_own, of_surface}
 use Rattle.wl_peer.specs.Used.{has_used, keeps_store}
 use Rattle.wl_client.specs.View.{ClientView}
 use Rattle.wl_peer.specs.declared.actions.Action.{Action}
@@ -33,16 +32,16 @@ use Rattle.wl_plain.specs.Demand.{Demand}
 use Rattle.wl_plain.specs.Demanding.{demand_of, demands, judge_all}
 use Rattle.wl_plain.specs.Desktop.{Desktop, Resident}
 use Rattle.wl_plain.specs.LeftOut.{served_now}
-use Rattle.wl_invariants.specs.Orderly.{OwnsOrderly}
-use Rattle.wl_owning.specs.Owning.{Names, by_number, names_in, target_as, targets_in}
+use Rattle.wl_ordered.specs.Ordered.{OwnsOrdered}
+use Rattle.wl_owning.specs.Owning.{Names, by_number, target_as, targets_in}
+use Rattle.wl_owning.specs.RoleNames.{names_of, role_target, roles_in}
 use Rattle.wl_requests.specs.Residents.{AnswersSo as AnswersWhole, IsLeft, IsResident, StacksSo as StacksWhole, TakesSo}
 use Rattle.wl_plain.specs.Step.{with_peer, changed_by}
-use Rattle.wl_invariants.proofs.OrderlyClients.Clients.{only_peer_changes}
 use Rattle.wl_requests.proofs.Asking.{demanded-first, judged-by, whole-first}
-use Rattle.wl_requests.proofs.Simply.{AnswersSo, asks-stay, simply}
+use Rattle.wl_requests.proofs.Meeting.{AnswersSo, asks-stay, as-asked, ordered-peer}
 use Rattle.wl_requests.proofs.Numbers.{keeps-names}
 use Rattle.wl_requests.proofs.Framing.{IsFramed, framed-names, no-more}
-use Rattle.wl_owning.proofs.Keeping.OwningNames.{names-with}
+use Rattle.wl_requests.proofs.Roles.{names-with}
 use Rattle.wl_owning.proofs.Keeping.OwningSurfaces.{any-is}
 use Rattle.wl_store.specs.Stores.{Stock}
 use Rattle.wl_stacking.specs.Stacking.{Owned}
@@ -59,6 +58,7 @@ seen-surface : (i : Interface) (version target : ℕ) → option_and_then (targe
 seen-surface WlSurface version target = refl
 seen-surface XdgSurface version target = refl
 seen-surface XdgToplevel version target = refl
+seen-surface XdgPopup version target = refl
 seen-surface i version target = refl
 
 seen-xdg : (i : Interface) (version target : ℕ) → option_and_then (target_as XdgSurface) (of_surface (Some (record { interface = i; version = version; target = target }))) ≡ target_as XdgSurface
@@ -66,39 +66,41 @@ seen-xdg : (i : Interface) (version target : ℕ) → option_and_then (target_as
 seen-xdg WlSurface version target = refl
 seen-xdg XdgSurface version target = refl
 seen-xdg XdgToplevel version target = refl
+seen-xdg XdgPopup version target = refl
 seen-xdg i version target = refl
 
-seen-toplevel : (i : Interface) (version target : ℕ) → option_and_then (target_as XdgToplevel) (of_surface (Some (record { interface = i; version = version; target = target }))) ≡ target_as
-    XdgToplevel (record { interface = i; version = version; target = target })
-seen-toplevel WlSurface version target = refl
-seen-toplevel XdgSurface version target = refl
-seen-toplevel XdgToplevel version target = refl
-seen-toplevel i version target = refl
+seen-role : (i : Interface) (version target : ℕ) → option_and_then role_target (of_surface (Some (record { interface = i; version = version; target = target }))) ≡ role_target
+    (record { interface = i; version = version; target = target })
+seen-role WlSurface version target = refl
+seen-role XdgSurface version target = refl
+seen-role XdgToplevel version target = refl
+seen-role XdgPopup version target = refl
+seen-role i version target = refl
 
--- an interface whose objects are seen so
-abbrev Seen : Interface → Type 0
-Seen interface = (o : Option Entry) → option_and_then (target_as interface) (of_surface o) ≡ option_and_then (target_as interface) o
+-- what objects name that are seen so
+abbrev Seen : (Entry → Option ℕ) → Type 0
+Seen by = (o : Option Entry) → option_and_then by (of_surface o) ≡ option_and_then by o
 
-surface-seen : Seen WlSurface
+surface-seen : Seen (target_as WlSurface)
 surface-seen None = refl
 surface-seen (Some entry) = seen-surface entry.interface entry.version entry.target
 
-xdg-seen : Seen XdgSurface
+xdg-seen : Seen (target_as XdgSurface)
 xdg-seen None = refl
 xdg-seen (Some entry) = seen-xdg entry.interface entry.version entry.target
 
-toplevel-seen : Seen XdgToplevel
-toplevel-seen None = refl
-toplevel-seen (Some entry) = seen-toplevel entry.interface entry.version entry.target
+role-seen : Seen role_target
+role-seen None = refl
+role-seen (Some entry) = seen-role entry.interface entry.version entry.target
 
-targets-kept : (interface : Interface) (old new : Held) → Seen interface → KeepsSurfaces old new → targets_in interface new ≡ targets_in interface old
-targets-kept interface old new seen keeps =
-    fun_ext (λ id. sym (seen (entry_of new id)) ∙ ap (option_and_then (target_as interface)) (keeps id) ∙ seen (entry_of old id))
+named-kept : (by : Entry → Option ℕ) (old new : Held) → Seen by → KeepsSurfaces old new
+    → ◌≡◌ {A = ℕ → Option ℕ} (λ id. option_and_then by (entry_of new id)) (λ id. option_and_then by (entry_of old id))
+named-kept by old new seen keeps = fun_ext (λ id. sym (seen (entry_of new id)) ∙ ap (option_and_then by) (keeps id) ∙ seen (entry_of old id))
 
-names-kept : (old new : Held) → KeepsSurfaces old new → names_in new ≡ names_in old
+names-kept : (old new : Held) → KeepsSurfaces old new → names_of new ≡ names_of old
 names-kept old new keeps =
-    names-with old new (targets_in WlSurface old) (targets_in XdgSurface old) (targets_in XdgToplevel old) (targets-kept WlSurface old new surface-seen keeps)
-    (targets-kept XdgSurface old new xdg-seen keeps) (targets-kept XdgToplevel old new toplevel-seen keeps)
+    names-with old new (targets_in WlSurface old) (targets_in XdgSurface old) (roles_in old) (named-kept (target_as WlSurface) old new surface-seen keeps)
+    (named-kept (target_as XdgSurface) old new xdg-seen keeps) (named-kept role_target old new role-seen keeps)
 
 -- ---- it is answered
 
@@ -170,13 +172,13 @@ own-answered old new r left (Err refusal) q is owned callbacks subsurfaces more 
 -- the buffers that its surfaces use
 pub used-of : {A : Type 0} (old : Kept A) (r : Resident) → IsResident old r → AreUsed old.owned.linked.surfaces (λ number. is_used number r.owned.surfaces)
 used-of old r is =
-    let numbers = (names_in old.client.objects).surfaces in
+    let numbers = (names_of old.client.objects).surfaces in
     let slots = old.owned.linked.surfaces in
     (by_number numbers r.owned.surfaces, is.owns.surfaces.stand, λ number. any-is numbers slots _ r.owned.surfaces is.owns.surfaces (λ s. has number s.history) (has_at number) refl (λ s. refl))
 
 pub own-served : {A : Type 0} (old new : Kept A) (r : Resident) (q : Peer) → IsResident old r → PassesTo true old.client → new.owned ≡ old.owned → new.subsurfaces ≡ old.subsurfaces
     → (new.client.ended ≡ None → KeepsSurfaces old.client.objects new.client.objects)
-    → ServesWith (λ number. is_used number r.owned.surfaces) r.peer q → IsPeer new.client q → (c : ℕ) (d : Desktop) → OwnsOrderly r → TakesSo (split_of r.peer.rest) c r d old new Stays
+    → ServesWith (λ number. is_used number r.owned.surfaces) r.peer q → IsPeer new.client q → (c : ℕ) (d : Desktop) → OwnsOrdered r → TakesSo (split_of r.peer.rest) c r d old new Stays
 own-served old new r q is (object, version, size, target, m, passes, own) same kept keeps serves peer c d only =
     let whole = whole-first old r object version size target m passes is in
     let body = take (size - 8) (drop 8 r.peer.rest) in
@@ -190,7 +192,7 @@ own-served old new r q is (object, version, size, target, m, passes, own) same k
     let answers : AnswersWith used action left.peer q = subst (λ (j : Result Action Refusal). AnswersWith used j left.peer q) judged_own taken in
     subst (λ (s : Split). TakesSo s c r d old new Stays) (sym whole) (
       subst (λ (j : Result Demand Refusal). AnswersWhole j c left d old new) (sym judged)
-          (simply old new c d left (only_peer_changes r left.peer refl refl (no-more r.peer.requests) only) (owns action) (own-answered old new r left action q is refl refl refl
+          (as-asked old new c d left (ordered-peer r left.peer refl refl (no-more r.peer.requests) only) (owns action) (own-answered old new r left action q is refl refl refl
           (no-more r.peer.requests) same kept keeps answers peer)),
       subst (λ (j : Result Demand Refusal). StacksWhole old r j Stays) (sym judged) (asks-stay old r (owns action)),
     )

@@ -6,7 +6,7 @@ use Rattle.wl_wire.specs.declared.header.Split.{Split}
 use Rattle.wl_wire.specs.declared.header.Split.TheVariants.{Message as Whole, More, Bad}
 use Rattle.wl_interface.specs.declared.interface.Interface.TheVariants.{WlSurface, XdgToplevel}
 use Rattle.wl_proto.specs.Messages.{Message, wl_compositor_request, wl_pointer_request, wl_seat_request, wl_subcompositor_request, wl_subsurface_request, wl_surface_request, xdg_surface_request}
-use Rattle.wl_proto.specs.Messages.{xdg_wm_base_request}
+use Rattle.wl_proto.specs.Messages.{xdg_popup_request, xdg_wm_base_request}
 use Rattle.wl_proto.specs.declared.wl_compositor.WlCompositorRequest.{WlCompositorRequest}
 use Rattle.wl_proto.specs.declared.wl_compositor.WlCompositorRequest.TheVariants as compositor
 use Rattle.wl_proto.specs.declared.wl_pointer.WlPointerRequest.{WlPointerRequest}
@@ -26,7 +26,7 @@ use Rattle.wl_proto.specs.declared.xdg_wm_base.XdgWmBaseRequest.TheVariants as b
 use Rattle.wl_peer.specs.Objects.{ById}
 use Rattle.wl_peer.specs.Judgement.{action_of}
 use Rattle.wl_peer.specs.declared.actions.Action.{Action}
-use Rattle.wl_peer.specs.Requests.{ToXdgSurface, rect, request_of, toplevel_request}
+use Rattle.wl_peer.specs.Requests.{rect, request_of, toplevel_request}
 use Rattle.wl_peer.specs.ToplevelRequest.{ToplevelRequest}
 use Rattle.wl_peer.specs.ToplevelRequest as toplevel
 use Rattle.wl_peer.specs.Peer.{known_of, with_rest}
@@ -39,8 +39,9 @@ use Rattle.wl_state.specs.Request.{Member, PlaceAbove, PlaceBelow, Request as As
 use Rattle.wl_surface.specs.Surfaces.{Link}
 use Rattle.wl_surface.specs.Trees.{is_bad_parent, is_too_deep}
 use Rattle.wl_xdg_state.specs.Kept.{kept_of}
-use Rattle.wl_xdg_state.specs.Shell.{Effect, Configures, Maps, Stays, Unconfigured, Unmaps, XdgSurface as Xdg, is_full, xdg_at, xdg_of}
-use Rattle.wl_owning.specs.Owning.{names_in, targets_in}
+use Rattle.wl_xdg_state.specs.Shell.{Effect, Configures, Maps, Stays, Unconfigured, Unmaps, XdgSurface as Xdg, is_full, xdg_at, xdg_of, xdg_with}
+use Rattle.wl_owning.specs.Owning.{targets_in}
+use Rattle.wl_owning.specs.RoleNames.{names_of}
 use Rattle.wl_owning.proofs.Keeping.OwningXdg.{toplevel-named}
 use Rattle.wl_owning.proofs.Keeping.OwningNames.{targets-at}
 use Rattle.wl_plain.specs.Ask.{Ask, Ignore, owns}
@@ -48,7 +49,12 @@ use Rattle.wl_plain.specs.Demand.{Asks, CommitTree, Demand, EndSurface}
 use Rattle.wl_plain.specs.Demanding.{committed_by, demand_by, demand_of, demands, effect_of_commit, toplevel_asked, xdg_asked}
 use Rattle.wl_plain.specs.Desktop.{Resident}
 use Rattle.wl_plain.specs.LeftOut.{served_now}
-use Rattle.wl_plain.specs.Served.{unserved_now}
+use Rattle.wl_plain.specs.XdgPopup.{is_no_popup, may_be_parent, popup_asked, popup_made, positioner_of}
+use Rattle.wl_xdg_state.specs.Popups.{is_parent}
+use Rattle.wl_xdg_state.specs.Positioner.{Positioner, is_complete}
+use Rattle.wl_proto.specs.declared.xdg_popup.XdgPopupRequest.{XdgPopupRequest}
+use Rattle.wl_proto.specs.declared.xdg_popup.XdgPopupRequest.TheVariants as popups
+use Rattle.wl_owning.proofs.Popups.Naming.{roles-named}
 use Rattle.wl_plain.specs.Step.{with_peer}
 use Rattle.wl_plain.specs.WlPointer.{is_no_cursor}
 use Rattle.wl_plain.specs.WlSubsurface.{beside, demand_by_link, has_subsurface, is_no_subsurface, link_of_subsurface, past_limit, placed_beside, refuses}
@@ -107,21 +113,35 @@ module _ (numbers : ById ℕ) where
   surface-nothing r object version surface.Commit = committed-nothing (xdg_of object r.owned.shell) object (effect_of_commit r object)
   surface-nothing r object version (surface.SetBufferTransform transform) = alone (transform_set object transform)
 
-  xdg-asked-nothing : (r : Resident) (o : Option Xdg) (version : ℕ) (request : XdgSurfaceRequest) → unserved_now (ToXdgSurface request) ≡ false
-      → AsksPointerSo numbers (xdg_asked r o version request) Nothing
-  xdg-asked-nothing r None version request served = tt
-  xdg-asked-nothing r (Some x) version requests.Destroy served = alone (xdg_surface_destroyed x)
-  xdg-asked-nothing r (Some x) version (requests.GetToplevel id) served = alone (toplevel_made r x version id)
-  xdg-asked-nothing r (Some x) version (requests.GetPopup id parent positioner) served = absurd (cc)
-  xdg-asked-nothing r (Some x) version (requests.SetWindowGeometry a b width height) served = alone (geometry_set x (rect a b width height))
-  xdg-asked-nothing r (Some x) version (requests.AckConfigure serial) served = alone (acknowledged_by x serial)
+  made-nothing : (r : Resident) (x : Xdg) (version id parent : ℕ) (p : Positioner) → AsksPointerSo numbers (popup_made r x version id parent p) Nothing
+  made-nothing r x version id parent p =
+      if-nothing (is_some x.role) _ _ tt
+      (if-nothing (is_no_popup (role_of r x.surface)) _ _ tt
+      (if-nothing (may_be_parent (xdg_at parent r.owned.shell)) _ _ (if-nothing (is_complete p) _ _ refl tt) tt))
+
+  xdg-asked-nothing : (r : Resident) (o : Option Xdg) (version : ℕ) (request : XdgSurfaceRequest) → AsksPointerSo numbers (xdg_asked r o version request) Nothing
+  xdg-asked-nothing r None version request = tt
+  xdg-asked-nothing r (Some x) version requests.Destroy = alone (xdg_surface_destroyed x)
+  xdg-asked-nothing r (Some x) version (requests.GetToplevel id) = alone (toplevel_made r x version id)
+  xdg-asked-nothing r (Some x) version (requests.GetPopup id parent positioner) = made-nothing r x version id parent (positioner_of (r.peer.positioners positioner))
+  xdg-asked-nothing r (Some x) version (requests.SetWindowGeometry a b width height) = alone (geometry_set x (rect a b width height))
+  xdg-asked-nothing r (Some x) version (requests.AckConfigure serial) = alone (acknowledged_by x serial)
 
   xdg-nothing : (r : Resident) (object version : ℕ) (request : XdgSurfaceRequest) → AsksPointerSo numbers (demand_of served_now r object version (xdg_surface_request request)) Nothing
-  xdg-nothing r object version (requests.GetPopup id parent positioner) = tt
-  xdg-nothing r object version requests.Destroy = xdg-asked-nothing r (xdg_at object r.owned.shell) version requests.Destroy refl
-  xdg-nothing r object version (requests.GetToplevel id) = xdg-asked-nothing r (xdg_at object r.owned.shell) version (requests.GetToplevel id) refl
-  xdg-nothing r object version (requests.SetWindowGeometry a b width height) = xdg-asked-nothing r (xdg_at object r.owned.shell) version (requests.SetWindowGeometry a b width height) refl
-  xdg-nothing r object version (requests.AckConfigure serial) = xdg-asked-nothing r (xdg_at object r.owned.shell) version (requests.AckConfigure serial) refl
+  xdg-nothing r object version requests.Destroy = xdg-asked-nothing r (xdg_at object r.owned.shell) version requests.Destroy
+  xdg-nothing r object version (requests.GetToplevel id) = xdg-asked-nothing r (xdg_at object r.owned.shell) version (requests.GetToplevel id)
+  xdg-nothing r object version (requests.GetPopup id parent positioner) = xdg-asked-nothing r (xdg_at object r.owned.shell) version (requests.GetPopup id parent positioner)
+  xdg-nothing r object version (requests.SetWindowGeometry a b width height) = xdg-asked-nothing r (xdg_at object r.owned.shell) version (requests.SetWindowGeometry a b width height)
+  xdg-nothing r object version (requests.AckConfigure serial) = xdg-asked-nothing r (xdg_at object r.owned.shell) version (requests.AckConfigure serial)
+
+  -- a popup that goes
+  destroyed-nothing : (r : Resident) (object : ℕ) (o : Option Xdg) → AsksPointerSo numbers (popup_asked r object o popups.Destroy) Nothing
+  destroyed-nothing r object None = tt
+  destroyed-nothing r object (Some x) = if-nothing (is_parent x.id r.owned.shell) _ _ tt refl
+
+  popup-nothing : (r : Resident) (object version : ℕ) (request : XdgPopupRequest) → AsksPointerSo numbers (demand_of served_now r object version (xdg_popup_request request)) Nothing
+  popup-nothing r object version popups.Destroy = destroyed-nothing r object (xdg_with object r.owned.shell)
+  popup-nothing r object version (popups.Grab by serial) = tt
 
   placed-nothing : (object parent : ℕ) (request : Member → AskedOf) (o : Option Member) → AsksPointerSo numbers (placed_beside object parent request o) Nothing
   placed-nothing object parent request None = tt
@@ -199,7 +219,8 @@ module _ {A : Type 0} (v : Kept A) (r : Resident) (its : Owns v r) where
       → AsksPointerSo numbered (demand_of served_now r object version m) (pointer_asked_by target (kind.Toplevel t))
   toplevel-told object version target m t named is_it =
       let request = toplevel_request m.opcode m.fields in
-      let one = toplevel-named (names_in v.client.objects) v.owned.linked.surfaces v.owned.linked.family (kept_of v.owned.shell) r.owned its object target named in
+      let one = toplevel-named (names_of v.client.objects) v.owned.linked.surfaces v.owned.linked.family (kept_of v.owned.shell) r.owned its object target
+      (roles-named.toplevel v.client.objects object target named) in
       subst (λ (j : Result Demand Refusal). AsksPointerSo numbered j (pointer_asked_by target (kind.Toplevel t))) (sym (toplevel-of r object version m is_it.0))
       (subst (λ (o : Option Xdg). AsksPointerSo numbered (toplevel_asked object o request) (pointer_asked_by target (kind.Toplevel t))) (sym one.4)
       (subst (λ (k : ToplevelAsked). AsksPointerSo numbered (toplevel_asked object (Some one.1) request) (pointer_asked_by target (kind.Toplevel k))) (sym is_it.1)
@@ -216,6 +237,7 @@ module _ {A : Type 0} (v : Kept A) (r : Resident) (its : Owns v r) where
   kind-asks object version target m (kind.Base request) is_it named = told-asks numbered r object version m _ Nothing is_it (base-nothing numbered r object version request)
   kind-asks object version target m (kind.XdgSurface request) is_it named = told-asks numbered r object version m _ Nothing is_it (xdg-nothing numbered r object version request)
   kind-asks object version target m (kind.Toplevel t) is_it named = toplevel-told object version target m t (named is_it.0) is_it
+  kind-asks object version target m (kind.Popup request) is_it named = told-asks numbered r object version m _ Nothing is_it (popup-nothing numbered r object version request)
   kind-asks object version target m kind.Unserved is_it named = unserved-asks numbered r object version m is_it
 
 -- ---- the first message
@@ -252,7 +274,8 @@ module _ {A : Type 0} (v : Kept A) (r : Resident) (is : IsResident v r) where
   own-asks (object, version, size, target, m, passes, own) =
       let left : Resident = with_peer (with_rest (drop size r.peer.rest) r.peer) r in
       passed-asks object version size target m Nothing passes
-      (subst (λ (j : Result Demand Refusal). AsksPointerSo names j Nothing) (sym (own-demand-of left object version m own)) (alone names (owns (action_of (known_of left.peer) object version (request_of m)))))
+      (subst (λ (j : Result Demand Refusal). AsksPointerSo names j Nothing) (sym (own-demand-of left object version m own)) (alone names (owns (action_of (known_of left.peer) object version
+      (request_of m)))))
 
   own-message-asks : (size : ℕ) (judged : Result Action Refusal) → IsAsked v.client (asks.Own size judged) → AsksPointerFirst names (split_of r.peer.rest) r Nothing
   own-message-asks size judged own = own-asks (passes-own v.client size judged own)

@@ -1,7 +1,8 @@
 -- What is judged of wl_pointer.set_cursor, by what is kept, and what a surface that becomes a cursor leaves as it was.
 use Rattle.std.proofs.Common.{◌≡◌, ◌≢◌, ℕ, Bool, true, false, Option, Some, None, refl, ap, ap₂, sym, ◌∙◌}
 use Rattle.std.specs.Prelude.{◌||◌, Err, Ok, if◌then◌else◌, is_some}
-use Rattle.wl_owning.specs.Owning.{by_number, names_in}
+use Rattle.wl_owning.specs.Owning.{by_number}
+use Rattle.wl_owning.specs.RoleNames.{names_of}
 use Rattle.wl_owning.proofs.Keeping.OwningSurfaces.{surface-read}
 use Rattle.wl_owning.proofs.Keeping.OwningXdg.{xdg-there}
 use Rattle.wl_peer.specs.declared.refusals.ErrorCode.TheVariants.{Role as HasAnotherRole}
@@ -44,11 +45,11 @@ no-other (Some roles.Subsurface) never = absurd (never (roles.Subsurface, refl, 
 
 module _ {A : Type 0} (v : Kept A) (r : Resident) (is : IsResident v r) (object id number : ℕ) (named : IsSurface v id number) where
   xdg-is : is_some (kept_of v.owned.shell number) ≡ is_some (xdg_of id r.owned.shell)
-  xdg-is = xdg-there (names_in v.client.objects) v.owned.linked.surfaces v.owned.linked.family (kept_of v.owned.shell) r.owned is.owns id number named
+  xdg-is = xdg-there (names_of v.client.objects) v.owned.linked.surfaces v.owned.linked.family (kept_of v.owned.shell) r.owned is.owns id number named
 
-  role-is : role_at (by_number (names_in v.client.objects).surfaces r.owned.surfaces number) ≡ role_of r id
+  role-is : role_at (by_number (names_of v.client.objects).surfaces r.owned.surfaces number) ≡ role_of r id
   role-is =
-      ap role_at (surface-read (names_in v.client.objects).surfaces v.owned.linked.surfaces v.owned.linked.family r.owned.surfaces is.owns.surfaces id number named)
+      ap role_at (surface-read (names_of v.client.objects).surfaces v.owned.linked.surfaces v.owned.linked.family r.owned.surfaces is.owns.surfaces id number named)
       ∙ role-same (surface_at id r.owned.surfaces)
 
   by-parts : (a b : Bool) → is_no_cursor (role_of r id) ≡ a → is_some (xdg_of id r.owned.shell) ≡ b
@@ -62,13 +63,13 @@ module _ {A : Type 0} (v : Kept A) (r : Resident) (is : IsResident v r) (object 
       (or-second (is_no_cursor (role_of r id)) (is_some (xdg_of id r.owned.shell)) (sym xdg-is ∙ has))
 
   -- it has another role
-  pub has-other : IsOther (role_at (by_number (names_in v.client.objects).surfaces r.owned.surfaces number)) → cursor_set r object id ≡ Err (record { object = object; code = HasAnotherRole })
+  pub has-other : IsOther (role_at (by_number (names_of v.client.objects).surfaces r.owned.surfaces number)) → cursor_set r object id ≡ Err (record { object = object; code = HasAnotherRole })
   has-other other =
       ap (λ (b : Bool). if b then refuses object HasAnotherRole else Ok (MakeCursor id))
       (or-first (is_no_cursor (role_of r id)) (is_some (xdg_of id r.owned.shell)) (other-role (role_of r id) (other.0, sym role-is ∙ other.1, other.2)))
 
   -- it has neither
-  pub is-made : is_some (kept_of v.owned.shell number) ≡ false → (IsOther (role_at (by_number (names_in v.client.objects).surfaces r.owned.surfaces number)) → ⊥)
+  pub is-made : is_some (kept_of v.owned.shell number) ≡ false → (IsOther (role_at (by_number (names_of v.client.objects).surfaces r.owned.surfaces number)) → ⊥)
       → cursor_set r object id ≡ Ok (MakeCursor id)
   is-made bare never =
       by-parts false false (no-other (role_of r id) (λ other. never (other.0, role-is ∙ other.1, other.2))) (sym xdg-is ∙ bare)

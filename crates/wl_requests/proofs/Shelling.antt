@@ -5,7 +5,7 @@ use Rattle.std.specs.Option.{option_map, option_and_then}
 use Rattle.std.proofs.Math.Path.{fun_ext}
 use Rattle.std.proofs.lemmas.Bool.{eqb-true}
 use Rattle.wl_interface.specs.declared.interface.Interface.{Interface}
-use Rattle.wl_interface.specs.declared.interface.Interface.TheVariants.{WlSubcompositor, WlSurface, XdgSurface, XdgToplevel, XdgWmBase}
+use Rattle.wl_interface.specs.declared.interface.Interface.TheVariants.{WlSubcompositor, WlSurface, XdgPopup, XdgSurface, XdgToplevel, XdgWmBase}
 use Rattle.wl_proto.specs.Messages.{Message}
 use Rattle.wl_proto.specs.Objects.{new_id_in}
 use Rattle.wl_proto.specs.declared.argument.NewId.{NewId}
@@ -37,7 +37,8 @@ use Rattle.wl_requests.specs.declared.residents.Resident.{Resident as Kept}
 use Rattle.wl_plain.specs.Ask.{Ask, AskSurface, GetToplevel}
 use Rattle.wl_plain.specs.Demand.{Demand}
 use Rattle.wl_plain.specs.Desktop.{Desktop, Resident}
-use Rattle.wl_owning.specs.Owning.{AreKept, IsOwned, IsXdg, Names, asks_by, by_number, configuring_if, kept_base, names_in, names_surface, shell_refusal, target_as, targets_in}
+use Rattle.wl_owning.specs.Owning.{AreKept, IsOwned, IsXdg, Names, asks_by, by_number, configuring_if, kept_base, shell_refusal, target_as, targets_in}
+use Rattle.wl_owning.specs.RoleNames.{names_of}
 use Rattle.wl_owning.specs.Owning.{with_toplevel, with_xdg}
 use Rattle.wl_owning.specs.Subsurfaces.{AreOfSurfaces}
 use Rattle.wl_requests.specs.Residents.{ActsFor, AnswersAs, AnswersSo as AnswersWhole, Does, IsFree, NewIsFree, IsResident, IsToplevel, IsXdgSurface, MeetsAs}
@@ -48,36 +49,39 @@ use Rattle.wl_proto.specs.declared.xdg_surface.XdgSurfaceRequest.{XdgSurfaceRequ
 use Rattle.wl_requests.proofs.Doing.{cut-bounds}
 use Rattle.wl_owning.proofs.Keeping.Letting.{asked-keeps}
 use Rattle.wl_requests.proofs.Numbers.{left-from}
-use Rattle.wl_requests.proofs.Simply.{AnswersSimply, AnswersSo}
+use Rattle.wl_requests.proofs.Meeting.{AnswersSo}
 use Rattle.wl_requests.proofs.Framing.{IsFramed, framed-names, one-more}
 use Rattle.wl_invariants.proofs.KeptRecords.Toplevels.Simply.{told_alone}
 use Rattle.wl_invariants.proofs.KeptRecords.Toplevels.Releases.{requested-still}
 use Rattle.wl_owning.proofs.Keeping.OwningSurfaces.{surface-named, surface-read}
-use Rattle.wl_owning.proofs.Keeping.OwningNames.{names-other-gone, names-toplevel-gone, names-xdg-gone}
+use Rattle.wl_requests.proofs.Roles.{names_object, names-other-gone, names-toplevel-gone, names-xdg-gone}
 use Rattle.wl_owning.proofs.Keeping.OwningReads.{role-fits, role-read}
 use Rattle.wl_owning.proofs.Keeping.OwningXdg.{toplevel-named, xdg-named}
+use Rattle.wl_owning.proofs.Popups.Naming.{roles-named}
 
 -- ---- objects that go
 
-base-names : (interface : Interface) → (interface_number interface == interface_number XdgWmBase) ≡ true → names_surface interface ≡ false
+base-names : (interface : Interface) → (interface_number interface == interface_number XdgWmBase) ≡ true → names_object interface ≡ false
 base-names WlSurface e = absurd (cc)
 base-names XdgSurface e = absurd (cc)
 base-names XdgToplevel e = absurd (cc)
+base-names XdgPopup e = absurd (cc)
 base-names interface e = refl
 
-subcompositor-names : (interface : Interface) → (interface_number interface == interface_number WlSubcompositor) ≡ true → names_surface interface ≡ false
+subcompositor-names : (interface : Interface) → (interface_number interface == interface_number WlSubcompositor) ≡ true → names_object interface ≡ false
 subcompositor-names WlSurface e = absurd (cc)
 subcompositor-names XdgSurface e = absurd (cc)
 subcompositor-names XdgToplevel e = absurd (cc)
+subcompositor-names XdgPopup e = absurd (cc)
 subcompositor-names interface e = refl
 
 -- with an xdg_wm_base or a wl_subcompositor no number of a surface goes
 pub alone-gone : (old new : Held) (id : ℕ) → (is_of XdgWmBase (objects_in old id) ≡ true) ⊎ (is_of WlSubcompositor (objects_in old id) ≡ true)
-    → HoldsAt old new id None → names_in new ≡ names_in old
+    → HoldsAt old new id None → names_of new ≡ names_of old
 alone-gone old new id either holds = at (entry_of old id) refl either
   where
     at : (o : Option Entry) → entry_of old id ≡ o
-        → (is_of XdgWmBase (option_map object_of o) ≡ true) ⊎ (is_of WlSubcompositor (option_map object_of o) ≡ true) → names_in new ≡ names_in old
+        → (is_of XdgWmBase (option_map object_of o) ≡ true) ⊎ (is_of WlSubcompositor (option_map object_of o) ≡ true) → names_of new ≡ names_of old
     at None found (inl is) = absurd (cc)
     at None found (inr is) = absurd (cc)
     at (Some entry) found (inl is) = names-other-gone old new id entry found (base-names entry.interface is) holds
@@ -109,18 +113,18 @@ entry-named interface held id number named = at (entry_of held id) refl named
 pub objects-counted : (old mid : ClientView) → mid ≡ record old { requests = mid.requests } → mid.objects ≡ old.objects
 objects-counted old mid only = ap (λ (w : ClientView). w.objects) only
 
-pub names-counted : (old mid : ClientView) → mid ≡ record old { requests = mid.requests } → names_in mid.objects ≡ names_in old.objects
-names-counted old mid only = ap names_in (objects-counted old mid only)
+pub names-counted : (old mid : ClientView) → mid ≡ record old { requests = mid.requests } → names_of mid.objects ≡ names_of old.objects
+names-counted old mid only = ap names_of (objects-counted old mid only)
 
 pub xdg-gone : (old mid new : ClientView) (id number : ℕ) → mid ≡ record old { requests = mid.requests } → targets_in XdgSurface old.objects id ≡ Some number → HoldsAt mid.objects new.objects id None
-    → names_in new.objects ≡ with_xdg id None (names_in old.objects)
+    → names_of new.objects ≡ with_xdg id None (names_of old.objects)
 xdg-gone old mid new id number only named holds =
     let entry = entry-named XdgSurface old.objects id number named in
     names-xdg-gone old.objects new.objects id entry.0 entry.1 (number-xdg entry.0.interface entry.2) (subst (λ (o : Held). HoldsAt o new.objects id None) (objects-counted old mid only) holds)
 
 pub toplevel-gone : (old mid new : ClientView) (id number : ℕ) → mid ≡ record old { requests = mid.requests } → targets_in XdgToplevel old.objects id ≡ Some number
     → HoldsAt mid.objects new.objects id None
-    → names_in new.objects ≡ with_toplevel id None (names_in old.objects)
+    → names_of new.objects ≡ with_toplevel id None (names_of old.objects)
 toplevel-gone old mid new id number only named holds =
     let entry = entry-named XdgToplevel old.objects id number named in
     names-toplevel-gone old.objects new.objects id entry.0 entry.1 (number-toplevel entry.0.interface entry.2)
@@ -172,21 +176,23 @@ accepted {A} {old} new r judged ask e answers = subst (λ (j : Result Ask Refusa
 
 -- the object is an xdg_surface
 pub xdg-answered : {A : Type 0} (old new : Kept A) (object number version : ℕ) (request : XdgSurfaceRequest) (c : ℕ) (d : Desktop) (r : Resident) → IsResident old r → IsXdgSurface old object number
-    → ((k : KeptXdg) (x : Xdg) (h : History) → IsXdg (names_in old.client.objects) (kept_of old.owned.shell) r.owned number k x h → x.id ≡ object
+    → ((k : KeptXdg) (x : Xdg) (h : History) → IsXdg (names_of old.client.objects) (kept_of old.owned.shell) r.owned number k x h → x.id ≡ object
     → AnswersWhole (xdg_asked r (Some x) version request) c r d old new)
     → AnswersWhole (xdg_demand r object version request) c r d old new
 xdg-answered old new object number version request c d r is named answers =
-    let one = xdg-named (names_in old.client.objects) old.owned.linked.surfaces old.owned.linked.family (kept_of old.owned.shell) r.owned is.owns object number named in
+    let one = xdg-named (names_of old.client.objects) old.owned.linked.surfaces old.owned.linked.family (kept_of old.owned.shell) r.owned is.owns object number named in
     subst (λ (o : Option Xdg). AnswersWhole (xdg_asked r o version request) c r d old new) (sym one.4) (answers one.0 one.1 one.2 one.3 one.5)
 
 -- the object is a toplevel
-pub toplevel-answered : {A : Type 0} (old new : Kept A) (object number : ℕ) (judged : Option Xdg → Result Demand Refusal) (r : Resident) → IsResident old r → IsToplevel old object number
-    → ((k : KeptXdg) (x : Xdg) (h : History) → IsXdg (names_in old.client.objects) (kept_of old.owned.shell) r.owned number k x h → is_role object x.role ≡ true
-    → AnswersSimply (judged (Some x)) r old new)
-    → AnswersSimply (judged (xdg_with object r.owned.shell)) r old new
-toplevel-answered old new object number judged r is named answers =
-    let one = toplevel-named (names_in old.client.objects) old.owned.linked.surfaces old.owned.linked.family (kept_of old.owned.shell) r.owned is.owns object number named in
-    subst (λ (o : Option Xdg). AnswersSimply (judged o) r old new) (sym one.4) (answers one.0 one.1 one.2 one.3 one.5)
+pub toplevel-answered : {A : Type 0} (old new : Kept A) (object number : ℕ) (judged : Option Xdg → Result Demand Refusal) (c : ℕ) (d : Desktop) (r : Resident) → IsResident old r
+    → IsToplevel old object number
+    → ((k : KeptXdg) (x : Xdg) (h : History) → IsXdg (names_of old.client.objects) (kept_of old.owned.shell) r.owned number k x h → is_role object x.role ≡ true
+    → AnswersWhole (judged (Some x)) c r d old new)
+    → AnswersWhole (judged (xdg_with object r.owned.shell)) c r d old new
+toplevel-answered old new object number judged c d r is named answers =
+    let one = toplevel-named (names_of old.client.objects) old.owned.linked.surfaces old.owned.linked.family (kept_of old.owned.shell) r.owned is.owns object number
+    (roles-named.toplevel old.client.objects object number named) in
+    subst (λ (o : Option Xdg). AnswersWhole (judged o) c r d old new) (sym one.4) (answers one.0 one.1 one.2 one.3 one.5)
 
 -- what the shell answered is told
 pub told-ok : (judged : Result Ask Refusal) (ask : Ask) (refusal : ShellError → Refusal) (answer told : Result (Unit {0}) ShellError) → judged ≡ asks_by {X = Unit {0}} (λ u. ask) refusal answer
@@ -200,7 +206,7 @@ told-err judged ask refusal answer told error e same err = e ∙ ap (asks_by ask
 -- an error is told with the xdg_wm_base that made the xdg_surface
 pub xdg-refused : {A : Type 0} (old new : Kept A) (mid : ℕ
     → Option KeptXdg) (r : Resident) (object number : ℕ) (k : KeptXdg) (x : Xdg) (h : History) (error : ShellError) (judged : Result Ask Refusal)
-    → IsXdg (names_in old.client.objects) (kept_of old.owned.shell) r.owned number k x h → x.id ≡ object → judged ≡ Err (shell_refusal x.base x.id object error) → mid ≡ kept_of old.owned.shell
+    → IsXdg (names_of old.client.objects) (kept_of old.owned.shell) r.owned number k x h → x.id ≡ object → judged ≡ Err (shell_refusal x.base x.id object error) → mid ≡ kept_of old.owned.shell
     → is_some new.client.ended ≡ true
     → (q : Peer) × Errs (shell_refusal (kept_base (mid number)) object object error) r.peer q × IsPeer new.client q → AnswersSo judged r old new
 xdg-refused old new mid r object number k x h error judged one same e still ended errs =
@@ -351,8 +357,8 @@ changing-same number kept = fun_ext (λ other. at other (other == number) refl)
     at other false e = refl
 
 -- what is owned was left as it was
-pub owns-told : {A : Type 0} (new : Kept A) (owned : Lent A) (names : Names) (o : Owned) → names_in new.client.objects ≡ names → new.owned ≡ owned
-    → IsOwned names owned.linked.surfaces owned.linked.family (kept_of owned.shell) o → IsOwned (names_in new.client.objects) new.owned.linked.surfaces new.owned.linked.family
+pub owns-told : {A : Type 0} (new : Kept A) (owned : Lent A) (names : Names) (o : Owned) → names_of new.client.objects ≡ names → new.owned ≡ owned
+    → IsOwned names owned.linked.surfaces owned.linked.family (kept_of owned.shell) o → IsOwned (names_of new.client.objects) new.owned.linked.surfaces new.owned.linked.family
     (kept_of new.owned.shell) o
 owns-told new owned names o named same is = rw (named, same) is
 

@@ -1,7 +1,9 @@
 -- What requests do to the stack of toplevels.
 use Rattle.std.proofs.Common.{◌≡◌, ℕ, Bool, true, false, Option, Some, None, Result, refl, sym, subst}
 use Rattle.std.specs.Prelude.{◌==◌, ◌||◌, if◌then◌else◌, is_some, Ok}
-use Rattle.wl_proto.specs.Messages.{Message, wl_pointer_request, wl_subcompositor_request, wl_subsurface_request, xdg_surface_request, xdg_wm_base_request}
+use Rattle.wl_proto.specs.Messages.{Message, wl_pointer_request, wl_subcompositor_request, wl_subsurface_request, xdg_popup_request, xdg_surface_request, xdg_wm_base_request}
+use Rattle.wl_proto.specs.declared.xdg_popup.XdgPopupRequest.{XdgPopupRequest}
+use Rattle.wl_proto.specs.declared.xdg_popup.XdgPopupRequest.TheVariants as popups
 use Rattle.wl_proto.specs.declared.wl_pointer.WlPointerRequest.{WlPointerRequest}
 use Rattle.wl_proto.specs.declared.wl_pointer.WlPointerRequest.TheVariants as pointer
 use Rattle.wl_proto.specs.declared.wl_subcompositor.WlSubcompositorRequest.{WlSubcompositorRequest}
@@ -16,6 +18,8 @@ use Rattle.wl_interface.specs.declared.interface.Interface.TheVariants.{XdgTople
 use Rattle.wl_peer.specs.declared.refusals.ErrorCode.TheVariants.{Role as HasAnotherRole}
 use Rattle.wl_peer.specs.declared.refusals.Refusal.{Refusal}
 use Rattle.wl_xdg_state.specs.Kept.{kept_of}
+use Rattle.wl_xdg_state.specs.Popups.{is_parent, is_toplevel}
+use Rattle.wl_xdg_state.specs.Positioner.{Positioner, is_complete}
 use Rattle.wl_xdg_state.specs.Shell.{Effect, XdgSurface as Xdg, xdg_at, xdg_of, xdg_with}
 use Rattle.wl_xdg_state.specs.declared.acts.ShellAct.{ShellAct}
 use Rattle.wl_xdg_state.specs.declared.acts.ShellAct.TheVariants.{Configure, Map, Unmap, Nothing}
@@ -24,9 +28,9 @@ use Rattle.wl_plain.specs.Demand.{Asks, Demand, CommitTree}
 use Rattle.wl_plain.specs.Demanding.{demand_of, demands, effect_of_commit, moved_by_pointer, toplevel_asked, toplevel_demand, toplevel_destroyed, xdg_asked}
 use Rattle.wl_plain.specs.Desktop.{Resident}
 use Rattle.wl_plain.specs.LeftOut.{served_now}
-use Rattle.wl_plain.specs.Served.{unserved_now}
-use Rattle.wl_owning.specs.Owning.{effect_by, names_in}
-use Rattle.wl_peer.specs.Requests.{ToXdgSurface, toplevel_request, rect}
+use Rattle.wl_owning.specs.Owning.{effect_by}
+use Rattle.wl_owning.specs.RoleNames.{names_of}
+use Rattle.wl_peer.specs.Requests.{toplevel_request, rect}
 use Rattle.wl_peer.specs.ToplevelRequest.{ToplevelRequest}
 use Rattle.wl_peer.specs.ToplevelRequest as toplevel
 use Rattle.wl_state.specs.Request.{Request as Asked, Member, PlaceAbove, PlaceBelow}
@@ -34,14 +38,16 @@ use Rattle.wl_surface.specs.Surfaces.{Link}
 use Rattle.wl_surface.specs.Trees.{is_bad_parent, is_too_deep}
 use Rattle.wl_plain.specs.WlPointer.{is_no_cursor}
 use Rattle.wl_plain.specs.WlSubsurface.{beside, demand_by_link, has_subsurface, is_no_subsurface, link_of_subsurface, past_limit, placed_beside, refuses}
+use Rattle.wl_plain.specs.XdgPopup.{is_no_popup, may_be_parent, popup_asked, popup_made, positioner_of}
 use Rattle.wl_plain.specs.XdgShell.{acknowledged_by, geometry_set, role_of, state_asked, toplevel_made, xdg_surface_destroyed}
 use Rattle.wl_owning.proofs.Keeping.OwningXdg.{toplevel-named}
+use Rattle.wl_owning.proofs.Popups.Naming.{roles-named}
 use Rattle.wl_requests.specs.declared.residents.Resident.{Resident as Kept}
 use Rattle.wl_requests.specs.declared.residents.Stacking.{Stacking}
 use Rattle.wl_requests.specs.declared.residents.Stacking.TheVariants.{Stays, Out}
 use Rattle.wl_requests.specs.declared.xdg_toplevel.ToplevelAsked.TheVariants.{Destruction, Configure as AskedConfigure}
-use Rattle.wl_requests.specs.Residents.{IsResident, IsSurface, IsToplevel, StacksBy, StacksSo, asked_by, stacking_by}
-use Rattle.wl_requests.proofs.Simply.{asks-stay}
+use Rattle.wl_requests.specs.Residents.{IsResident, IsSurface, IsToplevel, StacksBy, StacksIf, StacksSo, asked_by, stacking_by}
+use Rattle.wl_requests.proofs.Meeting.{asks-stay}
 
 -- a commit
 stacks-by-act : {A : Type 0} (old : Kept A) (id number : ℕ) (act : ShellAct) → IsSurface old id number → StacksBy old id (effect_by act) (stacking_by act number)
@@ -50,19 +56,26 @@ stacks-by-act old id number Map named = (number, named, refl)
 stacks-by-act old id number Unmap named = (number, named, refl)
 stacks-by-act old id number Nothing named = refl
 
-pub commit-stacks : {A : Type 0} (old : Kept A) (r : Resident) (id number : ℕ) (act : ShellAct) (judged : Result Demand Refusal) (stacking : Stacking) → IsSurface old id number
-    → judged ≡ Ok (CommitTree id) → effect_of_commit r id ≡ effect_by act
-    → stacking ≡ stacking_by act number → StacksSo old r judged stacking
-commit-stacks old r id number act judged stacking named e comes is =
+stacks-if-act : {A : Type 0} (old : Kept A) (id number : ℕ) (act : ShellAct) (toplevel : Bool) → IsSurface old id number
+    → StacksIf toplevel old id (effect_by act) (if toplevel then stacking_by act number else Stays)
+stacks-if-act old id number act true named = stacks-by-act old id number act named
+stacks-if-act old id number act false named = refl
+
+pub commit-stacks : {A : Type 0} (old : Kept A) (r : Resident) (id number : ℕ) (act : ShellAct) (toplevel : Bool) (judged : Result Demand Refusal) (stacking : Stacking) → IsSurface old id number
+    → judged ≡ Ok (CommitTree id) → effect_of_commit r id ≡ effect_by act → toplevel ≡ is_toplevel (xdg_of id r.owned.shell)
+    → stacking ≡ (if toplevel then stacking_by act number else Stays) → StacksSo old r judged stacking
+commit-stacks old r id number act toplevel judged stacking named e comes top is =
     subst (λ (j : Result Demand Refusal). StacksSo old r j stacking) (sym e)
-    (subst (λ (f : Effect). StacksBy old id f stacking) (sym comes)
-    (subst (λ (s : Stacking). StacksBy old id (effect_by act) s) (sym is) (stacks-by-act old id number act named)))
+    (subst (λ (b : Bool). StacksIf b old id (effect_of_commit r id) stacking) top
+    (subst (λ (f : Effect). StacksIf toplevel old id f stacking) (sym comes)
+    (subst (λ (s : Stacking). StacksIf toplevel old id (effect_by act) s) (sym is) (stacks-if-act old id number act toplevel named))))
 
 -- a toplevel that goes
 pub toplevel-out : {A : Type 0} (old : Kept A) (r : Resident) (object number : ℕ) → IsResident old r → IsToplevel old object number
     → StacksSo old r (toplevel_destroyed object (xdg_with object r.owned.shell)) (Out number)
 toplevel-out old r object number is named =
-    let one = toplevel-named (names_in old.client.objects) old.owned.linked.surfaces old.owned.linked.family (kept_of old.owned.shell) r.owned is.owns object number named in
+    let one = toplevel-named (names_of old.client.objects) old.owned.linked.surfaces old.owned.linked.family (kept_of old.owned.shell) r.owned is.owns object number
+    (roles-named.toplevel old.client.objects object number named) in
     subst (λ (o : Option Xdg). StacksSo old r (toplevel_destroyed object o) (Out number)) (sym one.4)
     (number, one.3.surface, refl)
 
@@ -102,28 +115,43 @@ pub toplevel-of : (r : Resident) (object version : ℕ) (m : Message) → m.inte
     → demand_of served_now r object version m ≡ toplevel_demand r object (toplevel_request m.opcode m.fields)
 toplevel-of r object version m is = rw is refl
 
--- a request of an xdg_surface
-xdg-asked-stays : {A : Type 0} (old : Kept A) (r : Resident) (o : Option Xdg) (version : ℕ) (request : XdgSurfaceRequest) → unserved_now (ToXdgSurface request) ≡ false
-    → StacksSo old r (xdg_asked r o version request) Stays
-xdg-asked-stays old r None version request served = tt
-xdg-asked-stays old r (Some x) version requests.Destroy served = asks-stay old r (xdg_surface_destroyed x)
-xdg-asked-stays old r (Some x) version (requests.GetToplevel id) served = asks-stay old r (toplevel_made r x version id)
-xdg-asked-stays old r (Some x) version (requests.GetPopup id parent positioner) served = absurd (cc)
-xdg-asked-stays old r (Some x) version (requests.SetWindowGeometry a b width height) served = asks-stay old r (geometry_set x (rect a b width height))
-xdg-asked-stays old r (Some x) version (requests.AckConfigure serial) served = asks-stay old r (acknowledged_by x serial)
-
-pub xdg-stays : {A : Type 0} (old : Kept A) (r : Resident) (object version : ℕ) (request : XdgSurfaceRequest)
-    → StacksSo old r (demand_of served_now r object version (xdg_surface_request request)) Stays
-xdg-stays old r object version (requests.GetPopup id parent positioner) = tt
-xdg-stays old r object version requests.Destroy = xdg-asked-stays old r (xdg_at object r.owned.shell) version requests.Destroy refl
-xdg-stays old r object version (requests.GetToplevel id) = xdg-asked-stays old r (xdg_at object r.owned.shell) version (requests.GetToplevel id) refl
-xdg-stays old r object version (requests.SetWindowGeometry a b width height) = xdg-asked-stays old r (xdg_at object r.owned.shell) version (requests.SetWindowGeometry a b width height) refl
-xdg-stays old r object version (requests.AckConfigure serial) = xdg-asked-stays old r (xdg_at object r.owned.shell) version (requests.AckConfigure serial) refl
-
 -- whichever of two it is
 if-stays : {A : Type 0} (old : Kept A) (r : Resident) (b : Bool) (x y : Result Demand Refusal) → StacksSo old r x Stays → StacksSo old r y Stays → StacksSo old r (if b then x else y) Stays
 if-stays old r true x y f g = f
 if-stays old r false x y f g = g
+
+-- a request of an xdg_surface
+made-stays : {A : Type 0} (old : Kept A) (r : Resident) (x : Xdg) (version id parent : ℕ) (p : Positioner) → StacksSo old r (popup_made r x version id parent p) Stays
+made-stays old r x version id parent p =
+    if-stays old r (is_some x.role) _ _ tt
+    (if-stays old r (is_no_popup (role_of r x.surface)) _ _ tt
+    (if-stays old r (may_be_parent (xdg_at parent r.owned.shell)) _ _ (if-stays old r (is_complete p) _ _ refl tt) tt))
+
+xdg-asked-stays : {A : Type 0} (old : Kept A) (r : Resident) (o : Option Xdg) (version : ℕ) (request : XdgSurfaceRequest) → StacksSo old r (xdg_asked r o version request) Stays
+xdg-asked-stays old r None version request = tt
+xdg-asked-stays old r (Some x) version requests.Destroy = asks-stay old r (xdg_surface_destroyed x)
+xdg-asked-stays old r (Some x) version (requests.GetToplevel id) = asks-stay old r (toplevel_made r x version id)
+xdg-asked-stays old r (Some x) version (requests.GetPopup id parent positioner) = made-stays old r x version id parent (positioner_of (r.peer.positioners positioner))
+xdg-asked-stays old r (Some x) version (requests.SetWindowGeometry a b width height) = asks-stay old r (geometry_set x (rect a b width height))
+xdg-asked-stays old r (Some x) version (requests.AckConfigure serial) = asks-stay old r (acknowledged_by x serial)
+
+pub xdg-stays : {A : Type 0} (old : Kept A) (r : Resident) (object version : ℕ) (request : XdgSurfaceRequest)
+    → StacksSo old r (demand_of served_now r object version (xdg_surface_request request)) Stays
+xdg-stays old r object version requests.Destroy = xdg-asked-stays old r (xdg_at object r.owned.shell) version requests.Destroy
+xdg-stays old r object version (requests.GetToplevel id) = xdg-asked-stays old r (xdg_at object r.owned.shell) version (requests.GetToplevel id)
+xdg-stays old r object version (requests.GetPopup id parent positioner) = xdg-asked-stays old r (xdg_at object r.owned.shell) version (requests.GetPopup id parent positioner)
+xdg-stays old r object version (requests.SetWindowGeometry a b width height) = xdg-asked-stays old r (xdg_at object r.owned.shell) version (requests.SetWindowGeometry a b width height)
+xdg-stays old r object version (requests.AckConfigure serial) = xdg-asked-stays old r (xdg_at object r.owned.shell) version (requests.AckConfigure serial)
+
+-- a request of an xdg_popup
+destroyed-stays : {A : Type 0} (old : Kept A) (r : Resident) (object : ℕ) (o : Option Xdg) → StacksSo old r (popup_asked r object o popups.Destroy) Stays
+destroyed-stays old r object None = tt
+destroyed-stays old r object (Some x) = if-stays old r (is_parent x.id r.owned.shell) _ _ tt refl
+
+pub popup-stays : {A : Type 0} (old : Kept A) (r : Resident) (object version : ℕ) (request : XdgPopupRequest)
+    → StacksSo old r (demand_of served_now r object version (xdg_popup_request request)) Stays
+popup-stays old r object version popups.Destroy = destroyed-stays old r object (xdg_with object r.owned.shell)
+popup-stays old r object version (popups.Grab seat serial) = tt
 
 -- a request of a wl_subsurface
 placed-stays : {A : Type 0} (old : Kept A) (r : Resident) (object parent : ℕ) (request : Member → Asked) (o : Option Member) → StacksSo old r (placed_beside object parent request o) Stays

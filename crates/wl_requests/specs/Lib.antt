@@ -1,7 +1,10 @@
+pub mod Dismissing
 pub mod Freed
+pub mod Holding
 pub mod LetGo
 pub mod Linking
 pub mod Messages
+pub mod Placing
 pub mod PointerAsks
 pub mod Residents
 pub mod Touching

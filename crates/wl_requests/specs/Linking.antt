@@ -1,7 +1,7 @@
 -- What is asked of links, by what is kept (wayland.xml, wl_subcompositor and wl_subsurface).
 use Rattle.std.specs.Prelude.{ℕ, ◌≡◌, ◌==◌, List, [], ◌∷◌, ◌++◌, Option, Some, None, Result, Ok, Err, find, is_some, slice_index_or, true}
 use Rattle.wl_family.specs.Family.{links_in}
-use Rattle.wl_invariants.specs.Orderly.{OwnsOrderly}
+use Rattle.wl_ordered.specs.Ordered.{OwnsOrdered}
 use Rattle.wl_owning.specs.Owning.{IsOwned, Names}
 use Rattle.wl_owning.specs.Subsurfaces.{AreOfSurfaces}
 use Rattle.wl_peer.specs.declared.refusals.ErrorCode.TheVariants.{BadParent, BadSurface, Implementation}
@@ -36,7 +36,7 @@ IsJudgedBy object (Err e) demand judged = IsJudged (link_refused object e) deman
 
 -- What is kept stands for a client whose surfaces are in order, and these numbers are those of a child and of a parent.
 pub record AreTwo {A : Type 0} (v : Kept A) (names : Names) (r : Resident) (child below parent above : ℕ) : Type 0 where
-  pub orderly : OwnsOrderly r
+  pub orderly : OwnsOrdered r
   pub owns : IsOwned names v.owned.linked.surfaces v.owned.linked.family (kept_of v.owned.shell) r.owned
   pub subsurfaces : AreOfSurfaces v.subsurfaces names.surfaces r.subsurfaces
   pub child_named : names.surfaces child ≡ Some below

@@ -5,7 +5,7 @@ use Rattle.wl_wire.specs.declared.header.Split.TheVariants.{More}
 use Rattle.wl_interface.specs.declared.interface.Interface.TheVariants.{XdgToplevel}
 use Rattle.wl_proto.specs.Messages.{Message, wl_compositor_request, wl_pointer_request, wl_seat_request, wl_subcompositor_request}
 use Rattle.wl_proto.specs.Messages.{wl_subsurface_request, wl_surface_request}
-use Rattle.wl_proto.specs.Messages.{xdg_surface_request, xdg_wm_base_request}
+use Rattle.wl_proto.specs.Messages.{xdg_popup_request, xdg_surface_request, xdg_wm_base_request}
 use Rattle.wl_client.specs.First.{IsRefused, Passes}
 use Rattle.wl_client.specs.Serving.{IsOwnMessage}
 use Rattle.wl_client.specs.View.{ClientView}
@@ -15,10 +15,11 @@ use Rattle.wl_requests.specs.declared.messages.Kind.{Kind}
 use Rattle.wl_requests.specs.declared.messages.Kind.TheVariants as kind
 use Rattle.wl_proto.specs.declared.wl_subsurface.WlSubsurfaceRequest.TheVariants as subsurface
 use Rattle.wl_proto.specs.declared.wl_surface.WlSurfaceRequest.TheVariants as surface
+use Rattle.wl_proto.specs.declared.xdg_popup.XdgPopupRequest.TheVariants as popup
 use Rattle.wl_requests.specs.declared.residents.Resident.{Resident as Kept}
 use Rattle.wl_requests.specs.Linking.{IsOnlyChild}
 use Rattle.wl_requests.specs.Residents.{asked_by}
-use Rattle.wl_requests.specs.Touching.{Touch, Commits, Destroys, Parts, Releases}
+use Rattle.wl_requests.specs.Touching.{Touch, Closes, Commits, Destroys, Parts, Releases}
 use Rattle.wl_plain.specs.LeftOut.{served_now}
 use Rattle.wl_peer.specs.Requests.{request_of, toplevel_request}
 
@@ -33,6 +34,7 @@ IsKind (kind.Base request) m = m ≡ xdg_wm_base_request request
 IsKind (kind.XdgSurface request) m = m ≡ xdg_surface_request request
 IsKind (kind.Toplevel toplevel) m = (m.interface ≡ XdgToplevel) × (toplevel ≡ asked_by (toplevel_request m.opcode m.fields))
 IsKind (kind.Subsurface request) m = m ≡ wl_subsurface_request request
+IsKind (kind.Popup request) m = m ≡ xdg_popup_request request
 IsKind kind.Unserved m = served_now.requests (request_of m) ≡ true
 
 abbrev pub IsAsked : ClientView → Asked → Type 0
@@ -50,6 +52,7 @@ IsTouchOf (kind.Surface surface.Destroy) object target v touch = touch ≡ Destr
 IsTouchOf (kind.Subsurface subsurface.Destroy) object target v touch = (child : ℕ) × IsOnlyChild v object child × (touch ≡ Parts child)
 IsTouchOf (kind.Subsurface subsurface.SetDesync) object target v touch = (child : ℕ) × IsOnlyChild v object child
     × (touch ≡ Releases child)
+IsTouchOf (kind.Popup popup.Destroy) object target v touch = touch ≡ Closes target
 IsTouchOf kind object target v touch = ⊥
 
 abbrev pub IsTouchOfAsked : {A : Type 0} → Asked → Kept A → Touch → Type 0

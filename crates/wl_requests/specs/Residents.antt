@@ -1,12 +1,12 @@
 -- What the desk keeps of a client agrees with a client of the plain desktop, and what a request makes of both.
 use Rattle.std.specs.List.{list_all}
-use Rattle.std.specs.Prelude.{ℕ, ◌≡◌, ◌⊎◌, ◌+◌, ◌-◌, IfSome, None, Some, is_some, Result, Ok, Err, Bool, true, false, Option, List, []}
+use Rattle.std.specs.Prelude.{ℕ, ◌≡◌, ◌⊎◌, ◌+◌, ◌-◌, IfSome, None, Some, is_some, Result, Ok, Err, Bool, true, false, Option}
 use Rattle.std.specs.Prelude.{◌≤◌, take, drop, length}
 use Rattle.wl_wire.specs.Wire.{split_of}
 use Rattle.wl_wire.specs.declared.header.Split.{Split}
 use Rattle.wl_wire.specs.declared.header.Split.TheVariants.{Message as Whole, More, Bad}
 use Rattle.wl_interface.specs.declared.interface.Interface.TheVariants.{WlSubcompositor, WlSubsurface, WlSurface, XdgSurface, XdgToplevel}
-use Rattle.wl_interface.specs.declared.interface.Interface.TheVariants.{XdgWmBase}
+use Rattle.wl_interface.specs.declared.interface.Interface.TheVariants.{XdgPopup, XdgWmBase}
 use Rattle.wl_proto.specs.Messages.{Message}
 use Rattle.wl_proto.specs.Objects.{new_id_in, objects_in as objects_named}
 use Rattle.wl_table.specs.Objects.{Held, entry_of}
@@ -15,17 +15,22 @@ use Rattle.wl_peer.specs.Objects.{fits, is_of, objects_in}
 use Rattle.wl_peer.specs.Peer.{Errs, LacksMemory, Peer, Queues, WantsOr, counted, with_rest}
 use Rattle.wl_peer.specs.declared.refusals.Refusal.{Refusal}
 use Rattle.wl_peer.specs.declared.refusals.ErrorCode.TheVariants.{InvalidMethod}
-use Rattle.wl_peer.specs.Told.{Said, display_error}
-use Rattle.wl_xdg_state.specs.Kept.{Kept as KeptXdg, kept_of}
-use Rattle.wl_xdg_state.specs.Shell.{Effect, Maps, Unmaps, next_serial}
+use Rattle.wl_peer.specs.Told.{display_error}
+use Rattle.wl_xdg_state.specs.Kept.{kept_of}
+use Rattle.wl_xdg_state.specs.Popups.{is_toplevel}
+use Rattle.wl_xdg_state.specs.Shell.{Effect, Maps, Unmaps, next_serial, xdg_of}
 use Rattle.wl_xdg_state.specs.declared.acts.ShellAct.{ShellAct}
 use Rattle.wl_xdg_state.specs.declared.acts.ShellAct.TheVariants.{Configure, Map, Unmap}
 use Rattle.wl_requests.specs.declared.residents.Resident.{Resident as Kept}
 use Rattle.wl_requests.specs.declared.xdg_toplevel.ToplevelAsked.{ToplevelAsked}
 use Rattle.wl_requests.specs.declared.xdg_toplevel.ToplevelAsked.TheVariants.{Destruction, Configure as AskedConfigure}
 use Rattle.wl_requests.specs.declared.xdg_toplevel.ToplevelAsked.TheVariants.{Move as AskedMove, Nothing as AskedNothing}
+use Rattle.wl_requests.specs.declared.messages.Asked.{Asked}
+use Rattle.wl_requests.specs.declared.messages.Kind.{Kind}
+use Rattle.wl_requests.specs.declared.residents.Placing.{Placing}
 use Rattle.wl_requests.specs.declared.residents.Stacking.{Stacking}
 use Rattle.wl_requests.specs.declared.residents.Stacking.TheVariants.{Stays, ToTop, Out}
+use Rattle.wl_requests.specs.Placing.{IsPlacingFor, IsPlacingOf}
 use Rattle.wl_plain.specs.Ask.{Ask}
 use Rattle.wl_plain.specs.Changing.{changed_for}
 use Rattle.wl_plain.specs.Demand.{Demand, CommitTree, EndToplevel}
@@ -34,18 +39,19 @@ use Rattle.wl_peer.specs.ToplevelRequest.{ToplevelRequest}
 use Rattle.wl_peer.specs.ToplevelRequest as toplevel
 use Rattle.wl_plain.specs.Desktop.{Desktop, Resident, unpointed}
 use Rattle.wl_plain.specs.LeftOut.{served_now}
-use Rattle.wl_invariants.specs.Orderly.{OwnsOrderly}
-use Rattle.wl_owning.specs.Owning.{IsOwned, by_number, names_in, targets_in}
+use Rattle.wl_ordered.specs.Ordered.{OwnsOrdered}
+use Rattle.wl_owning.specs.Owning.{IsOwned, by_number, targets_in}
+use Rattle.wl_owning.specs.RoleNames.{names_of}
 use Rattle.wl_owning.specs.Subsurfaces.{AreOfSurfaces}
 use Rattle.wl_plain.specs.Replies.{replies}
 use Rattle.wl_plain.specs.Stacked.{all_windows}
-use Rattle.wl_plain.specs.Step.{answers_to, changed_by, role_configured, takes_memory, with_peer}
+use Rattle.wl_plain.specs.Step.{answers_to, changed_by, takes_memory, with_peer}
 use Rattle.wl_plain.specs.Happens.{wants_memory}
 use Rattle.wl_plain.specs.Framing.{AreFramed}
 
 -- what is kept of the surfaces and of the shell stands for what the client owns
 abbrev pub Owns : {A : Type 0} → Kept A → Resident → Type 0
-Owns v r = IsOwned (names_in v.client.objects) v.owned.linked.surfaces v.owned.linked.family (kept_of v.owned.shell) r.owned
+Owns v r = IsOwned (names_of v.client.objects) v.owned.linked.surfaces v.owned.linked.family (kept_of v.owned.shell) r.owned
 
 -- the frame callbacks that are kept are those of the client, whose frame requests have numbers up to that of its last request
 abbrev pub KeepsFrames : {A : Type 0} → Kept A → Resident → Type 0
@@ -103,7 +109,7 @@ AnswersSo (Ok demand) c r d old new = MeetsSo c demand (with_peer (counted r.pee
 AnswersSo (Err refusal) c r d old new = (q : Peer) × Errs refusal r.peer q × IsLeft old new r q
 
 abbrev pub AnswersDemand : {A : Type 0} → (Resident → Result Demand Refusal) → Kept A → Kept A → Type 0
-AnswersDemand judged old new = (c : ℕ) (r : Resident) (d : Desktop) → IsResident old r → OwnsOrderly r
+AnswersDemand judged old new = (c : ℕ) (r : Resident) (d : Desktop) → IsResident old r → OwnsOrdered r
     → AnswersSo (judged r) c r d old new
 
 -- The same where it is known which of the two it was: done and told, though an event that isn't queued may end the client; or without
@@ -120,7 +126,7 @@ MeetsAs false c demand r d old new = (wants_memory demand ≡ true) × (q : Peer
 -- so it is of whatever client is stood for, where something is answered if it was done
 abbrev pub MeetsTold : {A X : Type 0} → (Resident → Demand) → Option X → Kept A → Kept A → Type 0
 MeetsTold demand result old new =
-    (c : ℕ) (r : Resident) (d : Desktop) → IsResident old r → OwnsOrderly r → MeetsAs (is_some result) c (demand r) r d old new
+    (c : ℕ) (r : Resident) (d : Desktop) → IsResident old r → OwnsOrdered r → MeetsAs (is_some result) c (demand r) r d old new
 
 -- done, or refused or without memory
 abbrev pub AnswersAs : {A : Type 0} → Bool → Result Demand Refusal → ℕ → Resident → Desktop → Kept A → Kept A → Type 0
@@ -129,8 +135,17 @@ AnswersAs true (Err refusal) c r d old new = ⊥
 AnswersAs false (Err refusal) c r d old new = (q : Peer) × Errs refusal r.peer q × IsLeft old new r q
 
 abbrev pub AnswersDemandAs : {A : Type 0} → Bool → (Resident → Result Demand Refusal) → Kept A → Kept A → Type 0
-AnswersDemandAs done judged old new = (c : ℕ) (r : Resident) (d : Desktop) → IsResident old r → OwnsOrderly r
+AnswersDemandAs done judged old new = (c : ℕ) (r : Resident) (d : Desktop) → IsResident old r → OwnsOrdered r
     → AnswersAs done (judged r) c r d old new
+
+-- So it is answered where what popups are placed by is that of the desktop, with this request to this object.
+abbrev pub AnswersPlaced : {A : Type 0} → Placing → Kind → ℕ → (Resident → Result Demand Refusal) → Kept A → Kept A → Type 0
+AnswersPlaced placing kind object judged old new = (c : ℕ) (r : Resident) (d : Desktop) → IsResident old r → OwnsOrdered r
+    → IsPlacingFor placing object kind c r d → AnswersSo (judged r) c r d old new
+
+abbrev pub AnswersPlacedAs : {A : Type 0} → Bool → Placing → Kind → ℕ → (Resident → Result Demand Refusal) → Kept A → Kept A → Type 0
+AnswersPlacedAs done placing kind object judged old new = (c : ℕ) (r : Resident) (d : Desktop) → IsResident old r → OwnsOrdered r
+    → IsPlacingFor placing object kind c r d → AnswersAs done (judged r) c r d old new
 
 -- what has come of a client and wasn't taken gets no longer
 abbrev pub Leaves : {A : Type 0} → Kept A → Kept A → Type 0
@@ -168,6 +183,10 @@ IsXdgSurface v id surface = targets_in XdgSurface v.client.objects id ≡ Some s
 abbrev pub IsToplevel : {A : Type 0} → Kept A → ℕ → ℕ → Type 0
 IsToplevel v id surface = targets_in XdgToplevel v.client.objects id ≡ Some surface
 
+-- the popup with this id is that of the surface of this number
+abbrev pub IsPopup : {A : Type 0} → Kept A → ℕ → ℕ → Type 0
+IsPopup v id surface = targets_in XdgPopup v.client.objects id ≡ Some surface
+
 -- the new id of a message is free, if it has one
 abbrev pub NewIsFree : {A : Type 0} → Kept A → Message → Type 0
 NewIsFree v m = IfSome (new_id_in m) (λ new. IsFree v new.id)
@@ -176,18 +195,10 @@ NewIsFree v m = IfSome (new_id_in m) (λ new. IsFree v new.id)
 abbrev pub ObjectsFit : {A : Type 0} → Kept A → Message → Type 0
 ObjectsFit v m = list_all (fits (objects_in v.client.objects)) (objects_named m) ≡ true
 
--- Where a commit came to a configure, the next serial is drawn, and the role object is configured with it.
+-- Where a commit came to a configure, the next serial is drawn.
 abbrev pub drawn_by : ShellAct → Peer → Peer
 drawn_by (Configure placed) p = record p { serial = next_serial p.serial }
 drawn_by act p = p
-
-abbrev pub told_of : ℕ → Option KeptXdg → List Said
-told_of serial None = []
-told_of serial (Some k) = role_configured serial k.id k.role
-
-abbrev pub told_by : ShellAct → ℕ → Option KeptXdg → List Said
-told_by (Configure placed) serial k = told_of serial k
-told_by act serial k = []
 
 -- What a request does to the stack of toplevels, by the number of its toplevel's surface: one that is mapped comes to the top, and one that
 -- is unmapped or goes is taken out.
@@ -205,8 +216,13 @@ stacking_by Map number = ToTop number
 stacking_by Unmap number = Out number
 stacking_by act number = Stays
 
+-- only a toplevel is stacked so: a popup's windows are stacked with those of a toplevel
+abbrev pub StacksIf : {A : Type 0} → Bool → Kept A → ℕ → Effect → Stacking → Type 0
+StacksIf true old id effect stacking = StacksBy old id effect stacking
+StacksIf false old id effect stacking = stacking ≡ Stays
+
 abbrev pub StacksFor : {A : Type 0} → Kept A → Resident → Demand → Stacking → Type 0
-StacksFor old r (CommitTree id) stacking = StacksBy old id (effect_of_commit r id) stacking
+StacksFor old r (CommitTree id) stacking = StacksIf (is_toplevel (xdg_of id r.owned.shell)) old id (effect_of_commit r id) stacking
 StacksFor old r (EndToplevel id xdg surface) stacking = StacksTo old surface Out stacking
 StacksFor old r demand stacking = stacking ≡ Stays
 
@@ -217,7 +233,7 @@ StacksSo old r (Err refusal) stacking = Unit {0}
 
 -- of whatever client is stood for, whose surfaces are in order
 abbrev pub Stacks : {A : Type 0} → (Resident → Result Demand Refusal) → Kept A → Stacking → Type 0
-Stacks judged old stacking = (r : Resident) → IsResident old r → OwnsOrderly r → StacksSo old r (judged r) stacking
+Stacks judged old stacking = (r : Resident) → IsResident old r → OwnsOrdered r → StacksSo old r (judged r) stacking
 
 -- The first message of what has come is taken and answered, and the mapped toplevels are restacked as it asks.
 abbrev pub TakesSo : {A : Type 0} → Split → ℕ → Resident → Desktop → Kept A → Kept A → Stacking → Type 0
@@ -236,13 +252,15 @@ TakesAs done (Whole object opcode size) c r d old new =
 TakesAs done Bad c r d old new = AnswersAs done (Err (display_error InvalidMethod)) c r d old new
 TakesAs done More c r d old new = ⊥
 
-abbrev pub TakesMessageAs : {A : Type 0} → Bool → Kept A → Kept A → Type 0
-TakesMessageAs done old new = (c : ℕ) (r : Resident) (d : Desktop) → IsResident old r → OwnsOrderly r
-    → TakesAs done (split_of r.peer.rest) c r d old new
+-- It is taken so where what popups are placed by is that of the desktop.
+abbrev pub TakesMessageAs : {A : Type 0} → Bool → Asked → Placing → Kept A → Kept A → Type 0
+TakesMessageAs done asked placing old new = (c : ℕ) (r : Resident) (d : Desktop) → IsResident old r → OwnsOrdered r
+    → IsPlacingOf placing asked c r d → TakesAs done (split_of r.peer.rest) c r d old new
 
-abbrev pub TakesMessage : {A : Type 0} → Kept A → Kept A → Stacking → Type 0
-TakesMessage old new stacking =
-    (c : ℕ) (r : Resident) (d : Desktop) → IsResident old r → OwnsOrderly r → TakesSo (split_of r.peer.rest) c r d old new stacking
+abbrev pub TakesMessage : {A : Type 0} → Asked → Placing → Kept A → Kept A → Stacking → Type 0
+TakesMessage asked placing old new stacking =
+    (c : ℕ) (r : Resident) (d : Desktop) → IsResident old r → OwnsOrdered r → IsPlacingOf placing asked c r d
+    → TakesSo (split_of r.peer.rest) c r d old new stacking
 
 -- what a toplevel's request comes to
 abbrev pub asked_by : ToplevelRequest → ToplevelAsked

@@ -1,6 +1,6 @@
 -- What a request made of the surfaces of a client that may change what several of them show, and what is told of that (wayland.xml,
--- wl_surface.commit and destroy; wl_subsurface.set_desync and destroy).
-use Rattle.std.specs.Prelude.{ℕ, Option, Some, None, List}
+-- wl_surface.commit and destroy; wl_subsurface.set_desync and destroy; xdg-shell.xml, xdg_popup.destroy).
+use Rattle.std.specs.Prelude.{ℕ, ◌≡◌, Option, Some, None, List, []}
 use Rattle.wl_linked.specs.declared.linked.Linked.{Linked}
 use Rattle.wl_linked.specs.Linked.{IsLink, Stand}
 use Rattle.wl_linked.specs.Tree.{IsCommitTold, IsDesyncTold, IsEndTold, IsTold}
@@ -10,7 +10,7 @@ use Rattle.wl_surface.specs.declared.applied.Change.{Change}
 use Rattle.wl_surface.specs.Surfaces.{Link, Surfaces}
 use Rattle.wl_surface.specs.Trees.{committed_in, destroyed_in, desynchronised_in, ended_in, ending, with_link}
 
--- such a request, with the number of its surface: that of a wl_subsurface is its child
+-- such a request, with the number of its surface: that of a wl_subsurface is its child, and that of an xdg_popup the popup's
 pub data Touch : Type 0 where
   -- wl_surface.commit
   Commits : ℕ → Touch
@@ -20,6 +20,8 @@ pub data Touch : Type 0 where
   Parts : ℕ → Touch
   -- wl_subsurface.set_desync
   Releases : ℕ → Touch
+  -- xdg_popup.destroy
+  Closes : ℕ → Touch
 
 -- the surface
 abbrev pub surface_of : Touch → ℕ
@@ -27,6 +29,7 @@ surface_of (Commits number) = number
 surface_of (Destroys number) = number
 surface_of (Parts child) = child
 surface_of (Releases child) = child
+surface_of (Closes number) = number
 
 -- what it makes of what is kept
 abbrev pub IsMade : {A : Type 0} → Touch → Linked A → Linked A → Type 0
@@ -36,6 +39,7 @@ IsMade (Parts child) old new =
     MakesBy child old.surfaces old.family new.surfaces new.family (λ number link those. ended_in those link)
 IsMade (Releases child) old new =
     MakesBy child old.surfaces old.family new.surfaces new.family (λ number link. desynchronised_in number)
+IsMade (Closes number) old new = new ≡ old
 
 -- and what it tells of that
 abbrev pub IsTouchTold : {A : Type 0} → Touch → Linked A → List (Change A) → Type 0
@@ -48,6 +52,7 @@ IsTouchTold (Parts child) old changes =
 IsTouchTold (Releases child) old changes =
     (all : Surfaces) (number : ℕ) (link : Link) → IsLink all number child link → Stand old.surfaces old.family all
     → IsDesyncTold number child all changes
+IsTouchTold (Closes number) old changes = changes ≡ []
 
 -- Where it was done, this is told of it.
 abbrev pub IsTouched : {A : Type 0} → Touch → Linked A → Linked A → Option (Applied A) → Type 0

@@ -3,8 +3,8 @@
 ghost use Rattle.std.specs.Prelude.{◌≡◌, None};
 ghost use Rattle.wl_peer.specs.Peer.{Peer, Queues};
 ghost use Rattle.wl_plain.specs.Happens.{frames_told};
-ghost use Rattle.wl_owning.specs.Owning.{names_in};
-ghost use Rattle.wl_invariants.specs.Orderly.{OwnsOrderly};
+ghost use Rattle.wl_owning.specs.RoleNames.{names_of};
+ghost use Rattle.wl_ordered.specs.Ordered.{OwnsOrdered};
 ghost use Rattle.wl_plain.specs.Desktop.{Resident as Plain};
 ghost use Rattle.wl_plain.specs.Framing.{done_due};
 ghost use Rattle.wl_requests.specs.Residents.{IsLeft, IsResident};
@@ -16,9 +16,9 @@ impl<A: Allocator + Copy> Resident<A> {
     /// Answers each callback whose request a commit applied, in the order of the requests: it is done at this time, in milliseconds, and its id
     /// is given back (wayland.xml, wl_surface.frame). One that isn't queued ends the client, and no more is answered.
     pub fn answer_frames(&mut self, time: u32)
-        ensures tells { self.old.client.ended ≡ None → (r : Plain) → IsResident self.old r → OwnsOrderly r
+        ensures tells { self.old.client.ended ≡ None → (r : Plain) → IsResident self.old r → OwnsOrdered r
             → (q : Peer) × Queues (frames_told time r) (done_due r).peer q × IsLeft self.old self.new (done_due r) q
-            × (self.new.client.ended ≡ None → names_in self.new.client.objects ≡ names_in self.old.client.objects) }
+            × (self.new.client.ended ≡ None → names_of self.new.client.objects ≡ names_of self.old.client.objects) }
         ensures places { self.new.owned.linked.surfaces.places ≡ self.old.owned.linked.surfaces.places }
     {
         while let Some(callback) = self.owned.linked.surfaces.next_frame() {

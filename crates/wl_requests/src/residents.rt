@@ -4,6 +4,7 @@ ghost use Rattle.std.specs.Prelude.{◌≡◌, None};
 
 use std::alloc::Allocator;
 use wl_client::Client;
+use wl_geom::Rect;
 use wl_scene::Owned;
 use wl_subsurfaces::Subsurfaces;
 use wl_surface::{Applied, SurfaceNo};
@@ -19,8 +20,16 @@ pub enum Stacking {
     Out(SurfaceNo),
 }
 
+/// What a popup is placed by where its surface is committed, in pixels of the output: within these bounds, which are the output's, and by
+/// where the window geometry of its parent stands (xdg-shell.xml, xdg_positioner).
+#[derive(Clone, Copy, Debug, PartialEq, Eq)]
+pub struct Placing {
+    pub bounds: Rect,
+    pub parent_at: (i32, i32),
+}
+
 /// What a request did: to the stack of toplevels, and what it applied, if it may change what surfaces show (wayland.xml, wl_surface.commit and
-/// destroy; wl_subsurface.set_desync and destroy).
+/// destroy; wl_subsurface.set_desync and destroy; xdg-shell.xml, xdg_popup.destroy).
 #[derive(Drop)]
 pub struct Outcome<A: Allocator> {
     pub stacking: Stacking,
@@ -39,8 +48,8 @@ impl<A: Allocator> Outcome<A> {
     }
 }
 
-/// A client, and its surfaces, wl_subsurfaces and xdg_surfaces. The table of its objects gives for each wl_surface, xdg_surface and
-/// xdg_toplevel the number of its surface.
+/// A client, and its surfaces, wl_subsurfaces and xdg_surfaces. The table of its objects gives for each wl_surface, xdg_surface,
+/// xdg_toplevel and xdg_popup the number of its surface.
 #[derive(Drop)]
 pub struct Resident<A: Allocator> {
     /// Its stream, its objects and its stores.

@@ -1,6 +1,6 @@
 //! The requests of wl_surface.
 
-ghost use Rattle.std.specs.Prelude.{◌≡◌, ◌==◌, ◌≢◌, ◌+◌, ◌++◌, ◌||◌, ℕ, ℤ, Bool, Ok, Option, None, Some, is_some, true, map, unsigned_abs};
+ghost use Rattle.std.specs.Prelude.{◌≡◌, ◌==◌, ◌≢◌, ◌+◌, ◌++◌, ◌||◌, ℕ, ℤ, Bool, if◌then◌else◌, Ok, Option, None, Some, is_some, true, map, unsigned_abs};
 ghost use Rattle.std.specs.List.{list_any};
 ghost use Rattle.std.specs.Option.{option_map};
 ghost use Rattle.wl_client.specs.Agreement.{IsPeer};
@@ -13,22 +13,26 @@ ghost use Rattle.wl_proto.specs.declared.wl_surface.WlSurfaceRequest.TheVariants
 ghost use Rattle.wl_geom.specs.declared.rect.Rect.{Rect as ScreenRect};
 ghost use Rattle.wl_xdg_state.specs.Kept.{Kept as KeptXdg, changing, commit_answer, kept_after, kept_of};
 ghost use Rattle.wl_plain.specs.Ask.{AskSurface};
+ghost use Rattle.wl_plain.specs.Changing.{changed_for, output_rect};
 ghost use Rattle.wl_plain.specs.Demand.{CommitTree, EndSurface};
-ghost use Rattle.wl_plain.specs.Desktop.{Desktop, Resident as Plain};
-ghost use Rattle.wl_invariants.specs.Orderly.{OwnsOrderly};
-ghost use Rattle.wl_owning.specs.Owning.{IsOwned, Names, by_number, effect_by, names_in};
+ghost use Rattle.wl_plain.specs.Desktop.{Desktop, Resident as Plain, unpointed};
+ghost use Rattle.wl_ordered.specs.Ordered.{OwnsOrdered};
+ghost use Rattle.wl_owning.specs.Owning.{IsOwned, Names, by_number, effect_by};
+ghost use Rattle.wl_owning.specs.Popups.{IsAtParent};
+ghost use Rattle.wl_owning.specs.RoleNames.{names_of};
 ghost use Rattle.wl_owning.specs.Subsurfaces.{AreOfSurfaces};
 ghost use Rattle.wl_plain.specs.Framing.{AreFramed};
 ghost use Rattle.wl_plain.specs.LeftOut.{served_now};
 ghost use Rattle.wl_requests.specs.Freed.{is_freed_in};
+ghost use Rattle.wl_requests.specs.Holding.{HoldsAs, HoldsBy, HoldsPlaced};
 ghost use Rattle.wl_requests.specs.Messages.{IsTouchOf};
 ghost use Rattle.wl_requests.specs.Touching.{IsTouched, Touch, Commits, Destroys};
-ghost use Rattle.wl_requests.specs.Residents.{AnswersDemand, AnswersDemandAs, Does, IsFree, IsSurface, Leaves, MeetsAs, MeetsTold, NewIsFree, stacking_by, Stacks};
+ghost use Rattle.wl_requests.specs.Residents.{AnswersDemand, AnswersDemandAs, AnswersPlaced, AnswersPlacedAs, Does, IsFree, IsResident, IsSurface, Leaves, MeetsAs, MeetsTold, NewIsFree, stacking_by, Stacks};
 ghost use Rattle.wl_plain.specs.Demanding.{demand_of, effect_of_commit};
-ghost use Rattle.wl_plain.specs.WlSurface.{buffer_named, region_named};
+ghost use Rattle.wl_plain.specs.WlSurface.{buffer_named, region_named, will_show};
 
 use crate::messages::Kind;
-use crate::residents::{Outcome, Resident, Stacking};
+use crate::residents::{Outcome, Placing, Resident, Stacking};
 use std::alloc::Allocator;
 use wl_client::{ErrorCode, Refusal};
 use wl_geom::Rect;
@@ -36,14 +40,6 @@ use wl_proto::{Interface, WlSurfaceRequest};
 use wl_shell::ShellAct;
 use wl_surface::{Applied, Attached, BufferNo, SurfaceNo};
 use wl_table::Entry;
-
-/// No toplevel is placed within bounds.
-const NO_BOUNDS: Rect = Rect {
-    x: 0,
-    y: 0,
-    w: 0,
-    h: 0,
-};
 
 /// Whether this is one of the eight transforms (wayland.xml, wl_output.transform).
 fn is_valid(transform: i32) -> bool
@@ -69,10 +65,13 @@ fn has_number(numbers: &[BufferNo], number: BufferNo) -> bool
     numbers.iter().any(|other| *other == number)
 }
 
-/// What a commit does to the stack, which came to this for the surface's xdg_surface.
-fn stacking_of(act: ShellAct, surface: SurfaceNo) -> Stacking
-    ensures { result ≡ stacking_by act surface }
+/// What a commit does to the stack, which came to this for the surface's xdg_surface: only a toplevel is stacked.
+fn stacking_of(act: ShellAct, surface: SurfaceNo, is_toplevel: bool) -> Stacking
+    ensures { result ≡ (if is_toplevel then stacking_by act surface else Stacking.Stays) }
 {
+    if !is_toplevel {
+        return Stacking::Stays;
+    }
     match act {
         ShellAct::Map => Stacking::ToTop(surface),
         ShellAct::Unmap => Stacking::Out(surface),
@@ -106,6 +105,8 @@ impl<A: Allocator + Copy> Resident<A> {
         ensures touched { IsTouched (Destroys surface) self.old.owned.linked self.new.owned.linked result }
         ensures rest { Leaves self.old self.new }
         ensures room { is_some result ≡ true → has_room ≡ true }
+        ensures holds { IsSurface self.old object surface → kept_of self.old.owned.shell surface ≡ None → (c : ℕ) (r : Plain) (d : Desktop) → IsResident self.old r
+            → OwnsOrdered r → is_some result ≡ true → HoldsBy self.old self.new (changed_for c (EndSurface object) r (unpointed d)).owned }
     {
         let [pending, _, _] = self.owned.linked.surfaces.buffers(surface);
         let Ok(told) = self.owned.linked.destroy(surface) else {
@@ -169,34 +170,40 @@ impl<A: Allocator + Copy> Resident<A> {
         }
     }
 
-    /// wl_surface.commit: what is pending counts, and the shell says what that comes to.
+    /// wl_surface.commit: what is pending counts, and the shell says what that comes to. A popup is placed by what is handed in for that.
     fn commit(
         &mut self,
         object: u32,
         version: u32,
         surface: SurfaceNo,
         has_room: bool,
+        placing: Placing,
     ) -> Outcome<A>
         ensures answers { IsSurface self.old object surface
-            → AnswersDemandAs (is_some result.applied) (λ r. demand_of served_now r object version (wl_surface_request Commit)) self.old self.new }
+            → AnswersPlacedAs (is_some result.applied) placing (Kind.Surface Commit) object (λ r. demand_of served_now r object version (wl_surface_request Commit)) self.old self.new }
         ensures stacks { IsSurface self.old object surface
             → Stacks (λ r. demand_of served_now r object version (wl_surface_request Commit)) self.old result.stacking }
         ensures touched { IsTouched (Commits surface) self.old.owned.linked self.new.owned.linked result.applied }
         ensures rest { Leaves self.old self.new }
         ensures room { is_some result.applied ≡ true → has_room ≡ true }
+        ensures holds { IsSurface self.old object surface
+            → HoldsPlaced (is_some result.applied) placing (Kind.Surface Commit) object (λ r. demand_of served_now r object version (wl_surface_request Commit)) self.old self.new }
     {
         let has_buffer = self.owned.linked.surfaces.pending_buffer(surface).is_some();
+        let is_toplevel = self.has_toplevel(surface);
         let serial = self.client.serial();
-        match self
-            .owned
-            .shell
-            .on_commit(surface, has_buffer, NO_BOUNDS, (0, 0), serial)
-        {
+        match self.owned.shell.on_commit(
+            surface,
+            has_buffer,
+            placing.bounds,
+            placing.parent_at,
+            serial,
+        ) {
             Ok(act) => {
                 self.client.count();
                 let applied = self.apply(surface, act, serial, has_room);
                 Outcome {
-                    stacking: stacking_of(act, surface),
+                    stacking: stacking_of(act, surface, is_toplevel),
                     applied,
                 }
             }
@@ -216,16 +223,23 @@ impl<A: Allocator + Copy> Resident<A> {
         serial: u32,
         has_room: bool,
     ) -> Option<Applied<A>>
-        ensures applies { (c : ℕ) (r : Plain) (d : Desktop) (names : Names) (object : ℕ) (kept : ℕ → Option KeptXdg) (shows : Bool) (bounds : ScreenRect) (at : ℤ × ℤ) → OwnsOrderly r
+        ensures applies { (c : ℕ) (r : Plain) (d : Desktop) (names : Names) (object : ℕ) (kept : ℕ → Option KeptXdg) (bounds : ScreenRect) (at : ℤ × ℤ) → OwnsOrdered r
             → effect_of_commit r object ≡ effect_by act → r.peer.status ≡ None → IsPeer self.old.client r.peer → IsOwned names self.old.owned.linked.surfaces self.old.owned.linked.family kept r.owned
             → AreFramed self.old.owned.linked.surfaces.frames (by_number names.surfaces r.owned.surfaces) (r.peer.requests + 1) r.callbacks
             → AreOfSurfaces self.old.subsurfaces names.surfaces r.subsurfaces
-            → names_in self.old.client.objects ≡ names → names.surfaces object ≡ Some surface → commit_answer shows bounds at (kept surface) ≡ Ok act → serial ≡ r.peer.serial
+            → names_of self.old.client.objects ≡ names → names.surfaces object ≡ Some surface → bounds ≡ output_rect d.output → IsAtParent at c object r d
+            → commit_answer (will_show r object) bounds at (kept surface) ≡ Ok act → serial ≡ r.peer.serial
             → kept_of self.old.owned.shell ≡ changing surface (kept_after r.peer.serial act) kept
             → MeetsAs (is_some result) c (CommitTree object) r d self.old self.new }
         ensures touched { IsTouched (Commits surface) self.old.owned.linked self.new.owned.linked result }
         ensures rest { Leaves self.old self.new }
         ensures room { is_some result ≡ true → has_room ≡ true }
+        ensures holds { (c : ℕ) (r : Plain) (d : Desktop) (names : Names) (object : ℕ) (kept : ℕ → Option KeptXdg) (bounds : ScreenRect) (at : ℤ × ℤ) → OwnsOrdered r
+            → IsOwned names self.old.owned.linked.surfaces self.old.owned.linked.family kept r.owned → names_of self.old.client.objects ≡ names
+            → names.surfaces object ≡ Some surface → bounds ≡ output_rect d.output → IsAtParent at c object r d
+            → commit_answer (will_show r object) bounds at (kept surface) ≡ Ok act
+            → kept_of self.old.owned.shell ≡ changing surface (kept_after r.peer.serial act) kept
+            → is_some result ≡ true → HoldsBy self.old self.new (changed_for c (CommitTree object) r (unpointed d)).owned }
     {
         let Ok(told) = self.owned.linked.commit(surface) else {
             self.client.lack_memory();
@@ -275,6 +289,8 @@ impl<A: Allocator + Copy> Resident<A> {
         ensures stays { result.stacking ≡ Stacking.Stays }
         ensures rest { Leaves self.old self.new }
         ensures room { is_some result.applied ≡ true → has_room ≡ true }
+        ensures holds { IsSurface self.old object surface
+            → HoldsAs (is_some result.applied) (λ r. demand_of served_now r object version (wl_surface_request Destroy)) self.old self.new }
     {
         if self.has_xdg_surface(surface) {
             let refusal = Refusal::of(object, ErrorCode::SurfaceHasRoleObject);
@@ -331,21 +347,24 @@ impl<A: Allocator + Copy> Resident<A> {
         surface: SurfaceNo,
         request: &WlSurfaceRequest,
         has_room: bool,
+        placing: Placing,
     ) -> Outcome<A>
         ensures answers { IsSurface self.old object surface → NewIsFree self.old (wl_surface_request request.now)
-            → AnswersDemand (λ r. demand_of served_now r object version (wl_surface_request request.now)) self.old self.new }
+            → AnswersPlaced placing (Kind.Surface request.now) object (λ r. demand_of served_now r object version (wl_surface_request request.now)) self.old self.new }
         ensures stacks { IsSurface self.old object surface
             → Stacks (λ r. demand_of served_now r object version (wl_surface_request request.now)) self.old result.stacking }
         ensures decides { (touch : Touch) → IsTouchOf (Kind.Surface request.now) object surface self.old touch → IsSurface self.old object surface
-            → AnswersDemandAs (is_some result.applied) (λ r. demand_of served_now r object version (wl_surface_request request.now)) self.old self.new }
+            → AnswersPlacedAs (is_some result.applied) placing (Kind.Surface request.now) object (λ r. demand_of served_now r object version (wl_surface_request request.now)) self.old self.new }
         ensures touched { (touch : Touch) → IsTouchOf (Kind.Surface request.now) object surface self.old touch
             → IsTouched touch self.old.owned.linked self.new.owned.linked result.applied }
         ensures nothing { ((touch : Touch) → IsTouchOf (Kind.Surface request.now) object surface self.old touch → ⊥) → result.applied ≡ None }
         ensures rest { Leaves self.old self.new }
         ensures room { is_some result.applied ≡ true → has_room ≡ true }
+        ensures holds { (touch : Touch) → IsTouchOf (Kind.Surface request.now) object surface self.old touch → IsSurface self.old object surface
+            → HoldsPlaced (is_some result.applied) placing (Kind.Surface request.now) object (λ r. demand_of served_now r object version (wl_surface_request request.now)) self.old self.new }
     {
         match *request {
-            WlSurfaceRequest::Commit => self.commit(object, version, surface, has_room),
+            WlSurfaceRequest::Commit => self.commit(object, version, surface, has_room, placing),
             WlSurfaceRequest::Destroy => self.destroy(object, version, surface, has_room),
             WlSurfaceRequest::Attach { buffer, x, y } => {
                 self.client.count();

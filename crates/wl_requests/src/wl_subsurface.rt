@@ -10,6 +10,7 @@ ghost use Rattle.wl_proto.specs.Messages.{wl_subsurface_request};
 ghost use Rattle.wl_proto.specs.declared.wl_subsurface.WlSubsurfaceRequest.TheVariants.{Destroy, PlaceAbove, PlaceBelow, SetDesync, SetPosition, SetSync};
 ghost use Rattle.wl_plain.specs.Demanding.{demand_of};
 ghost use Rattle.wl_requests.specs.Messages.{IsTouchOf};
+ghost use Rattle.wl_requests.specs.Holding.{HoldsAs};
 ghost use Rattle.wl_requests.specs.Linking.{IsChildOf, IsOnlyChild};
 ghost use Rattle.wl_requests.specs.Residents.{AnswersDemand, AnswersDemandAs, IsSubsurface, IsSurface, Leaves, ObjectsFit};
 ghost use Rattle.wl_requests.specs.Touching.{IsTouched, Parts, Releases, Touch};
@@ -121,6 +122,8 @@ impl<A: Allocator + Copy> Resident<A> {
         ensures nothing { ((child : ℕ) → IsOnlyChild self.old object child → ⊥) → (numbers : ById ℕ) (subsurfaces : List Subsurface) → AreOfSurfaces self.old.subsurfaces numbers subsurfaces → result ≡ None }
         ensures rest { Leaves self.old self.new }
         ensures room { is_some result ≡ true → has_room ≡ true }
+        ensures holds { (child : ℕ) → IsOnlyChild self.old object child → IsSubsurface self.old object
+            → HoldsAs (is_some result) (λ r. demand_of served_now r object version (wl_subsurface_request SetDesync)) self.old self.new }
     {
         self.client.count();
         let child = self.child_of(object)?;
@@ -163,6 +166,8 @@ impl<A: Allocator + Copy> Resident<A> {
         ensures nothing { ((child : ℕ) → IsOnlyChild self.old object child → ⊥) → (numbers : ById ℕ) (subsurfaces : List Subsurface) → AreOfSurfaces self.old.subsurfaces numbers subsurfaces → result ≡ None }
         ensures rest { Leaves self.old self.new }
         ensures room { is_some result ≡ true → has_room ≡ true }
+        ensures holds { (child : ℕ) → IsOnlyChild self.old object child → IsSubsurface self.old object
+            → HoldsAs (is_some result) (λ r. demand_of served_now r object version (wl_subsurface_request Destroy)) self.old self.new }
     {
         self.client.count();
         let Some(child) = self.child_of(object) else {
@@ -201,6 +206,8 @@ impl<A: Allocator + Copy> Resident<A> {
         ensures stays { result.stacking ≡ Stacking.Stays }
         ensures rest { Leaves self.old self.new }
         ensures room { is_some result.applied ≡ true → has_room ≡ true }
+        ensures holds { (target : ℕ) (touch : Touch) → IsTouchOf (Kind.Subsurface request.now) object target self.old touch → IsSubsurface self.old object
+            → HoldsAs (is_some result.applied) (λ r. demand_of served_now r object version (wl_subsurface_request request.now)) self.old self.new }
     {
         let mut applied = None;
         match *request {

@@ -1,15 +1,17 @@
 //! The requests of xdg_surface.
 
-ghost use Rattle.std.specs.Prelude.{◌≡◌, is_some, true};
-ghost use Rattle.wl_client.specs.Agreement.{IsPeer};
+ghost use Rattle.std.specs.Prelude.{◌≡◌, ◌+◌, is_some, min, true};
+ghost use Rattle.wl_client.specs.Agreement.{IsPeer, most_counted};
+ghost use Rattle.wl_interface.specs.declared.interface.Interface.TheVariants.{XdgSurface};
 ghost use Rattle.wl_peer.specs.Peer.{Errs, Peer};
 ghost use Rattle.wl_proto.specs.Messages.{xdg_surface_request};
-ghost use Rattle.wl_proto.specs.declared.xdg_surface.XdgSurfaceRequest.TheVariants.{AckConfigure, Destroy, GetToplevel, SetWindowGeometry};
+ghost use Rattle.wl_proto.specs.declared.xdg_surface.XdgSurfaceRequest.TheVariants.{AckConfigure, Destroy, GetPopup, GetToplevel, SetWindowGeometry};
 ghost use Rattle.wl_xdg_state.specs.Kept.{kept_of};
-ghost use Rattle.wl_owning.specs.Owning.{kept_base, kept_id, shell_refusal};
-ghost use Rattle.wl_requests.specs.Residents.{AnswersDemand, IsFree, IsXdgSurface, Leaves, NewIsFree};
+ghost use Rattle.wl_owning.specs.Owning.{kept_base, kept_id, shell_refusal, targets_in};
+ghost use Rattle.wl_requests.specs.Residents.{AnswersDemand, IsFree, IsXdgSurface, Leaves, NewIsFree, ObjectsFit};
 ghost use Rattle.wl_plain.specs.LeftOut.{served_now};
 ghost use Rattle.wl_plain.specs.Demanding.{demand_of};
+ghost use Rattle.wl_plain.specs.XdgPopup.{is_no_popup, positioner_of};
 ghost use Rattle.wl_plain.specs.XdgShell.{is_no_toplevel};
 
 use crate::residents::Resident;
@@ -17,9 +19,19 @@ use std::alloc::Allocator;
 use wl_client::{ErrorCode, Refusal};
 use wl_geom::Rect;
 use wl_proto::{Interface, XdgSurfaceRequest};
-use wl_shell::ShellError;
+use wl_shell::{NewPopup, Positioner, ShellError};
 use wl_surface::{Role, SurfaceNo};
 use wl_table::Entry;
+
+/// What xdg_surface.get_popup asks: a popup under this id.
+#[derive(Clone, Copy)]
+pub(crate) struct PopupAsked {
+    pub id: u32,
+    /// The id of the xdg_surface of its parent.
+    pub parent: u32,
+    /// The id of its xdg_positioner.
+    pub positioner: u32,
+}
 
 /// An error of the shell's with its object: the xdg_wm_base, the xdg_surface, wl_display, or else the object that was asked.
 pub(crate) fn refusal_of(base: u32, xdg_surface: u32, object: u32, error: ShellError) -> Refusal
@@ -52,6 +64,16 @@ fn is_other_role(role: Option<Role>) -> bool
     match role {
         None | Some(Role::Toplevel) => false,
         Some(Role::Popup) | Some(Role::Subsurface) | Some(Role::Cursor) => true,
+    }
+}
+
+/// Whether a role isn't that of a popup.
+fn is_not_of_popup(role: Option<Role>) -> bool
+    ensures { result ≡ is_no_popup role }
+{
+    match role {
+        None | Some(Role::Popup) => false,
+        Some(Role::Toplevel) | Some(Role::Subsurface) | Some(Role::Cursor) => true,
     }
 }
 
@@ -155,7 +177,74 @@ impl<A: Allocator + Copy> Resident<A> {
         }
     }
 
-    /// A request of the xdg_surface of a surface, whose new id is free.
+    /// The number of the surface of the xdg_surface with this id.
+    fn surface_of_xdg(&self, id: u32) -> Option<SurfaceNo>
+        ensures { result ≡ targets_in XdgSurface self.now.client.objects id }
+    {
+        let entry = self.client.object(id)?;
+        match entry.interface {
+            Interface::XdgSurface => Some(entry.target),
+            _ => None,
+        }
+    }
+
+    /// The values of the xdg_positioner with this id.
+    fn positioner_of(&self, id: u32) -> Positioner
+        ensures { (p : Peer) → IsPeer self.now.client p → result ≡ positioner_of (p.positioners id) }
+    {
+        match self.client.positioner(id) {
+            Some(positioner) => *positioner,
+            None => Positioner::new(),
+        }
+    }
+
+    /// The number of the request that is answered, up to the greatest of 64 bits.
+    fn request_number(&self) -> u64
+        ensures { result ≡ min (self.now.client.requests + 1) most_counted }
+    {
+        self.client.requests().saturating_add(1)
+    }
+
+    /// xdg_surface.get_popup: a new popup under a free id, whose number is that of its request. The surface has the role of one from then on.
+    /// There is no memory for a number of more than 64 bits.
+    fn get_popup(&mut self, object: u32, version: u32, surface: SurfaceNo, asked: &PopupAsked)
+        ensures answers { IsXdgSurface self.old object surface → IsFree self.old asked.now.id
+            → ObjectsFit self.old (xdg_surface_request (GetPopup asked.now.id asked.now.parent asked.now.positioner))
+            → AnswersDemand (λ r. demand_of served_now r object version (xdg_surface_request (GetPopup asked.now.id asked.now.parent asked.now.positioner))) self.old self.new }
+        ensures rest { Leaves self.old self.new }
+    {
+        let has_other_role = is_not_of_popup(self.owned.linked.surfaces.role(surface));
+        let number = self.request_number();
+        let positioner = self.positioner_of(asked.positioner);
+        let popup = NewPopup {
+            id: asked.id,
+            parent: self.surface_of_xdg(asked.parent),
+            number,
+        };
+        match self
+            .owned
+            .shell
+            .get_popup(surface, &popup, &positioner, has_other_role)
+        {
+            Ok(()) => {
+                self.client.count();
+                if number == u64::MAX {
+                    self.client.lack_memory();
+                    return;
+                }
+                let _given = self.owned.linked.surfaces.give_role(surface, Role::Popup);
+                let entry = Entry {
+                    interface: Interface::XdgPopup,
+                    version,
+                    target: surface,
+                };
+                self.client.add(asked.id, entry, &[]);
+            }
+            Err(error) => self.refuse_xdg_surface(object, surface, error),
+        }
+    }
+
+    /// A request of the xdg_surface of a surface, whose new id is free, and whose objects are there.
     pub(crate) fn xdg_surface(
         &mut self,
         object: u32,
@@ -163,7 +252,7 @@ impl<A: Allocator + Copy> Resident<A> {
         surface: SurfaceNo,
         request: &XdgSurfaceRequest,
     )
-        ensures answers { IsXdgSurface self.old object surface → NewIsFree self.old (xdg_surface_request request.now)
+        ensures answers { IsXdgSurface self.old object surface → NewIsFree self.old (xdg_surface_request request.now) → ObjectsFit self.old (xdg_surface_request request.now)
             → AnswersDemand (λ r. demand_of served_now r object version (xdg_surface_request request.now)) self.old self.new }
         ensures rest { Leaves self.old self.new }
     {
@@ -172,7 +261,18 @@ impl<A: Allocator + Copy> Resident<A> {
             XdgSurfaceRequest::GetToplevel { id } => self.get_toplevel(
                 object, version, surface, id,
             ),
-            XdgSurfaceRequest::GetPopup { .. } => self.refuse_unserved(),
+            XdgSurfaceRequest::GetPopup {
+                id,
+                parent,
+                positioner,
+            } => {
+                let asked = PopupAsked {
+                    id,
+                    parent,
+                    positioner,
+                };
+                self.get_popup(object, version, surface, &asked);
+            }
             XdgSurfaceRequest::SetWindowGeometry {
                 x,
                 y,

@@ -1,142 +1,215 @@
 -- A message that touches no tree of surfaces: the toplevels and their windows stay as they are, unless its client ended.
-use Rattle.std.proofs.Common.{◌≡◌, ℕ, ◌<◌, List, Option, None, Some, refl, ap, sym, subst, ◌∙◌}
-use Rattle.std.specs.Prelude.{is_some, pos, true, ◌||◌}
-use Rattle.wl_paint.specs.Damage.{has}
+use Rattle.std.proofs.Common.{◌≡◌, ℕ, ◌<◌, Bool, true, false, cond, List, [], Option, None, Some, eqb-true, refl, ap, sym, subst, ◌∙◌, inl}
+use Rattle.std.specs.Prelude.{is_some, pos, ◌||◌, ◌==◌}
+use Rattle.std.proofs.lemmas.Bool.{or_left}
+use Rattle.wl_wire.specs.Wire.{split_of}
+use Rattle.wl_laws.proofs.Lists.Keys.{differ}
+use Rattle.wl_lending.specs.Stacked.{AreStacked}
+use Rattle.wl_named.specs.Renaming.{has_surface}
+use Rattle.wl_paint.specs.Damage.{Damaged, has}
 use Rattle.wl_peer.specs.declared.cause.Cause.{Cause}
 use Rattle.wl_peer.specs.Objects.{ById}
-use Rattle.wl_surface.specs.declared.applied.Applied.{Applied}
-use Rattle.wl_plain.specs.Desktop.{Desktop, Resident, client_at, status_in, status_of}
+use Rattle.wl_plain.specs.Demand.{Demand}
+use Rattle.wl_plain.specs.Desktop.{Desktop, Resident, client_at, owned_in, owned_of, status_in}
 use Rattle.wl_plain.specs.Happens.{Serves}
 use Rattle.wl_plain.specs.LeftOut.{served_now}
 use Rattle.wl_plain.specs.Stacked.{all_windows}
 use Rattle.wl_plain.specs.Through.{ServesThrough}
-use Rattle.wl_lending.specs.Stacked.{AreStacked}
-use Rattle.wl_invariants.proofs.OrderlyClients.Clients.{messages_keep_order}
-use Rattle.wl_invariants.specs.Orderly.{Orderly, OwnsOrderly}
-use Rattle.wl_changes.proofs.MessageWays.Trees.{orderly_has_trees}
-use Rattle.wl_changes.specs.Trees.{HasTrees}
-use Rattle.wl_requests.specs.declared.messages.Asked.{Asked}
+use Rattle.wl_ordered.specs.Ordered.{Ordered}
+use Rattle.wl_requests.specs.Residents.{KeepsNumbers}
 use Rattle.wl_requests.specs.declared.residents.Resident.{Resident as Kept}
-use Rattle.wl_requests.specs.declared.residents.Stacking.{Stacking}
-use Rattle.wl_requests.specs.Residents.{IsResident, Owns}
+use Rattle.wl_runs.proofs.Demanded.{nothing-is-marked, touches-nothing}
+use Rattle.wl_stacking.specs.Stacking.{Owned}
+use Rattle.wl_toplevels.specs.Changes.{StaysPainted}
+use Rattle.wl_toplevels.specs.Done.{touched_by}
+use Rattle.wl_toplevels.specs.Messages.{IsDemanded, MessageChanges}
+use Rattle.wl_toplevels.specs.StackedWith.{ChangesAt}
+use Rattle.wl_toplevels.proofs.RootsOf.Messages.{messages-change}
+use Rattle.wl_ways.specs.Ways.{Struck}
 use Rattle.wl_resident.specs.declared.screens.Screen.{Screen}
-use Rattle.wl_resident.specs.Agreement.{with_numbers}
+use Rattle.wl_resident.specs.Agreement.{IsSeat, with_numbers}
 use Rattle.wl_resident.specs.Marking.{MarksAtLeast, MarksMost, MarksThrough}
-use Rattle.wl_resident.specs.Screens.{IsTouchedBy, has_own}
-use Rattle.wl_resident.specs.Seats.{IsClearedBy, IsRestacked, IsSeated}
-use Rattle.wl_resident.specs.View.{Pile, pile_of}
-use Rattle.wl_resident.proofs.Assembling.{Asks, leads-seated, leads-through, owns, resident, trees}
-use Rattle.wl_resident.proofs.Ended.{Ending, ended-least, ended-on, ended-seated, ended-through, ending-apart}
-use Rattle.wl_resident.proofs.Living.{stays-apart}
-use Rattle.wl_resident.proofs.Serving as serving
+use Rattle.wl_resident.specs.Screens.{has_own}
+use Rattle.wl_resident.specs.Seats.{IsClearedBy, IsSeated}
+use Rattle.wl_resident.specs.View.{owned_view, pile_of}
+use Rattle.wl_resident.proofs.Ended.{Ending, Taken, TellsEnd, ended-least, ended-on, ended-seated, ended-through}
+use Rattle.wl_resident.proofs.Gone.{WayLaws}
+use Rattle.wl_resident.proofs.Lived.{led-seated, led-serves, led-status, led-through, status-after, trees-after}
+use Rattle.wl_resident.proofs.Renumbered.{renumbered-since}
 use Rattle.wl_resident.proofs.Sitting.{numbers}
+use Rattle.wl_resident.proofs.Standings.{whole-so}
 
--- ---- the client lives on
+-- ---- a message that changes no windows
 
+untouched-least : (d e : Desktop) → StaysPainted d e → (damage : Damaged) → MarksAtLeast d e damage damage
+untouched-least d e stays damage x y wide high clean = (clean, nothing-is-marked d e stays (pos x) (pos y))
+
+untouched-most : (d e : Desktop) (damage : Damaged) → MarksMost d e damage damage
+untouched-most d e damage x y wide high marked = or_left (has damage x y) _ marked
+
+-- ---- numbers
+
+-- A surface that was there and is there still has its number, whosever it is.
 module _ {A : Type 0} (c : ℕ) (others : ℕ → ById ℕ) (base d : Desktop) (r : Resident) (old mid : Kept A) (was : Screen A) (before : IsSeated c others base old (pile_of was) d r)
-    (orderly : Orderly d) (asked : Asked) (stacking : Stacking) (applied : Option (Applied A)) (a : Asks c old mid was was asked None stacking applied) (by : IsTouchedBy old asked None)
-    (alive : mid.client.ended ≡ None) where
-  abbrev pile : Pile
-  pile = pile_of was
+    (keeps : KeepsNumbers old.client.objects mid.client.objects) (e : Desktop) (s : Resident) (there : client_at c e ≡ Some s) (seat : IsSeat mid.client (owned_view mid) s) where
+  same-number-of : (id : ℕ) → has_surface id (owned_in d c).surfaces ≡ true → has_surface id (owned_in e c).surfaces ≡ true → numbers mid id ≡ numbers old id
+  same-number-of id had has = at (numbers mid id) (numbers old id) refl refl
+    where
+      was-numbered : is_some (numbers old id) ≡ true
+      was-numbered = before.seat.owns.surfaces.numbered id ∙ subst (λ (o : Owned). has_surface id o.surfaces ≡ true) (ap owned_of before.based.there) had
 
-  its : IsResident old r
-  its = resident c others base d r old mid was was was before orderly asked None stacking applied a alive
+      is-numbered : is_some (numbers mid id) ≡ true
+      is-numbered = seat.owns.surfaces.numbered id ∙ subst (λ (o : Owned). has_surface id o.surfaces ≡ true) (ap owned_of there) has
 
-  own : OwnsOrderly r
-  own = owns c others base d r old mid was was was before orderly asked None stacking applied a alive
+      at : (m n : Option ℕ) → numbers mid id ≡ m → numbers old id ≡ n → numbers mid id ≡ numbers old id
+      at (Some a) (Some b) is_a is_b = is_a ∙ (ap (λ (n : ℕ). Some n) (sym (keeps id b a is_b is_a)) ∙ sym is_b)
+      at None n none is_b = absurd (differ (sym is-numbered ∙ ap (λ (o : Option ℕ). is_some o) none))
+      at (Some a) None is_a none = absurd (differ (sym was-numbered ∙ ap (λ (o : Option ℕ). is_some o) none))
 
-  has_trees : HasTrees d
-  has_trees = trees c others base d r old mid was was was before orderly asked None stacking applied a alive
+  pub same-numbers : (n id : ℕ) → has_surface id (owned_in d n).surfaces ≡ true → has_surface id (owned_in e n).surfaces ≡ true
+      → with_numbers c (numbers mid) others n id ≡ with_numbers c (numbers old) others n id
+  same-numbers n id had has = at (n == c) refl
+    where
+      at : (b : Bool) → (n == c) ≡ b → cond b (numbers mid) (others n) id ≡ cond b (numbers old) (others n) id
+      at false e = refl
+      at true here =
+          same-number-of id (subst (λ (m : ℕ). has_surface id (owned_in d m).surfaces ≡ true) (eqb-true n c here) had)
+          (subst (λ (m : ℕ). has_surface id (owned_in e m).surfaces ≡ true) (eqb-true n c here) has)
 
-  done : IsRestacked c stacking was.scene was.scene
-  done =
-      subst (λ (s : Stacking). IsRestacked c s was.scene was.scene)
-      (sym (stays-apart c r d old mid its own asked a.asks applied a.decides alive stacking a.takes by)) refl
+-- ---- it lives on
 
-  windows : (e : Desktop) (s : Resident) → HasTrees e → Serves served_now c d e → status_in c e ≡ None → client_at c e ≡ Some s → Owns mid s
-      → AreStacked (with_numbers c (numbers mid) others) was.stacked.windows (all_windows e)
-  windows e s trees_e serves status there owned =
-      serving.apart-windows c others base d r old mid pile before orderly a.lives asked a.asks stacking a.takes alive e s has_trees trees_e serves status there owned by
+module _ {A : Type 0} (laws : WayLaws) (c : ℕ) (others : ℕ → ById ℕ) (base d : Desktop) (r : Resident) (old mid : Kept A) (was : Screen A) (before : IsSeated c others base old (pile_of was) d r)
+    (ordered : Ordered d) (alive : r.peer.status ≡ None) (untouched : (demand : Demand) → IsDemanded served_now (split_of r.peer.rest) r demand → touched_by demand r ≡ None)
+    (lives : mid.client.ended ≡ None) where
+  -- no window changes
+  apart-stays : (e : Desktop) → Serves served_now c d e → status_in c e ≡ None → StaysPainted d e
+  apart-stays e serves status =
+      let m : MessageChanges served_now c r d e = messages-change served_now c r d e ordered.in_order before.mapped before.based.there serves status in
+      subst (λ (id : Option ℕ). ChangesAt id c d e) (untouched m.demand m.demanded) m.changes
 
-  module _ (e : Desktop) (q : Resident) (serves : Serves served_now c d e) (after : IsSeated c others base mid pile e q) where
-    status : status_in c e ≡ None
-    status = ap (λ (o : Option Resident). status_of o) after.based.there ∙ (sym after.seat.peer.status ∙ alive)
+  -- any desktop to which it leads
+  pub apart-least : (e : Desktop) (q : Resident) → Serves served_now c d e → IsSeated c others base mid (pile_of was) e q → MarksAtLeast d e was.damage was.damage
+  apart-least e q serves after =
+      untouched-least d e (apart-stays e serves (status-after laws c others base d r old mid was was before ordered alive lives e q after)) was.damage
 
-    trees-after : HasTrees e
-    trees-after = orderly_has_trees e (messages_keep_order c d e orderly serves) after.mapped
+  -- one to which it leads
+  module _ (m : Taken c others base d r mid was) (keeps : KeepsNumbers old.client.objects mid.client.objects) where
+    apart-serves : Serves served_now c d m.after
+    apart-serves = led-serves laws c others base d r old mid was was before ordered alive lives m
 
-    pub apart-least : MarksAtLeast d e was.damage was.damage
-    apart-least =
-        serving.apart-least c others base d r old mid pile before orderly a.lives asked a.asks stacking a.takes alive e q has_trees trees-after serves status after.based.there after.seat.owns by was.damage
+    stays : StaysPainted d m.after
+    stays = apart-stays m.after apart-serves (led-status laws c others base d r old mid was was before ordered alive lives m)
 
-    pub apart-most : MarksMost d e was.damage was.damage
-    apart-most =
-        serving.apart-most c others base d r old mid pile before orderly a.lives asked a.asks stacking a.takes alive e q has_trees trees-after serves status after.based.there after.seat.owns by was.damage
+    windows : AreStacked (with_numbers c (numbers mid) others) was.stacked.windows (all_windows m.after)
+    windows =
+        renumbered-since (with_numbers c (numbers old) others) (with_numbers c (numbers mid) others) was.stacked.windows d m.after (whole-so d ordered before.mapped).trees
+        (trees-after laws c others base d r old mid was was before ordered alive lives m.after apart-serves) stays.windows
+        (same-numbers c others base d r old mid was before keeps m.after m.resident m.sits.based.there m.sits.seat) before.windows
 
-  pub apart-seated : (e : Desktop) × (q : Resident) × Serves served_now c d e × IsSeated c others base mid pile e q
-  apart-seated = leads-seated c others base d r old mid was was was before orderly asked None stacking applied a alive done windows
+    pub apart-seated : (e : Desktop) × (q : Resident) × Serves served_now c d e × IsSeated c others base mid (pile_of was) e q
+    apart-seated = led-seated laws c others base d r old mid was was before ordered alive lives m windows
 
-  pub apart-through : (e : Desktop) × (q : Resident) × (path : List Desktop) × ServesThrough served_now c d path e × IsSeated c others base mid pile e q
-      × MarksThrough d path was.damage was.damage
-  apart-through = leads-through c others base d r old mid was was was before orderly asked None stacking applied a alive done windows apart-least apart-most
+    pub apart-through : (e : Desktop) × (q : Resident) × (path : List Desktop) × ServesThrough served_now c d path e × IsSeated c others base mid (pile_of was) e q
+        × MarksThrough d path was.damage was.damage
+    apart-through =
+        led-through laws c others base d r old mid was was before ordered alive lives m windows (untouched-least d m.after stays was.damage) (untouched-most d m.after was.damage)
 
 -- ---- it lives on or ended
 
-module _ {A : Type 0} (c : ℕ) (others : ℕ → ById ℕ) (base d : Desktop) (r : Resident) (old mid left : Kept A) (was new : Screen A) (before : IsSeated c others base old (pile_of was) d r)
-    (orderly : Orderly d) (asked : Asked) (stacking : Stacking) (applied : Option (Applied A)) (a : Asks c old mid was was asked None stacking applied) (by : IsTouchedBy old asked None)
-    (none : applied ≡ None) (clears : IsClearedBy mid.client.ended c mid left (pile_of was) (pile_of new))
+or-none : (b : Bool) → (b || false) ≡ b
+or-none true = refl
+or-none false = refl
+
+module _ {A : Type 0} (laws : WayLaws) (c : ℕ) (others : ℕ → ById ℕ) (base d : Desktop) (r : Resident) (old mid left : Kept A) (was new : Screen A)
+    (before : IsSeated c others base old (pile_of was) d r) (ordered : Ordered d) (alive : r.peer.status ≡ None)
+    (untouched : (demand : Demand) → IsDemanded served_now (split_of r.peer.rest) r demand → touched_by demand r ≡ None)
+    (clears : IsClearedBy mid.client.ended c mid left (pile_of was) (pile_of new))
     (points : is_some mid.client.ended ≡ true → (x y : ℕ) → x < was.damage.width → y < was.damage.height
     → has new.damage x y ≡ (has was.damage x y || has_own c (pos x) (pos y) was.stacked.windows))
     (lives : mid.client.ended ≡ None → (left ≡ mid) × (new ≡ was)) where
-  ending : (cause : Cause) → mid.client.ended ≡ Some cause → Ending c old mid left was new None stacking applied
-  ending cause over = ending-apart c old mid left was was new asked None stacking applied a none clears (points (ap (λ (o : Option Cause). is_some o) over))
+  ending : (cause : Cause) → mid.client.ended ≡ Some cause → Ending c mid left was new
+  ending cause over =
+      record {
+        between = was.scene;
+        is = [];
+        clears = clears;
+        points = λ x y wide high.
+            points (ap (λ (o : Option Cause). is_some o) over) x y wide high ∙ sym (or-none (has was.damage x y || has_own c (pos x) (pos y) was.stacked.windows));
+      }
+
+  -- nothing is told of windows for a moment
+  tells-end : (e : Desktop) (b : Bool) → TellsEnd c r d e (λ n. n) [] b
+  tells-end e b = record { undone = λ no. refl; turned = λ done path s. inl (stays path s, refl) }
+    where
+      stays : (path : List Desktop) (s : Struck served_now c r d path e) → StaysPainted d s.own
+      stays path s =
+          (touches-nothing c r s.before s.demand d s.own
+          (record {
+            here = before.based.there;
+            meant = s.meant;
+            done = s.done;
+            trees_before = (whole-so d ordered before.mapped).trees;
+            trees_after = s.trees;
+            shown_before = before.mapped;
+            shown_after = s.shown;
+          })
+          (untouched s.demand s.demanded)).stays
 
   same-seated : mid.client.ended ≡ None → (e : Desktop) (q : Resident) → IsSeated c others base left (pile_of new) e q → IsSeated c others base mid (pile_of was) e q
-  same-seated alive e q after =
-      subst (λ (s : Screen A). IsSeated c others base mid (pile_of s) e q) (lives alive).1 (subst (λ (k : Kept A). IsSeated c others base k (pile_of new) e q) (lives alive).0 after)
+  same-seated none e q after =
+      subst (λ (s : Screen A). IsSeated c others base mid (pile_of s) e q) (lives none).1 (subst (λ (k : Kept A). IsSeated c others base k (pile_of new) e q) (lives none).0 after)
 
-  pub settled-seated : (e : Desktop) × (q : Resident) × Serves served_now c d e × IsSeated c others base left (pile_of new) e q
-  settled-seated = at mid.client.ended refl
-    where
-      at : (o : Option Cause) → mid.client.ended ≡ o → (e : Desktop) × (q : Resident) × Serves served_now c d e × IsSeated c others base left (pile_of new) e q
-      at None alive =
-          subst (λ (s : Screen A). (e : Desktop) × (q : Resident) × Serves served_now c d e × IsSeated c others base left (pile_of s) e q) (sym (lives alive).1)
-          (subst (λ (k : Kept A). (e : Desktop) × (q : Resident) × Serves served_now c d e × IsSeated c others base k (pile_of was) e q) (sym (lives alive).0)
-          (apart-seated c others base d r old mid was before orderly asked stacking applied a by alive))
-      at (Some cause) over = ended-seated c others base d r old mid left was was new before orderly asked None stacking applied a cause over (ending cause over)
+  same-taken : mid.client.ended ≡ None → Taken c others base d r left new → Taken c others base d r mid was
+  same-taken none m = subst (λ (s : Screen A). Taken c others base d r mid s) (lives none).1 (subst (λ (k : Kept A). Taken c others base d r k new) (lives none).0 m)
+
+  -- ---- any desktop to which it leads
 
   pub settled-least : (e : Desktop) (q : Resident) → Serves served_now c d e → IsSeated c others base left (pile_of new) e q → MarksAtLeast d e was.damage new.damage
   settled-least e q serves after = at mid.client.ended refl
     where
       at : (o : Option Cause) → mid.client.ended ≡ o → MarksAtLeast d e was.damage new.damage
-      at None alive =
-          subst (λ (s : Screen A). MarksAtLeast d e was.damage s.damage) (sym (lives alive).1)
-          (apart-least c others base d r old mid was before orderly asked stacking applied a by alive e q serves (same-seated alive e q after))
-      at (Some cause) over =
-          ended-least c others base d r old mid left was was new before orderly asked None stacking applied a cause over (ending cause over) e q serves after
+      at None none =
+          subst (λ (s : Screen A). MarksAtLeast d e was.damage s.damage) (sym (lives none).1)
+          (apart-least laws c others base d r old mid was before ordered alive untouched none e q serves (same-seated none e q after))
+      at (Some cause) over = ended-least laws c others base d r old mid left was new before ordered alive cause over (ending cause over) e q serves after
 
   pub settled-most : (e : Desktop) (q : Resident) → Serves served_now c d e → IsSeated c others base left (pile_of new) e q → status_in c e ≡ None → MarksMost d e was.damage new.damage
   settled-most e q serves after status = at mid.client.ended refl
     where
       at : (o : Option Cause) → mid.client.ended ≡ o → MarksMost d e was.damage new.damage
-      at None alive =
-          subst (λ (s : Screen A). MarksMost d e was.damage s.damage) (sym (lives alive).1)
-          (apart-most c others base d r old mid was before orderly asked stacking applied a by alive e q serves (same-seated alive e q after))
-      at (Some cause) over =
-          absurd (ended-on c others base d r old mid left was was new before orderly asked None stacking applied a cause over (ending cause over) e q after status)
+      at None none = subst (λ (s : Screen A). MarksMost d e was.damage s.damage) (sym (lives none).1) (untouched-most d e was.damage)
+      at (Some cause) over = absurd (ended-on laws c others base d r old mid left was new before ordered alive cause over (ending cause over) e q after status)
 
-  abbrev Leads : Kept A → Screen A → Type 0
-  Leads k s =
-      (e : Desktop) × (q : Resident) × (path : List Desktop) × ServesThrough served_now c d path e × IsSeated c others base k (pile_of s) e q × MarksThrough d path was.damage s.damage
+  -- ---- one to which it leads
 
-  pub settled-through : was.damage.width ≡ d.output.width → was.damage.height ≡ d.output.height
-      → (e : Desktop) × (q : Resident) × (path : List Desktop) × ServesThrough served_now c d path e × IsSeated c others base left (pile_of new) e q
-      × MarksThrough d path was.damage new.damage
-  settled-through width height = at mid.client.ended refl
-    where
-      at : (o : Option Cause) → mid.client.ended ≡ o → Leads left new
-      at None alive =
-          subst (λ (s : Screen A). Leads left s) (sym (lives alive).1)
-          (subst (λ (k : Kept A). Leads k was) (sym (lives alive).0) (apart-through c others base d r old mid was before orderly asked stacking applied a by alive))
-      at (Some cause) over =
-          ended-through c others base d r old mid left was was new before orderly asked None stacking applied a cause over (ending cause over) width height
+  module _ (m : Taken c others base d r left new) (keeps : mid.client.ended ≡ None → KeepsNumbers old.client.objects mid.client.objects) where
+    abbrev Seats : Kept A → Screen A → Type 0
+    Seats k s = (e : Desktop) × (q : Resident) × Serves served_now c d e × IsSeated c others base k (pile_of s) e q
+
+    abbrev Leads : Kept A → Screen A → Type 0
+    Leads k s =
+        (e : Desktop) × (q : Resident) × (path : List Desktop) × ServesThrough served_now c d path e × IsSeated c others base k (pile_of s) e q × MarksThrough d path was.damage s.damage
+
+    pub settled-seated : (e : Desktop) × (q : Resident) × Serves served_now c d e × IsSeated c others base left (pile_of new) e q
+    settled-seated = at mid.client.ended refl
+      where
+        at : (o : Option Cause) → mid.client.ended ≡ o → Seats left new
+        at None none =
+            subst (λ (s : Screen A). Seats left s) (sym (lives none).1)
+            (subst (λ (k : Kept A). Seats k was) (sym (lives none).0)
+            (apart-seated laws c others base d r old mid was before ordered alive untouched none (same-taken none m) (keeps none)))
+        at (Some cause) over = ended-seated laws c others base d r old mid left was new before ordered alive cause over (ending cause over) m
+
+    pub settled-through : was.damage.width ≡ d.output.width → was.damage.height ≡ d.output.height
+        → (e : Desktop) × (q : Resident) × (path : List Desktop) × ServesThrough served_now c d path e × IsSeated c others base left (pile_of new) e q
+        × MarksThrough d path was.damage new.damage
+    unfolding ending
+    settled-through width height = at mid.client.ended refl
+      where
+        at : (o : Option Cause) → mid.client.ended ≡ o → Leads left new
+        at None none =
+            subst (λ (s : Screen A). Leads left s) (sym (lives none).1)
+            (subst (λ (k : Kept A). Leads k was) (sym (lives none).0)
+            (apart-through laws c others base d r old mid was before ordered alive untouched none (same-taken none m) (keeps none)))
+        at (Some cause) over =
+            ended-through laws c others base d r old mid left was new before ordered alive cause over (ending cause over) m (λ n. n) (tells-end m.after m.was_done) width height

@@ -1,272 +1,349 @@
--- A message that is served, from what its parts say: the client lives on.
-use Rattle.std.proofs.Common.{◌≡◌, ℕ, ◌<◌, ◌≤◌, Bool, true, false, Option, Some, None, List, ◌∷◌, ◌++◌, map, refl, ap, sym, subst, ◌∙◌, inl, inr, arith, []}
-use Rattle.std.specs.Prelude.{is_some, length, pos, ◌||◌, ◌+◌, vec_capacity}
-use Rattle.std.proofs.lemmas.Bool.{or_left, or_right}
+-- A message that touches a surface is served, from what its parts say.
+use Rattle.std.proofs.Common.{◌≡◌, ℕ, ◌<◌, ◌≤◌, Bool, true, false, Option, Some, None, List, [], ◌++◌, refl, ap, sym, subst, ◌∙◌, inl, inr, ◌⊎◌, arith, eqb-true}
+use Rattle.std.specs.Prelude.{is_some, length, pos, ◌+◌, ◌==◌, vec_capacity}
+use Rattle.std.proofs.lemmas.Bool.{eqb-false}
 use Rattle.std.proofs.lemmas.Int.{ints}
 use Rattle.wl_wire.specs.Wire.{split_of}
-use Rattle.wl_family.specs.Family.{links_in}
-use Rattle.wl_linked.specs.Linked.{Stand}
-use Rattle.wl_paint.specs.Damage.{Damaged, has}
+use Rattle.wl_family.specs.Family.{links_in, parents_of, root_by}
+use Rattle.wl_marking.specs.Marking.{AddsPoints}
+use Rattle.wl_paint.specs.Damage.{Damaged}
 use Rattle.wl_peer.specs.declared.cause.Cause.{Cause}
 use Rattle.wl_peer.specs.Objects.{ById}
 use Rattle.wl_scene.specs.Kept.{Stack}
+use Rattle.wl_shell.specs.Agreement.{IsShell}
+use Rattle.wl_stacking.specs.Stacking.{Owned}
 use Rattle.wl_stacking.specs.Windows.{Owner}
+use Rattle.wl_state.specs.State.{History}
 use Rattle.wl_surface.specs.Slots.{count}
-use Rattle.wl_surface.specs.Surfaces.{Surfaces}
 use Rattle.wl_surface.specs.declared.applied.Applied.{Applied}
-use Rattle.wl_plain.specs.Desktop.{Desktop, Resident, client_at, status_in, status_of}
+use Rattle.wl_plain.specs.Desktop.{Desktop, Resident, client_at, owned_in, owned_of, status_of}
 use Rattle.wl_plain.specs.Happens.{Serves}
 use Rattle.wl_plain.specs.LeftOut.{served_now}
 use Rattle.wl_plain.specs.Marks.{in_output}
-use Rattle.wl_plain.specs.Moments.{marks_at_least_through, marks_at_most, marks_at_most_through}
 use Rattle.wl_plain.specs.Stacked.{all_windows}
 use Rattle.wl_plain.specs.Through.{ServesThrough}
-use Rattle.wl_laws.proofs.Lists.Keys.{differ, none-some}
-use Rattle.wl_laws.proofs.Marks.Stacks.{unless}
-use Rattle.wl_laws.proofs.Runs.Through.{messages_lead_through}
 use Rattle.wl_lending.specs.Stacked.{AreStacked}
-use Rattle.wl_invariants.proofs.MappedToplevels.Steps.{messages_keep_mapped}
-use Rattle.wl_invariants.specs.Orderly.{Orderly, OwnsOrderly}
-use Rattle.wl_invariants.proofs.OrderlyClients.Clients.{messages_keep_order}
-use Rattle.wl_changes.specs.Trees.{HasTrees}
-use Rattle.wl_invariants.specs.Standing.{MappedStand}
+use Rattle.wl_invariants.specs.Shown.{ShownStand}
+use Rattle.wl_named.specs.Renaming.{has_surface}
+use Rattle.wl_ordered.specs.Ordered.{Ordered, OwnsOrdered}
+use Rattle.wl_stacked.specs.declared.stacked.Stacked.{Stacked}
+use Rattle.wl_toplevels.specs.Changes.{HasTrees}
+use Rattle.wl_toplevels.specs.Done.{IsMeant}
+use Rattle.wl_toplevels.specs.Messages.{MessageChanges}
+use Rattle.wl_toplevels.proofs.RootsOf.Messages.{messages-change}
+use Rattle.wl_toplevels.proofs.RootsOf.Orders.{in-order-has-trees}
+use Rattle.wl_runs.specs.Demands.{ChangesNothing}
+use Rattle.wl_runs.proofs.Demanded.{no-surface-comes}
+use Rattle.wl_windows.specs.declared.window.TreeWindow.{TreeWindow}
+use Rattle.wl_xdg_state.specs.Kept.{kept_of}
 use Rattle.wl_requests.specs.declared.messages.Asked.{Asked}
+use Rattle.wl_requests.specs.declared.residents.Placing.{Placing}
 use Rattle.wl_requests.specs.declared.residents.Resident.{Resident as Kept}
 use Rattle.wl_requests.specs.declared.residents.Stacking.{Stacking}
 use Rattle.wl_requests.specs.declared.residents.Stacking.TheVariants as on
+use Rattle.wl_requests.specs.Holding.{HoldsMessage}
 use Rattle.wl_requests.specs.Messages.{IsAsked, IsTouchOfAsked}
-use Rattle.wl_requests.specs.Residents.{IsResident, Owns, TakesMessage, TakesMessageAs}
+use Rattle.wl_requests.specs.Placing.{IsPlacingOf}
+use Rattle.wl_requests.specs.Residents.{IsResident, KeepsNumbers, StacksFor, TakesMessage, TakesMessageAs, TakesSo}
 use Rattle.wl_requests.specs.Touching.{IsTouched, Touch}
-use Rattle.wl_stacked.specs.declared.stacked.Stacked.{Stacked}
-use Rattle.wl_windows.specs.Windows.{told_of}
-use Rattle.wl_windows.specs.declared.window.TreeWindow.{TreeWindow}
-use Rattle.wl_changes.specs.Ways.{RouteBy, TakesAs}
-use Rattle.wl_changes.proofs.MessageWays.Marks.{twice_marks}
-use Rattle.wl_changes.proofs.MessageWays.Routes.{messages_lead_so}
-use Rattle.wl_changes.proofs.MessageWays.Trees.{orderly_has_trees}
 use Rattle.wl_resident.specs.declared.screens.Screen.{Screen}
-use Rattle.wl_resident.specs.Agreement.{with_numbers}
+use Rattle.wl_resident.specs.Agreement.{IsSeat, with_numbers}
+use Rattle.wl_resident.specs.Finding.{IsPlacedBy, found_by, parent_by, popup_in_shell}
+use Rattle.wl_resident.specs.Laws.{MessageLaws}
 use Rattle.wl_resident.specs.Marking.{MarksAtLeast, MarksMost, MarksThrough}
-use Rattle.wl_resident.specs.Screens.{Fit, HasPlace, HasRoom, IsFollowed, IsSameScreen, IsTouchedBy, changes_in, turned_has, root_in, restacked_if, tree_kept, tree_on}
+use Rattle.wl_resident.specs.Screens.{AreToldIf, FitIf, HasPlace, HasRoom, IsFollowed, IsRunHeldIf, IsSameScreen, IsTouchedBy, changes_in, restacked_if, run_kept, run_on, turned_if}
 use Rattle.wl_resident.specs.Seats.{IsRestacked, IsSeated}
-use Rattle.wl_resident.specs.View.{Pile, pile_of}
+use Rattle.wl_resident.specs.View.{Pile, owned_view, pile_of}
+use Rattle.wl_resident.proofs.After.{HoldsAs}
+use Rattle.wl_resident.proofs.Asked.{told-of}
+use Rattle.wl_resident.proofs.Commits.{asked-touches, untouched-never}
+use Rattle.wl_resident.proofs.Ended.{Taken}
+use Rattle.wl_resident.proofs.Gone.{WayLaws}
+use Rattle.wl_resident.proofs.Holding.{OrderLaws, holds-now, names-agree}
+use Rattle.wl_resident.proofs.Lived.{led-seated, led-serves, led-through, shown-after, trees-after}
 use Rattle.wl_resident.proofs.Living.{some-applied, top-applied}
-use Rattle.wl_resident.proofs.Serving.{marks-least, marks-most, told-fit, windows-after}
-use Rattle.wl_resident.proofs.Sitting.{IsSettled, Sits, numbers}
-use Rattle.wl_resident.proofs.Taking.{served, sits-seated}
-use Rattle.wl_resident.proofs.Turning as turning
+use Rattle.wl_resident.proofs.Numbers as seat
+use Rattle.wl_resident.proofs.Placing.{placed-so}
+use Rattle.wl_resident.proofs.Renumbered.{renumbered, renumbered-since}
+use Rattle.wl_resident.proofs.Apart.{same-numbers}
+use Rattle.wl_resident.proofs.Serving.{IsTold, left-of, meant-of, stacks-of}
+use Rattle.wl_resident.proofs.Serving as serving
+use Rattle.wl_resident.proofs.Sitting.{IsSettled, numbers}
+use Rattle.wl_resident.proofs.Taking.{served}
+use Rattle.wl_resident.proofs.Turning.{TurnsRun}
+
+-- ---- laws
+
+pub ways : MessageLaws → WayLaws
+ways laws = record {
+  lead = laws.lead;
+  ended = laws.ended;
+  windows = laws.windows;
+  least = laws.least;
+  most = laws.most;
+  twice = laws.twice;
+  struck = laws.struck;
+  between = laws.between;
+}
+
+pub orders : MessageLaws → OrderLaws
+orders laws = record { order = laws.order; demands = laws.demands; rising = laws.rising }
 
 -- ---- what is known before a message
 
--- What was prepared for it, with which of the client's trees it may change, and what it did.
-pub record Asks {A : Type 0} (c : ℕ) (old mid : Kept A) (was ready : Screen A) (asked : Asked) (root : Option ℕ) (stacking : Stacking) (applied : Option (Applied A)) : Type 0 where
+-- What was prepared for it, with the toplevel that was found for the tree that it may change, and what it did.
+pub record Asks {A : Type 0} (c : ℕ) (old mid : Kept A) (was ready : Screen A) (asked : Asked) (placing : Placing) (surface root : ℕ) (found : Option ℕ) (stacking : Stacking)
+    (applied : Option (Applied A)) : Type 0 where
   pub lives : old.client.ended ≡ None
   pub asks : IsAsked old.client asked
-  pub touched : Option ℕ
-  pub by : IsTouchedBy old asked touched
-  pub root_is : root ≡ root_in old touched
-  pub rootless : (k : ℕ) → root ≡ Some k → links_in old.owned.linked.family k ≡ None
-  pub takes : TakesMessage old mid stacking
-  pub decides : (touch : Touch) → IsTouchOfAsked asked old touch → TakesMessageAs (is_some applied) old mid
+  pub by : IsTouchedBy old asked (Some surface)
+  pub root_is : root ≡ root_by 16 (parents_of (links_in old.owned.linked.family)) surface
+  pub top : links_in old.owned.linked.family root ≡ None
+  pub found_is :
+      (o : Owned) (histories : ℕ → Option History) → IsShell (kept_of old.owned.shell) histories o.shell
+      → found ≡ found_by c root (parent_by o (popup_in_shell old.owned.shell root)) was.stacked.windows
+  pub placed : IsPlacedBy was c old asked placing
+  pub takes : TakesMessage asked placing old mid stacking
+  pub decides : (touch : Touch) → IsTouchOfAsked asked old touch → TakesMessageAs (is_some applied) asked placing old mid
   pub touched_so : (touch : Touch) → IsTouchOfAsked asked old touch → IsTouched touch old.owned.linked mid.owned.linked applied
+  pub holds : (touch : Touch) → IsTouchOfAsked asked old touch → is_some applied ≡ true → HoldsMessage asked placing old mid
   pub nothing : ((touch : Touch) → IsTouchOfAsked asked old touch → ⊥) → applied ≡ None
   pub same : IsSameScreen was ready
-  pub kept : is_some applied ≡ true → ready.spare.was.items ≡ tree_kept c root was.stacked.windows
+  pub kept : is_some applied ≡ true → ready.spare.was.items ≡ run_kept c found was.stacked.windows
   pub room : is_some applied ≡ true → HasRoom (count old.owned.linked.surfaces) ready
-  pub empty : is_some applied ≡ true → ready.spare.is.items ≡ []
+  pub empty : ready.spare.is.items ≡ []
 
-pub within-output : (width height x y : ℕ) → x < width → y < height → in_output width height (pos x) (pos y) ≡ true
+within-output : (width height x y : ℕ) → x < width → y < height → in_output width height (pos x) (pos y) ≡ true
 within-output width height x y w h = grind (arith, ints)
 
 pub fits-so : (a b c d : ℕ) → a + b ≤ d → c ≤ b → a + c ≤ d
 fits-so a b c d e f = omega (arith)
 
--- what is marked once is marked along a way that leads there at once
-twice-through : (d e : Desktop) (path : List Desktop) (d0 d2 : Damaged) → path ≡ e ∷ e ∷ [] → HasTrees e → MarksAtLeast d e d0 d2 → MarksMost d e d0 d2 → MarksThrough d path d0 d2
-twice-through d e path d0 d2 is trees least most x y wide high = (
-  λ clean.
-      let both = least x y wide high clean in (
-        both.0,
-        unless (marks_at_least_through all_windows d path (pos x) (pos y)) (λ marked. differ (sym ((twice_marks d e path is trees (pos x) (pos y)).0 marked) ∙ both.1)),
-      ),
-  λ marked. at (has d0 x y) refl (most x y wide high marked),
-)
-  where
-    at : (b : Bool) → has d0 x y ≡ b → (has d0 x y || marks_at_most d e None (pos x) (pos y)) ≡ true → (has d0 x y || marks_at_most_through all_windows None d path (pos x) (pos y)) ≡ true
-    at true was h = or_left (has d0 x y) _ was
-    at false clean h =
-        or_right (has d0 x y) _ ((twice_marks d e path is trees (pos x) (pos y)).1 (sym (ap (λ b. b || marks_at_most d e None (pos x) (pos y)) clean) ∙ h))
+-- ---- a message was served
 
--- ---- the client lives on
-
-module _ {A : Type 0} (c : ℕ) (others : ℕ → ById ℕ) (base d : Desktop) (r : Resident) (old mid : Kept A) (was ready new : Screen A) (before : IsSeated c others base old (pile_of was) d r)
-    (orderly : Orderly d) (asked : Asked) (root : Option ℕ) (stacking : Stacking) (applied : Option (Applied A)) (a : Asks c old mid was ready asked root stacking applied)
-    (alive : mid.client.ended ≡ None) where
+module _ {A : Type 0} (laws : MessageLaws) (c : ℕ) (others : ℕ → ById ℕ) (base d : Desktop) (r : Resident) (old mid : Kept A) (was ready : Screen A)
+    (before : IsSeated c others base old (pile_of was) d r)
+    (ordered : Ordered d) (asked : Asked) (placing : Placing) (surface root : ℕ) (found : Option ℕ) (stacking : Stacking) (applied : Option (Applied A))
+    (a : Asks c old mid was ready asked placing surface root found stacking applied) (width : was.damage.width ≡ d.output.width) (height : was.damage.height ≡ d.output.height) where
   abbrev pile : Pile
   pile = pile_of was
 
   pub resident : IsResident old r
-  resident = turning.resident c others base d r old pile before orderly a.lives
+  resident = seat.resident c others base d r old pile before ordered a.lives
 
-  pub owns : OwnsOrderly r
-  owns = turning.owns c others base d r old pile before orderly a.lives
+  pub alive : r.peer.status ≡ None
+  alive = seat.alive c others base d r old pile before ordered a.lives
 
-  pub is-applied : (touch : Touch) → IsTouchOfAsked asked old touch → is_some applied ≡ true
-  is-applied = some-applied c r d old mid resident owns asked a.asks applied a.decides alive
+  pub owns : OwnsOrdered r
+  owns = seat.owns c others base d r old pile before ordered a.lives
 
   pub trees : HasTrees d
-  trees = orderly_has_trees d orderly before.mapped
+  trees = in-order-has-trees d ordered.in_order before.mapped
 
-  -- What it leads to, where the toplevels are restacked, and the windows are those of any desktop to which it leads.
-  module _ (done : IsRestacked c stacking was.scene new.scene)
-      (windows : (e : Desktop) (s : Resident) → HasTrees e → Serves served_now c d e → status_in c e ≡ None → client_at c e ≡ Some s → Owns mid s
-      → AreStacked (with_numbers c (numbers mid) others) new.stacked.windows (all_windows e)) where
-    settled : IsSettled mid.client.ended applied c stacking mid mid was.scene new.scene
-    settled = subst (λ (o : Option Cause). IsSettled o applied c stacking mid mid was.scene new.scene) (sym alive) (refl, done)
+  pub placed : IsPlacingOf placing asked c r d
+  placed = placed-so c others base d r old was before trees placing width height asked a.asks a.placed
 
-    m : (e : Desktop) × (s : Resident) × (b : Bool) × TakesAs b (split_of r.peer.rest) c r d e × Sits c others base mid new.scene e s
-        × ((touch : Touch) → IsTouchOfAsked asked old touch → b ≡ is_some applied)
-    m = served c others base d r asked stacking applied old mid mid pile new.scene before orderly a.lives a.asks a.takes a.decides a.nothing settled
+  pub answers : TakesSo (split_of r.peer.rest) c r d old mid stacking
+  answers = a.takes c r d resident owns placed
 
-    abbrev e : Desktop
-    e = m.0
+  pub touches : ((touch : Touch) × IsTouchOfAsked asked old touch) ⊎ ((touch : Touch) → IsTouchOfAsked asked old touch → ⊥)
+  touches = asked-touches old (numbers old) r.subsurfaces before.seat.subsurfaces asked
 
-    abbrev s : Resident
-    s = m.1
+  -- the toplevel that is found is that of what the client owns by numbers
+  pub is-found : found ≡ found_by c root (parent_by (seat.its c others base d r old pile before) (popup_in_shell old.owned.shell root)) was.stacked.windows
+  is-found = a.found_is (seat.its c others base d r old pile before) _ (seat.held c others base d r old pile before).shell
 
-    lead : (path : List Desktop) × ServesThrough served_now c d path e × RouteBy m.2 c r d path e
-    lead = messages_lead_so m.2 c r d e orderly before.mapped before.based.there (turning.alive c others base d r old pile before orderly a.lives) m.3
+  -- It leads to a desktop with which what is left agrees.
+  pub taken : (left : Kept A) (new : Screen A) → IsSettled mid.client.ended applied c stacking mid left was.scene new.scene
+      → (m : Taken c others base d r left new) × ((touch : Touch) → IsTouchOfAsked asked old touch → m.was_done ≡ is_some applied)
+  taken left new settled =
+      served c others base d r asked placing stacking applied old mid left was new before ordered a.lives placed a.takes a.decides a.nothing touches
+      (λ none id demanded maps. untouched-never old r asked (Some surface) resident owns a.asks a.by none id demanded) settled
 
-    serves : Serves served_now c d e
-    serves = (messages_lead_through served_now c d e).0 lead.0 lead.1
+  -- ---- its client lives on
 
-    stands : MappedStand e
-    stands = messages_keep_mapped served_now (λ request e. e) c d e orderly before.mapped serves
+  module _ (lives : mid.client.ended ≡ None) (new : Screen A) (f : IsFollowed c found mid stacking applied ready new) where
+    pub is-applied : (touch : Touch) → IsTouchOfAsked asked old touch → is_some applied ≡ true
+    is-applied = some-applied c r d old mid resident owns asked placing placed applied a.decides lives
 
-    trees-e : HasTrees e
-    trees-e = orderly_has_trees e (messages_keep_order c d e orderly serves) stands
-
-    status-e : status_in c e ≡ None
-    status-e = ap (λ (o : Option Resident). status_of o) m.4.based.there ∙ (sym m.4.seat.peer.status ∙ alive)
-
-    seated : IsSeated c others base mid (pile_of new) e s
-    seated = sits-seated c others base mid new.scene new.stacked.windows e s m.4 stands (windows e s trees-e serves status-e m.4.based.there m.4.seat.owns)
-
-    -- What is kept stands for a desktop to which the message leads.
-    pub leads-seated : (e : Desktop) × (q : Resident) × Serves served_now c d e × IsSeated c others base mid (pile_of new) e q
-    leads-seated = (e, s, serves, seated)
-
-    -- And along the way what is marked is what has to be and may be.
-    pub leads-through : ((e : Desktop) (q : Resident) → Serves served_now c d e → IsSeated c others base mid (pile_of new) e q → MarksAtLeast d e was.damage new.damage)
-        → ((e : Desktop) (q : Resident) → Serves served_now c d e → IsSeated c others base mid (pile_of new) e q → MarksMost d e was.damage new.damage)
-        → (e : Desktop) × (q : Resident) × (path : List Desktop) × ServesThrough served_now c d path e × IsSeated c others base mid (pile_of new) e q
-        × MarksThrough d path was.damage new.damage
-    leads-through least most = (e, s, lead.0, lead.1, seated, by m.2 lead.2)
-      where
-        over : is_some (status_in c e) ≡ true → ⊥
-        over some = differ (sym some ∙ ap (λ (o : Option Cause). is_some o) status-e)
-
-        once : lead.0 ≡ e ∷ e ∷ [] → MarksThrough d lead.0 was.damage new.damage
-        once is = twice-through d e lead.0 was.damage new.damage is trees-e (least e s serves seated) (most e s serves seated)
-
-        by : (b : Bool) → RouteBy b c r d lead.0 e → MarksThrough d lead.0 was.damage new.damage
-        by false route = absurd (over route.1)
-        by true (inl route) = once route.0
-        by true (inr struck) = absurd (over struck.over)
-
-  -- ---- it touched a tree
-
-  module _ (top : ℕ) (rooted : root ≡ Some top) (f : IsFollowed c root mid stacking applied ready new) where
     has-place : HasPlace stacking ready.scene (vec_capacity ready.spare.toplevels)
     has-place = at stacking refl
       where
         at : (s : Stacking) → stacking ≡ s → HasPlace s ready.scene (vec_capacity ready.spare.toplevels)
         at on.Stays e = tt
         at (on.Out n) e = tt
-        at (on.ToTop n) e = (a.room (top-applied c r d old mid resident owns asked a.asks applied a.decides alive stacking a.takes n e)).place
+        at (on.ToTop n) e =
+            (a.room
+            (top-applied c r d old mid resident owns asked placing placed applied a.decides lives touches
+            (λ none id demanded maps. untouched-never old r asked (Some surface) resident owns a.asks a.by none id demanded) stacking a.takes n e)).place
 
     done : IsRestacked c stacking was.scene new.scene
     done = subst (λ (s : Stack). IsRestacked c stacking s new.scene) a.same.scene (f.scene has-place)
 
-    filled : is_some applied ≡ true → (all : Surfaces) (owner : Owner) → Stand mid.owned.linked.surfaces mid.owned.linked.family all
-        → length (tree_on c owner all root new.scene.standing) ≤ count old.owned.linked.surfaces → f.is ≡ map told_of (tree_on c owner all root new.scene.standing)
-    filled some all owner stand fits =
-        f.told all owner stand (fits-so _ _ _ _ (a.room some).tree fits) ∙ ap (λ (ws : List TreeWindow). ws ++ map told_of (tree_on c owner all root new.scene.standing)) (a.empty some)
+    settled : IsSettled mid.client.ended applied c stacking mid mid was.scene new.scene
+    settled = subst (λ (o : Option Cause). IsSettled o applied c stacking mid mid was.scene new.scene) (sym lives) (refl, done)
 
-    kept : is_some applied ≡ true → ready.spare.was.items ≡ tree_kept c root pile.windows
-    kept some = a.kept some
+    m : Taken c others base d r mid new
+    m = (taken mid new settled).0
 
-    -- there is a tree
-    no-tree : (ws : List TreeWindow) → root ≡ None → ws ≡ []
-    no-tree ws none = absurd (none-some top (sym none ∙ rooted))
+    filled : is_some applied ≡ true → (o : Owned) (owner : Owner) → IsRunHeldIf c mid found new.scene.standing o
+        → length (run_on c owner o found new.scene.standing) ≤ count old.owned.linked.surfaces → f.is ≡ run_on c owner o found new.scene.standing
+    filled some o owner held fits =
+        f.told o owner held (fits-so _ _ _ _ (a.room some).run fits) ∙ ap (λ (ws : List TreeWindow). ws ++ run_on c owner o found new.scene.standing) a.empty
+
+    keeps : KeepsNumbers old.client.objects mid.client.objects
+    keeps = (left-of (split_of r.peer.rest) c r d old mid stacking answers).2.numbers lives
 
     -- ---- any desktop to which it leads
 
-    module _ (e : Desktop) (q : Resident) (serves : Serves served_now c d e) (after : IsSeated c others base mid (pile_of new) e q) where
-      status : status_in c e ≡ None
-      status = ap (λ (o : Option Resident). status_of o) after.based.there ∙ (sym after.seat.peer.status ∙ alive)
+    module _ (e : Desktop) (s : Resident) (serves : Serves served_now c d e) (there : client_at c e ≡ Some s) (seated : IsSeat mid.client (owned_view mid) s) (after : HasTrees e)
+        (shown : ShownStand e) where
+      status-e : s.peer.status ≡ None
+      status-e = sym seated.peer.status ∙ lives
 
-      trees-after : HasTrees e
-      trees-after = orderly_has_trees e (messages_keep_order c d e orderly serves) after.mapped
+      message : MessageChanges served_now c r d e
+      message =
+          messages-change served_now c r d e ordered.in_order before.mapped before.based.there serves (ap (λ (o : Option Resident). status_of o) there ∙ status-e)
 
-      points : (x y : ℕ) → x < was.damage.width → y < was.damage.height
-          → has new.damage x y ≡ (has was.damage x y || turned_has stacking (tree_kept c root pile.windows) ready.spare.was.items f.is (changes_in applied) (pos x) (pos y))
-      points =
-          subst (λ (m : Damaged). (x y : ℕ) → x < m.width → y < m.height
-          → has new.damage x y ≡ (has m x y || turned_has stacking (tree_kept c root pile.windows) ready.spare.was.items f.is (changes_in applied) (pos x) (pos y))) a.same.damage
-          (subst (λ (ws : List Stacked). (x y : ℕ) → x < ready.damage.width → y < ready.damage.height
-          → has new.damage x y ≡ (has ready.damage x y || turned_has stacking (tree_kept c root ws) ready.spare.was.items f.is (changes_in applied) (pos x) (pos y))) a.same.windows f.points)
+      stacks : StacksFor old r message.demand stacking
+      stacks = stacks-of (split_of r.peer.rest) c r d old mid stacking message.demand answers message.demanded
+
+      meant : IsMeant message.demand r
+      meant = meant-of (split_of r.peer.rest) r message.demand owns message.demanded
+
+      told : IsTold c old r d message.demand message.peer surface stacking applied
+      told = told-of old mid r message.peer c d resident owns asked a.asks surface a.by message.demand message.demanded stacking stacks applied a.touched_so is-applied
+
+      comes : (id : ℕ) → has_surface id (owned_in e c).surfaces ≡ true → has_surface id (owned_in d c).surfaces ≡ true
+      comes = no-surface-comes c told.id r message.peer message.demand d e before.based.there message.done told.touches
+
+      owned-e : owned_in e c ≡ s.owned
+      owned-e = ap owned_of there
+
+      order-e : OwnsOrdered s
+      order-e = (laws.messages c d e ordered serves).each c s there status-e
+
+      holds : HoldsAs (seat.named_by mid) mid (owned_in e c)
+      holds = holds-now (orders laws) c old mid r s d e seated.owns order-e (seat.owned-here c others base d r old pile before) owned-e
+
+      agree : (id : ℕ) → has_surface id (owned_in e c).surfaces ≡ true → seat.named_by mid id ≡ seat.named_by old id
+      agree = names-agree (orders laws) c old mid r s d e seated.owns order-e (seat.owned-here c others base d r old pile before) owned-e before.seat.owns keeps comes
+
+      -- ---- what is marked
+
+      points : AreToldIf found stacking ready.spare.was.items f.is
+          → AddsPoints (turned_if found stacking (run_kept c found was.stacked.windows) ready.spare.was.items f.is (changes_in applied)) was.damage new.damage
+      points told_so =
+          subst (λ (m : Damaged). AddsPoints (turned_if found stacking (run_kept c found was.stacked.windows) ready.spare.was.items f.is (changes_in applied)) m new.damage) a.same.damage
+          (subst (λ (ws : List Stacked). AddsPoints (turned_if found stacking (run_kept c found ws) ready.spare.was.items f.is (changes_in applied)) ready.damage new.damage) a.same.windows
+          (f.points told_so))
 
       pub lives-least : MarksAtLeast d e was.damage new.damage
       lives-least =
-          marks-least c others base d r old mid pile before orderly a.lives asked a.asks stacking a.takes alive e q trees trees-after serves status after.based.there after.seat.owns
-          a.touched root a.by a.root_is a.rootless applied a.touched_so is-applied
-          new.scene done ready.spare.was.items f.is kept filled was.damage new.damage points (no-tree ready.spare.was.items) (no-tree f.is)
+          serving.marks-least laws.between c others base d r old mid pile before trees owns message.demand message.peer e meant message.done after shown stacking stacks applied surface root told
+          a.root_is a.top (seat.named_by mid) (λ some. holds) agree found is-found new.scene (λ some. done) f.is filled ready.spare.was.items a.kept was.damage new.damage points
 
-      pub lives-most : was.damage.width ≡ d.output.width → was.damage.height ≡ d.output.height → MarksMost d e was.damage new.damage
-      lives-most width height =
-          marks-most c others base d r old mid pile before orderly a.lives asked a.asks stacking a.takes alive e q trees trees-after serves status after.based.there after.seat.owns
-          a.touched root a.by a.root_is a.rootless applied a.touched_so is-applied
-          new.scene done ready.spare.was.items f.is kept filled was.damage new.damage points (no-tree ready.spare.was.items) (no-tree f.is)
+      pub lives-most : MarksMost d e was.damage new.damage
+      lives-most =
+          serving.marks-most laws.between c others base d r old mid pile before trees owns message.demand message.peer e meant message.done after shown stacking stacks applied surface root told
+          a.root_is a.top (seat.named_by mid) (λ some. holds) agree found is-found new.scene (λ some. done) f.is filled ready.spare.was.items a.kept was.damage new.damage points
           (λ x y wide high. within-output d.output.width d.output.height x y (subst (λ (n : ℕ). x < n) width wide) (subst (λ (n : ℕ). y < n) height high))
 
-    -- ---- the windows
+      -- ---- the windows
 
-    module _ (e : Desktop) (s : Resident) (trees_e : HasTrees e) (serves : Serves served_now c d e) (status : status_in c e ≡ None) (there : client_at c e ≡ Some s) (own : Owns mid s) where
-      fit : Fit stacking (length f.is) ready.stacked.room
-      fit = at stacking refl
+      abbrev nums : ℕ → ById ℕ
+      nums = with_numbers c (numbers old) others
+
+      abbrev news : ℕ → ById ℕ
+      news = with_numbers c (numbers mid) others
+
+      same : (n id : ℕ) → has_surface id (owned_in d n).surfaces ≡ true → has_surface id (owned_in e n).surfaces ≡ true → news n id ≡ nums n id
+      same = same-numbers c others base d r old mid was before keeps e s there seated
+
+      had : (n id : ℕ) → has_surface id (owned_in e n).surfaces ≡ true → has_surface id (owned_in d n).surfaces ≡ true
+      had n id is = at (n == c) refl
         where
-          fits : ((n : ℕ) → stacking ≡ on.Out n → ⊥) → length f.is ≤ ready.stacked.room
-          fits never =
-              told-fit c others base d r old mid pile before orderly a.lives asked a.asks stacking a.takes alive e s trees trees_e serves status there own
-              a.touched root a.by a.root_is a.rootless applied a.touched_so is-applied
-              new.scene done ready.spare.was.items f.is kept filled ready.stacked.room (λ some. (a.room some).stack) (no-tree f.is) never
+          at : (b : Bool) → (n == c) ≡ b → has_surface id (owned_in d n).surfaces ≡ true
+          at true here =
+              subst (λ (m : ℕ). has_surface id (owned_in d m).surfaces ≡ true) (sym (eqb-true n c here))
+              (comes id (subst (λ (m : ℕ). has_surface id (owned_in e m).surfaces ≡ true) (eqb-true n c here) is))
+          at false other = subst (λ (o : Owned). has_surface id o.surfaces ≡ true) (message.done.others n (eqb-false n c other)) is
 
-          at : (t : Stacking) → stacking ≡ t → Fit t (length f.is) ready.stacked.room
-          at (on.Out n) is = tt
-          at on.Stays is = fits (λ n out. stays-out n (sym is ∙ out))
-            where
-              stays-out : (n : ℕ) → on.Stays ≡ on.Out n → ⊥
-              stays-out n e = absurd (cc)
-          at (on.ToTop k) is = fits (λ n out. top-out n (sym is ∙ out))
-            where
-              top-out : (n : ℕ) → on.ToTop k ≡ on.Out n → ⊥
-              top-out n e = absurd (cc)
+      abbrev Run : Type 0
+      Run = TurnsRun c (nums c) (seat.named_by old) told.list
+          (serving.own_root laws.between c others base d r old mid pile before trees owns message.demand message.peer e meant message.done after shown stacking stacks applied surface root told
+          a.root_is a.top (seat.named_by mid) (λ some. holds) agree found is-found new.scene (λ some. done) f.is filled) found d e
 
-      windows-are : new.stacked.windows ≡ restacked_if c root stacking f.is was.stacked.windows
-      windows-are = f.windows fit ∙ ap (λ (ws : List Stacked). restacked_if c root stacking f.is ws) a.same.windows
+      fits : Run → FitIf found stacking (length f.is) ready.stacked.room
+      fits t = at found stacking refl
+        where
+          room : ((n : ℕ) → stacking ≡ on.Out n → ⊥) → length f.is ≤ ready.stacked.room
+          room never =
+              serving.told-fit laws.between c others base d r old mid pile before trees owns message.demand message.peer e meant message.done after shown stacking stacks applied surface root told
+              a.root_is a.top (seat.named_by mid) (λ some. holds) agree found is-found new.scene (λ some. done) f.is filled ready.stacked.room (λ some. (a.room some).stack) never t
 
-      lives-windows : AreStacked (with_numbers c (numbers mid) others) new.stacked.windows (all_windows e)
+          stays-out : (n : ℕ) → on.Stays ≡ on.Out n → ⊥
+          stays-out n e = absurd (cc)
+
+          top-out : (k n : ℕ) → on.ToTop k ≡ on.Out n → ⊥
+          top-out k n e = absurd (cc)
+
+          at : (o : Option ℕ) (x : Stacking) → stacking ≡ x → FitIf o x (length f.is) ready.stacked.room
+          at None x is = tt
+          at (Some k) (on.Out n) is = tt
+          at (Some k) on.Stays is = room (λ n out. stays-out n (sym is ∙ out))
+          at (Some k) (on.ToTop top) is = room (λ n out. top-out top n (sym is ∙ out))
+
+      windows-are : FitIf found stacking (length f.is) ready.stacked.room → new.stacked.windows ≡ restacked_if c found stacking f.is was.stacked.windows
+      windows-are fit = f.windows fit ∙ ap (λ (ws : List Stacked). restacked_if c found stacking f.is ws) a.same.windows
+
+      lives-windows : AreStacked news new.stacked.windows (all_windows e)
       lives-windows =
-          subst (λ (ws : List Stacked). AreStacked (with_numbers c (numbers mid) others) ws (all_windows e)) (sym windows-are)
-          (windows-after c others base d r old mid pile before orderly a.lives asked a.asks stacking a.takes alive e s trees trees_e serves status there own
-          a.touched root a.by a.root_is a.rootless applied a.touched_so is-applied
-          new.scene done ready.spare.was.items f.is kept filled)
+          at
+          (serving.turned laws.between c others base d r old mid pile before trees owns message.demand message.peer e meant message.done after shown stacking stacks applied surface root told
+          a.root_is a.top (seat.named_by mid) (λ some. holds) agree found is-found new.scene (λ some. done) f.is filled)
+        where
+          none-fits : found ≡ None → FitIf found stacking (length f.is) ready.stacked.room
+          none-fits none = subst (λ (o : Option ℕ). FitIf o stacking (length f.is) ready.stacked.room) (sym none) tt
 
-    pub lives-seated : (e : Desktop) × (q : Resident) × Serves served_now c d e × IsSeated c others base mid (pile_of new) e q
-    lives-seated = leads-seated done lives-windows
+          at : ((found ≡ None) × ChangesNothing d e) ⊎ Run → AreStacked news new.stacked.windows (all_windows e)
+          at (inl h) =
+              subst (λ (ws : List Stacked). AreStacked news ws (all_windows e))
+              (sym (windows-are (none-fits h.0) ∙ ap (λ (o : Option ℕ). restacked_if c o stacking f.is was.stacked.windows) h.0))
+              (renumbered-since nums news was.stacked.windows d e trees after h.1.stays.windows same before.windows)
+          at (inr t) =
+              subst (λ (ws : List Stacked). AreStacked news ws (all_windows e)) (sym (windows-are (fits t)))
+              (renumbered nums news (restacked_if c found stacking f.is was.stacked.windows) e after (λ n id is. same n id (had n id is) is)
+              (serving.run-restacked laws.between c others base d r old mid pile before trees owns message.demand message.peer e meant message.done after shown stacking stacks applied surface root
+              told a.root_is a.top (seat.named_by mid) (λ some. holds) agree found is-found new.scene (λ some. done) f.is filled t))
 
-    pub lives-through : was.damage.width ≡ d.output.width → was.damage.height ≡ d.output.height
-        → (e : Desktop) × (q : Resident) × (path : List Desktop) × ServesThrough served_now c d path e × IsSeated c others base mid (pile_of new) e q
+    -- ---- what the clauses say
+
+    pub live-least : (e : Desktop) (q : Resident) → Serves served_now c d e → IsSeated c others base mid (pile_of new) e q → MarksAtLeast d e was.damage new.damage
+    live-least e q serves after =
+        lives-least e q serves after.based.there after.seat (trees-after (ways laws) c others base d r old mid was new before ordered alive lives e serves) after.mapped
+
+    pub live-most : (e : Desktop) (q : Resident) → Serves served_now c d e → IsSeated c others base mid (pile_of new) e q → MarksMost d e was.damage new.damage
+    live-most e q serves after =
+        lives-most e q serves after.based.there after.seat (trees-after (ways laws) c others base d r old mid was new before ordered alive lives e serves) after.mapped
+
+    led : Serves served_now c d m.after
+    led = led-serves (ways laws) c others base d r old mid was new before ordered alive lives m
+
+    trees-m : HasTrees m.after
+    trees-m = trees-after (ways laws) c others base d r old mid was new before ordered alive lives m.after led
+
+    shown-m : ShownStand m.after
+    shown-m = shown-after (ways laws) c others base d r old mid was new before ordered alive lives m.after led
+
+    led-windows : AreStacked (with_numbers c (numbers mid) others) new.stacked.windows (all_windows m.after)
+    led-windows = lives-windows m.after m.resident led m.sits.based.there m.sits.seat trees-m shown-m
+
+    pub live-seated : (e : Desktop) × (q : Resident) × Serves served_now c d e × IsSeated c others base mid (pile_of new) e q
+    live-seated = led-seated (ways laws) c others base d r old mid was new before ordered alive lives m led-windows
+
+    pub live-through : (e : Desktop) × (q : Resident) × (path : List Desktop) × ServesThrough served_now c d path e × IsSeated c others base mid (pile_of new) e q
         × MarksThrough d path was.damage new.damage
-    lives-through width height = leads-through done lives-windows lives-least (λ e q serves after. lives-most e q serves after width height)
+    live-through =
+        led-through (ways laws) c others base d r old mid was new before ordered alive lives m led-windows
+        (lives-least m.after m.resident led m.sits.based.there m.sits.seat trees-m shown-m) (lives-most m.after m.resident led m.sits.based.there m.sits.seat trees-m shown-m)

@@ -3,7 +3,7 @@ use Rattle.std.proofs.Common.{subst, ◌≡◌, ℕ, List, [], ◌∷◌, Bool, 
 use Rattle.std.specs.Prelude.{if◌then◌else◌, ◌==◌, is_some, ◌+◌}
 use Rattle.std.specs.Option.{option_and_then, option_map}
 use Rattle.wl_interface.specs.declared.interface.Interface.{Interface}
-use Rattle.wl_interface.specs.declared.interface.Interface.TheVariants.{WlDisplay, WlSurface, XdgSurface, XdgToplevel}
+use Rattle.wl_interface.specs.declared.interface.Interface.TheVariants.{WlDisplay, WlSurface, XdgSurface}
 use Rattle.wl_table.specs.Objects.{Held, entry_of}
 use Rattle.wl_table.specs.declared.entry.Entry.{Entry}
 use Rattle.wl_client.specs.Agreement.{IsPeer}
@@ -23,7 +23,8 @@ use Rattle.wl_stacking.specs.Stacking.{nothing_owned}
 use Rattle.wl_scene.specs.declared.owned.Owned.{Owned}
 use Rattle.wl_resident.specs.Agreement.{IsSeat}
 use Rattle.wl_plain.specs.Desktop.{Resident, resident_of}
-use Rattle.wl_owning.specs.Owning.{IsOwned, names_in, target_as, targets_in, by_number}
+use Rattle.wl_owning.specs.Owning.{IsOwned, target_as, targets_in, by_number}
+use Rattle.wl_owning.specs.RoleNames.{is_of_role, names_of, role_target, roles_in}
 use Rattle.wl_owning.specs.Subsurfaces.{AreOfSurfaces}
 use Rattle.wl_plain.specs.Framing.{AreFramed}
 use Rattle.wl_surface.specs.Slots.{Slots, StandForAll, kept_at, nobody, count as count_kept}
@@ -71,11 +72,15 @@ over-ended q over = ap (λ (x : Peer). is_some x.status) over.2
 pub record AreNameless (held : Held) : Type 0 where
   pub surfaces : (id : ℕ) → targets_in WlSurface held id ≡ None
   pub shell : (id : ℕ) → targets_in XdgSurface held id ≡ None
-  pub toplevels : (id : ℕ) → targets_in XdgToplevel held id ≡ None
+  pub roles : (id : ℕ) → roles_in held id ≡ None
 
 target-none : (interface : Interface) (o : Option Entry) → option_map object_of o ≡ None → option_and_then (target_as interface) o ≡ None
 target-none interface None h = refl
 target-none interface (Some entry) h = absurd (cc)
+
+role-none : (o : Option Entry) → option_map object_of o ≡ None → option_and_then role_target o ≡ None
+role-none None h = refl
+role-none (Some entry) h = absurd (cc)
 
 at-id : (held : Held) (objects : Objects) → objects_in held ≡ objects → (id : ℕ) → option_map object_of (entry_of held id) ≡ objects id
 at-id held objects e id = ap (λ (f : Objects). f id) e
@@ -85,7 +90,7 @@ nameless-none held e =
     record {
       surfaces = λ id. target-none WlSurface (entry_of held id) (at-id held nothing e id);
       shell = λ id. target-none XdgSurface (entry_of held id) (at-id held nothing e id);
-      toplevels = λ id. target-none XdgToplevel (entry_of held id) (at-id held nothing e id);
+      roles = λ id. role-none (entry_of held id) (at-id held nothing e id);
     }
 
 pub nameless-over : (v : ClientView) (q : Peer) → IsPeer v q → IsOver q → AreNameless v.objects
@@ -100,7 +105,7 @@ none-kept book number e = rw e refl
 none-counted : (slots : Slots) → StandForAll slots nobody → count_kept slots ≡ 0
 none-counted slots stand = count-same slots.places [] (λ n. is-kept (kept_at slots n) None (stand n) ∙ sym (ap is_some (nothing-at n)))
 
-pub owns-nothing : {A : Type 0} (held : Held) (owned : Owned A) → AreNameless held → IsBare owned → IsOwned (names_in held) owned.linked.surfaces owned.linked.family (kept_of owned.shell)
+pub owns-nothing : {A : Type 0} (held : Held) (owned : Owned A) → AreNameless held → IsBare owned → IsOwned (names_of held) owned.linked.surfaces owned.linked.family (kept_of owned.shell)
     nothing_owned
 owns-nothing held owned none bare =
     record {
@@ -117,7 +122,7 @@ owns-nothing held owned none bare =
       shell = record { each = λ surface. rw (none.surfaces surface) tt; apart = tt };
       known = λ number e. absurd (differ (sym e ∙ ap (λ o. is_some o) (none-kept owned.shell number bare.shell)));
       named = none.shell;
-      toplevels = none.toplevels;
+      toplevels = none.roles;
       roles = tt;
     }
   where
@@ -162,12 +167,27 @@ target-same interface (Some a) (Some b) same none = at (interface_number b.inter
         no-some : (n : ℕ) → None ≡ Some n → ⊥
         no-some n e = absurd (cc)
 
+role-same : (o p : Option Entry) → option_map object_of o ≡ option_map object_of p → option_and_then role_target o ≡ None → option_and_then role_target p ≡ None
+role-same o None same none = refl
+role-same None (Some entry) same none = absurd (cc)
+role-same (Some a) (Some b) same none = at (is_of_role b.interface) refl
+  where
+    one : a.interface ≡ b.interface
+    one = ap (λ (o : Option Object). interface_or a.interface o) same
+
+    at : (t : Bool) → is_of_role b.interface ≡ t → (if t then Some b.target else None) ≡ None
+    at false e = refl
+    at true e = absurd (no-some a.target (sym none ∙ rw (one, e) refl))
+      where
+        no-some : (n : ℕ) → None ≡ Some n → ⊥
+        no-some n e = absurd (cc)
+
 pub nameless-same : (held other : Held) → objects_in held ≡ objects_in other → AreNameless held → AreNameless other
 nameless-same held other same none =
     record {
       surfaces = λ id. target-same WlSurface (entry_of held id) (entry_of other id) (at-id held (objects_in other) same id) (none.surfaces id);
       shell = λ id. target-same XdgSurface (entry_of held id) (entry_of other id) (at-id held (objects_in other) same id) (none.shell id);
-      toplevels = λ id. target-same XdgToplevel (entry_of held id) (entry_of other id) (at-id held (objects_in other) same id) (none.toplevels id);
+      roles = λ id. role-same (entry_of held id) (entry_of other id) (at-id held (objects_in other) same id) (none.roles id);
     }
 
 -- a client that owns nothing names nothing
@@ -176,11 +196,11 @@ nameless-seat v o r seat gone =
     record {
       surfaces = λ id. none-there (targets_in WlSurface v.objects id) (owns.surfaces.numbered id);
       shell = λ id. owns.named id;
-      toplevels = λ id. owns.toplevels id;
+      roles = λ id. owns.toplevels id;
     }
   where
-    owns : IsOwned (names_in v.objects) o.surfaces o.family (kept_of o.shell) nothing_owned
-    owns = subst (λ (x : Resident). IsOwned (names_in v.objects) o.surfaces o.family (kept_of o.shell) x.owned) (seat.ended gone) seat.owns
+    owns : IsOwned (names_of v.objects) o.surfaces o.family (kept_of o.shell) nothing_owned
+    owns = subst (λ (x : Resident). IsOwned (names_of v.objects) o.surfaces o.family (kept_of o.shell) x.owned) (seat.ended gone) seat.owns
 
     none-there : (n : Option ℕ) → is_some n ≡ false → n ≡ None
     none-there None e = refl
@@ -203,10 +223,23 @@ newcomer-at interface id o other e = by (id == 1) e
     by true e = target-display interface o other e
     by false e = target-none interface o e
 
+role-display : (o : Option Entry) → option_map object_of o ≡ Some (object_at_version WlDisplay 1) → option_and_then role_target o ≡ None
+role-display None e = refl
+role-display (Some entry) e =
+    let is : entry.interface ≡ WlDisplay = ap (λ (o : Option Object). interface_or WlDisplay o) e in
+    rw is refl
+
+newcomer-role : (id : ℕ) (o : Option Entry) → option_map object_of o ≡ with_id 1 (Some (object_at_version WlDisplay 1)) nothing id → option_and_then role_target o ≡ None
+newcomer-role id o e = by (id == 1) e
+  where
+    by : (b : Bool) → option_map object_of o ≡ (if b then Some (object_at_version WlDisplay 1) else None) → option_and_then role_target o ≡ None
+    by true e = role-display o e
+    by false e = role-none o e
+
 pub nameless-newcomer : (v : ClientView) (output : Output) → IsPeer v (newcomer output) → AreNameless v.objects
 nameless-newcomer v output is =
     record {
       surfaces = λ id. newcomer-at WlSurface id (entry_of v.objects id) refl (at-id v.objects (newcomer output).objects is.objects id);
       shell = λ id. newcomer-at XdgSurface id (entry_of v.objects id) refl (at-id v.objects (newcomer output).objects is.objects id);
-      toplevels = λ id. newcomer-at XdgToplevel id (entry_of v.objects id) refl (at-id v.objects (newcomer output).objects is.objects id);
+      roles = λ id. newcomer-role id (entry_of v.objects id) (at-id v.objects (newcomer output).objects is.objects id);
     }

@@ -18,7 +18,7 @@ use Rattle.wl_laws.proofs.Runs.Places.{number-other}
 use Rattle.wl_laws.proofs.Soundness.Trees.{each-append, each-flat}
 use Rattle.wl_invariants.proofs.TreeSteps.Owners.{tree-owned}
 use Rattle.wl_invariants.proofs.TreeSteps.Reading.{each-always}
-use Rattle.wl_changes.proofs.MessageWays.Lists.{filter-all, filter-none}
+use Rattle.wl_invariants.proofs.TreeMarks.Lists.{any-none, filter-all, filter-none}
 use Rattle.wl_stacked.specs.declared.stacked.Stacked.{Stacked}
 use Rattle.wl_stacked.specs.Stacked.{without_client as without_client_of}
 use Rattle.wl_lending.specs.Stacked.{AreStacked}
@@ -85,8 +85,9 @@ module _ (c : ℕ) (owned new : ℕ → Owned) (others : (other : ℕ) → other
   own-filtered s true is =
       sym (ap (filter (is_of_other c)) (shown-by owned (root_of owned s))
       ∙ filter-none (is_of_other c) (shown_by (owned s.client) (root_of owned s))
+      (any-none (is_of_other c) (shown_by (owned s.client) (root_of owned s))
       (each-map (λ (w : Window). w.owner.client ≡ s.client) (λ w. is_of_other c w ≡ false) (λ w own. ap (λ n. not (n == c)) own ∙ ap (λ b. not b) is)
-      (shown_by (owned s.client) (root_of owned s)) (shown-own (owned s.client) (root_of owned s))))
+      (shown_by (owned s.client) (root_of owned s)) (shown-own (owned s.client) (root_of owned s)))))
   own-filtered s false other =
       shown-by new (root_of new s)
       ∙ ap (λ (o : Owned). shown_by o (root_of (λ n. o) s)) (others s.client (eqb-false s.client c other))
@@ -128,6 +129,9 @@ left-stacked c old new others all ws are =
     let left = filter (is_of_other c) ws in
     let each = each-kept (is_of_other c) (λ w. Unit {0}) ws (each-always (λ w. Unit {0}) (λ w. tt) ws) in
     stacked-renumbered (with_numbers c old others) (with_numbers c new others) (without_client_of c all) left
+    (All-from_recursion (λ w. with_numbers c new others w.owner.client w.owner.toplevel ≡ with_numbers c old others w.owner.client w.owner.toplevel) left
+    (each-map (λ w. (is_of_other c w ≡ true) × Unit {0}) (λ w. with_numbers c new others w.owner.client w.owner.toplevel ≡ with_numbers c old others w.owner.client w.owner.toplevel)
+    (λ w is. others-numbered c old new others w w.owner.toplevel is.0) left each))
     (All-from_recursion (λ w. with_numbers c new others w.owner.client w.owner.root ≡ with_numbers c old others w.owner.client w.owner.root) left
     (each-map (λ w. (is_of_other c w ≡ true) × Unit {0}) (λ w. with_numbers c new others w.owner.client w.owner.root ≡ with_numbers c old others w.owner.client w.owner.root)
     (λ w is. others-numbered c old new others w w.owner.root is.0) left each))

@@ -11,28 +11,27 @@ use Rattle.wl_peer.specs.declared.refusals.Refusal.{Refusal}
 use Rattle.wl_peer.specs.Peer.{Peer, counted, with_rest}
 use Rattle.wl_plain.specs.Step.{with_peer}
 use Rattle.wl_peer.specs.Told.{display_error}
-use Rattle.wl_xdg_state.specs.Shell.{Effect, Stays, Unconfigured, Configures, Maps, Unmaps}
+use Rattle.wl_xdg_state.specs.Popups.{is_toplevel}
+use Rattle.wl_xdg_state.specs.Shell.{Effect, Stays, Unconfigured, Configures, Maps, Unmaps, xdg_of}
 use Rattle.wl_surface.specs.declared.applied.Applied.{Applied}
 use Rattle.wl_plain.specs.Demand.{Demand, CommitTree, EndToplevel}
 use Rattle.wl_plain.specs.Demanding.{effect_of_commit, judge_all}
 use Rattle.wl_plain.specs.Desktop.{Desktop, Resident}
 use Rattle.wl_plain.specs.LeftOut.{served_now}
 use Rattle.wl_laws.proofs.Lists.Keys.{differ, none-some}
-use Rattle.wl_changes.specs.Changes.{IsDemanded}
-use Rattle.wl_changes.specs.Trees.{touched_by}
-use Rattle.wl_invariants.specs.Orderly.{OwnsOrderly}
+use Rattle.wl_ordered.specs.Ordered.{OwnsOrdered}
+use Rattle.wl_toplevels.specs.Done.{touched_by}
+use Rattle.wl_toplevels.specs.Messages.{IsDemanded}
 use Rattle.wl_requests.specs.declared.messages.Asked.{Asked}
+use Rattle.wl_requests.specs.declared.residents.Placing.{Placing}
 use Rattle.wl_requests.specs.declared.residents.Resident.{Resident as Kept}
 use Rattle.wl_requests.specs.declared.residents.Stacking.{Stacking}
 use Rattle.wl_requests.specs.declared.residents.Stacking.TheVariants as on
-use Rattle.wl_requests.specs.Messages.{IsAsked, IsTouchOfAsked}
-use Rattle.wl_requests.specs.Residents.{AnswersAs, AnswersSo, IsResident, StacksBy, StacksFor, StacksSo, TakesAs, TakesMessage, TakesMessageAs, TakesSo}
+use Rattle.wl_requests.specs.Messages.{IsTouchOfAsked}
+use Rattle.wl_requests.specs.Placing.{IsPlacingOf}
+use Rattle.wl_requests.specs.Residents.{AnswersAs, AnswersSo, IsResident, StacksFor, StacksIf, StacksSo, TakesAs, TakesMessage, TakesMessageAs, TakesSo}
 use Rattle.wl_requests.specs.Touching.{Touch}
-use Rattle.wl_resident.proofs.Commits.{asked-touches, untouched-never}
 use Rattle.wl_resident.proofs.Ends.{errs-over, lacks-over, over-ended}
-use Rattle.wl_resident.specs.Screens.{IsTouchedBy}
-use Rattle.wl_resident.proofs.Sitting.{numbers}
-use Rattle.wl_resident.proofs.Touches.{IsTouchNamed, touch-named}
 
 -- ---- what isn't done ends the client
 
@@ -51,17 +50,24 @@ undone More c r d old mid h alive = absurd h
 -- ---- what comes to the top was mapped by a commit
 
 top-commits : {A : Type 0} (old : Kept A) (r : Resident) (demand : Demand) (n : ℕ) → StacksFor old r demand (on.ToTop n) → (id : ℕ) × (demand ≡ CommitTree id) × (effect_of_commit r id ≡ Maps)
-top-commits old r (CommitTree id) n h = (id, refl, at (effect_of_commit r id) refl h)
+top-commits old r (CommitTree id) n h = (id, refl, at (is_toplevel (xdg_of id r.owned.shell)) (effect_of_commit r id) refl h)
   where
-    at : (effect : Effect) → effect_of_commit r id ≡ effect → StacksBy old id effect (on.ToTop n) → effect_of_commit r id ≡ Maps
-    at Stays e h = absurd (cc)
-    at Unconfigured e h = absurd (cc)
-    at Configures e h = absurd (cc)
-    at Maps e h = e
-    at Unmaps e h = absurd (out-top h.0 n h.2)
-      where
-        out-top : (m n : ℕ) → on.ToTop n ≡ on.Out m → ⊥
-        out-top m n e = absurd (cc)
+    stays-top : on.ToTop n ≡ on.Stays → ⊥
+    stays-top e = absurd (cc)
+
+    out-top : (m n : ℕ) → on.ToTop n ≡ on.Out m → ⊥
+    out-top m n e = absurd (cc)
+
+    at : (b : Bool) (effect : Effect) → effect_of_commit r id ≡ effect → StacksIf b old id effect (on.ToTop n) → effect_of_commit r id ≡ Maps
+    at b Maps e h = e
+    at true Stays e h = absurd (stays-top h)
+    at true Unconfigured e h = absurd (stays-top h)
+    at true Configures e h = absurd (stays-top h)
+    at true Unmaps e h = absurd (out-top h.0 n h.2)
+    at false Stays e h = absurd (stays-top h)
+    at false Unconfigured e h = absurd (stays-top h)
+    at false Configures e h = absurd (stays-top h)
+    at false Unmaps e h = absurd (stays-top h)
 top-commits old r (EndToplevel id xdg surface) n h = absurd (out-top h.0 n h.2)
   where
     out-top : (m n : ℕ) → on.ToTop n ≡ on.Out m → ⊥
@@ -69,12 +75,12 @@ top-commits old r (EndToplevel id xdg surface) n h = absurd (out-top h.0 n h.2)
 top-commits old r demand n h = absurd (cc)
 
 top-demanded : {A : Type 0} (split : Split) (c : ℕ) (r : Resident) (d : Desktop) (old mid : Kept A) (n : ℕ) → TakesSo split c r d old mid (on.ToTop n) → mid.client.ended ≡ None
-    → (id : ℕ) × IsDemanded split r (CommitTree id) × (effect_of_commit r id ≡ Maps)
+    → (id : ℕ) × IsDemanded served_now split r (CommitTree id) × (effect_of_commit r id ≡ Maps)
 top-demanded {A} (Whole object opcode size) c r d old mid n h alive = at (judge_all served_now r object opcode (take (size - 8) (drop 8 r.peer.rest))) refl h.0 h.1
   where
     at : (judged : Result Demand Refusal) → judge_all served_now r object opcode (take (size - 8) (drop 8 r.peer.rest)) ≡ judged
         → AnswersSo judged c (with_peer (with_rest (drop size r.peer.rest) r.peer) r) d old mid
-        → StacksSo old r judged (on.ToTop n) → (id : ℕ) × IsDemanded (Whole object opcode size) r (CommitTree id) × (effect_of_commit r id ≡ Maps)
+        → StacksSo old r judged (on.ToTop n) → (id : ℕ) × IsDemanded served_now (Whole object opcode size) r (CommitTree id) × (effect_of_commit r id ≡ Maps)
     at (Ok demand) is told stacks =
         let top = top-commits old r demand n stacks in
         (top.0, is ∙ ap (λ (x : Demand). let j : Result Demand Refusal = Ok x in j) top.1, top.2)
@@ -90,7 +96,7 @@ untouched-stays old r (EndToplevel id xdg surface) stacking h none = absurd (non
 untouched-stays old r demand stacking h none = h
 
 demanded-stays : {A : Type 0} (split : Split) (c : ℕ) (r : Resident) (d : Desktop) (old mid : Kept A) (stacking : Stacking) → TakesSo split c r d old mid stacking → mid.client.ended ≡ None
-    → ((demand : Demand) → IsDemanded split r demand → touched_by demand r ≡ None) → stacking ≡ on.Stays
+    → ((demand : Demand) → IsDemanded served_now split r demand → touched_by demand r ≡ None) → stacking ≡ on.Stays
 demanded-stays (Whole object opcode size) c r d old mid stacking h alive none = at (judge_all served_now r object opcode (take (size - 8) (drop 8 r.peer.rest))) refl h.0 h.1
   where
     at : (judged : Result Demand Refusal) → judge_all served_now r object opcode (take (size - 8) (drop 8 r.peer.rest)) ≡ judged
@@ -101,35 +107,33 @@ demanded-stays Bad c r d old mid stacking h alive none =
     absurd (differ (ended-by-peer mid h.0 h.2.peer (over-ended h.0 (errs-over (display_error InvalidMethod) r.peer h.0 h.1)) alive))
 demanded-stays More c r d old mid stacking h alive none = absurd h
 
-module _ {A : Type 0} (c : ℕ) (r : Resident) (d : Desktop) (old mid : Kept A) (resident : IsResident old r) (owns : OwnsOrderly r) (asked : Asked) (asks : IsAsked old.client asked)
-    (applied : Option (Applied A)) (decides : (touch : Touch) → IsTouchOfAsked asked old touch → TakesMessageAs (is_some applied) old mid) (alive : mid.client.ended ≡ None) where
+module _ {A : Type 0} (c : ℕ) (r : Resident) (d : Desktop) (old mid : Kept A) (resident : IsResident old r) (owns : OwnsOrdered r) (asked : Asked) (placing : Placing)
+    (placed : IsPlacingOf placing asked c r d) (applied : Option (Applied A))
+    (decides : (touch : Touch) → IsTouchOfAsked asked old touch → TakesMessageAs (is_some applied) asked placing old mid) (alive : mid.client.ended ≡ None) where
   -- What may change what several surfaces show was done.
   pub some-applied : (touch : Touch) → IsTouchOfAsked asked old touch → is_some applied ≡ true
-  some-applied touch it = at (is_some applied) refl (decides touch it c r d resident owns)
+  some-applied touch it = at (is_some applied) refl (decides touch it c r d resident owns placed)
     where
       at : (b : Bool) → is_some applied ≡ b → TakesAs b (split_of r.peer.rest) c r d old mid → is_some applied ≡ true
       at true is h = is
       at false is h = absurd (differ (undone (split_of r.peer.rest) c r d old mid h alive))
 
   -- A toplevel that was mapped was by such a request.
-  pub top-applied : (stacking : Stacking) → TakesMessage old mid stacking → (n : ℕ) → stacking ≡ on.ToTop n → is_some applied ≡ true
-  top-applied stacking takes n is = by (asked-touches old (numbers old) r.subsurfaces resident.subsurfaces asked)
+  pub top-applied : ((touch : Touch) × IsTouchOfAsked asked old touch) ⊎ ((touch : Touch) → IsTouchOfAsked asked old touch → ⊥)
+      → (((touch : Touch) → IsTouchOfAsked asked old touch → ⊥) → (id : ℕ) → IsDemanded served_now (split_of r.peer.rest) r (CommitTree id) → effect_of_commit r id ≡ Maps → ⊥)
+      → (stacking : Stacking) → TakesMessage asked placing old mid stacking → (n : ℕ) → stacking ≡ on.ToTop n → is_some applied ≡ true
+  top-applied touches never stacking takes n is = by touches
     where
       answers : TakesSo (split_of r.peer.rest) c r d old mid (on.ToTop n)
-      answers = subst (λ (s : Stacking). TakesSo (split_of r.peer.rest) c r d old mid s) is (takes c r d resident owns)
+      answers = subst (λ (s : Stacking). TakesSo (split_of r.peer.rest) c r d old mid s) is (takes c r d resident owns placed)
 
       by : ((touch : Touch) × IsTouchOfAsked asked old touch) ⊎ ((touch : Touch) → IsTouchOfAsked asked old touch → ⊥) → is_some applied ≡ true
       by (inl t) = some-applied t.0 t.1
       by (inr none) =
           let top = top-demanded (split_of r.peer.rest) c r d old mid n answers alive in
-          absurd (untouched-never old r resident asked asks none top.0 top.1 top.2)
+          absurd (never none top.0 top.1 top.2)
 
   -- What touches no tree leaves the stack as it is.
-  pub stays-apart : (stacking : Stacking) → TakesMessage old mid stacking → IsTouchedBy old asked None → stacking ≡ on.Stays
-  stays-apart stacking takes by =
-      demanded-stays (split_of r.peer.rest) c r d old mid stacking (takes c r d resident owns) alive
-      (λ demand told. untouched demand (touch-named old r asked demand None resident owns asks told by))
-    where
-      untouched : (demand : Demand) → IsTouchNamed old r demand None → touched_by demand r ≡ None
-      untouched demand (inl h) = h.0
-      untouched demand (inr h) = absurd (none-some h.1 h.3)
+  pub stays-apart : (stacking : Stacking) → TakesMessage asked placing old mid stacking
+      → ((demand : Demand) → IsDemanded served_now (split_of r.peer.rest) r demand → touched_by demand r ≡ None) → stacking ≡ on.Stays
+  stays-apart stacking takes untouched = demanded-stays (split_of r.peer.rest) c r d old mid stacking (takes c r d resident owns placed) alive untouched

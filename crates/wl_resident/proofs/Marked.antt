@@ -13,7 +13,7 @@ use Rattle.wl_repaint.specs.Repaint.{window_has}
 use Rattle.wl_plain.specs.Desktop.{Desktop, Resident}
 use Rattle.wl_plain.specs.Stacked.{all_windows}
 use Rattle.wl_invariants.specs.Touching.{has_window_at}
-use Rattle.wl_invariants.specs.Orderly.{Orderly}
+use Rattle.wl_ordered.specs.Ordered.{Ordered}
 use Rattle.wl_owning.specs.Owning.{targets_in}
 use Rattle.wl_stacked.specs.declared.stacked.Stacked.{Stacked}
 use Rattle.wl_lending.specs.Stacked.{AreStacked, IsStacked}
@@ -36,9 +36,9 @@ own-stacked numbers c x y (s ∷ ss) (w ∷ ws) are = ap₂ (λ a b. a || b) (on
     one : (s : Stacked) (w : Window) → IsStacked numbers s w → is_own_at c x y s ≡ ((w.owner.client == c) && contains w x y)
     one s w is = ap₂ (λ a b. a && b) (ap (λ (n : ℕ). n == c) is.client) (ap (λ t. window_has x y t) is.told)
 
-own-windows : {A : Type 0} (c : ℕ) (others : ℕ → ById ℕ) (base d : Desktop) (r : Resident) (kept : Kept A) (pile : Pile) → IsSeated c others base kept pile d r → Orderly d → (x y : ℤ)
+own-windows : {A : Type 0} (c : ℕ) (others : ℕ → ById ℕ) (base d : Desktop) (r : Resident) (kept : Kept A) (pile : Pile) → IsSeated c others base kept pile d r → Ordered d → (x y : ℤ)
     → has_own c x y pile.windows ≡ has_window_at c x y d
-own-windows c others base d r kept pile seated orderly x y =
+own-windows c others base d r kept pile seated ordered x y =
     own-stacked (with_numbers c (targets_in WlSurface kept.client.objects) others) c x y pile.windows (all_windows d) seated.windows
 
 -- they are marked
@@ -46,13 +46,13 @@ pub own-marked : {A : Type 0} (c : ℕ) (kept : Kept A) (pile : Pile) (old new :
     → ((x y : ℕ) → x < old.width → y < old.height → has new x y ≡ (has old x y || has_own c (pos x) (pos y) pile.windows)) → IsAsLarge old new → MarksOwnIf true c kept pile old new
 own-marked c kept pile old new points sides = (
   sides,
-  λ others base d r seated orderly x y wide high.
-      points x y wide high ∙ ap (λ (b : Bool). has old x y || b) (own-windows c others base d r kept pile seated orderly (pos x) (pos y)),
+  λ others base d r seated ordered x y wide high.
+      points x y wide high ∙ ap (λ (b : Bool). has old x y || b) (own-windows c others base d r kept pile seated ordered (pos x) (pos y)),
 )
 
 -- nothing is marked
 pub own-unmarked : {A : Type 0} (c : ℕ) (kept : Kept A) (pile : Pile) (damage : Damaged) → MarksOwnIf false c kept pile damage damage
-own-unmarked c kept pile damage = (record { width = refl; height = refl }, λ others base d r seated orderly x y wide high. sym (or-false (has damage x y)))
+own-unmarked c kept pile damage = (record { width = refl; height = refl }, λ others base d r seated ordered x y wide high. sym (or-false (has damage x y)))
 
 -- who hasn't ended lives
 pub lives-none : {X : Type 0} (o : Option X) (b : Bool) → b ≡ is_some o → is_none o ≡ not b

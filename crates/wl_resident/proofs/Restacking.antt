@@ -1,53 +1,50 @@
--- What is kept of the windows of the output after a message that is done.
-use Rattle.std.proofs.Common.{◌≡◌, ℕ, ◌-◌, ◌==◌, take, drop, Bool, true, false, cond, Option, Some, None, List, [], ◌∷◌, ◌++◌, map, refl, ap, sym, subst, ◌∙◌, inl, inr, ◌⊎◌}
-use Rattle.std.specs.Option.{option_map_or}
+-- What a message that is done does to the stack of toplevels, and what is kept of the windows after it.
+use Rattle.std.proofs.Common.{arith, ◌≡◌, ℕ, ◌==◌, Bool, true, false, cond, Option, Some, None, List, [], ◌∷◌, ◌++◌, map, refl, ap, sym, subst, ◌∙◌, inl, inr, ◌⊎◌}
 use Rattle.std.specs.Prelude.{find, is_some, not, ◌&&◌, ◌||◌}
 use Rattle.std.specs.List.{list_any}
-use Rattle.wl_wire.specs.declared.header.Split.{Split}
-use Rattle.wl_wire.specs.declared.header.Split.TheVariants.{Message as Whole, More, Bad}
 use Rattle.wl_peer.specs.Objects.{ById}
 use Rattle.wl_peer.specs.Peer.{Peer}
-use Rattle.wl_family.specs.Family.{links_in, parents_of, root_by}
-use Rattle.wl_surface.specs.Surfaces.{history_in}
-use Rattle.wl_xdg_state.specs.Shell.{Effect, Stays, Unconfigured, Configures, Maps, Unmaps, XdgSurface as Xdg, xdg_of}
-use Rattle.wl_stacking.specs.Stacking.{shows_buffer}
-use Rattle.wl_stacking.specs.Windows.{mapping_place}
+use Rattle.wl_xdg_state.specs.Popups.{is_toplevel, is_toplevel_kind, kind_popup, popup_in}
+use Rattle.wl_xdg_state.specs.Shell.{Effect, Stays, Unconfigured, Configures, IsPopup, Kind, Maps, Popup, RoleObject, Toplevel, Unmaps, XdgSurface as Xdg, xdg_of}
+use Rattle.wl_stacking.specs.Windows.{StackedPopup, mapping_place}
 use Rattle.wl_windows.specs.declared.window.TreeWindow.{TreeWindow}
-use Rattle.wl_stacking.specs.Stacking.{Standing, is_of as is_standing, with_mapped, without_surface_of}
+use Rattle.wl_stacking.specs.Stacking.{Owned, Standing, is_of as is_standing, with_mapped, without_surface_of}
 use Rattle.wl_scene.specs.Kept.{Stack, mapped_on}
+use Rattle.wl_stacked.specs.declared.stacked.Stacked.{Stacked}
+use Rattle.wl_stacked.specs.Stacked.{replaced, stacked}
+use Rattle.wl_plain.specs.Changing.{stacked_by, stacked_for}
 use Rattle.wl_plain.specs.Demand.{Demand, CommitTree, EndToplevel}
-use Rattle.wl_plain.specs.Demanding.{effect_of_commit, effect_on_xdg}
-use Rattle.wl_plain.specs.WlSurface.{will_show}
+use Rattle.wl_plain.specs.Demanding.{effect_of_commit}
 use Rattle.wl_plain.specs.Desktop.{Desktop, Resident, owned_in}
-use Rattle.wl_plain.specs.LeftOut.{served_now}
 use Rattle.wl_plain.specs.Stacked.{all_windows}
 use Rattle.wl_plain.specs.Step.{with_peer}
-use Rattle.wl_laws.proofs.Soundness.Allowed.{allowed}
-use Rattle.wl_laws.proofs.Marks.Stacks.{same-number}
+use Rattle.wl_laws.proofs.Lists.Keys.{differ, found-by}
+use Rattle.wl_laws.proofs.Marks.Stacks.{equal-numbers, same-number}
 use Rattle.wl_laws.specs.Laws.{AreApart}
-use Rattle.wl_lending.specs.Stacked.{AreNumberedBy, AreNumberedOnce, AreStacked, told_by}
-use Rattle.wl_invariants.proofs.MappedToplevels.Found.{told-apart, top-with}
-use Rattle.wl_invariants.specs.Orderly.{Orderly, OwnsOrderly}
-use Rattle.wl_changes.specs.Changes.{ChangesTree, IsDemanded, IsDone}
-use Rattle.wl_changes.specs.Trees.{HasTrees, touched_by}
+use Rattle.wl_invariants.specs.TreeStepsLaws.{IsRootOf}
+use Rattle.wl_changes.specs.RenamedWindows.{told_by}
 use Rattle.wl_changes.proofs.OneTree.Stacks.{find-none, none-lower}
-use Rattle.wl_invariants.proofs.TreeSteps.Descents.{is-top, no-child-is-top}
-use Rattle.wl_changes.proofs.TurnedWindows.Turned.{none-at, out-turned, stays-turned, top-turned}
-use Rattle.wl_invariants.specs.Simple.{stacked_on, stacked_simply}
-use Rattle.wl_invariants.proofs.WithoutPopups.Windows.{windows_are_toplevels}
-use Rattle.wl_surface.specs.Trees.{levels}
+use Rattle.wl_lending.specs.Stacked.{AreStacked}
+use Rattle.wl_ordered.specs.Ordered.{OwnsOrdered}
+use Rattle.wl_toplevels.specs.Changes.{HasTrees}
+use Rattle.wl_toplevels.specs.Done.{IsMeant, touched_by}
+use Rattle.wl_toplevels.specs.StackedWith.{IsStackedAs, popup_of}
+use Rattle.wl_toplevels.specs.Toplevel.{ChangesToplevel}
+use Rattle.wl_toplevels.proofs.RootsOf.Commits.{own-root}
+use Rattle.wl_runs.specs.Kept.{IsNumbered}
+use Rattle.wl_runs.specs.Lookup.{toplevel_found}
+use Rattle.wl_runs.proofs.Found.{finds-toplevels}
+use Rattle.wl_runs.proofs.Turned.{run-comes, run-goes, run-stays}
 use Rattle.wl_requests.specs.declared.residents.Resident.{Resident as Kept}
 use Rattle.wl_requests.specs.declared.residents.Stacking.{Stacking}
 use Rattle.wl_requests.specs.declared.residents.Stacking.TheVariants as on
-use Rattle.wl_requests.specs.Residents.{StacksBy, StacksFor}
+use Rattle.wl_requests.specs.Residents.{StacksFor, StacksIf}
 use Rattle.wl_resident.specs.Agreement.{IsScene, IsStack, with_numbers}
 use Rattle.wl_resident.specs.Screens.{restacked}
-use Rattle.wl_resident.specs.Seats.{IsRestacked, IsSeated}
-use Rattle.wl_resident.specs.View.{Pile}
+use Rattle.wl_resident.specs.Seats.{IsRestacked}
+use Rattle.wl_resident.proofs.Lookup.{IsStackedOf, popup-stacked, popup_with}
 use Rattle.wl_resident.proofs.Scenes.{AreOnce, numbers-same, stack-mapped, stack-out}
 use Rattle.wl_resident.proofs.Sitting.{numbers}
-use Rattle.wl_resident.proofs.Turning as turning
-use Rattle.wl_resident.proofs.Told.{names_of}
 
 both-true : (a b : Bool) → a ≡ true → b ≡ true → (a && b) ≡ true
 both-true true b e f = f
@@ -68,171 +65,180 @@ none-without c surface (s ∷ ss) = at (is_standing c surface s) refl (none-with
     at true e rest = rest
     at false e rest = ap (λ b. b || list_any (is_standing c surface) (without_surface_of c surface ss)) e ∙ rest
 
--- what takes a toplevel out or puts one on top is of a surface that has an xdg_surface
-top-demanded : (split : Split) (r : Resident) (id xdg surface : ℕ) → OwnsOrderly r → IsDemanded split r (EndToplevel id xdg surface) → is_some (xdg_of surface r.owned.shell) ≡ true
-top-demanded (Whole object opcode size) r id xdg surface owns judged =
-    let allows = allowed served_now r object opcode (take (size - 8) (drop 8 r.peer.rest)) (EndToplevel id xdg surface) judged in
-    let found = top-with r.owned.shell (told-apart r.owned.shell owns.xdg_surfaces.0 owns.xdg_apart) id xdg surface allows.1 allows.2 in
-    ap (λ (o : Option Xdg). is_some o) (ap (λ (n : ℕ). xdg_of n r.owned.shell) (sym found.3) ∙ found.2.of_surface)
-top-demanded Bad r id xdg surface owns judged = absurd judged
-top-demanded More r id xdg surface owns judged = absurd judged
+-- ---- a toplevel is its own
+
+-- the xdg_surface of a toplevel has no popup
+unpopped : (x : Option Xdg) → is_toplevel x ≡ true → popup_with x ≡ None
+unpopped None is = refl
+unpopped (Some x) is = at x.role is
+  where
+    kind : (k : Kind) → is_toplevel_kind k ≡ true → kind_popup k ≡ None
+    kind Toplevel e = refl
+    kind (IsPopup popup) e = absurd (differ (sym e))
+
+    at : (o : Option RoleObject) → is_toplevel (Some (record x { role = o })) ≡ true → popup_in o ≡ None
+    at None e = refl
+    at (Some object) e = kind object.kind e
+
+none-of : (o : Owned) (popup : Option Popup) (p : Option StackedPopup) → popup ≡ None → IsStackedOf o popup p → p ≡ None
+none-of o None None e is = refl
+none-of o None (Some p) e is = absurd is
+none-of o (Some popup) p e is = absurd (cc)
+
+-- a tree whose root is no popup is stacked with its own toplevel
+its-own : (c root : ℕ) (d : Desktop) (o : Option ℕ) (q : Option StackedPopup) → q ≡ None → IsStackedAs c root d q o → o ≡ Some root
+its-own c root d None None e is = absurd is
+its-own c root d (Some t) None e is = ap (λ n. Some n) is
+its-own c root d o (Some q) e is = absurd (cc)
+
+pub its-toplevel : (c root : ℕ) (d : Desktop) → HasTrees d → is_toplevel (xdg_of root (owned_in d c).shell) ≡ true
+    → toplevel_found c root (popup_of c root d) (all_windows d) ≡ Some root
+its-toplevel c root d trees is =
+    its-own c root d (toplevel_found c root (popup_of c root d) (all_windows d)) (popup_of c root d)
+    (none-of (owned_in d c) (popup_with (xdg_of root (owned_in d c).shell)) (popup_of c root d) (unpopped (xdg_of root (owned_in d c).shell) is) (popup-stacked c root d trees))
+    (finds-toplevels c root d trees)
+
+some-of : (x : Option Xdg) → is_toplevel x ≡ true → is_some x ≡ true
+some-of None is = absurd (differ (sym is))
+some-of (Some x) is = refl
+
+pub its-root : (c id root : ℕ) (d : Desktop) → HasTrees d → is_toplevel (xdg_of id (owned_in d c).shell) ≡ true → IsRootOf (owned_in d c).surfaces id root → root ≡ id
+its-root c id root d trees is its = own-root c d trees id root (trees.xdg_roots c id (some-of (xdg_of id (owned_in d c).shell) is)) its
 
 -- ---- what a request does to the stack
 
 -- It stays, the surface's toplevel goes, or it is mapped.
-abbrev Turns : ℕ → ById ℕ → ℕ → Resident → Desktop → Desktop → Stacking → Type 0
-Turns c old id r d after stacking =
-    ((stacking ≡ on.Stays) × (after.standing ≡ d.standing))
-    ⊎ (((n : ℕ) × (stacking ≡ on.Out n) × (after.standing ≡ without_surface_of c id d.standing) × (is_some (xdg_of id r.owned.shell) ≡ true) × (old id ≡ Some n))
-    ⊎ ((n : ℕ) × (stacking ≡ on.ToTop n) × (after.standing ≡ with_mapped d.mappings c id d.standing) × (is_some (xdg_of id r.owned.shell) ≡ true) × (old id ≡ Some n)))
+abbrev pub Moves : ℕ → ById ℕ → ℕ → Resident → Desktop → List Standing → Stacking → Type 0
+Moves c old id r d after stacking =
+    ((stacking ≡ on.Stays) × (after ≡ d.standing))
+    ⊎ (((n : ℕ) × (stacking ≡ on.Out n) × (after ≡ without_surface_of c id d.standing) × (is_toplevel (xdg_of id r.owned.shell) ≡ true) × (old id ≡ Some n))
+    ⊎ ((n : ℕ) × (stacking ≡ on.ToTop n) × (after ≡ with_mapped d.mappings c id d.standing) × (is_toplevel (xdg_of id r.owned.shell) ≡ true) × (old id ≡ Some n)))
 
 some-same : (a b : ℕ) → Some a ≡ Some b → a ≡ b
-some-same a b e = ap (λ (o : Option ℕ). option_map_or (λ n. n) o a) e
+some-same a b e = grind (arith)
 
-module _ {A : Type 0} (c : ℕ) (old : Kept A) (r : Resident) (p : Peer) (owns : OwnsOrderly r) (d : Desktop) (stacking : Stacking) where
-  -- a surface without xdg_surface neither goes nor comes
-  has-xdg : (id : ℕ) (effect : Effect) → effect_of_commit r id ≡ effect → (effect ≡ Stays → ⊥) → is_some (xdg_of id r.owned.shell) ≡ true
-  has-xdg id effect e never = at (xdg_of id r.owned.shell) refl
+module _ {A : Type 0} (c : ℕ) (old : Kept A) (r : Resident) (p : Peer) (owns : OwnsOrdered r) (d : Desktop) (stacking : Stacking) where
+  abbrev MovesBy : Demand → ℕ → Type 0
+  MovesBy demand id = Moves c (numbers old) id r d (stacked_for c demand (with_peer p r) (all_windows d) d).standing stacking
+
+  commit-moves : (id : ℕ) → StacksIf (is_toplevel (xdg_of id r.owned.shell)) old id (effect_of_commit r id) stacking → MovesBy (CommitTree id) id
+  commit-moves id h = at (is_toplevel (xdg_of id r.owned.shell)) refl (effect_of_commit r id) refl h
     where
-      at : (o : Option Xdg) → xdg_of id r.owned.shell ≡ o → is_some (xdg_of id r.owned.shell) ≡ true
-      at None none = absurd (never (sym e ∙ ap (effect_on_xdg (will_show r id)) none))
-      at (Some x) some = ap (λ (o : Option Xdg). is_some o) some
+      comes : (top : Bool) (effect : Effect) → is_toplevel (xdg_of id r.owned.shell) ≡ top → effect_of_commit r id ≡ effect
+          → (stacked_for c (CommitTree id) (with_peer p r) (all_windows d) d).standing ≡ (stacked_by effect top c id d).standing
+      comes top effect t e = ap (λ (f : Effect). (stacked_by f (is_toplevel (xdg_of id r.owned.shell)) c id d).standing) e ∙ ap (λ (b : Bool). (stacked_by effect b c id d).standing) t
 
-  commit-turns : (id : ℕ) → StacksBy old id (effect_of_commit r id) stacking → Turns c (numbers old) id r d (stacked_simply c (CommitTree id) (with_peer p r) d) stacking
-  commit-turns id h = at (effect_of_commit r id) refl h
+      still : (effect : Effect) → (stacked_by effect false c id d).standing ≡ d.standing
+      still Stays = refl
+      still Unconfigured = refl
+      still Configures = refl
+      still Maps = refl
+      still Unmaps = refl
+
+      at : (top : Bool) → is_toplevel (xdg_of id r.owned.shell) ≡ top → (effect : Effect) → effect_of_commit r id ≡ effect → StacksIf top old id effect stacking → MovesBy (CommitTree id) id
+      at false t effect e h = inl (h, comes false effect t e ∙ still effect)
+      at true t Stays e h = inl (h, comes true Stays t e)
+      at true t Unconfigured e h = inl (h, comes true Unconfigured t e)
+      at true t Configures e h = inl (h, comes true Configures t e)
+      at true t Maps e h = inr (inr (h.0, h.2, comes true Maps t e, t, h.1))
+      at true t Unmaps e h = inr (inl (h.0, h.2, comes true Unmaps t e, t, h.1))
+
+  -- the xdg_surface with a toplevel that goes is that of its surface
+  meant-of : (id xdg surface : ℕ) → IsMeant (EndToplevel id xdg surface) r → is_toplevel (xdg_of surface r.owned.shell) ≡ true
+  meant-of id xdg surface meant = ap is_toplevel found ∙ meant.role
     where
-      comes : (effect : Effect) → effect_of_commit r id ≡ effect → (stacked_simply c (CommitTree id) (with_peer p r) d).standing ≡ (stacked_on effect c id d).standing
-      comes effect e = ap (λ (f : Effect). (stacked_on f c id d).standing) e
+      found : xdg_of surface r.owned.shell ≡ Some meant.it
+      found =
+          found-by (λ surface x. x.surface == surface) (λ x. x.id == xdg) surface r.owned.shell meant.it owns.order.xdg_apart meant.here (equal-numbers meant.it.surface surface meant.own)
 
-      at : (effect : Effect) → effect_of_commit r id ≡ effect → StacksBy old id effect stacking → Turns c (numbers old) id r d (stacked_simply c (CommitTree id) (with_peer p r) d) stacking
-      at Stays e h = inl (h, comes Stays e)
-      at Unconfigured e h = inl (h, comes Unconfigured e)
-      at Configures e h = inl (h, comes Configures e)
-      at Maps e h = inr (inr (h.0, h.2, comes Maps e, has-xdg id Maps e (λ same. absurd (cc)), h.1))
-      at Unmaps e h = inr (inl (h.0, h.2, comes Unmaps e, has-xdg id Unmaps e (λ same. absurd (cc)), h.1))
+  pub moves : (demand : Demand) (id : ℕ) → IsMeant demand r → StacksFor old r demand stacking → touched_by demand r ≡ Some id → MovesBy demand id
+  moves (CommitTree i) id meant h touched = subst (λ (n : ℕ). MovesBy (CommitTree i) n) (some-same i id touched) (commit-moves i h)
+  moves (EndToplevel i xdg surface) id meant h touched =
+      subst (λ (n : ℕ). MovesBy (EndToplevel i xdg surface) n) (some-same surface id touched) (inr (inl (h.0, h.2, refl, meant-of i xdg surface meant, h.1)))
+  moves demand id meant h touched = inl (h, refl)
 
-  turns : (split : Split) (demand : Demand) (id : ℕ) → IsDemanded split r demand → StacksFor old r demand stacking → touched_by demand r ≡ Some id
-      → Turns c (numbers old) id r d (stacked_simply c demand (with_peer p r) d) stacking
-  turns split (CommitTree i) id told h touched =
-      subst (λ (n : ℕ). Turns c (numbers old) n r d (stacked_simply c (CommitTree i) (with_peer p r) d) stacking) (some-same i id touched) (commit-turns i h)
-  turns split (EndToplevel i xdg surface) id told h touched =
-      subst (λ (n : ℕ). Turns c (numbers old) n r d (stacked_simply c (EndToplevel i xdg surface) (with_peer p r) d) stacking) (some-same surface id touched)
-      (inr (inl (h.0, h.2, refl, top-demanded split r i xdg surface owns told, h.1)))
-  turns split demand id told h touched = inl (h, refl)
+-- The toplevels that are kept stand for those that stand then.
+pub stack-turned : (c : ℕ) (old : ById ℕ) (others : ℕ → ById ℕ) (id : ℕ) (r : Resident) (d : Desktop) (after : List Standing) (stacking : Stacking) → AreOnce old
+    → Moves c old id r d after stacking → (was between : Stack) → IsScene (with_numbers c old others) was d → IsRestacked c stacking was between
+    → IsStack (with_numbers c old others) between.standing after
+stack-turned c old others id r d after stacking once moved was between scene done = at moved
+  where
+    own-number : (n : ℕ) → old id ≡ Some n → with_numbers c old others c id ≡ Some n
+    own-number n number = ap (λ (f : ById ℕ). f id) (numbers-same c old others) ∙ number
 
-  -- The toplevels that are kept stand for those that stand then.
-  pub stack-turned : (others : ℕ → ById ℕ) → AreOnce (numbers old) → (split : Split) (demand : Demand) (id : ℕ) → IsDemanded split r demand → StacksFor old r demand stacking
-      → touched_by demand r ≡ Some id → (was between : Stack) → IsScene (with_numbers c (numbers old) others) was d → IsRestacked c stacking was between
-      → IsStack (with_numbers c (numbers old) others) between.standing (stacked_simply c demand (with_peer p r) d).standing
-  stack-turned others once split demand id told stacks touched was between scene done = at (turns split demand id told stacks touched)
-    where
-      own-number : (n : ℕ) → numbers old id ≡ Some n → with_numbers c (numbers old) others c id ≡ Some n
-      own-number n number = ap (λ (f : ById ℕ). f id) (numbers-same c (numbers old) others) ∙ number
+    own-once : AreOnce (with_numbers c old others c)
+    own-once = subst (λ (f : ById ℕ). AreOnce f) (sym (numbers-same c old others)) once
 
-      own-once : AreOnce (with_numbers c (numbers old) others c)
-      own-once = subst (λ (f : ById ℕ). AreOnce f) (sym (numbers-same c (numbers old) others)) once
-
-      at : Turns c (numbers old) id r d (stacked_simply c demand (with_peer p r) d) stacking
-          → IsStack (with_numbers c (numbers old) others) between.standing (stacked_simply c demand (with_peer p r) d).standing
-      at (inl h) =
-          let same : between ≡ was = subst (λ (s : Stacking). IsRestacked c s was between) h.0 done in
-          subst (λ (ss : List Standing). IsStack (with_numbers c (numbers old) others) between.standing ss) (sym h.1)
-          (subst (λ (s : Stack). IsStack (with_numbers c (numbers old) others) s.standing d.standing) (sym same) scene.standing)
-      at (inr (inl h)) =
-          let out = subst (λ (s : Stacking). IsRestacked c s was between) h.1 done in
-          subst (λ (ss : List Standing). IsStack (with_numbers c (numbers old) others) between.standing ss) (sym h.2)
-          (subst (λ (ks : List Standing). IsStack (with_numbers c (numbers old) others) ks (without_surface_of c id d.standing)) (sym out.0)
-          (stack-out (with_numbers c (numbers old) others) c id h.0 was.standing d.standing own-once (own-number h.0 h.4) scene.standing))
-      at (inr (inr h)) =
-          let top : between ≡ mapped_on c h.0 was = subst (λ (s : Stacking). IsRestacked c s was between) h.1 done in
-          subst (λ (ss : List Standing). IsStack (with_numbers c (numbers old) others) between.standing ss) (sym h.2)
-          (subst (λ (s : Stack). IsStack (with_numbers c (numbers old) others) s.standing (with_mapped d.mappings c id d.standing)) (sym top)
-          (stack-mapped (with_numbers c (numbers old) others) c id h.0 was.next d.mappings was.standing d.standing (own-number h.0 h.4) scene.next scene.standing))
+    at : Moves c old id r d after stacking → IsStack (with_numbers c old others) between.standing after
+    at (inl h) =
+        let same : between ≡ was = subst (λ (s : Stacking). IsRestacked c s was between) h.0 done in
+        subst (λ (ss : List Standing). IsStack (with_numbers c old others) between.standing ss) (sym h.1)
+        (subst (λ (s : Stack). IsStack (with_numbers c old others) s.standing d.standing) (sym same) scene.standing)
+    at (inr (inl h)) =
+        let out = subst (λ (s : Stacking). IsRestacked c s was between) h.1 done in
+        subst (λ (ss : List Standing). IsStack (with_numbers c old others) between.standing ss) (sym h.2)
+        (subst (λ (ks : List Standing). IsStack (with_numbers c old others) ks (without_surface_of c id d.standing)) (sym out.0)
+        (stack-out (with_numbers c old others) c id h.0 was.standing d.standing own-once (own-number h.0 h.4) scene.standing))
+    at (inr (inr h)) =
+        let top : between ≡ mapped_on c h.0 was = subst (λ (s : Stacking). IsRestacked c s was between) h.1 done in
+        subst (λ (ss : List Standing). IsStack (with_numbers c old others) between.standing ss) (sym h.2)
+        (subst (λ (s : Stack). IsStack (with_numbers c old others) s.standing (with_mapped d.mappings c id d.standing)) (sym top)
+        (stack-mapped (with_numbers c old others) c id h.0 was.next d.mappings was.standing d.standing (own-number h.0 h.4) scene.next scene.standing))
 
 -- ---- the windows afterwards
 
-module _ {A : Type 0} (c : ℕ) (others : ℕ → ById ℕ) (base d : Desktop) (r : Resident) (old : Kept A) (pile : Pile) (before : IsSeated c others base old pile d r) (orderly : Orderly d)
-    (lives : old.client.ended ≡ None) (demand : Demand) (p : Peer) (e : Desktop) (trees : HasTrees d) (after : HasTrees e) (done : IsDone c demand (with_peer p r) d e) (split : Split)
-    (told : IsDemanded split r demand) (stacking : Stacking) (stacks : StacksFor old r demand stacking)
-    (id number : ℕ) (touched : touched_by demand r ≡ Some id) (named : numbers old id ≡ Some number)
-    (none : links_in old.owned.linked.family (root_by 16 (parents_of (links_in old.owned.linked.family)) number) ≡ None) where
-  abbrev owns : OwnsOrderly r
-  owns = turning.owns c others base d r old pile before orderly lives
+module _ (nums : ℕ → ById ℕ) (c id root toplevel k : ℕ) (old : ById ℕ) (f : ℕ → ℕ) (r : Resident) (d e : Desktop) (all : List Stacked) (step : ChangesToplevel c toplevel d e)
+    (is_numbered : IsNumbered nums all c toplevel k f d e) (trees : HasTrees d) (apart : AreApart e.standing) (here : owned_in d c ≡ r.owned)
+    (rooted : IsRootOf (owned_in d c).surfaces id root) (its : toplevel_found c root (popup_of c root d) (all_windows d) ≡ Some toplevel)
+    (stacking : Stacking) (moved : Moves c old id r d e.standing stacking) where
+  -- a toplevel that goes or comes is that of the surface
+  own : is_toplevel (xdg_of id r.owned.shell) ≡ true → toplevel ≡ id
+  own top =
+      let is : is_toplevel (xdg_of id (owned_in d c).shell) ≡ true = ap (λ (o : Owned). is_toplevel (xdg_of id o.shell)) here ∙ top in
+      let root-is : root ≡ id = its-root c id root d trees is rooted in
+      some-same toplevel id
+      (sym its ∙ (its-toplevel c root d trees (subst (λ (n : ℕ). is_toplevel (xdg_of n (owned_in d c).shell) ≡ true) (sym root-is) is) ∙ ap (λ (n : ℕ). Some n) root-is))
 
-  abbrev f : ℕ → ℕ
-  f = names_of old
+  stands-nowhere : (n : ℕ) → e.standing ≡ without_surface_of c id d.standing → toplevel ≡ id → find (is_standing c toplevel) e.standing ≡ None
+  stands-nowhere n stands same =
+      ap (λ (m : ℕ). find (is_standing c m) e.standing) same
+      ∙ (ap (find (is_standing c id)) stands ∙ find-none (is_standing c id) (without_surface_of c id d.standing) (none-without c id d.standing))
 
-  abbrev nums : ℕ → ById ℕ
-  nums = with_numbers c (numbers old) others
-
-  abbrev k : ℕ
-  k = turning.k c others base d r old pile before orderly lives demand p e trees after done id number touched named none
-
-  abbrev root : ℕ
-  root = turning.root c others base d r old pile before orderly lives demand p e trees after done id number touched named none
-
-  abbrev tree : ChangesTree c root d e
-  tree = turning.tree c others base d r old pile before orderly lives demand p e trees after done id number touched named none
-
-  nums-named : nums c root ≡ Some k
-  nums-named = turning.nums-named c others base d r old pile before orderly lives demand p e trees after done id number touched named none
-
-  once-own : AreNumberedOnce (nums c)
-  once-own = turning.once-own c others base d r old pile before orderly lives
-
-  -- a surface with an xdg_surface is its own root
-  own-root : is_some (xdg_of id r.owned.shell) ≡ true → root ≡ id
-  own-root has =
-      let is = (turning.found-root c others base d r old pile before orderly lives demand p e trees after done id number touched named none).1 in
-      sym (is-top levels r.owned.surfaces root id (no-child-is-top r.owned.surfaces owns.numbered id (owns.roots id has)) is.under)
-
-  shows : list_any (is_standing c root) d.standing ≡ true → shows_buffer (history_in root (owned_in d c).surfaces) ≡ true
-  shows stands = let mapped = before.mapped.each c in mapped.shows root (sym (mapped.stands root) ∙ stands)
-
-  -- Where the message is done, what is kept of the windows goes on standing for them.
-  pub windows-restacked : (is : List TreeWindow) → (((n : ℕ) → stacking ≡ on.Out n → ⊥) → is ≡ map (told_by f) tree.is)
-      → AreStacked nums (restacked c k stacking is pile.windows) (all_windows e)
-  windows-restacked is same = at (turns c old r p owns d stacking split demand id told stacks touched)
+  -- What is kept of the windows goes on standing for them.
+  pub windows-restacked : (is : List TreeWindow) → (((n : ℕ) → stacking ≡ on.Out n → ⊥) → is ≡ map (told_by f) step.is)
+      → AreStacked nums (restacked c k stacking is all) (all_windows e)
+  windows-restacked is same = at moved
     where
-      is-told : ((n : ℕ) → stacking ≡ on.Out n → ⊥) → (s : Stacking) → AreStacked nums (restacked c k s (map (told_by f) tree.is) pile.windows) (all_windows e)
-          → AreStacked nums (restacked c k s is pile.windows) (all_windows e)
-      is-told never s are = subst (λ ws. AreStacked nums (restacked c k s ws pile.windows) (all_windows e)) (sym (same never)) are
+      is-told : ((n : ℕ) → stacking ≡ on.Out n → ⊥) → (s : Stacking) → AreStacked nums (restacked c k s (map (told_by f) step.is) all) (all_windows e)
+          → AreStacked nums (restacked c k s is all) (all_windows e)
+      is-told never s are = subst (λ (ws : List TreeWindow). AreStacked nums (restacked c k s ws all) (all_windows e)) (sym (same never)) are
 
-      numbered : AreNumberedBy (nums c) f tree.is
-      numbered = turning.numbered c others base d r old pile before orderly lives demand p e trees after done id number touched named none
-
-      at : Turns c (numbers old) id r d (stacked_simply c demand (with_peer p r) d) stacking → AreStacked nums (restacked c k stacking is pile.windows) (all_windows e)
+      at : Moves c old id r d e.standing stacking → AreStacked nums (restacked c k stacking is all) (all_windows e)
       at (inl h) =
-          subst (λ (s : Stacking). AreStacked nums (restacked c k s is pile.windows) (all_windows e)) (sym h.0)
+          subst (λ (s : Stacking). AreStacked nums (restacked c k s is all) (all_windows e)) (sym h.0)
           (is-told (λ n other. out-stays n (sym h.0 ∙ other)) on.Stays
-          (stays-turned nums pile.windows c root k f d e tree before.windows nums-named once-own numbered shows (done.stack ∙ h.1)))
+          (run-stays nums all c toplevel k f d e step is_numbered trees (λ nowhere. ap (list_any (is_standing c toplevel)) h.1 ∙ nowhere)))
       at (inr (inl h)) =
-          let own : root ≡ id = own-root h.3 in
-          subst (λ (s : Stacking). AreStacked nums (restacked c k s is pile.windows) (all_windows e)) (sym h.1)
-          (out-turned nums pile.windows c root k f d e tree before.windows nums-named once-own numbered
-          (subst (λ (n : ℕ). find (is_standing c n) e.standing ≡ None) (sym own)
-          (ap (find (is_standing c id)) (done.stack ∙ h.2) ∙ find-none (is_standing c id) (without_surface_of c id d.standing) (none-without c id d.standing))))
+          subst (λ (s : Stacking). AreStacked nums (restacked c k s is all) (all_windows e)) (sym h.1)
+          (run-goes nums all c toplevel k f d e step is_numbered (stands-nowhere h.0 h.2 (own h.3))).1
       at (inr (inr h)) =
-          let own : root ≡ id = own-root h.3 in
+          let same : toplevel ≡ id = own h.3 in
           let s : Standing = record { client = c; surface = id; place = mapping_place d.mappings } in
-          let stands : e.standing ≡ d.standing ++ s ∷ [] = done.stack ∙ h.2 in
-          let apart = subst (λ ss. AreApart ss) stands after.apart in
-          subst (λ (s : Stacking). AreStacked nums (restacked c k s is pile.windows) (all_windows e)) (sym h.1)
+          let stands : e.standing ≡ d.standing ++ s ∷ [] = h.2 in
+          let lower = subst (λ ss. AreApart ss) stands apart in
+          let comes =
+          run-comes nums all c toplevel k f d e step is_numbered s (both-true (c == c) (id == toplevel) (same-number c) (ap (λ (n : ℕ). id == n) same ∙ same-number id)) stands
+          (subst (λ (n : ℕ). list_any (is_standing c n) d.standing ≡ false) (sym same) (none-lower d.standing s lower)) in
+          subst (λ (s : Stacking). AreStacked nums (restacked c k s is all) (all_windows e)) (sym h.1)
           (is-told (λ n other. out-top h.0 n (sym h.1 ∙ other)) (on.ToTop h.0)
-          (top-turned nums pile.windows c root k f d e tree before.windows nums-named once-own numbered s
-          (both-true (c == c) (id == root) (same-number c) (ap (λ (n : ℕ). id == n) own ∙ same-number id))
-          (windows_are_toplevels e after.no_popups) stands (subst (λ (n : ℕ). list_any (is_standing c n) d.standing ≡ false) (sym own) (none-lower d.standing s apart))))
+          (subst (λ (b : Bool). AreStacked nums (cond b (replaced c k (map (told_by f) step.is) all) (all ++ map (stacked c k) (map (told_by f) step.is))) (all_windows e)) (sym comes.0)
+          comes.1))
 
-  -- Where the toplevel goes, the tree has no windows afterwards.
-  pub out-empty : (n : ℕ) → stacking ≡ on.Out n → tree.is ≡ []
-  out-empty n out = at (turns c old r p owns d stacking split demand id told stacks touched)
+  -- Where it goes, it has no windows afterwards.
+  pub out-empty : (n : ℕ) → stacking ≡ on.Out n → step.is ≡ []
+  out-empty n out = at moved
     where
-      at : Turns c (numbers old) id r d (stacked_simply c demand (with_peer p r) d) stacking → tree.is ≡ []
+      at : Moves c old id r d e.standing stacking → step.is ≡ []
       at (inl h) = absurd (out-stays n (sym h.0 ∙ out))
-      at (inr (inl h)) =
-          let own : root ≡ id = own-root h.3 in
-          tree.is_of
-          ∙ none-at c root e
-          (subst (λ (n : ℕ). find (is_standing c n) e.standing ≡ None) (sym own)
-          (ap (find (is_standing c id)) (done.stack ∙ h.2) ∙ find-none (is_standing c id) (without_surface_of c id d.standing) (none-without c id d.standing)))
+      at (inr (inl h)) = (run-goes nums all c toplevel k f d e step is_numbered (stands-nowhere h.0 h.2 (own h.3))).0
       at (inr (inr h)) = absurd (out-top h.0 n (sym h.1 ∙ out))

@@ -1,64 +1,62 @@
 -- A message of a client is served: what becomes of it and of the toplevels that stand.
-use Rattle.std.proofs.Common.{◌≡◌, ℕ, ◌+◌, ◌-◌, List, [], ◌∷◌, ◌++◌, take, drop, Bool, true, false, cond, Option, Some, None, Result, refl, ap, sym, subst, ◌∙◌, inl, inr, ◌⊎◌}
-use Rattle.std.specs.Option.{option_and_then}
+use Rattle.std.proofs.Common.{◌≡◌, ℕ, ◌+◌, ◌-◌, List, [], ◌∷◌, take, drop, Bool, true, false, cond, Option, Some, None, Result, refl, ap, sym, subst, ◌∙◌, inl, inr, ◌⊎◌}
 use Rattle.std.specs.Prelude.{Ok, Err, is_some, not, ◌==◌, ◌&&◌}
 use Rattle.wl_client.specs.Agreement.{IsPeer}
 use Rattle.wl_laws.proofs.Lists.Keys.{differ}
 use Rattle.wl_laws.proofs.Runs.Places.{left_by}
 use Rattle.wl_laws.proofs.Soundness.RunSteady.{changed-steady}
-use Rattle.wl_lending.specs.Stacked.{AreStacked}
-use Rattle.wl_changes.specs.Changes.{IsDemanded}
-use Rattle.wl_invariants.proofs.OrderlyClients.Clients.{clients_are_orderly, only_peer_changes}
-use Rattle.wl_invariants.specs.Orderly.{Orderly, OwnsOrderly}
+use Rattle.wl_ordered.specs.Ordered.{Ordered, OwnsOrdered}
 use Rattle.wl_peer.specs.declared.cause.Cause.{Cause}
 use Rattle.wl_peer.specs.declared.refusals.ErrorCode.TheVariants.{InvalidMethod}
 use Rattle.wl_peer.specs.declared.refusals.Refusal.{Refusal}
 use Rattle.wl_peer.specs.Objects.{ById}
 use Rattle.wl_peer.specs.Peer.{Errs, LacksMemory, Peer, Queues, WantsOr, counted, with_rest}
 use Rattle.wl_peer.specs.Told.{Said, display_error}
-use Rattle.wl_plain.specs.Changing.{changed_for}
-use Rattle.wl_plain.specs.Demand.{Demand, CommitTree, EndToplevel}
+use Rattle.wl_plain.specs.Changing.{changed_for, moving_from, stacked_by, stacked_for}
+use Rattle.wl_plain.specs.Demand.{Demand, CommitTree, EndToplevel, Move}
 use Rattle.wl_plain.specs.Demanding.{effect_of_commit, judge_all}
-use Rattle.wl_plain.specs.Desktop.{Desktop, Resident, become, become_by, client_at, client_in, owned_of, unpointed}
+use Rattle.wl_plain.specs.Desktop.{Desktop, Resident, become, become_by, client_in, unpointed}
 use Rattle.wl_plain.specs.Happens.{wants_memory}
 use Rattle.wl_plain.specs.LeftOut.{served_now}
-use Rattle.wl_plain.specs.Replies.{releases, replies}
+use Rattle.wl_plain.specs.Replies.{replies}
 use Rattle.wl_plain.specs.Stacked.{all_windows}
 use Rattle.wl_plain.specs.Step.{with_peer}
-use Rattle.wl_invariants.specs.Standing.{MappedStand, is_mapped}
-use Rattle.wl_requests.proofs.Framing.{no-more, told-requests}
-use Rattle.wl_requests.proofs.Simply.{counted-orderly}
+use Rattle.wl_requests.proofs.Framing.{told-requests}
 use Rattle.wl_requests.specs.declared.messages.Asked.{Asked}
+use Rattle.wl_requests.specs.declared.residents.Placing.{Placing}
 use Rattle.wl_requests.specs.declared.residents.Resident.{Resident as Kept}
 use Rattle.wl_requests.specs.declared.residents.Stacking.{Stacking}
 use Rattle.wl_requests.specs.declared.residents.Stacking.TheVariants as on
-use Rattle.wl_requests.specs.Messages.{IsAsked, IsTouchOfAsked}
-use Rattle.wl_requests.specs.Residents.{AnswersAs as KeepsAs, AnswersSo as KeepsSo, IsLeft, IsResident, MeetsAs, StacksBy, StacksFor, StacksSo}
+use Rattle.wl_requests.specs.Messages.{IsTouchOfAsked}
+use Rattle.wl_requests.specs.Placing.{IsPlacingOf}
+use Rattle.wl_requests.specs.Residents.{AnswersAs as KeepsAs, AnswersSo as KeepsSo, IsLeft, IsResident, MeetsAs, StacksFor, StacksIf, StacksSo}
 use Rattle.wl_requests.specs.Residents.{TakesAs as TakesKeptAs, TakesMessage, TakesMessageAs, TakesSo}
 use Rattle.wl_requests.specs.Touching.{Touch}
-use Rattle.wl_resident.proofs.Commits.{asked-touches, untouched-never}
+use Rattle.wl_resident.proofs.Ended.{Taken}
 use Rattle.wl_resident.proofs.Ends.{errs-over, lacks-over, nameless-over, over-ended, queues-over}
 use Rattle.wl_resident.proofs.Scenes.{AreOnce, Has, next-of, numbers-by, numbers-same, stack-by, stack-mapped, stack-out}
 use Rattle.wl_resident.proofs.Sitting.{IsEmptied, IsRestackedIf, IsSameBut, IsSettled, Known, Sits, based-at, become-gone, become-lives, itself, none-is, numbers, sits-gone, sits-same, some-is}
-use Rattle.wl_resident.specs.Agreement.{IsScene, IsSeat, IsStack, with_numbers}
+use Rattle.wl_resident.specs.declared.screens.Screen.{Screen}
+use Rattle.wl_resident.specs.Agreement.{IsScene, IsStack, with_numbers}
 use Rattle.wl_resident.specs.Seats.{IsBased, IsRestacked, IsSeated}
-use Rattle.wl_resident.specs.View.{Pile, owned_view}
-use Rattle.wl_stacking.specs.Stacking.{Owned, Standing, with_mapped, without_client, without_surface_of}
+use Rattle.wl_resident.specs.View.{pile_of}
+use Rattle.wl_stacking.specs.Pointer.{Pointer, first_pointer}
+use Rattle.wl_stacking.specs.Stacking.{Standing, with_mapped, without_client, without_surface_of}
 use Rattle.wl_scene.specs.Kept.{Stack, mapped_on}
-use Rattle.wl_shell.specs.Agreement.{IsKept}
-use Rattle.wl_xdg_state.specs.Kept.{kept_of}
-use Rattle.wl_xdg_state.specs.Shell.{Effect, Stays, Unconfigured, Configures, Maps, Unmaps, XdgSurface as Xdg, xdg_of}
-use Rattle.wl_stacked.specs.declared.stacked.Stacked.{Stacked}
 use Rattle.wl_surface.specs.declared.applied.Applied.{Applied}
-use Rattle.wl_surface.specs.Surfaces.{history_in}
-use Rattle.wl_changes.specs.Ways.{AnswersAs, TakesAs}
+use Rattle.wl_toplevels.specs.Messages.{IsDemanded}
+use Rattle.wl_ways.specs.Ways.{AnswersAs, Becomes, DoesAlone, TakesAs}
 use Rattle.wl_wire.specs.declared.header.Split.{Split}
 use Rattle.wl_wire.specs.declared.header.Split.TheVariants.{Message as Whole, More, Bad}
 use Rattle.wl_wire.specs.Wire.{split_of}
-use Rattle.wl_invariants.proofs.WithoutPopups.Served.{IsServedSo, judge-served}
-use Rattle.wl_invariants.proofs.WithoutPopups.Simple.{changes_simply, replies_simply}
-use Rattle.wl_invariants.specs.NoPopups.{OwnsNoPopups}
-use Rattle.wl_invariants.specs.Simple.{Becomes, DoesSimply, IsServed, answers_simply, changed_simply, stacked_on, stacked_simply, told_simply}
+use Rattle.wl_xdg_state.specs.Popups.{is_toplevel}
+use Rattle.wl_xdg_state.specs.Shell.{Effect, Stays, Unconfigured, Configures, Maps, Unmaps, xdg_of}
+
+-- ---- nobody points
+
+-- Where nobody points the pointer is put aside already.
+pub nobody-points : (d : Desktop) → d.pointer ≡ first_pointer → unpointed d ≡ d
+nobody-points d pointer = ap (λ (p : Pointer). record d { pointer = p }) (sym pointer)
 
 -- ---- what a request does to the stack
 
@@ -70,26 +68,39 @@ Stacks c old demand r d after stacking =
     ⊎ ((id : ℕ) × (n : ℕ) × (old id ≡ Some n) × (stacking ≡ on.ToTop n)
     × (after ≡ record d { standing = with_mapped d.mappings c id d.standing; mappings = d.mappings + 1 }) × (demand ≡ CommitTree id) × (effect_of_commit r id ≡ Maps)))
 
-module _ {A : Type 0} (c : ℕ) (old : Kept A) (r : Resident) (p : Peer) (d : Desktop) (stacking : Stacking) where
+module _ {A : Type 0} (c : ℕ) (old : Kept A) (r : Resident) (p : Peer) (d : Desktop) (pointer : d.pointer ≡ first_pointer) (stacking : Stacking) where
   abbrev StacksHere : Demand → Type 0
-  StacksHere demand = Stacks c (numbers old) demand (with_peer p r) d (stacked_simply c demand (with_peer p r) d) stacking
+  StacksHere demand = Stacks c (numbers old) demand (with_peer p r) d (stacked_for c demand (with_peer p r) (all_windows d) d) stacking
 
-  commit-stacks : (id : ℕ) → StacksBy old id (effect_of_commit r id) stacking → StacksHere (CommitTree id)
-  commit-stacks id h = at (effect_of_commit r id) refl h
+  commit-stacks : (id : ℕ) → StacksIf (is_toplevel (xdg_of id r.owned.shell)) old id (effect_of_commit r id) stacking → StacksHere (CommitTree id)
+  commit-stacks id h = at (is_toplevel (xdg_of id r.owned.shell)) refl (effect_of_commit r id) refl h
     where
-      comes : (effect : Effect) → effect_of_commit r id ≡ effect → stacked_simply c (CommitTree id) (with_peer p r) d ≡ stacked_on effect c id d
-      comes effect e = ap (λ (f : Effect). stacked_on f c id d) e
+      comes : (b : Bool) → is_toplevel (xdg_of id r.owned.shell) ≡ b → (effect : Effect) → effect_of_commit r id ≡ effect
+          → stacked_for c (CommitTree id) (with_peer p r) (all_windows d) d ≡ stacked_by effect b c id d
+      comes b is effect e =
+          ap (λ (f : Effect). stacked_by f (is_toplevel (xdg_of id r.owned.shell)) c id d) e ∙ ap (λ (t : Bool). stacked_by effect t c id d) is
 
-      at : (effect : Effect) → effect_of_commit r id ≡ effect → StacksBy old id effect stacking → StacksHere (CommitTree id)
-      at Stays e h = inl (h, comes Stays e)
-      at Unconfigured e h = inl (h, comes Unconfigured e)
-      at Configures e h = inl (h, comes Configures e)
-      at Maps e h = inr (inr (id, h.0, h.1, h.2, comes Maps e, refl, e))
-      at Unmaps e h = inr (inl (id, h.0, h.1, h.2, comes Unmaps e))
+      at : (b : Bool) → is_toplevel (xdg_of id r.owned.shell) ≡ b → (effect : Effect) → effect_of_commit r id ≡ effect → StacksIf b old id effect stacking → StacksHere (CommitTree id)
+      at true is Stays e h = inl (h, comes true is Stays e)
+      at true is Unconfigured e h = inl (h, comes true is Unconfigured e)
+      at true is Configures e h = inl (h, comes true is Configures e)
+      at true is Maps e h = inr (inr (id, h.0, h.1, h.2, comes true is Maps e, refl, e))
+      at true is Unmaps e h = inr (inl (id, h.0, h.1, h.2, comes true is Unmaps e))
+      at false is Stays e h = inl (h, comes false is Stays e)
+      at false is Unconfigured e h = inl (h, comes false is Unconfigured e)
+      at false is Configures e h = inl (h, comes false is Configures e)
+      at false is Maps e h = inl (h, comes false is Maps e)
+      at false is Unmaps e h = inl (h, comes false is Unmaps e)
+
+  -- where nobody points, no move begins
+  move-stays : (surface serial : ℕ) → stacked_for c (Move surface serial) (with_peer p r) (all_windows d) d ≡ d
+  move-stays surface serial =
+      ap (λ (q : Pointer). record d { pointer = moving_from c surface serial (all_windows d) q }) pointer ∙ nobody-points d pointer
 
   pub stacks-so : (demand : Demand) → StacksFor old r demand stacking → StacksHere demand
   stacks-so (CommitTree id) h = commit-stacks id h
   stacks-so (EndToplevel id xdg surface) h = inr (inl (surface, h.0, h.1, h.2, refl))
+  stacks-so (Move surface serial) h = inl (h, move-stays surface serial)
   stacks-so demand h = inl (h, refl)
 
 -- a client's toplevel goes with the others
@@ -105,13 +116,17 @@ without-both c surface (s ∷ ss) = at (s.client == c) refl (s.surface == surfac
 
 -- ---- what is demanded, and its client told
 
+-- what is told of it
+abbrev pub said_of : ℕ → Demand → Resident → Desktop → List Said
+said_of c demand r d = replies served_now c demand r (changed_for c demand r d) (all_windows d) d
+
 -- done and told, or without memory
-abbrev Told : Bool → Demand → Resident → Peer → Type 0
-Told true demand r q = Queues (told_simply demand r) (changed_simply demand r).peer q
-Told false demand r q = (wants_memory demand ≡ true) × LacksMemory r.peer q
+abbrev Told : Bool → ℕ → Demand → Resident → Desktop → Peer → Type 0
+Told true c demand r d q = Queues (said_of c demand r d) (changed_for c demand r d).peer q
+Told false c demand r d q = (wants_memory demand ≡ true) × LacksMemory r.peer q
 
 abbrev DoneAs : Bool → Demand → ℕ → Resident → Desktop → Desktop → Type 0
-DoneAs true demand c r d e = DoesSimply demand c r d e
+DoneAs true demand c r d e = DoesAlone served_now demand c r d e
 DoneAs false demand c r d e = (wants_memory demand ≡ true) × Becomes (LacksMemory r.peer) c r d e
 
 -- the code knows whether it is done, as far as the stack depends on that
@@ -125,10 +140,10 @@ record IsMet {A : Type 0} (c : ℕ) (others : ℕ → ById ℕ) (base d : Deskto
   pub based : IsBased c base d there
   pub once : AreOnce (numbers old)
   pub scene : IsScene (with_numbers c (numbers old) others) was d
-  pub lives : (changed_simply demand r).peer.status ≡ None
-  pub told : Told done demand r q
-  pub left : IsLeft old mid (changed_simply demand r) q
-  pub stacks : Stacks c (numbers old) demand r d (stacked_simply c demand r d) stacking
+  pub lives : (changed_for c demand r d).peer.status ≡ None
+  pub told : Told done c demand r d q
+  pub left : IsLeft old mid (changed_for c demand r d) q
+  pub stacks : Stacks c (numbers old) demand r d (stacked_for c demand r (all_windows d) d) stacking
   pub knows : Knows done (is_some applied) (λ id. (demand ≡ CommitTree id) × (effect_of_commit r id ≡ Maps))
 
 -- the desk agrees with what that leads to
@@ -139,9 +154,9 @@ lacks-status : (p q : Peer) → LacksMemory p q → q.status ≡ None → true �
 lacks-status p q lacks none = none-is q.status none (over-ended q (lacks-over p q lacks))
 
 -- who lives was told
-told-lives : (done : Bool) (demand : Demand) (r : Resident) (q : Peer) → Told done demand r q → q.status ≡ None → (done ≡ true) × Told true demand r q
-told-lives true demand r q h none = (refl, h)
-told-lives false demand r q h none = absurd (differ (lacks-status r.peer q h.1 none))
+told-lives : (done : Bool) (c : ℕ) (demand : Demand) (r : Resident) (d : Desktop) (q : Peer) → Told done c demand r d q → q.status ≡ None → (done ≡ true) × Told true c demand r d q
+told-lives true c demand r d q h none = (refl, h)
+told-lives false c demand r d q h none = absurd (differ (lacks-status r.peer q h.1 none))
 
 -- nothing was applied, or something was
 unapplied : {A : Type 0} (applied : Option (Applied A)) (c : ℕ) (stacking : Stacking) (was between : Stack) → is_some applied ≡ false → IsRestackedIf applied c stacking was between
@@ -168,10 +183,10 @@ out-if (Some applied) c n was between h = (ap (λ (ss : List Standing). without_
 module _ {A : Type 0} (c : ℕ) (others : ℕ → ById ℕ) (base d : Desktop) (there r : Resident) (demand : Demand) (done : Bool) (q : Peer) (stacking : Stacking) (applied : Option (Applied A))
     (old mid : Kept A) (was : Stack) (is : IsMet c others base d there r demand done q stacking applied old mid was) where
   abbrev changed : Resident
-  changed = changed_simply demand r
+  changed = changed_for c demand r d
 
   abbrev after : Desktop
-  after = stacked_simply c demand r d
+  after = stacked_for c demand r (all_windows d) d
 
   -- the numbers by which the stack goes
   abbrev named : ℕ → ById ℕ
@@ -241,7 +256,7 @@ module _ {A : Type 0} (c : ℕ) (others : ℕ → ById ℕ) (base d : Desktop) (
         next = scene.next;
       }
 
-  lives-on : mid.client.ended ≡ None → q.status ≡ None → Told true demand r q → (stack : Stack) → IsScene named stack after
+  lives-on : mid.client.ended ≡ None → q.status ≡ None → Told true c demand r d q → (stack : Stack) → IsScene named stack after
       → Sits c others base mid stack (become c changed q after) (left_by q.status changed q)
   lives-on none status told stack scene =
       become-lives q.status c others base after changed q mid stack status (record {
@@ -249,7 +264,7 @@ module _ {A : Type 0} (c : ℕ) (others : ℕ → ById ℕ) (base d : Desktop) (
         seat = record {
           peer = is.left.peer;
           owns = is.left.owns none;
-          frames = rw (told-requests (told_simply demand r) changed.peer q told status) (is.left.frames none);
+          frames = rw (told-requests (said_of c demand r d) changed.peer q told status) (is.left.frames none);
           subsurfaces = is.left.subsurfaces none;
           ended = λ some. absurd (differ (none-is q.status status some));
         };
@@ -259,7 +274,7 @@ module _ {A : Type 0} (c : ℕ) (others : ℕ → ById ℕ) (base d : Desktop) (
   met-lives : mid.client.ended ≡ None → (new : Kept A) (now : Stack) → new ≡ mid → IsRestacked c stacking was now → Meets c others base d r demand done new now
   met-lives none new now same h =
       let status : q.status ≡ None = sym is.left.peer.status ∙ none in
-      let told = told-lives done demand r q is.told status in
+      let told = told-lives done c demand r d q is.told status in
       let sits = sits-same c others base mid new now now _ _ same refl (lives-on none status told.1 now (scene-after now h)) in
       (become c changed q after, left_by q.status changed q, subst (λ (b : Bool). DoneAs b demand c r d (become c changed q after)) (sym told.0) (q, told.1, refl), sits)
 
@@ -274,13 +289,13 @@ module _ {A : Type 0} (c : ℕ) (others : ℕ → ById ℕ) (base d : Desktop) (
   emptied-same new between now h same = emptied-from new between now h (ap (λ (k : Stack). without_client c k.standing) same) (ap (λ (k : Stack). k.next) same)
 
   -- it was told of what was done
-  module _ (s : Cause) (status : q.status ≡ Some s) (told : Told true demand r q) (known : is_some applied ≡ false → (id : ℕ) → demand ≡ CommitTree id → effect_of_commit r id ≡ Maps → ⊥) where
+  module _ (s : Cause) (status : q.status ≡ Some s) (told : Told true c demand r d q) (known : is_some applied ≡ false → (id : ℕ) → demand ≡ CommitTree id → effect_of_commit r id ≡ Maps → ⊥) where
     told-gone : (on : Desktop) → IsBased c base on there → (new : Kept A) (stack now : Stack) → IsSameBut c on after → IsScene named stack on → IsEmptied c mid new stack now
         → Sits c others base new now (become c changed q after) (left_by q.status changed q)
     told-gone on based new stack now same scene left =
         become-gone q.status s c others base after changed q new now status
         (sits-gone s c (numbers old) others base on after there changed q mid new stack now based same scene is.left.peer
-        (nameless-over mid.client q is.left.peer (queues-over (told_simply demand r) changed.peer q is.lives told (some-is q.status s status))) left)
+        (nameless-over mid.client q is.left.peer (queues-over (said_of c demand r d) changed.peer q is.lives told (some-is q.status s status))) left)
 
     based-after : IsBased c base after there
     based-after =
@@ -324,7 +339,7 @@ module _ {A : Type 0} (c : ℕ) (others : ℕ → ById ℕ) (base d : Desktop) (
       status : q.status ≡ Some s
       status = sym is.left.peer.status ∙ ended
 
-      at : (b : Bool) → Told b demand r q → Knows b (is_some applied) (λ id. (demand ≡ CommitTree id) × (effect_of_commit r id ≡ Maps)) → Meets c others base d r demand b new now
+      at : (b : Bool) → Told b c demand r d q → Knows b (is_some applied) (λ id. (demand ≡ CommitTree id) × (effect_of_commit r id ≡ Maps)) → Meets c others base d r demand b new now
       at true told knows = (
         become c changed q after,
         left_by q.status changed q,
@@ -348,22 +363,28 @@ module _ {A : Type 0} (c : ℕ) (others : ℕ → ById ℕ) (base d : Desktop) (
 
 -- ---- what is answered
 
-module _ (c : ℕ) (demand : Demand) (r : Resident) (d : Desktop) (owns : OwnsNoPopups r) (served : IsServed demand) where
-  -- what is told where no client has popups
-  told-simply : (q : Peer) → Queues (replies served_now c demand r (changed_for c demand r (unpointed d)) (all_windows d) (unpointed d)) (changed_for c demand r (unpointed d)).peer q
-      → Queues (told_simply demand r) (changed_simply demand r).peer q
-  told-simply q h =
-      let changes = changes_simply c demand r (unpointed d) refl owns served in
-      let events = replies_simply c demand r (all_windows d) (unpointed d) refl owns served ∙ ap (λ (made : Resident). answers_simply demand r ++ releases r made) changes in
-      subst (λ (m : Resident). Queues (told_simply demand r) m.peer q) changes (subst (λ (es : List Said). Queues es (changed_for c demand r (unpointed d)).peer q) events h)
+-- what is kept has it of the desktop where the pointer is put aside
+abbrev MeetsOn : {A : Type 0} → Bool → ℕ → Demand → Resident → Desktop → Desktop → Kept A → Kept A → Type 0
+MeetsOn true c demand r d aside old mid =
+    (q : Peer) × Queues (replies served_now c demand r (changed_for c demand r aside) (all_windows d) aside) (changed_for c demand r aside).peer q
+    × IsLeft old mid (changed_for c demand r aside) q
+MeetsOn false c demand r d aside old mid = (wants_memory demand ≡ true) × (q : Peer) × LacksMemory r.peer q × IsLeft old mid (changed_for c demand r aside) q
 
-  -- it ends no client by itself
-  changed-lives : r.peer.status ≡ None → (changed_simply demand r).peer.status ≡ None
-  changed-lives lives = ap (λ (x : Resident). x.peer.status) (sym (changes_simply c demand r (unpointed d) refl owns served)) ∙ ((changed-steady c demand (unpointed d) r).0 ∙ lives)
+meets-on : {A : Type 0} (done : Bool) (c : ℕ) (demand : Demand) (r : Resident) (d : Desktop) (old mid : Kept A) → MeetsAs done c demand r d old mid
+    → MeetsOn done c demand r d (unpointed d) old mid
+meets-on true c demand r d old mid h = h
+meets-on false c demand r d old mid h = h
 
-  meets-simply : {A : Type 0} (done : Bool) (old mid : Kept A) → MeetsAs done c demand r d old mid → (q : Peer) × Told done demand r q × IsLeft old mid (changed_simply demand r) q
-  meets-simply true old mid h = (h.0, told-simply h.0 h.1, subst (λ (m : Resident). IsLeft old mid m h.0) (changes_simply c demand r (unpointed d) refl owns served) h.2)
-  meets-simply false old mid h = (h.1, (h.0, h.2), subst (λ (m : Resident). IsLeft old mid m h.1) (changes_simply c demand r (unpointed d) refl owns served) h.3)
+meets-told : {A : Type 0} (done : Bool) (c : ℕ) (demand : Demand) (r : Resident) (d : Desktop) (old mid : Kept A) → MeetsOn done c demand r d d old mid
+    → (q : Peer) × Told done c demand r d q × IsLeft old mid (changed_for c demand r d) q
+meets-told true c demand r d old mid h = h
+meets-told false c demand r d old mid h = (h.1, (h.0, h.2), h.3)
+
+meets-here : {A : Type 0} (done : Bool) (c : ℕ) (demand : Demand) (r : Resident) (d : Desktop) (old mid : Kept A) → d.pointer ≡ first_pointer → MeetsAs done c demand r d old mid
+    → (q : Peer) × Told done c demand r d q × IsLeft old mid (changed_for c demand r d) q
+meets-here done c demand r d old mid pointer h =
+    meets-told done c demand r d old mid
+    (subst (λ (aside : Desktop). MeetsOn done c demand r d aside old mid) (nobody-points d pointer) (meets-on done c demand r d old mid h))
 
 -- the same for what the message at the front of what came does to the stack
 abbrev StacksIn : {A : Type 0} → Split → Kept A → Resident → Stacking → Type 0
@@ -375,13 +396,13 @@ StacksIn More old r stacking = Unit {0}
 refused-not : (refusal : Refusal) (id : ℕ) → Result.Err refusal ≡ Ok (CommitTree id) → ⊥
 refused-not refusal id e = absurd (cc)
 
-done-so : (done : Bool) (demand : Demand) (c : ℕ) (r : Resident) (d e : Desktop) → DoneAs done demand c (with_peer (counted r.peer) r) d e → AnswersAs done (Ok demand) c r d e
+done-so : (done : Bool) (demand : Demand) (c : ℕ) (r : Resident) (d e : Desktop) → DoneAs done demand c (with_peer (counted r.peer) r) d e → AnswersAs served_now done (Ok demand) c r d e
 done-so true demand c r d e h = h
 done-so false demand c r d e h = h
 
 module _ {A : Type 0} (c : ℕ) (others : ℕ → ById ℕ) (base d : Desktop) (there : Resident) (stacking : Stacking) (applied : Option (Applied A)) (old mid new : Kept A) (was now : Stack)
     (based : IsBased c base d there) (once : AreOnce (numbers old)) (scene : IsScene (with_numbers c (numbers old) others) was d)
-    (settled : IsSettled mid.client.ended applied c stacking mid new was now) where
+    (settled : IsSettled mid.client.ended applied c stacking mid new was now) (pointer : d.pointer ≡ first_pointer) where
   -- a refusal was told
   refused-so : (refusal : Refusal) (r : Resident) → is_some applied ≡ false → (q : Peer) → Errs refusal r.peer q → IsPeer mid.client q
       → Sits c others base new now (become c r q d) (left_by q.status r q)
@@ -394,27 +415,30 @@ module _ {A : Type 0} (c : ℕ) (others : ℕ → ById ℕ) (base d : Desktop) (
       (sits-gone over.0 c (numbers old) others base d d there r q mid new was now based (itself c d) scene peer (nameless-over mid.client q peer over)
       (record { client = h.2; bare = h.3; subsurfaces = h.4; standing = h.5 ∙ ap (λ (k : Stack). without_client c k.standing) same; next = h.6 ∙ ap (λ (k : Stack). k.next) same }))
 
+  kept-meets : (done : Bool) (demand : Demand) (r : Resident) (p : Peer) → KeepsAs done (Ok demand) c (with_peer p r) d old mid → MeetsAs done c demand (with_peer (counted p) r) d old mid
+  kept-meets true demand r p h = h
+  kept-meets false demand r p h = h
+
   -- what is judged is answered
-  answered : (done : Bool) (judged : Result Demand Refusal) (r : Resident) (p : Peer) → p.status ≡ None → OwnsOrderly (with_peer p r) → IsServedSo judged
+  answered : (done : Bool) (judged : Result Demand Refusal) (r : Resident) (p : Peer) → p.status ≡ None
       → KeepsAs done judged c (with_peer p r) d old mid → StacksSo old r judged stacking → Knows done (is_some applied) (λ id. (judged ≡ Ok (CommitTree id)) × (effect_of_commit r id ≡ Maps))
-      → (e : Desktop) × (s : Resident) × AnswersAs done judged c (with_peer p r) d e × Sits c others base new now e s
-  answered done (Ok demand) r p lives orderly served answers stacks knows =
+      → (e : Desktop) × (s : Resident) × AnswersAs served_now done judged c (with_peer p r) d e × Sits c others base new now e s
+  answered done (Ok demand) r p lives answers stacks knows =
       let one_more = with_peer (counted p) r in
-      let owns = (counted-orderly (with_peer p r) orderly).no_popups in
-      let meets = meets-simply c demand one_more d owns served done old mid answers in
+      let meets = meets-here done c demand one_more d old mid pointer (kept-meets done demand r p answers) in
       let m = met c others base d there one_more demand done meets.0 stacking applied old mid was (record {
         based = based;
         once = once;
         scene = scene;
-        lives = changed-lives c demand one_more d owns served lives;
+        lives = (changed-steady c demand d one_more).0 ∙ lives;
         told = meets.1;
         left = meets.2;
-        stacks = stacks-so c old r (counted p) d stacking demand stacks;
+        stacks = stacks-so c old r (counted p) d pointer stacking demand stacks;
         knows = record { undone = knows.undone; mapped = λ id h. knows.mapped id (ap (λ (a : Demand). Ok a) h.0, h.1) };
       }) new now settled in
       (m.0, m.1, done-so done demand c (with_peer p r) d m.0 m.2, m.3)
-  answered true (Err refusal) r p lives orderly served answers stacks knows = absurd answers
-  answered false (Err refusal) r p lives orderly served answers stacks knows =
+  answered true (Err refusal) r p lives answers stacks knows = absurd answers
+  answered false (Err refusal) r p lives answers stacks knows =
       let q = answers.0 in (
         become c (with_peer p r) q d,
         left_by q.status (with_peer p r) q,
@@ -422,18 +446,16 @@ module _ {A : Type 0} (c : ℕ) (others : ℕ → ById ℕ) (base d : Desktop) (
         refused-so refusal (with_peer p r) (knows.undone refl) q answers.1 answers.2.peer,
       )
 
-  taken : (done : Bool) (split : Split) (r : Resident) → r.peer.status ≡ None → OwnsOrderly r → TakesKeptAs done split c r d old mid → StacksIn split old r stacking
-      → Knows done (is_some applied) (λ id. IsDemanded split r (CommitTree id) × (effect_of_commit r id ≡ Maps))
-      → (e : Desktop) × (s : Resident) × TakesAs done split c r d e × Sits c others base new now e s
-  taken done (Whole object opcode size) r lives orderly takes stacks knows =
+  taken : (done : Bool) (split : Split) (r : Resident) → r.peer.status ≡ None → TakesKeptAs done split c r d old mid → StacksIn split old r stacking
+      → Knows done (is_some applied) (λ id. IsDemanded served_now split r (CommitTree id) × (effect_of_commit r id ≡ Maps))
+      → (e : Desktop) × (s : Resident) × TakesAs served_now done split c r d e × Sits c others base new now e s
+  taken done (Whole object opcode size) r lives takes stacks knows =
       let body = take (size - 8) (drop 8 r.peer.rest) in
-      let p = with_rest (drop size r.peer.rest) r.peer in
-      answered done (judge_all served_now r object opcode body) r p lives (only_peer_changes r p refl refl (no-more r.peer.requests) orderly) (judge-served r object opcode body) takes stacks knows
-  taken true Bad r lives orderly takes stacks knows = absurd takes
-  taken false Bad r lives orderly takes stacks knows =
-      answered false (Err (display_error InvalidMethod)) r r.peer lives orderly tt takes tt
-      (record { undone = knows.undone; mapped = λ id h. absurd (refused-not (display_error InvalidMethod) id h.0) })
-  taken done More r lives orderly takes stacks knows = absurd takes
+      answered done (judge_all served_now r object opcode body) r (with_rest (drop size r.peer.rest) r.peer) lives takes stacks knows
+  taken true Bad r lives takes stacks knows = absurd takes
+  taken false Bad r lives takes stacks knows =
+      answered false (Err (display_error InvalidMethod)) r r.peer lives takes tt (record { undone = knows.undone; mapped = λ id h. absurd (refused-not (display_error InvalidMethod) id h.0) })
+  taken done More r lives takes stacks knows = absurd takes
 
 -- ---- whether it is done
 
@@ -466,70 +488,44 @@ stacks-in More c r d old mid stacking h = tt
 
 -- A message of a client that lives was served, and what it left was settled: the desk agrees with a desktop to which it leads, with what it
 -- is answered. Where it may change what several surfaces show, it was done where something was applied.
-pub served : {A : Type 0} (c : ℕ) (others : ℕ → ById ℕ) (base d : Desktop) (r : Resident) (asked : Asked) (stacking : Stacking) (applied : Option (Applied A)) (old mid new : Kept A) (pile : Pile)
-    (now : Stack)
-    → IsSeated c others base old pile d r → Orderly d → old.client.ended ≡ None → IsAsked old.client asked → TakesMessage old mid stacking
-    → ((touch : Touch) → IsTouchOfAsked asked old touch → TakesMessageAs (is_some applied) old mid)
-    → (((touch : Touch) → IsTouchOfAsked asked old touch → ⊥) → applied ≡ None)
-    → IsSettled mid.client.ended applied c stacking mid new pile.scene now
-    → (e : Desktop) × (s : Resident) × (b : Bool) × TakesAs b (split_of r.peer.rest) c r d e × Sits c others base new now e s × ((touch : Touch) → IsTouchOfAsked asked old touch → b ≡ is_some applied)
-served {A = A} c others base d r asked stacking applied old mid new pile now is orderly lives told takes decides nothing settled =
-    by (asked-touches old (numbers old) r.subsurfaces is.seat.subsurfaces asked)
-  where
-    alive : r.peer.status ≡ None
-    alive = sym is.seat.peer.status ∙ lives
+module _ {A : Type 0} (c : ℕ) (others : ℕ → ById ℕ) (base d : Desktop) (r : Resident) (asked : Asked) (placing : Placing) (stacking : Stacking) (applied : Option (Applied A)) (old mid left : Kept A)
+    (was new : Screen A) (is : IsSeated c others base old (pile_of was) d r) (ordered : Ordered d) (lives : old.client.ended ≡ None) (placed : IsPlacingOf placing asked c r d)
+    (takes : TakesMessage asked placing old mid stacking) (decides : (touch : Touch) → IsTouchOfAsked asked old touch → TakesMessageAs (is_some applied) asked placing old mid)
+    (nothing : ((touch : Touch) → IsTouchOfAsked asked old touch → ⊥) → applied ≡ None)
+    (touches : ((touch : Touch) × IsTouchOfAsked asked old touch) ⊎ ((touch : Touch) → IsTouchOfAsked asked old touch → ⊥))
+    (never : ((touch : Touch) → IsTouchOfAsked asked old touch → ⊥) → (id : ℕ) → IsDemanded served_now (split_of r.peer.rest) r (CommitTree id) → effect_of_commit r id ≡ Maps → ⊥)
+    (settled : IsSettled mid.client.ended applied c stacking mid left was.scene new.scene) where
+  alive : r.peer.status ≡ None
+  alive = sym is.seat.peer.status ∙ lives
 
-    owns : OwnsOrderly r
-    owns = clients_are_orderly d c r orderly is.based.there alive
+  owns : OwnsOrdered r
+  owns = ordered.each c r is.based.there alive
 
-    resident : IsResident old r
-    resident = record { lives = lives; peer = is.seat.peer; owns = is.seat.owns; frames = is.seat.frames; subsurfaces = is.seat.subsurfaces }
+  resident : IsResident old r
+  resident = record { lives = lives; peer = is.seat.peer; owns = is.seat.owns; frames = is.seat.frames; subsurfaces = is.seat.subsurfaces }
 
-    answers : TakesSo (split_of r.peer.rest) c r d old mid stacking
-    answers = takes c r d resident owns
+  answers : TakesSo (split_of r.peer.rest) c r d old mid stacking
+  answers = takes c r d resident owns placed
 
-    leads : (b : Bool) → TakesKeptAs b (split_of r.peer.rest) c r d old mid
-        → Knows b (is_some applied) (λ id. IsDemanded (split_of r.peer.rest) r (CommitTree id) × (effect_of_commit r id ≡ Maps))
-        → (e : Desktop) × (s : Resident) × TakesAs b (split_of r.peer.rest) c r d e × Sits c others base new now e s
-    leads b kept knows =
-        taken c others base d r stacking applied old mid new pile.scene now is.based is.seat.owns.surfaces.once is.scene settled b (split_of r.peer.rest) r alive owns kept
-        (stacks-in (split_of r.peer.rest) c r d old mid stacking answers) knows
+  leads : (b : Bool) → TakesKeptAs b (split_of r.peer.rest) c r d old mid
+      → Knows b (is_some applied) (λ id. IsDemanded served_now (split_of r.peer.rest) r (CommitTree id) × (effect_of_commit r id ≡ Maps))
+      → (e : Desktop) × (s : Resident) × TakesAs served_now b (split_of r.peer.rest) c r d e × Sits c others base left new.scene e s
+  leads b kept knows =
+      taken c others base d r stacking applied old mid left was.scene new.scene is.based is.seat.owns.surfaces.once is.scene settled ordered.in_order.pointer b (split_of r.peer.rest) r alive kept
+      (stacks-in (split_of r.peer.rest) c r d old mid stacking answers) knows
 
-    by : ((touch : Touch) × IsTouchOfAsked asked old touch) ⊎ ((touch : Touch) → IsTouchOfAsked asked old touch → ⊥)
-        → (e : Desktop) × (s : Resident) × (b : Bool) × TakesAs b (split_of r.peer.rest) c r d e × Sits c others base new now e s
-        × ((touch : Touch) → IsTouchOfAsked asked old touch → b ≡ is_some applied)
-    by (inl t) =
-        let m = leads (is_some applied) (decides t.0 t.1 c r d resident owns) (record { undone = λ e. e; mapped = λ id h. refl }) in
-        (m.0, m.1, is_some applied, m.2, m.3, λ touch touches. refl)
-    by (inr none) =
-        let kept = takes-so (split_of r.peer.rest) c r d old mid stacking answers in
-        let m = leads kept.0 kept.1 (record {
-          undone = λ e. ap (λ (o : Option (Applied A)). is_some o) (nothing none);
-          mapped = λ id h. absurd (untouched-never old r resident asked told none id h.0 h.1);
-        }) in
-        (m.0, m.1, kept.0, m.2, m.3, λ touch touches. absurd (none touch touches))
-
--- ---- its toplevels are those of surfaces
-
--- a surface that is mapped has a number
-known-by : {N : Type 0} (kept : ℕ → Option N) (n : Option ℕ) (x : Option Xdg) (is_kept : Option N → Option Xdg → Type 0) → is_kept (option_and_then kept n) x → ((y : Xdg) → is_kept None (Some y) → ⊥)
-    → is_mapped x ≡ true → is_some n ≡ true
-known-by kept (Some n) x is_kept h none mapped = refl
-known-by kept None None is_kept h none mapped = absurd (differ (sym mapped))
-known-by kept None (Some y) is_kept h none mapped = absurd (none y h)
-
-pub known-mapped : {A : Type 0} (c : ℕ) (v : Kept A) (e : Desktop) (s : Resident) → client_at c e ≡ Some s → IsSeat v.client (owned_view v) s → MappedStand e → Known c v e
-known-mapped c v e s there seat mapped surface has =
-    known-by (kept_of v.owned.shell) (numbers v surface) (xdg_of surface s.owned.shell) (λ k x. IsKept k x (history_in surface s.owned.surfaces)) (seat.owns.shell.each surface) (λ y h. h)
-    (ap (λ (o : Owned). is_mapped (xdg_of surface o.shell)) (sym (ap (λ (o : Option Resident). owned_of o) there)) ∙ (sym ((mapped.each c).stands surface) ∙ has))
-
-pub sits-seated : {A : Type 0} (c : ℕ) (others : ℕ → ById ℕ) (base : Desktop) (v : Kept A) (stack : Stack) (windows : List Stacked) (e : Desktop) (s : Resident) → Sits c others base v stack e s
-    → MappedStand e → AreStacked (with_numbers c (numbers v) others) windows (all_windows e) → IsSeated c others base v (record { scene = stack; windows = windows }) e s
-sits-seated c others base v stack windows e s sits mapped stacked =
-    record {
-      based = sits.based;
-      seat = sits.seat;
-      scene = sits.scene (known-mapped c v e s sits.based.there sits.seat mapped);
-      windows = stacked;
-      mapped = mapped;
-    }
+  pub served : (m : Taken c others base d r left new) × ((touch : Touch) → IsTouchOfAsked asked old touch → m.was_done ≡ is_some applied)
+  served = by touches
+    where
+      by : ((touch : Touch) × IsTouchOfAsked asked old touch) ⊎ ((touch : Touch) → IsTouchOfAsked asked old touch → ⊥)
+          → (m : Taken c others base d r left new) × ((touch : Touch) → IsTouchOfAsked asked old touch → m.was_done ≡ is_some applied)
+      by (inl t) =
+          let m = leads (is_some applied) (decides t.0 t.1 c r d resident owns placed) (record { undone = λ e. e; mapped = λ id h. refl }) in
+          (record { after = m.0; resident = m.1; was_done = is_some applied; takes = m.2; sits = m.3 }, λ touch touches. refl)
+      by (inr none) =
+          let kept = takes-so (split_of r.peer.rest) c r d old mid stacking answers in
+          let m = leads kept.0 kept.1 (record {
+            undone = λ e. ap (λ (o : Option (Applied A)). is_some o) (nothing none);
+            mapped = λ id h. absurd (never none id h.0 h.1);
+          }) in
+          (record { after = m.0; resident = m.1; was_done = kept.0; takes = m.2; sits = m.3 }, λ touch touches. absurd (none touch touches))

@@ -26,10 +26,10 @@ use Rattle.wl_laws.proofs.Lists.Keys.{differ}
 use Rattle.wl_laws.proofs.Runs.Fates.{same-or}
 use Rattle.wl_laws.proofs.Runs.Moves.{callbacks-status}
 use Rattle.wl_laws.proofs.Runs.Places.{left_by, number-other, number-same}
-use Rattle.wl_invariants.specs.Standing.{AreMapped, MappedStand}
-use Rattle.wl_invariants.proofs.KeptRecords.Keeping.StandingDesks.{become-stand}
+use Rattle.wl_invariants.specs.Shown.{AreShown, ShownStand}
 use Rattle.wl_lending.specs.Stacked.{AreStacked}
-use Rattle.wl_owning.specs.Owning.{IsOwned, Names, names_in, targets_in}
+use Rattle.wl_owning.specs.Owning.{IsOwned, Names, targets_in}
+use Rattle.wl_owning.specs.RoleNames.{names_of}
 use Rattle.wl_stacked.specs.declared.stacked.Stacked.{Stacked}
 use Rattle.wl_requests.proofs.Framing.{told-requests}
 use Rattle.wl_requests.specs.Residents.{IsLeft}
@@ -41,8 +41,9 @@ use Rattle.wl_resident.specs.View.{Pile, owned_view}
 use Rattle.wl_resident.proofs.Scenes.{none-standing, others-all}
 use Rattle.wl_resident.proofs.Ends.{AreNameless, IsOver, nameless-over, nameless-same, nameless-seat, queues-over}
 use Rattle.wl_resident.proofs.Leaving.{left-stacked, left-windows}
+use Rattle.wl_resident.proofs.ShownDesks.{become-shown}
+use Rattle.wl_resident.proofs.Seating.{sits-seated}
 use Rattle.wl_resident.proofs.Sitting.{based-at, itself, none-is, numbers, sits-gone}
-use Rattle.wl_resident.proofs.Taking.{sits-seated}
 
 -- ---- the windows stay
 
@@ -67,13 +68,13 @@ put-windows c r x d there same = ap (λ (owned : ℕ → Owns). windows_by owned
 -- ---- what is told
 
 -- the desktop has the client as it was but for that, whether it lives or had ended
-pub become-kept : (s : Option Cause) (c : ℕ) (r : Resident) (q : Peer) (d : Desktop) → client_at c d ≡ Some r → MappedStand d → (is_some s ≡ true → OwnsNothing r)
+pub become-kept : (s : Option Cause) (c : ℕ) (r : Resident) (q : Peer) (d : Desktop) → client_at c d ≡ Some r → ShownStand d → (is_some s ≡ true → OwnsNothing r)
     → (become_by s c r q d ≡ become_by None c r q d) × (left_by s r q ≡ record r { peer = q })
 become-kept None c r q d there stand nothing = (refl, refl)
 become-kept (Some cause) c r q d there stand nothing =
     let same : resident_of q ≡ record r { peer = q } = ap (λ (x : Resident). record x { peer = q }) (sym (nothing refl)) in
     let bare : owned_in d c ≡ nothing_owned = ap owned_of there ∙ ap (λ (x : Resident). x.owned) (nothing refl) in
-    let none : list_any (λ s. s.client == c) d.standing ≡ false = none-standing c d.standing (λ surface. (subst (λ (o : Owns). AreMapped c o d.standing) bare (stand.each c)).stands surface) in (
+    let none : list_any (λ s. s.client == c) d.standing ≡ false = none-standing c d.standing (λ surface. (subst (λ (o : Owns). AreShown c o d.standing) bare (stand.each c)).stands surface) in (
       ap (λ (x : Resident). record d { clients = with_number c (Some x) d.clients; standing = without_client c d.standing }) same
           ∙ ap (λ (ss : List Standing). record d { clients = with_number c (Some (record r { peer = q })) d.clients; standing = ss }) (others-all c d.standing none),
       same,
@@ -99,7 +100,7 @@ module _ {A : Type 0} (c : ℕ) (others : ℕ → ById ℕ) (base d : Desktop) (
         windows = subst (λ (held : Held). AreStacked (with_numbers c (targets_in WlSurface held) others) pile.windows (all_windows (become_by None c r q d))) (sym table)
             (subst (λ (ws : List Window). AreStacked (with_numbers c (targets_in WlSurface old.client.objects) others) pile.windows ws)
             (sym (put-windows c r (record r { peer = q }) d is.based.there refl)) is.windows);
-        mapped = subst (λ (e : Desktop). MappedStand e) kept.0 (become-stand c r r q d is.based.there refl is.mapped);
+        mapped = subst (λ (e : Desktop). ShownStand e) kept.0 (become-shown c r r q d is.based.there refl is.mapped);
       }))
     where
       nothing : is_some q.status ≡ true → OwnsNothing r
@@ -108,10 +109,10 @@ module _ {A : Type 0} (c : ℕ) (others : ℕ → ById ℕ) (base d : Desktop) (
       kept : (become_by q.status c r q d ≡ become_by None c r q d) × (left_by q.status r q ≡ record r { peer = q })
       kept = become-kept q.status c r q d is.based.there is.mapped nothing
 
-      owns : IsOwned (names_in mid.client.objects) mid.owned.linked.surfaces mid.owned.linked.family (kept_of mid.owned.shell) r.owned
+      owns : IsOwned (names_of mid.client.objects) mid.owned.linked.surfaces mid.owned.linked.family (kept_of mid.owned.shell) r.owned
       owns =
-          subst (λ (held : Held). IsOwned (names_in held) mid.owned.linked.surfaces mid.owned.linked.family (kept_of mid.owned.shell) r.owned) (sym table)
-          (subst (λ (o : Keeps A). IsOwned (names_in old.client.objects) o.linked.surfaces o.linked.family (kept_of o.shell) r.owned) (sym owned) is.seat.owns)
+          subst (λ (held : Held). IsOwned (names_of held) mid.owned.linked.surfaces mid.owned.linked.family (kept_of mid.owned.shell) r.owned) (sym table)
+          (subst (λ (o : Keeps A). IsOwned (names_of old.client.objects) o.linked.surfaces o.linked.family (kept_of o.shell) r.owned) (sym owned) is.seat.owns)
 
 pub sent-so : (n : ℕ) (p : Peer) → ((sent_by n p).status ≡ p.status) × ((sent_by n p).requests ≡ p.requests)
 sent-so n p = at (nat_le n (length p.unsent))
@@ -149,8 +150,8 @@ module _ {A : Type 0} (c : ℕ) (others : ℕ → ById ℕ) (base d : Desktop) (
   becomes-by : (s : Option Cause) → q.status ≡ s → IsSeated c others base new now (become_by s c x q d) (left_by s x q) → After
   becomes-by s e seated = subst (λ (o : Option Cause). IsSeated c others base new now (become_by o c x q d) (left_by o x q)) (sym e) seated
 
-  stands-by : (s : Option Cause) → q.status ≡ s → MappedStand (become_by s c x q d)
-  stands-by s e = subst (λ (o : Option Cause). MappedStand (become_by o c x q d)) e (become-stand c x r q d is.based.there same is.mapped)
+  stands-by : (s : Option Cause) → q.status ≡ s → ShownStand (become_by s c x q d)
+  stands-by s e = subst (λ (o : Option Cause). ShownStand (become_by o c x q d)) e (become-shown c x r q d is.based.there same is.mapped)
 
   lives-seated : q.status ≡ None → numbers mid ≡ numbers old → IsSeat mid.client (owned_view mid) (record x { peer = q }) → new ≡ mid → now ≡ was → After
   lives-seated none known seat kept stays =
@@ -256,7 +257,7 @@ ends-ended v cause p ended is = at p.status (ap (λ (o : Option Cause). is_some 
 -- A client that was told of a frame agrees with what becomes of the desktop's.
 module _ {A : Type 0} (c : ℕ) (others : ℕ → ById ℕ) (base d : Desktop) (r : Resident) (time : ℕ) (old mid new : Kept A) (was now : Pile) (is : IsSeated c others base old was d r)
     (alive : r.peer.status ≡ None) (q : Peer)
-    (told : Queues (frames_told time r) (done_due r).peer q) (left : IsLeft old mid (done_due r) q) (names : mid.client.ended ≡ None → names_in mid.client.objects ≡ names_in old.client.objects) where
+    (told : Queues (frames_told time r) (done_due r).peer q) (left : IsLeft old mid (done_due r) q) (names : mid.client.ended ≡ None → names_of mid.client.objects ≡ names_of old.client.objects) where
   done-alive : (done_due r).peer.status ≡ None
   done-alive = callbacks-status (callbacks_due r) r ∙ alive
 

@@ -1,8 +1,8 @@
 -- What is told of the surfaces of a client, by their numbers, is the damage that is applied to the windows of its trees.
-use Rattle.std.proofs.Common.{◌≡◌, ℕ, List, [], Option, Some, true, refl, sym, subst}
+use Rattle.std.proofs.Common.{◌≡◌, ℕ, List, [], Option, Some, None, true, refl, sym, subst}
 use Rattle.wl_wire.specs.Wire.{split_of}
 use Rattle.wl_peer.specs.Peer.{Peer}
-use Rattle.wl_xdg_state.specs.Shell.{xdg_of}
+use Rattle.wl_xdg_state.specs.Shell.{Configures, Effect, Maps, Stays, Unconfigured, Unmaps, XdgSurface, xdg_of}
 use Rattle.wl_surface.specs.Surfaces.{Surfaces}
 use Rattle.wl_surface.specs.Trees.{ending, with_link}
 use Rattle.wl_surface.specs.declared.applied.Applied.{Applied}
@@ -11,51 +11,53 @@ use Rattle.wl_linked.specs.Linked.{IsLink}
 use Rattle.wl_linked.specs.Tree.{IsCommitTold, IsDesyncTold, IsEndTold, IsTold}
 use Rattle.wl_named.specs.Named.{StandBy}
 use Rattle.wl_named.proofs.Linking.{link-named}
-use Rattle.wl_named.specs.Renaming.{IsRenaming, has_surface, renamed, renamed_link}
+use Rattle.wl_named.specs.Renaming.{has_surface, renamed, renamed_link}
 use Rattle.wl_named.proofs.Names.Done.{commits-surface, destroys-surface, desynchronises, unlinks}
 use Rattle.wl_named.proofs.Names.Known.{finds-links, keeps-places, reads-surfaces}
 use Rattle.wl_changes.proofs.ToldDamage.Calls.{commit-tells}
 use Rattle.wl_changes.proofs.ToldDamage.Going.{end-tells}
 use Rattle.wl_changes.proofs.ToldDamage.Links.{desync-tells, unlink-tells}
 use Rattle.wl_invariants.proofs.TreeSteps.Damage.{applies-nothing}
-use Rattle.wl_plain.specs.Changing.{tree_committed, unlinked_at}
+use Rattle.wl_plain.specs.Changing.{Placing, changed_for, effect_placing, placement_now, tree_committed, unlinked_at}
 use Rattle.wl_plain.specs.Demand.{Demand, EndToplevel}
 use Rattle.wl_plain.specs.Demanding.{effect_of_commit}
-use Rattle.wl_plain.specs.Desktop.{Resident}
+use Rattle.wl_plain.specs.Desktop.{Desktop, Resident}
+use Rattle.wl_plain.specs.LeftOut.{served_now}
 use Rattle.wl_plain.specs.Step.{with_peer}
-use Rattle.wl_invariants.specs.Simple.{changed_simply}
-use Rattle.wl_invariants.specs.Orderly.{OwnsOrderly}
-use Rattle.wl_changes.specs.Changes.{IsDemanded}
+use Rattle.wl_ordered.specs.Ordered.{OwnsOrdered}
+use Rattle.wl_toplevels.specs.Messages.{IsDemanded}
 use Rattle.wl_changes.specs.Telling.{TellsTrees}
 use Rattle.wl_changes.proofs.OneTree.Named.{commit-told-by-name, desync-told-by-name, end-told-by-name, nothing-told-by-name, unlink-told-by-name}
-use Rattle.wl_owning.specs.Owning.{number_in}
-use Rattle.wl_owning.proofs.Keeping.OwningTies.{number-of-name, present, renaming-of, stand-by}
+use Rattle.wl_owning.proofs.Keeping.OwningTies.{number-of-name, present, stand-by}
 use Rattle.wl_requests.specs.declared.messages.Asked.{Asked}
 use Rattle.wl_requests.specs.declared.residents.Resident.{Resident as Kept}
 use Rattle.wl_requests.specs.Messages.{IsAsked, IsTouchOfAsked}
 use Rattle.wl_requests.specs.Residents.{IsResident}
-use Rattle.wl_requests.specs.Touching.{IsTouchTold, IsTouched, Touch, Commits, Destroys, Parts, Releases}
-use Rattle.wl_requests.proofs.Committing.{effect-surfaces}
+use Rattle.wl_requests.specs.Touching.{IsTouchTold, IsTouched, Touch, Commits, Destroys, Parts, Releases, Closes}
 use Rattle.wl_requests.proofs.Linking.{IsLinkOf}
 use Rattle.wl_requests.proofs.Unlinking.{link-number}
+use Rattle.wl_resident.proofs.Numbers.{named_by}
 use Rattle.wl_resident.proofs.Touches.{IsDemandOf, kept_numbers, touch-demands}
 
--- the names of the surfaces: their numbers
-abbrev pub names_of : {A : Type 0} → Kept A → ℕ → ℕ
-names_of v = number_in (kept_numbers v)
-
--- they tell them apart
-pub names-rename : {A : Type 0} (v : Kept A) (r : Resident) → IsResident v r → IsRenaming (names_of v) r.owned.surfaces
-names-rename v r is = renaming-of (kept_numbers v) v.owned.linked.surfaces v.owned.linked.family r.owned.surfaces is.owns.surfaces
-
 -- Where a toplevel goes the surfaces stay, and nothing is told.
-pub nothing-told : {A : Type 0} (v : Kept A) (r : Resident) (p : Peer) (id xdg surface : ℕ)
-    → TellsTrees {A = A} (names_of v) [] r.owned.surfaces (changed_simply (EndToplevel id xdg surface) (with_peer p r)).owned.surfaces
-nothing-told {A} v r p id xdg surface = nothing-told-by-name A applies-nothing (names_of v) r.owned.surfaces [] refl
+pub nothing-told : {A : Type 0} (v : Kept A) (r : Resident) (p : Peer) (c : ℕ) (d : Desktop) (demand : Demand) (id xdg surface : ℕ) → demand ≡ EndToplevel id xdg surface
+    → TellsTrees {A = A} (named_by v) [] r.owned.surfaces (changed_for c demand (with_peer p r) d).owned.surfaces
+nothing-told {A} v r p c d demand id xdg surface e =
+    subst (λ (x : Demand). TellsTrees {A = A} (named_by v) [] r.owned.surfaces (changed_for c x (with_peer p r) d).owned.surfaces) (sym e)
+    (nothing-told-by-name A applies-nothing (named_by v) r.owned.surfaces [] refl)
 
-module _ {A : Type 0} (v : Kept A) (r : Resident) (p : Peer) (is : IsResident v r) (orderly : OwnsOrderly r) (changes : List (Change A)) where
+-- what a commit does to the shell leaves the surfaces
+effect-surfaces : (where_to : Placing) (surface : ℕ) (effect : Effect) (o : Option XdgSurface) (r : Resident) → (effect_placing where_to surface effect o r).owned.surfaces ≡ r.owned.surfaces
+effect-surfaces where_to surface effect None r = refl
+effect-surfaces where_to surface Stays (Some x) r = refl
+effect-surfaces where_to surface Unconfigured (Some x) r = refl
+effect-surfaces where_to surface Configures (Some x) r = refl
+effect-surfaces where_to surface Maps (Some x) r = refl
+effect-surfaces where_to surface Unmaps (Some x) r = refl
+
+module _ {A : Type 0} (v : Kept A) (r : Resident) (p : Peer) (c : ℕ) (d : Desktop) (is : IsResident v r) (orderly : OwnsOrdered r) (changes : List (Change A)) where
   abbrev names : ℕ → ℕ
-  names = names_of v
+  names = named_by v
 
   abbrev all : Surfaces
   all = r.owned.surfaces
@@ -73,32 +75,37 @@ module _ {A : Type 0} (v : Kept A) (r : Resident) (p : Peer) (is : IsResident v 
 
   -- what is told of such a request, which demands this
   told-by : (touch : Touch) (demand : Demand) → IsDemandOf v r touch demand → IsTouchTold touch v.owned.linked changes
-      → TellsTrees names changes all (changed_simply demand (with_peer p r)).owned.surfaces
+      → TellsTrees names changes all (changed_for c demand (with_peer p r) d).owned.surfaces
   told-by (Commits number) demand (id, e, named) told =
-      subst (λ (d : Demand). TellsTrees names changes all (changed_simply d (with_peer p r)).owned.surfaces) (sym e)
+      subst (λ (x : Demand). TellsTrees names changes all (changed_for c x (with_peer p r) d).owned.surfaces) (sym e)
       (subst (λ (x : Surfaces). TellsTrees names changes all x)
-      (sym (effect-surfaces id (effect_of_commit (with_peer p r) id) (xdg_of id r.owned.shell) (tree_committed id (with_peer p r))))
-      (commit-told-by-name A reads-surfaces commits-surface (commit-tells A) names all id changes by-names.renaming orderly.once (here id number named)
+      (sym (effect-surfaces (placement_now c (with_peer p r) d) id (effect_of_commit (with_peer p r) id) (xdg_of id r.owned.shell) (tree_committed id (with_peer p r))))
+      (commit-told-by-name A reads-surfaces commits-surface (commit-tells A) names all id changes by-names.renaming orderly.order.once (here id number named)
       (subst (λ n. IsCommitTold n (renamed names all) changes) (sym (number-of-name (kept_numbers v) id number named)) (told (renamed names all) by-names.stands))))
   told-by (Destroys number) demand (id, e, named) told =
-      subst (λ (d : Demand). TellsTrees names changes all (changed_simply d (with_peer p r)).owned.surfaces) (sym e)
-      (end-told-by-name A reads-surfaces keeps-places destroys-surface (end-tells A) names all id changes by-names.renaming orderly.trees orderly.once orderly.numbered (here id number named)
+      subst (λ (x : Demand). TellsTrees names changes all (changed_for c x (with_peer p r) d).owned.surfaces) (sym e)
+      (end-told-by-name A reads-surfaces keeps-places destroys-surface (end-tells A) names all id changes by-names.renaming orderly.order.trees orderly.order.once orderly.order.numbered
+      (here id number named)
       (subst (λ n. IsEndTold n (renamed names all) changes) (sym (number-of-name (kept_numbers v) id number named)) (told (renamed names all) by-names.stands)))
   told-by (Parts child) demand (object, e, its) told =
-      subst (λ (d : Demand). TellsTrees names changes all (changed_simply d (with_peer p r)).owned.surfaces) (sym e)
+      subst (λ (x : Demand). TellsTrees names changes all (changed_for c x (with_peer p r) d).owned.surfaces) (sym e)
       (subst (λ (o : Option ℕ). TellsTrees names changes all (unlinked_at o all)) (sym (link-number object r its.link its.of_object))
-      (unlink-told-by-name A reads-surfaces finds-links unlinks (unlink-tells A) names all its.link.number its.link changes by-names.renaming orderly.once orderly.numbered its.here its.lives
+      (unlink-told-by-name A reads-surfaces finds-links unlinks (unlink-tells A) names all its.link.number its.link changes by-names.renaming orderly.order.once orderly.order.numbered its.here
+      its.lives
       (subst (λ n. IsTold n (with_link its.link.number ending (renamed names all)) changes) (sym (number-of-name (kept_numbers v) its.link.child child its.named))
       (told (renamed names all) its.link.number (renamed_link names its.link) (its-link object child its) by-names.stands))))
   told-by (Releases child) demand (object, its, e) told =
-      subst (λ (d : Demand). TellsTrees names changes all (changed_simply d (with_peer p r)).owned.surfaces) (sym e)
-      (desync-told-by-name A reads-surfaces finds-links desynchronises (desync-tells A) names all its.link.number its.link changes by-names.renaming orderly.once its.here its.lives
+      subst (λ (x : Demand). TellsTrees names changes all (changed_for c x (with_peer p r) d).owned.surfaces) (sym e)
+      (desync-told-by-name A reads-surfaces finds-links desynchronises (desync-tells A) names all its.link.number its.link changes by-names.renaming orderly.order.once its.here its.lives
       (subst (λ n. IsDesyncTold its.link.number n (renamed names all) changes) (sym (number-of-name (kept_numbers v) its.link.child child its.named))
       (told (renamed names all) its.link.number (renamed_link names its.link) (its-link object child its) by-names.stands)))
+  told-by (Closes number) demand (object, xdg, e) told =
+      subst (λ (x : Demand). TellsTrees names changes all (changed_for c x (with_peer p r) d).owned.surfaces) (sym e)
+      (nothing-told-by-name A applies-nothing names all changes told)
 
 -- What is told of a request that may change what several surfaces show is the damage that is applied to the windows of their trees.
-pub touch-told : {A : Type 0} (v mid : Kept A) (r : Resident) (p : Peer) (a : Asked) (demand : Demand) (touch : Touch) (applied : Applied A) → IsResident v r → OwnsOrderly r
-    → IsAsked v.client a → IsDemanded (split_of r.peer.rest) r demand → IsTouchOfAsked a v touch → IsTouched touch v.owned.linked mid.owned.linked (Some applied)
-    → TellsTrees (names_of v) applied.changes.items r.owned.surfaces (changed_simply demand (with_peer p r)).owned.surfaces
-touch-told v mid r p a demand touch applied is orderly asks demanded it touched =
-    told-by v r p is orderly applied.changes.items touch demand (touch-demands v r a demand touch is orderly asks demanded it) touched.1
+pub touch-told : {A : Type 0} (v mid : Kept A) (r : Resident) (p : Peer) (c : ℕ) (d : Desktop) (a : Asked) (demand : Demand) (touch : Touch) (applied : Applied A) → IsResident v r → OwnsOrdered r
+    → IsAsked v.client a → IsDemanded served_now (split_of r.peer.rest) r demand → IsTouchOfAsked a v touch → IsTouched touch v.owned.linked mid.owned.linked (Some applied)
+    → TellsTrees (named_by v) applied.changes.items r.owned.surfaces (changed_for c demand (with_peer p r) d).owned.surfaces
+touch-told v mid r p c d a demand touch applied is orderly asks demanded it touched =
+    told-by v r p c d is orderly applied.changes.items touch demand (touch-demands v r a demand touch is orderly asks demanded it) touched.1

@@ -6,9 +6,9 @@ use Rattle.wl_wire.specs.Wire.{split_of}
 use Rattle.wl_wire.specs.declared.header.Split.{Split}
 use Rattle.wl_wire.specs.declared.header.Split.TheVariants.{Message as Whole, More, Bad}
 use Rattle.wl_interface.specs.declared.interface.Interface.{Interface}
-use Rattle.wl_interface.specs.declared.interface.Interface.TheVariants.{WlDisplay, WlRegistry, WlRegion, WlSurface, WlShm, WlShmPool, WlBuffer, XdgPositioner, XdgToplevel}
+use Rattle.wl_interface.specs.declared.interface.Interface.TheVariants.{WlDisplay, WlRegistry, WlRegion, WlSurface, WlShm, WlShmPool, WlBuffer, XdgPopup, XdgPositioner, XdgToplevel}
 use Rattle.wl_proto.specs.Messages.{Message, request_message, wl_compositor_request, wl_pointer_request, wl_seat_request, wl_subcompositor_request, wl_subsurface_request, wl_surface_request}
-use Rattle.wl_proto.specs.Messages.{xdg_surface_request, xdg_wm_base_request}
+use Rattle.wl_proto.specs.Messages.{xdg_popup_request, xdg_surface_request, xdg_wm_base_request}
 use Rattle.wl_proto.specs.declared.wl_compositor.WlCompositorRequest.{WlCompositorRequest}
 use Rattle.wl_proto.specs.declared.wl_compositor.WlCompositorRequest.TheVariants as compositor
 use Rattle.wl_peer.specs.declared.refusals.ErrorCode.TheVariants.{Role as HasAnotherRole}
@@ -22,6 +22,8 @@ use Rattle.wl_proto.specs.declared.wl_subsurface.WlSubsurfaceRequest.{WlSubsurfa
 use Rattle.wl_proto.specs.declared.wl_subsurface.WlSubsurfaceRequest.TheVariants as subsurface
 use Rattle.wl_proto.specs.declared.wl_surface.WlSurfaceRequest.{WlSurfaceRequest}
 use Rattle.wl_proto.specs.declared.wl_surface.WlSurfaceRequest.TheVariants as surface
+use Rattle.wl_proto.specs.declared.xdg_popup.XdgPopupRequest.{XdgPopupRequest}
+use Rattle.wl_proto.specs.declared.xdg_popup.XdgPopupRequest.TheVariants as popup
 use Rattle.wl_proto.specs.declared.xdg_surface.XdgSurfaceRequest.{XdgSurfaceRequest}
 use Rattle.wl_proto.specs.declared.xdg_surface.XdgSurfaceRequest.TheVariants as requests
 use Rattle.wl_proto.specs.declared.xdg_wm_base.XdgWmBaseRequest.{XdgWmBaseRequest}
@@ -38,12 +40,14 @@ use Rattle.wl_peer.specs.ToplevelRequest as toplevel
 use Rattle.wl_peer.specs.declared.refusals.Refusal.{Refusal}
 use Rattle.wl_peer.proofs.Requests.{of-wl_subsurface, of-wl_surface}
 use Rattle.wl_xdg_state.specs.Kept.{kept_of}
+use Rattle.wl_xdg_state.specs.Popups.{is_parent}
+use Rattle.wl_xdg_state.specs.Positioner.{Positioner, is_complete}
 use Rattle.wl_xdg_state.specs.Shell.{Effect, Stays, Unconfigured, Configures, Maps, Unmaps, XdgSurface as Xdg, is_full, xdg_at, xdg_of, xdg_with}
 use Rattle.wl_state.specs.Request.{Request as Asking, Member, PlaceAbove, PlaceBelow}
 use Rattle.wl_surface.specs.Surfaces.{Link}
 use Rattle.wl_surface.specs.Trees.{is_bad_parent, is_too_deep}
 use Rattle.wl_plain.specs.Ask.{Ask, Ignore, owns}
-use Rattle.wl_plain.specs.Demand.{Demand, Asks, CommitTree, EndSubsurface, EndSurface, EndToplevel, SetMode}
+use Rattle.wl_plain.specs.Demand.{Demand, Asks, CommitTree, EndPopup, EndSubsurface, EndSurface, EndToplevel, SetMode}
 use Rattle.wl_plain.specs.Demanding.{committed_by, demand_by, demand_of, demands, effect_of_commit, moved_by_pointer, surface_demand, toplevel_asked, toplevel_destroyed}
 use Rattle.wl_plain.specs.Demanding.{xdg_asked}
 use Rattle.wl_plain.specs.Desktop.{Resident}
@@ -53,13 +57,16 @@ use Rattle.wl_plain.specs.Step.{with_peer}
 use Rattle.wl_plain.specs.WlPointer.{is_no_cursor}
 use Rattle.wl_plain.specs.WlSubsurface.{beside, demand_by_link, has_subsurface, is_no_subsurface, link_of_subsurface, past_limit, placed_beside, refuses}
 use Rattle.wl_plain.specs.WlSurface.{surface_created, transform_set}
+use Rattle.wl_plain.specs.XdgPopup.{is_no_popup, may_be_parent, popup_asked, popup_destroyed, popup_made, positioner_of}
 use Rattle.wl_plain.specs.XdgShell.{acknowledged_by, base_destroyed, geometry_set, role_of, state_asked, toplevel_made, xdg_surface_destroyed, xdg_surface_made}
 use Rattle.wl_laws.proofs.Lists.Keys.{none-some}
-use Rattle.wl_invariants.specs.Orderly.{OwnsOrderly}
-use Rattle.wl_changes.specs.Changes.{IsDemanded}
-use Rattle.wl_changes.specs.Trees.{touched_by}
-use Rattle.wl_owning.specs.Owning.{names_in, target_as, targets_in}
+use Rattle.wl_ordered.specs.Ordered.{OwnsOrdered}
+use Rattle.wl_toplevels.specs.Done.{touched_by}
+use Rattle.wl_toplevels.specs.Messages.{IsDemanded}
+use Rattle.wl_owning.specs.Owning.{target_as, targets_in}
+use Rattle.wl_owning.specs.RoleNames.{names_of}
 use Rattle.wl_owning.proofs.Keeping.OwningXdg.{toplevel-named}
+use Rattle.wl_owning.proofs.Popups.Naming.{roles-named}
 use Rattle.wl_requests.specs.declared.messages.Asked.{Asked}
 use Rattle.wl_requests.specs.declared.messages.Asked.TheVariants as asked
 use Rattle.wl_requests.specs.declared.messages.Kind.{Kind}
@@ -70,7 +77,7 @@ use Rattle.wl_requests.specs.declared.xdg_toplevel.ToplevelAsked.TheVariants.{Co
 use Rattle.wl_requests.specs.Linking.{IsChildOf, IsOnlyChild}
 use Rattle.wl_requests.specs.Messages.{IsAsked, IsKind, IsTouchOf, IsTouchOfAsked}
 use Rattle.wl_requests.specs.Residents.{IsResident, asked_by}
-use Rattle.wl_requests.specs.Touching.{Touch, Commits, Destroys, Parts, Releases, surface_of}
+use Rattle.wl_requests.specs.Touching.{Touch, Commits, Destroys, Parts, Releases, Closes, surface_of}
 use Rattle.wl_requests.proofs.Asking.{demanded-first, passing-peer, whole-first}
 use Rattle.wl_requests.proofs.Doing.{named-by}
 use Rattle.wl_requests.proofs.Linking.{IsLinkOf, link-of-child, no-link-of}
@@ -104,6 +111,7 @@ abbrev pub IsDemandOf : {A : Type 0} → Kept A → Resident → Touch → Deman
 IsDemandOf v r (Commits number) demand = (id : ℕ) × (demand ≡ CommitTree id) × (kept_numbers v id ≡ Some number)
 IsDemandOf v r (Destroys number) demand = (id : ℕ) × (demand ≡ EndSurface id) × (kept_numbers v id ≡ Some number)
 IsDemandOf v r (Parts child) demand = (object : ℕ) × (demand ≡ EndSubsurface object) × IsLinkOf v r object child
+IsDemandOf v r (Closes number) demand = (object : ℕ) × (xdg : ℕ) × (demand ≡ EndPopup object xdg)
 IsDemandOf v r (Releases child) demand = (object : ℕ) × (its : IsLinkOf v r object child) × (demand ≡ SetMode its.link.number false)
 
 -- all of it
@@ -155,16 +163,23 @@ base-untouched r object version (base.CreatePositioner id) = λ q. refl
 base-untouched r object version (base.GetXdgSurface id surface) = asks-untouched (xdg_surface_made r object version id surface)
 base-untouched r object version (base.Pong serial) = λ q. refl
 
+popup-untouched : (r : Resident) (x : Xdg) (version id parent : ℕ) (p : Positioner) → Untouched (popup_made r x version id parent p)
+popup-untouched r x version id parent p =
+    if-untouched (is_some x.role) _ _ tt
+    (if-untouched (is_no_popup (role_of r x.surface)) _ _ tt
+    (if-untouched (may_be_parent (xdg_at parent r.owned.shell)) _ _ (if-untouched (is_complete p) _ _ (λ q. refl) tt) tt))
+
 xdg-asked-untouched : (r : Resident) (o : Option Xdg) (version : ℕ) (request : XdgSurfaceRequest) → unserved_now (ToXdgSurface request) ≡ false → Untouched (xdg_asked r o version request)
 xdg-asked-untouched r None version request served = tt
 xdg-asked-untouched r (Some x) version requests.Destroy served = asks-untouched (xdg_surface_destroyed x)
 xdg-asked-untouched r (Some x) version (requests.GetToplevel id) served = asks-untouched (toplevel_made r x version id)
-xdg-asked-untouched r (Some x) version (requests.GetPopup id parent positioner) served = absurd (cc)
+xdg-asked-untouched r (Some x) version (requests.GetPopup id parent positioner) served = popup-untouched r x version id parent (positioner_of (r.peer.positioners positioner))
 xdg-asked-untouched r (Some x) version (requests.SetWindowGeometry a b width height) served = asks-untouched (geometry_set x (rect a b width height))
 xdg-asked-untouched r (Some x) version (requests.AckConfigure serial) served = asks-untouched (acknowledged_by x serial)
 
 xdg-untouched : (r : Resident) (object version : ℕ) (request : XdgSurfaceRequest) → Untouched (demand_of served_now r object version (xdg_surface_request request))
-xdg-untouched r object version (requests.GetPopup id parent positioner) = tt
+xdg-untouched r object version (requests.GetPopup id parent positioner) =
+    xdg-asked-untouched r (xdg_at object r.owned.shell) version (requests.GetPopup id parent positioner) refl
 xdg-untouched r object version requests.Destroy = xdg-asked-untouched r (xdg_at object r.owned.shell) version requests.Destroy refl
 xdg-untouched r object version (requests.GetToplevel id) = xdg-asked-untouched r (xdg_at object r.owned.shell) version (requests.GetToplevel id) refl
 xdg-untouched r object version (requests.SetWindowGeometry a b width height) =
@@ -269,7 +284,7 @@ below-untouched r object sibling (Some l) = placed-untouched object l.parent (Pl
 
 -- ---- a message
 
-module _ {A : Type 0} (v : Kept A) (r : Resident) (is : IsResident v r) (orderly : OwnsOrderly r) where
+module _ {A : Type 0} (v : Kept A) (r : Resident) (is : IsResident v r) (orderly : OwnsOrdered r) where
   -- nothing is touched
   none-touched : (T : Touch → Type 0) (touched : Option ℕ) (demand : Demand) → touched_by demand r ≡ None → touched ≡ None → ((touch : Touch) → T touch → ⊥) → Touches v r T touched demand
   none-touched T touched demand none untouched never = record {
@@ -290,14 +305,14 @@ module _ {A : Type 0} (v : Kept A) (r : Resident) (is : IsResident v r) (orderly
   -- ---- that passes
 
   module _ (object version size target : ℕ) (m : Message) (passes : Passes v.client object version size target m) (demand : Demand)
-      (told : IsDemanded (split_of r.peer.rest) r demand) where
+      (told : IsDemanded served_now (split_of r.peer.rest) r demand) where
     abbrev left : Resident
     left = with_peer (with_rest (drop size r.peer.rest) r.peer) r
 
     judged : demand_of served_now left object version m ≡ Ok demand
     judged =
         sym (demanded-first v r object version size target m passes is)
-        ∙ subst (λ (s : Split). IsDemanded s r demand) (whole-first v r object version size target m passes is) told
+        ∙ subst (λ (s : Split). IsDemanded served_now s r demand) (whole-first v r object version size target m passes is) told
 
     untouched : (T : Touch → Type 0) (touched : Option ℕ) → Untouched (demand_of served_now left object version m) → touched ≡ None → ((touch : Touch) → T touch → ⊥)
         → Touches v r T touched demand
@@ -451,7 +466,9 @@ module _ {A : Type 0} (v : Kept A) (r : Resident) (is : IsResident v r) (orderly
         let request = toplevel_request m.opcode m.fields in
         let named : targets_in XdgToplevel v.client.objects object ≡ Some target =
         ap (option_and_then (target_as XdgToplevel)) passes.entry ∙ ap (λ (n : Interface). target_as XdgToplevel (record { interface = n; version = version; target = target })) i in
-        let its = toplevel-named (names_in v.client.objects) v.owned.linked.surfaces v.owned.linked.family (kept_of v.owned.shell) r.owned is.owns object target named in
+        let its =
+        toplevel-named (names_of v.client.objects) v.owned.linked.surfaces v.owned.linked.family (kept_of v.owned.shell) r.owned is.owns object target
+        (roles-named.toplevel v.client.objects object target named) in
         let e : demand ≡ EndToplevel object its.1.id its.1.surface =
         is-only (EndToplevel object its.1.id its.1.surface) demand (Ok (EndToplevel object its.1.id its.1.surface)) refl
         (ap (toplevel_destroyed object) (sym its.4)
@@ -462,11 +479,35 @@ module _ {A : Type 0} (v : Kept A) (r : Resident) (is : IsResident v r) (orderly
     toplevel-touches (AskedMove serial) i is_it touched there = other-touches (AskedMove serial) i is_it (λ same. absurd (cc)) touched there
     toplevel-touches Nothing i is_it touched there = other-touches Nothing i is_it (λ same. absurd (cc)) touched there
 
+    -- ---- of an xdg_popup
+
+    popup-touches : (request : XdgPopupRequest) → m ≡ xdg_popup_request request → (touched : Option ℕ) → IsTouchedIn v object target (kind.Popup request) touched
+        → Touches v r (IsTouchOf (kind.Popup request) object target v) touched demand
+    popup-touches popup.Destroy is_it touched there =
+        let named : targets_in XdgPopup v.client.objects object ≡ Some target =
+        ap (option_and_then (target_as XdgPopup)) passes.entry
+        ∙ ap (λ (n : Message). target_as XdgPopup (record { interface = n.interface; version = version; target = target })) is_it in
+        let its =
+        toplevel-named (names_of v.client.objects) v.owned.linked.surfaces v.owned.linked.family (kept_of v.owned.shell) r.owned is.owns object target
+        (roles-named.popup v.client.objects object target named) in
+        let asks : popup_asked left object (xdg_with object r.owned.shell) popup.Destroy ≡ Ok demand =
+        subst (λ (n : Message). demand_of served_now left object version n ≡ Ok demand) is_it judged in
+        let e : demand ≡ EndPopup object its.1.id =
+        is-only (EndPopup object its.1.id) demand (popup_destroyed left object its.1)
+        (if-only (EndPopup object its.1.id) (is_parent its.1.id left.owned.shell) _ (Ok (EndPopup object its.1.id)) tt refl)
+        (ap (λ (o : Option Xdg). popup_asked left object o popup.Destroy) (sym its.4) ∙ asks) in
+        subst (λ (d : Demand). Touches v r (λ touch. touch ≡ Closes target) touched d) (sym e)
+        (one-touched (λ touch. touch ≡ Closes target) touched (EndPopup object its.1.id) its.1.surface target (ap (option_map (λ (x : Xdg). x.surface)) its.3.at_id) there its.3.surface
+        (Closes target, refl, refl) (λ touch same. subst (λ (t : Touch). IsDemandOf v r t (EndPopup object its.1.id)) (sym same) (object, its.1.id, refl)))
+    popup-touches (popup.Grab by serial) is_it touched there =
+        untouched (λ touch. ⊥) touched (judged-untouched left object version m (xdg_popup_request (popup.Grab by serial)) (sym is_it) tt) there (λ touch it. it)
+
     -- ---- of whatever interface
 
     by-kind : (k : Kind) → IsKind k m → (touched : Option ℕ) → IsTouchedIn v object target k touched → Touches v r (IsTouchOf k object target v) touched demand
     by-kind (kind.Surface request) is_it touched there = surface-touches request is_it touched there
     by-kind (kind.Subsurface request) is_it touched there = subsurface-touches request is_it touched there
+    by-kind (kind.Popup request) is_it touched there = popup-touches request is_it touched there
     by-kind (kind.Toplevel t) is_it touched there = toplevel-touches t is_it.0 is_it.1 touched there
     by-kind (kind.Compositor request) is_it touched there =
         untouched (λ touch. ⊥) touched (judged-untouched left object version m _ (sym is_it) (compositor-untouched left object version request)) there (λ touch it. it)
@@ -485,7 +526,7 @@ module _ {A : Type 0} (v : Kept A) (r : Resident) (is : IsResident v r) (orderly
 
   -- ---- that is refused
 
-  refused-demands : (s : Split) (refusal : Refusal) (demand : Demand) → IsRefused s v.client refusal → IsDemanded s r demand → ⊥
+  refused-demands : (s : Split) (refusal : Refusal) (demand : Demand) → IsRefused s v.client refusal → IsDemanded served_now s r demand → ⊥
   refused-demands (Whole object opcode size) refusal demand why told =
       let judged = judged-refused r.peer.objects r.peer.held (λ version m. demand_of served_now r object version m) opcode (take (size - 8) (drop 8 r.peer.rest)) (r.peer.objects object) refusal
       (passing-peer v.client r.peer object opcode size (Err refusal) is.peer why) in
@@ -496,11 +537,11 @@ module _ {A : Type 0} (v : Kept A) (r : Resident) (is : IsResident v r) (orderly
 
   -- ---- whatever is asked
 
-  pub touches : (a : Asked) (demand : Demand) (touched : Option ℕ) → IsAsked v.client a → IsDemanded (split_of r.peer.rest) r demand → IsTouchedBy v a touched
+  pub touches : (a : Asked) (demand : Demand) (touched : Option ℕ) → IsAsked v.client a → IsDemanded served_now (split_of r.peer.rest) r demand → IsTouchedBy v a touched
       → Touches v r (IsTouchOfAsked a v) touched demand
-  touches asked.More demand touched more told there = absurd (subst (λ (s : Split). IsDemanded s r demand) (ap split_of (sym is.peer.rest) ∙ more) told)
+  touches asked.More demand touched more told there = absurd (subst (λ (s : Split). IsDemanded served_now s r demand) (ap split_of (sym is.peer.rest) ∙ more) told)
   touches (asked.Refused refusal) demand touched why told there =
-      absurd (refused-demands (split_of v.client.rest) refusal demand why (subst (λ (rest : List ℕ). IsDemanded (split_of rest) r demand) (sym is.peer.rest) told))
+      absurd (refused-demands (split_of v.client.rest) refusal demand why (subst (λ (rest : List ℕ). IsDemanded served_now (split_of rest) r demand) (sym is.peer.rest) told))
   touches (asked.Own size j) demand touched own told there =
       let m = request_message own.request in
       untouched own.object own.version size own.target m own.passes demand told (λ touch. ⊥) touched
@@ -509,13 +550,13 @@ module _ {A : Type 0} (v : Kept A) (r : Resident) (is : IsResident v r) (orderly
       by-kind object version size target m passes demand told k is_it touched there
 
 -- The surface that a message touches is the one that is taken for it, by its number.
-pub touch-named : {A : Type 0} (v : Kept A) (r : Resident) (a : Asked) (demand : Demand) (touched : Option ℕ) → IsResident v r → OwnsOrderly r → IsAsked v.client a
-    → IsDemanded (split_of r.peer.rest) r demand → IsTouchedBy v a touched → IsTouchNamed v r demand touched
+pub touch-named : {A : Type 0} (v : Kept A) (r : Resident) (a : Asked) (demand : Demand) (touched : Option ℕ) → IsResident v r → OwnsOrdered r → IsAsked v.client a
+    → IsDemanded served_now (split_of r.peer.rest) r demand → IsTouchedBy v a touched → IsTouchNamed v r demand touched
 touch-named v r a demand touched is orderly asks told by = (touches v r is orderly a demand touched asks told by).named
 
 -- And the request is one of that surface that may change what several show, unless it is the end of a toplevel; where none is touched it is none.
-pub touch-is : {A : Type 0} (v : Kept A) (r : Resident) (a : Asked) (demand : Demand) (touched : Option ℕ) → IsResident v r → OwnsOrderly r → IsAsked v.client a
-    → IsDemanded (split_of r.peer.rest) r demand → IsTouchedBy v a touched → IsTouchIf (IsTouchOfAsked a v) touched demand
+pub touch-is : {A : Type 0} (v : Kept A) (r : Resident) (a : Asked) (demand : Demand) (touched : Option ℕ) → IsResident v r → OwnsOrdered r → IsAsked v.client a
+    → IsDemanded served_now (split_of r.peer.rest) r demand → IsTouchedBy v a touched → IsTouchIf (IsTouchOfAsked a v) touched demand
 touch-is v r a demand touched is orderly asks told by = (touches v r is orderly a demand touched asks told by).is_touch
 
 -- the surface of such a request is the one that is taken for it
@@ -524,6 +565,7 @@ touch-in v object target (kind.Surface surface.Commit) touch it = ap (λ (t : To
 touch-in v object target (kind.Surface surface.Destroy) touch it = ap (λ (t : Touch). Some (surface_of t)) it
 touch-in v object target (kind.Subsurface subsurface.Destroy) touch it = subst (λ (t : Touch). IsChildOf v object (Some (surface_of t))) (sym it.2) it.1.0
 touch-in v object target (kind.Subsurface subsurface.SetDesync) touch it = subst (λ (t : Touch). IsChildOf v object (Some (surface_of t))) (sym it.2) it.1.0
+touch-in v object target (kind.Popup popup.Destroy) touch it = ap (λ (t : Touch). Some (surface_of t)) it
 touch-in v object target (kind.Toplevel Destruction) touch it = absurd it
 touch-in v object target k touch it = absurd it
 
@@ -532,6 +574,6 @@ touch-by v (asked.Request object version size target k) touch it = touch-in v ob
 touch-by v a touch it = absurd it
 
 -- Such a request demands what changes the surfaces so.
-pub touch-demands : {A : Type 0} (v : Kept A) (r : Resident) (a : Asked) (demand : Demand) (touch : Touch) → IsResident v r → OwnsOrderly r → IsAsked v.client a
-    → IsDemanded (split_of r.peer.rest) r demand → IsTouchOfAsked a v touch → IsDemandOf v r touch demand
+pub touch-demands : {A : Type 0} (v : Kept A) (r : Resident) (a : Asked) (demand : Demand) (touch : Touch) → IsResident v r → OwnsOrdered r → IsAsked v.client a
+    → IsDemanded served_now (split_of r.peer.rest) r demand → IsTouchOfAsked a v touch → IsDemandOf v r touch demand
 touch-demands v r a demand touch is orderly asks told it = (touches v r is orderly a demand (Some (surface_of touch)) asks told (touch-by v a touch it)).demanded touch it

@@ -1,198 +1,137 @@
--- A message that is done changes the windows of one tree: those that are kept go on standing for them, and what is marked is what has to be and may
--- be marked.
-use Rattle.std.proofs.Common.{◌≡◌, ℕ, ◌<◌, Bool, true, false, Option, Some, None, List, map, refl, ap, sym, subst, ◌∙◌}
-use Rattle.std.specs.Prelude.{pos, ◌||◌, ◌&&◌, ℤ}
-use Rattle.std.proofs.lemmas.Bool.{or_left, or_right}
+-- A demand that is done changes the windows of one toplevel, or none: which by numbers, and what is marked of them.
+use Rattle.std.proofs.Common.{◌≡◌, ℕ, ◌<◌, Option, Some, None, List, refl, ap, sym, ◌∙◌, inl, inr, ◌⊎◌}
+use Rattle.std.specs.Prelude.{pos}
+use Rattle.std.proofs.lemmas.Bool.{or_left}
 use Rattle.wl_paint.specs.Damage.{Damaged, has}
 use Rattle.wl_peer.specs.Objects.{ById}
 use Rattle.wl_peer.specs.Peer.{Peer}
 use Rattle.wl_family.specs.Family.{links_in, parents_of, root_by}
-use Rattle.wl_surface.specs.Surfaces.{Surfaces}
 use Rattle.wl_surface.specs.declared.applied.Change.{Change}
-use Rattle.wl_stacking.specs.Stacking.{Owned, Standing}
-use Rattle.wl_stacking.specs.Windows.{Owner}
+use Rattle.wl_plain.specs.Changing.{changed_for}
 use Rattle.wl_plain.specs.Demand.{Demand}
-use Rattle.wl_plain.specs.Desktop.{Desktop, Resident, owned_in, owned_of}
-use Rattle.wl_plain.specs.Marks.{in_output}
-use Rattle.wl_plain.specs.Moments.{marks_at_least, marks_at_most}
+use Rattle.wl_plain.specs.Desktop.{Desktop, Resident, owned_in}
+use Rattle.wl_plain.specs.Stacked.{all_windows}
 use Rattle.wl_plain.specs.Step.{with_peer}
-use Rattle.wl_laws.proofs.Marks.Stacks.{differ, unless}
-use Rattle.wl_lending.specs.Stacked.{AreNumberedBy, told_by}
-use Rattle.wl_named.specs.Renaming.{IsRenaming, has_surface, renamed}
-use Rattle.wl_changes.specs.RenamedWindows.{IsNamedAlone}
-use Rattle.wl_repaint.specs.Repaint.{marks}
-use Rattle.wl_changes.proofs.ToldDamage.Shown.{between-is-applied}
-use Rattle.wl_windows.specs.Windows.{told_of}
-use Rattle.wl_owning.proofs.Keeping.OwningTies.{named-there, number-of-name}
-use Rattle.wl_invariants.specs.Orderly.{Orderly, OwnsOrderly}
-use Rattle.wl_invariants.proofs.OrderlyClients.Clients.{clients_are_orderly}
-use Rattle.wl_changes.specs.Changes.{ChangesAt, ChangesTree, IsDone, StaysPainted}
-use Rattle.wl_changes.specs.Telling.{TellsTrees}
-use Rattle.wl_changes.specs.Trees.{HasTrees, touched_by}
-use Rattle.wl_changes.proofs.OneTree.There.{no-surface-comes, tree-is-told}
+use Rattle.wl_invariants.specs.Shown.{ShownStand}
 use Rattle.wl_invariants.specs.TreeStepsLaws.{IsRootOf}
-use Rattle.wl_changes.proofs.TurnedWindows.Laws.{demands-change-one-tree, marks-are-between, names-are-apart, nothing-is-marked}
+use Rattle.wl_ordered.specs.Ordered.{OwnsOrdered}
+use Rattle.wl_changes.specs.Telling.{TellsTrees}
 use Rattle.wl_changes.proofs.TurnedWindows.Naming.{root-is-named}
-use Rattle.wl_changes.proofs.TurnedWindows.Told.{numbered-at, told-was}
-use Rattle.wl_invariants.specs.Simple.{changed_simply}
+use Rattle.wl_toplevels.specs.Changes.{HasTrees}
+use Rattle.wl_toplevels.specs.Done.{IsDone, IsMeant, touched_by}
+use Rattle.wl_toplevels.specs.StackedWith.{popup_of}
+use Rattle.wl_toplevels.specs.Marked.{MarksByTreesBetween}
+use Rattle.wl_runs.specs.Demands.{ChangesFound, ChangesNothing, ChangesRun, WasDone}
+use Rattle.wl_runs.specs.Kept.{IsNumbered}
+use Rattle.wl_runs.specs.Lookup.{toplevel_found}
+use Rattle.wl_runs.specs.Marks.{NoneComes}
+use Rattle.wl_runs.specs.Numbers.{IsNumberOf}
+use Rattle.wl_runs.proofs.Demanded.{no-surface-comes, touches-found, touches-nothing}
 use Rattle.wl_requests.specs.declared.residents.Resident.{Resident as Kept}
-use Rattle.wl_requests.specs.Residents.{IsResident}
-use Rattle.wl_resident.specs.Agreement.{IsStack, with_numbers}
+use Rattle.wl_resident.specs.Finding.{found_by, parent_by, popup_in_shell}
 use Rattle.wl_resident.specs.Marking.{MarksAtLeast, MarksMost}
-use Rattle.wl_resident.specs.Screens.{tree_kept, tree_on}
 use Rattle.wl_resident.specs.Seats.{IsSeated}
 use Rattle.wl_resident.specs.View.{Pile}
-use Rattle.wl_resident.proofs.Finding.{told-on}
-use Rattle.wl_resident.proofs.Scenes.{AreOnce, numbers-same}
+use Rattle.wl_resident.proofs.Lookup.{found-number}
+use Rattle.wl_resident.proofs.Numbers as seat
 use Rattle.wl_resident.proofs.Sitting.{numbers}
-use Rattle.wl_resident.proofs.Told.{names_of}
 
--- ---- plain booleans
+-- Where a toplevel was found, its windows change and are marked tree by tree; k is its number. Else none do.
+pub record TurnsRun {A : Type 0} (c : ℕ) (numbers : ById ℕ) (f : ℕ → ℕ) (list : List (Change A)) (root : ℕ) (found : Option ℕ) (d e : Desktop) : Type 0 where
+  pub toplevel : ℕ
+  pub number : ℕ
+  pub is_found : found ≡ Some number
+  pub named : numbers toplevel ≡ Some number
+  pub is_its : toplevel_found c root (popup_of c root d) (all_windows d) ≡ Some toplevel
+  pub changes : ChangesRun c toplevel d e f list
 
-pub either-false : (a b : Bool) → (a || b) ≡ false → (a ≡ false) × (b ≡ false)
-either-false false b e = (refl, e)
-either-false true b e = absurd (differ (sym e))
+abbrev pub Turns : {A : Type 0} → ℕ → ById ℕ → (ℕ → ℕ) → List (Change A) → ℕ → Option ℕ → Desktop → Desktop → Type 0
+Turns c numbers f list root found d e = ((found ≡ None) × ChangesNothing d e) ⊎ TurnsRun c numbers f list root found d e
 
-both-true : (a b : Bool) → a ≡ true → b ≡ true → (a && b) ≡ true
-both-true true b e f = f
-both-true false b e f = e
+turns-so : {A : Type 0} (c : ℕ) (numbers : ById ℕ) (f : ℕ → ℕ) (list : List (Change A)) (root : ℕ) (found toplevel : Option ℕ) (d e : Desktop)
+    → toplevel_found c root (popup_of c root d) (all_windows d) ≡ toplevel → IsNumberOf numbers found toplevel → ChangesFound toplevel c d e f list → Turns c numbers f list root found d e
+turns-so c numbers f list root None None d e its is changes = inl (refl, changes)
+turns-so c numbers f list root (Some number) (Some toplevel) d e its is changes = inr (record {
+  toplevel = toplevel;
+  number = number;
+  is_found = refl;
+  named = is;
+  is_its = its;
+  changes = changes;
+})
+turns-so c numbers f list root None (Some toplevel) d e its is changes = absurd is
+turns-so c numbers f list root (Some number) None d e its is changes = absurd is
 
--- ---- a client at its seat
+-- a demand was done, by this peer
+abbrev pub WasDid : ℕ → Demand → Peer → Resident → Desktop → Desktop → Type 0
+WasDid c demand p r d e = IsDone c demand (with_peer p r) d e
 
-module _ {A : Type 0} (c : ℕ) (others : ℕ → ById ℕ) (base d : Desktop) (r : Resident) (old : Kept A) (pile : Pile) (before : IsSeated c others base old pile d r) (orderly : Orderly d)
-    (lives : old.client.ended ≡ None) where
-  pub resident : IsResident old r
-  resident = record { lives = lives; peer = before.seat.peer; owns = before.seat.owns; frames = before.seat.frames; subsurfaces = before.seat.subsurfaces }
+module _ {A : Type 0} (c : ℕ) (others : ℕ → ById ℕ) (base d : Desktop) (r : Resident) (old : Kept A) (pile : Pile) (before : IsSeated c others base old pile d r) (trees : HasTrees d)
+    (owns : OwnsOrdered r)
+    (demand : Demand) (p : Peer) (e : Desktop) (meant : IsMeant demand r) (done : IsDone c demand (with_peer p r) d e) (after : HasTrees e) (shown : ShownStand e) where
+  pub was-done : WasDone c r p demand d e
+  was-done = record {
+    here = before.based.there;
+    meant = meant;
+    done = done;
+    trees_before = trees;
+    trees_after = after;
+    shown_before = before.mapped;
+    shown_after = shown;
+  }
 
-  pub alive : r.peer.status ≡ None
-  alive = sym before.seat.peer.status ∙ lives
+  abbrev f : ℕ → ℕ
+  f = seat.named_by old
 
-  pub owns : OwnsOrderly r
-  owns = clients_are_orderly d c r orderly before.based.there alive
+  abbrev nums : ℕ → ById ℕ
+  nums = seat.nums c others base d r old pile before
 
-  pub owned-here : owned_in d c ≡ r.owned
-  owned-here = ap owned_of before.based.there
+  -- nothing is touched
+  pub changes-nothing : touched_by demand r ≡ None → ChangesNothing d e
+  changes-nothing none = touches-nothing c r p demand d e was-done none
 
-  abbrev pub f : ℕ → ℕ
-  f = names_of old
+  -- a surface
+  module _ (id number : ℕ) (touched : touched_by demand r ≡ Some id) (named : numbers old id ≡ Some number)
+      (none : links_in old.owned.linked.family (root_by 16 (parents_of (links_in old.owned.linked.family)) number) ≡ None) where
+    abbrev pub k : ℕ
+    k = root_by 16 (parents_of (links_in old.owned.linked.family)) number
 
-  -- a surface that is there has its number
-  pub has-number : (id : ℕ) → has_surface id r.owned.surfaces ≡ true → numbers old id ≡ Some (f id)
-  has-number id there = named-there (numbers old) r.owned.surfaces before.seat.owns.surfaces.numbered before.seat.owns.surfaces.once id there
+    pub found-root : (root : ℕ) × IsRootOf r.owned.surfaces id root × (numbers old root ≡ Some k)
+    found-root =
+        root-is-named (numbers old) old.owned.linked.surfaces old.owned.linked.family r.owned.surfaces before.seat.owns.surfaces owns.order.trees owns.order.numbered id number named none
 
-  abbrev pub nums : ℕ → ById ℕ
-  nums = with_numbers c (numbers old) others
+    abbrev pub root : ℕ
+    root = found-root.0
 
-  nums-own : nums c ≡ numbers old
-  nums-own = numbers-same c (numbers old) others
+    pub nums-root : nums c root ≡ Some k
+    nums-root = ap (λ (n : ById ℕ). n root) (seat.nums-own c others base d r old pile before) ∙ found-root.2
 
-  pub once-own : AreOnce (nums c)
-  once-own = subst (λ (n : ById ℕ). AreOnce n) (sym nums-own) before.seat.owns.surfaces.once
+    pub comes : NoneComes (owned_in d c).surfaces (owned_in e c).surfaces
+    comes = no-surface-comes c id r p demand d e before.based.there done touched
 
-  -- ---- what a demand that is done touches
+    -- what is found of its toplevel
+    pub turns : MarksByTreesBetween → (list : List (Change A)) → TellsTrees f list r.owned.surfaces (changed_for c demand (with_peer p r) d).owned.surfaces → (found : Option ℕ)
+        → found ≡ found_by c k (parent_by (seat.its c others base d r old pile before) (popup_in_shell old.owned.shell k)) pile.windows
+        → Turns c (nums c) f list root found d e
+    turns between list tells found is =
+        turns-so c (nums c) f list root found (toplevel_found c root (popup_of c root d) (all_windows d)) d e refl
+        (found-number c others base d r old pile before trees root k nums-root found is)
+        (touches-found A between c id root r p demand d e was-done touched found-root.1 f list (seat.renaming c others base d r old pile before) tells)
 
-  module _ (demand : Demand) (p : Peer) (e : Desktop) (trees : HasTrees d) (after : HasTrees e) (done : IsDone c demand (with_peer p r) d e) where
-    changes : ChangesAt (touched_by demand r) c d e
-    changes = demands-change-one-tree c r p d e demand trees after before.based.there done
-
-    -- nothing
-    pub stays-painted : touched_by demand r ≡ None → StaysPainted d e
-    stays-painted none = subst (λ (o : Option ℕ). ChangesAt o c d e) none changes
-
-    -- a surface
-    module _ (id number : ℕ) (touched : touched_by demand r ≡ Some id) (named : numbers old id ≡ Some number)
-        (none : links_in old.owned.linked.family (root_by 16 (parents_of (links_in old.owned.linked.family)) number) ≡ None) where
-      abbrev pub k : ℕ
-      k = root_by 16 (parents_of (links_in old.owned.linked.family)) number
-
-      pub found-root : (root : ℕ) × IsRootOf r.owned.surfaces id root × (numbers old root ≡ Some k)
-      found-root =
-          root-is-named (numbers old) old.owned.linked.surfaces old.owned.linked.family r.owned.surfaces before.seat.owns.surfaces owns.trees owns.numbered id number named none
-
-      abbrev pub root : ℕ
-      root = found-root.0
-
-      pub root-named : numbers old root ≡ Some k
-      root-named = found-root.2
-
-      pub nums-named : nums c root ≡ Some k
-      nums-named = ap (λ (n : ById ℕ). n root) nums-own ∙ root-named
-
-      pub tree : ChangesTree c root d e
-      tree =
-          subst (λ (o : Option ℕ). ChangesAt o c d e) touched changes root
-          (subst (λ (o : Owned). IsRootOf o.surfaces id root) (sym owned-here) found-root.1)
-
-      comes : (surface : ℕ) → has_surface surface (owned_in e c).surfaces ≡ true → has_surface surface (owned_in d c).surfaces ≡ true
-      comes = no-surface-comes c id r p d e demand before.based.there done touched
-
-      number-before : (surface : ℕ) → has_surface surface (owned_in d c).surfaces ≡ true → nums c surface ≡ Some (f surface)
-      number-before surface there =
-          ap (λ (n : ById ℕ). n surface) nums-own ∙ has-number surface (subst (λ (o : Owned). has_surface surface o.surfaces ≡ true) owned-here there)
-
-      pub numbered : AreNumberedBy (nums c) f tree.is
-      numbered =
-          subst (λ ws. AreNumberedBy (nums c) f ws) (sym tree.is_of)
-          (numbered-at (nums c) f c root e (λ surface there. number-before surface (comes surface there)))
-
-      -- What was kept of the tree tells the windows that it had.
-      pub kept-was : tree_kept c (Some k) pile.windows ≡ map (told_by f) tree.was
-      kept-was = told-was nums pile.windows c root k f d e tree before.windows nums-named once-own number-before
-
-      own-surfaces : (owned_in e c).surfaces ≡ (changed_simply demand (with_peer p r)).owned.surfaces
-      own-surfaces = ap (λ (o : Owned). o.surfaces) done.own
-
-      k-is : k ≡ f root
-      k-is = sym (number-of-name (numbers old) root k root-named)
-
-      named-alone : IsNamedAlone f (owned_in e c).surfaces root
-      named-alone a there same =
-          once-own a root k (number-before a (comes a there) ∙ ap (λ (n : ℕ). Some n) (same ∙ sym k-is)) nums-named
-
-      -- What is told of the tree afterwards tells those that it has then.
-      pub told-after : IsRenaming f (changed_simply demand (with_peer p r)).owned.surfaces → (owner : Owner) (ks : List Standing) → IsStack nums ks e.standing
-          → map told_of (tree_on c owner (renamed f (changed_simply demand (with_peer p r)).owned.surfaces) (Some k) ks) ≡ map (told_by f) tree.is
-      told-after renaming owner ks stack =
-          subst (λ (all : Surfaces). IsRenaming f all → map told_of (tree_on c owner (renamed f all) (Some k) ks) ≡ map (told_by f) tree.is) own-surfaces
-          (λ is. told-on nums c root k f (owned_in e c).surfaces owner once-own nums-named k-is is named-alone ks e.standing stack ∙ ap (map (told_by f)) (sym tree.is_of)) renaming
-
-      -- ---- what is marked
-
-      module _ (list : List (Change A)) (tells : TellsTrees f list r.owned.surfaces (changed_simply demand (with_peer p r)).owned.surfaces) (renaming : IsRenaming f r.owned.surfaces) where
-        between : (x y : ℤ) → (marks_at_least d e x y ≡ true → marks (map (told_by f) tree.was) (map (told_by f) tree.is) list x y ≡ true)
-            × ((in_output d.output.width d.output.height x y && marks (map (told_by f) tree.was) (map (told_by f) tree.is) list x y) ≡ true → marks_at_most d e None x y ≡ true)
-        between x y =
-            marks-are-between A c root d e tree f list
-            (names-are-apart c root d e tree f (subst (λ (o : Owned). IsRenaming f o.surfaces) (sym owned-here) renaming) comes)
-            (tree-is-told A between-is-applied c root d e tree f list
-            (subst (λ (o : Owned). TellsTrees f list o.surfaces (owned_in e c).surfaces) (sym owned-here)
-            (subst (λ (all : Surfaces). TellsTrees f list r.owned.surfaces all) (sym own-surfaces) tells)))
-            None x y
-
-        -- What is marked of the tree is what has to be marked, and in the output nothing that may not be.
-        pub tree-least : (d0 d2 : Damaged) → ((x y : ℕ) → x < d0.width → y < d0.height
-            → has d2 x y ≡ (has d0 x y || marks (map (told_by f) tree.was) (map (told_by f) tree.is) list (pos x) (pos y))) → MarksAtLeast d e d0 d2
-        tree-least d0 d2 points x y wide high clean =
-            let both = either-false (has d0 x y) _ (sym (points x y wide high) ∙ clean) in
-            (both.0, unless (marks_at_least d e (pos x) (pos y)) (λ marked. differ (sym both.1 ∙ (between (pos x) (pos y)).0 marked)))
-
-        pub tree-most : (d0 d2 : Damaged) → ((x y : ℕ) → x < d0.width → y < d0.height → in_output d.output.width d.output.height (pos x) (pos y) ≡ true)
-            → ((x y : ℕ) → x < d0.width → y < d0.height
-            → has d2 x y ≡ (has d0 x y || marks (map (told_by f) tree.was) (map (told_by f) tree.is) list (pos x) (pos y))) → MarksMost d e d0 d2
-        tree-most d0 d2 inside points x y wide high marked = at (has d0 x y) refl
-          where
-            at : (b : Bool) → has d0 x y ≡ b → (has d0 x y || marks_at_most d e None (pos x) (pos y)) ≡ true
-            at true was = or_left (has d0 x y) _ was
-            at false clean =
-                or_right (has d0 x y) _
-                ((between (pos x) (pos y)).1
-                (both-true _ _ (inside x y wide high)
-                (sym (ap (λ b. b || marks (map (told_by f) tree.was) (map (told_by f) tree.is) list (pos x) (pos y)) clean) ∙ (sym (points x y wide high) ∙ marked))))
+    -- What is kept stands for the windows that change.
+    pub numbered : (toplevel number : ℕ) → nums c toplevel ≡ Some number → IsNumbered nums pile.windows c toplevel number f d e
+    numbered toplevel number named_so = record {
+      are = before.windows;
+      named = named_so;
+      once = seat.once-own c others base d r old pile before;
+      by = seat.number-before c others base d r old pile before;
+      stay = comes;
+    }
 
 -- ---- a message that changes no windows
 
-pub untouched-least : (d e : Desktop) → StaysPainted d e → (d0 d2 : Damaged) → ((x y : ℕ) → x < d0.width → y < d0.height → has d2 x y ≡ has d0 x y) → MarksAtLeast d e d0 d2
-untouched-least d e stays d0 d2 points x y wide high clean = (sym (points x y wide high) ∙ clean, nothing-is-marked d e stays (pos x) (pos y))
+pub untouched-least : (d e : Desktop) → ChangesNothing d e → (d0 d2 : Damaged) → ((x y : ℕ) → x < d0.width → y < d0.height → has d2 x y ≡ has d0 x y) → MarksAtLeast d e d0 d2
+untouched-least d e stays d0 d2 points x y wide high clean = (sym (points x y wide high) ∙ clean, stays.unmarked (pos x) (pos y))
 
 pub untouched-most : (d e : Desktop) (d0 d2 : Damaged) → ((x y : ℕ) → x < d0.width → y < d0.height → has d2 x y ≡ has d0 x y) → MarksMost d e d0 d2
 untouched-most d e d0 d2 points x y wide high marked = or_left (has d0 x y) _ (sym (points x y wide high) ∙ marked)

@@ -1,31 +1,44 @@
--- Where a step changes one tree of a client: what it marks, beside the windows that the client has then, lies in those that it had before and those of the tree.
-use Rattle.std.proofs.Common.{◌≡◌, ℕ, Bool, true, false, None, List, [], ◌∷◌, ◌++◌, map, refl, ap, ap₂, sym, ◌∙◌, inl, inr, ◌⊎◌}
-use Rattle.std.specs.Prelude.{ℤ, ◌==◌, ◌&&◌, ◌||◌}
+-- Where a step changes the windows stacked with one toplevel: what it marks, beside the windows that the client has then, lies in those that it had before and those of the
+-- toplevel.
+use Rattle.std.proofs.Common.{◌≡◌, ℕ, Bool, true, false, None, List, [], ◌∷◌, ◌++◌, map, ap, sym, refl, ◌∙◌, inl, inr, ◌⊎◌}
+use Rattle.std.specs.Prelude.{ℤ, ◌==◌, ◌&&◌, ◌||◌, filter, if◌then◌else◌}
 use Rattle.std.specs.List.{list_any}
 use Rattle.std.proofs.lemmas.Bool.{eqb-true, or_left, or_right}
 use Rattle.wl_lending.specs.Stacked.{told_by}
+use Rattle.wl_laws.proofs.Isolation.Own.{any-kept}
 use Rattle.wl_laws.proofs.Marks.Painted.{contains-same}
-use Rattle.wl_laws.proofs.Marks.Stacks.{AreSame, Each, and-both, and-left, and-right, any-more, equal-numbers}
-use Rattle.wl_changes.specs.Changes.{ChangesTree}
+use Rattle.wl_laws.proofs.Marks.Stacks.{AreSame, Each, and-both, and-left, and-right, any-more, differ, equal-numbers, same-number}
 use Rattle.wl_plain.specs.Desktop.{Desktop}
-use Rattle.wl_plain.specs.Marks.{at_least, at_most, in_output, same_records}
+use Rattle.wl_plain.specs.Marks.{in_output, same_records}
 use Rattle.wl_plain.specs.Moments.{applied_between, marks_at_least, marks_at_most}
 use Rattle.wl_invariants.specs.Touching.{any_window_at, has_window_at}
 use Rattle.wl_repaint.specs.Repaint.{window_has}
 use Rattle.wl_stacking.specs.Windows.{Window, contains}
-use Rattle.wl_invariants.specs.TreeMarksLaws.{among, has_root, is_in_any}
-use Rattle.wl_invariants.proofs.TreeMarks.Lists.{any-each-more, any-first, any-second, any-three, each-all, each-first, each-second, either-of}
+use Rattle.wl_invariants.specs.TreeMarksLaws.{among, is_in_any, is_struck_at}
+use Rattle.wl_invariants.proofs.TreeMarks.Lists.{any-each-more, any-first, any-of, any-second, any-three, each-all, each-first, each-second, either-of}
 use Rattle.wl_invariants.proofs.TreeMarks.Records.{same-tested}
-use Rattle.wl_invariants.proofs.TreeMarks.Roots.{is-tree-of-root}
-use Rattle.wl_invariants.proofs.TreeMarks.Tree.{marks-tree-alone}
-use Rattle.wl_invariants.proofs.TreeMarks.Whole.{may-mark-whole-tree}
-use Rattle.wl_invariants.specs.NoPopups.{NoPopups}
+use Rattle.wl_toplevels.specs.Marked.{MarksByTreesBetween, marks_by_trees, marks_of_tree}
+use Rattle.wl_toplevels.specs.Toplevel.{ChangesToplevel, has_toplevel, of_root}
 
 -- one of these windows is of the client, and contains the point
 abbrev pub is_own_in : ℕ → ℤ → ℤ → List Window → Bool
 is_own_in c x y ws = any_window_at (λ client surface. client == c) x y ws
 
--- ---- windows of a tree
+-- ---- lists
+
+-- one of a list that passes, with what it is of the list
+any-one : {X : Type 0} (P : Type 0) (p : X → Bool) (xs : List X) → list_any p xs ≡ true
+    → ((x : X) → p x ≡ true → ((q : X → Bool) → q x ≡ true → list_any q xs ≡ true) → P) → P
+any-one P p [] e f = absurd (differ e)
+any-one P p (x ∷ xs) e f =
+    either-of P (p x) (list_any p xs) e (λ g. f x g (λ q h. or_left (q x) (list_any q xs) h))
+    (λ g. any-one P p xs g (λ z h more. f z h (λ q k. or_right (q x) (list_any q xs) (more q k))))
+
+-- one that is left was there
+any-there : {X : Type 0} (p keep : X → Bool) (xs : List X) → list_any p (filter keep xs) ≡ true → list_any p xs ≡ true
+any-there p keep xs e = any-more (λ x. keep x && p x) p (λ x f. and-right (keep x) (p x) f) xs (sym (any-kept p keep xs) ∙ e)
+
+-- ---- windows of a toplevel
 
 -- what is told of windows has the points that they have
 pub told-has : (f : ℕ → ℕ) (ws : List Window) (x y : ℤ) → list_any (window_has x y) (map (told_by f) ws) ≡ is_in_any x y ws
@@ -40,31 +53,31 @@ same-points x y (w ∷ ws) (v ∷ vs) same =
 same-points x y [] (v ∷ vs) same = absurd same
 same-points x y (w ∷ ws) [] same = absurd same
 
--- windows of a tree of the client are the client's
-own-if : (c root : ℕ) (x y : ℤ) (ws : List Window) → Each (λ w. has_root c root w ≡ true) ws → is_in_any x y ws ≡ true → is_own_in c x y ws ≡ true
-own-if c root x y ws rooted here =
-    any-each-more (λ w. contains w x y) (λ w. (w.owner.client == c) && contains w x y) (λ w. has_root c root w ≡ true)
+-- windows stacked with a toplevel of the client are the client's
+own-if : (c toplevel : ℕ) (x y : ℤ) (ws : List Window) → Each (λ w. has_toplevel c toplevel w ≡ true) ws → is_in_any x y ws ≡ true → is_own_in c x y ws ≡ true
+own-if c toplevel x y ws its here =
+    any-each-more (λ w. contains w x y) (λ w. (w.owner.client == c) && contains w x y) (λ w. has_toplevel c toplevel w ≡ true)
     (λ w own inside. and-both (w.owner.client == c) (contains w x y)
-    (equal-numbers w.owner.client c (sym (eqb-true c w.owner.client (and-left (c == w.owner.client) (root == w.owner.root) own)))) inside) ws rooted here
+    (equal-numbers w.owner.client c (sym (eqb-true c w.owner.client (and-left (c == w.owner.client) (toplevel == w.owner.toplevel) own)))) inside) ws its here
 
 in-own : (c : ℕ) (x y : ℤ) (ws : List Window) → is_own_in c x y ws ≡ true → is_in_any x y ws ≡ true
 in-own c x y ws own =
     any-more (λ (w : Window). (w.owner.client == c) && contains w x y) (λ w. contains w x y) (λ w here. and-right (w.owner.client == c) (contains w x y) here) ws own
 
--- ---- a step that changes one tree
+-- ---- a step that changes those of one toplevel
 
-module _ (c root : ℕ) (d e : Desktop) (t : ChangesTree c root d e) (was_none : NoPopups d) (is_none : NoPopups e) (x y : ℤ) where
+module _ (between : MarksByTreesBetween) (c toplevel : ℕ) (d e : Desktop) (t : ChangesToplevel c toplevel d e) (x y : ℤ) where
   abbrev of_client : Window → Bool
   of_client w = (w.owner.client == c) && contains w x y
 
-  rooted : Each (λ w. has_root c root w ≡ true) (t.was ++ t.is)
-  rooted = each-all (has_root c root) (t.was ++ t.is) t.changes.of_tree.rooted
+  its : Each (λ w. has_toplevel c toplevel w ≡ true) (t.was ++ t.is)
+  its = each-all (has_toplevel c toplevel) (t.was ++ t.is) t.together
 
   was-own : is_in_any x y t.was ≡ true → is_own_in c x y t.was ≡ true
-  was-own = own-if c root x y t.was (each-first (λ w. has_root c root w ≡ true) t.was t.is rooted)
+  was-own = own-if c toplevel x y t.was (each-first (λ w. has_toplevel c toplevel w ≡ true) t.was t.is its)
 
   is-own : is_in_any x y t.is ≡ true → is_own_in c x y t.is ≡ true
-  is-own = own-if c root x y t.is (each-second (λ w. has_root c root w ≡ true) t.was t.is rooted)
+  is-own = own-if c toplevel x y t.is (each-second (λ w. has_toplevel c toplevel w ≡ true) t.was t.is its)
 
   -- the windows of the client before and after
   had : has_window_at c x y d ≡ is_own_in c x y (among t.below t.above t.was)
@@ -73,15 +86,19 @@ module _ (c root : ℕ) (d e : Desktop) (t : ChangesTree c root d e) (was_none :
   has : has_window_at c x y e ≡ is_own_in c x y (among t.below t.above t.is)
   has = ap (is_own_in c x y) t.after
 
-  -- those below the tree, those of it, and those above
+  -- those below the toplevel's, those of it, and those above
   from-below : (ws : List Window) → is_own_in c x y t.below ≡ true → is_own_in c x y (among t.below t.above ws) ≡ true
   from-below ws here = any-first of_client t.below (ws ++ t.above) here
 
-  from-tree : (ws : List Window) → is_own_in c x y ws ≡ true → is_own_in c x y (among t.below t.above ws) ≡ true
-  from-tree ws here = any-second of_client t.below (ws ++ t.above) (any-first of_client ws t.above here)
+  from-run : (ws : List Window) → is_own_in c x y ws ≡ true → is_own_in c x y (among t.below t.above ws) ≡ true
+  from-run ws here = any-second of_client t.below (ws ++ t.above) (any-first of_client ws t.above here)
 
   from-above : (ws : List Window) → is_own_in c x y t.above ≡ true → is_own_in c x y (among t.below t.above ws) ≡ true
   from-above ws here = any-second of_client t.below (ws ++ t.above) (any-second of_client ws t.above here)
+
+  -- what is marked of the tree of one of its windows
+  abbrev marks_tree : ℕ → Bool
+  marks_tree root = marks_of_tree (applied_between d e) (of_root root t.was) (of_root root t.is) x y
 
   -- ---- what is marked at least
 
@@ -91,26 +108,44 @@ module _ (c root : ℕ) (d e : Desktop) (t : ChangesTree c root d e) (was_none :
   had-before : is_own_in c x y (among t.below t.above t.was) ≡ true → Before
   had-before here = or_left (has_window_at c x y d) _ (had ∙ here)
 
+  in-was : is_in_any x y t.was ≡ true → Before
+  in-was here = had-before (from-run t.was (was-own here))
+
   in-is : is_in_any x y t.is ≡ true → Before
   in-is here = or_right (has_window_at c x y d) _ here
 
+  -- of a root's windows
+  root-was : (root : ℕ) → is_in_any x y (of_root root t.was) ≡ true → Before
+  root-was root here = in-was (any-there (λ w. contains w x y) (λ w. root == w.owner.root) t.was here)
+
+  root-is : (root : ℕ) → is_in_any x y (of_root root t.is) ≡ true → Before
+  root-is root here = in-is (any-there (λ w. contains w x y) (λ w. root == w.owner.root) t.is here)
+
+  tree-marked : (root : ℕ) → marks_tree root ≡ true → Before
+  tree-marked root = at (same_records (of_root root t.was) (of_root root t.is))
+    where
+      at : (b : Bool) → (if b then list_any (is_struck_at (applied_between d e) x y) (of_root root t.is) else is_in_any x y (of_root root t.was) || is_in_any x y (of_root root t.is)) ≡ true
+          → Before
+      at true marked =
+          root-is root
+          (any-more (is_struck_at (applied_between d e) x y) (λ w. contains w x y) (λ w struck. and-left (contains w x y) _ struck) (of_root root t.is) marked)
+      at false marked =
+          either-of Before (is_in_any x y (of_root root t.was)) (is_in_any x y (of_root root t.is)) marked (root-was root) (root-is root)
+
   marked-before : marks_at_least d e x y ≡ true → Before
   marked-before marked =
-      either-of Before (is_in_any x y t.was) (is_in_any x y t.is)
-      (and-right (in_output d.output.width d.output.height x y) _
-      (marks-tree-alone t.below t.above t.was t.is (applied_between d e) t.changes.before t.changes.after t.changes.undamaged d.output.width d.output.height x y
-      (sym (ap₂ (λ (ws vs : List Window). at_least d.output.width d.output.height (applied_between d e) ws vs x y) t.before t.after) ∙ marked)))
-      (λ here. had-before (from-tree t.was (was-own here))) in-is
+      any-of Before (λ w. marks_tree w.owner.root) (t.was ++ t.is)
+      ((between c toplevel d e t None d.output.width d.output.height x y).0 marked) (λ w. tree-marked w.owner.root)
 
   has-before : has_window_at c x y e ≡ true → Before
   has-before there =
       any-three Before of_client t.below t.is t.above (sym has ∙ there) (λ here. had-before (from-below t.was here)) (λ here. in-is (in-own c x y t.is here))
       (λ here. had-before (from-above t.was here))
 
-  -- What is marked at least, and the windows that the client has then, lie in those that it had and in those of the tree.
-  pub tree-before : (marks_at_least d e x y ≡ true) ⊎ (has_window_at c x y e ≡ true) → (has_window_at c x y d || is_in_any x y t.is) ≡ true
-  tree-before (inl marked) = marked-before marked
-  tree-before (inr there) = has-before there
+  -- What is marked at least, and the windows that the client has then, lie in those that it had and in those of the toplevel.
+  pub run-before : (marks_at_least d e x y ≡ true) ⊎ (has_window_at c x y e ≡ true) → (has_window_at c x y d || is_in_any x y t.is) ≡ true
+  run-before (inl marked) = marked-before marked
+  run-before (inr there) = has-before there
 
   -- ---- what is marked at most
 
@@ -120,17 +155,36 @@ module _ (c root : ℕ) (d e : Desktop) (t : ChangesTree c root d e) (was_none :
   has-after : is_own_in c x y (among t.below t.above t.is) ≡ true → After
   has-after here = inr (has ∙ here)
 
+  is-after : is_in_any x y t.is ≡ true → After
+  is-after here = has-after (from-run t.is (is-own here))
+
+  -- A window that the toplevel had is one of a tree that keeps its records, and has one there then, or all of that tree is marked at most.
   was-after : in_output d.output.width d.output.height x y ≡ true → is_in_any x y t.was ≡ true → After
-  was-after inside here = at (same_records t.was t.is) refl
+  was-after inside here = any-one After (λ w. contains w x y) t.was here by
     where
-      at : (b : Bool) → same_records t.was t.is ≡ b → After
-      at true same = has-after (from-tree t.is (is-own (sym (same-points x y t.was t.is (same-tested t.was t.is same)) ∙ here)))
-      at false other =
-          inl
-          (ap₂ (λ (ws vs : List Window). at_most d.output.width d.output.height (applied_between d e) None ws vs x y) t.before t.after
-          ∙ may-mark-whole-tree t.below t.above t.was t.is (applied_between d e)
-          (is-tree-of-root t.below t.above t.was t.is c root t.changes.of_tree.rooted t.changes.apart) other None d.output.width d.output.height x y
-          (and-both (in_output d.output.width d.output.height x y) _ inside (or_left (is_in_any x y t.was) _ here)))
+      by : (w : Window) → contains w x y ≡ true → ((q : Window → Bool) → q w ≡ true → list_any q t.was ≡ true) → After
+      by w in_it more = at (same_records (of_root w.owner.root t.was) (of_root w.owner.root t.is)) refl
+        where
+          in_root : is_in_any x y (of_root w.owner.root t.was) ≡ true
+          in_root =
+              any-kept (λ v. contains v x y) (λ v. w.owner.root == v.owner.root) t.was
+              ∙ more (λ v. (w.owner.root == v.owner.root) && contains v x y) (and-both (w.owner.root == w.owner.root) (contains w x y) (same-number w.owner.root) in_it)
+
+          at : (b : Bool) → same_records (of_root w.owner.root t.was) (of_root w.owner.root t.is) ≡ b → After
+          at true same =
+              is-after
+              (any-there (λ v. contains v x y) (λ v. w.owner.root == v.owner.root) t.is
+              (sym (same-points x y (of_root w.owner.root t.was) (of_root w.owner.root t.is) (same-tested (of_root w.owner.root t.was) (of_root w.owner.root t.is) same)) ∙ in_root))
+          at false other =
+              inl
+              ((between c toplevel d e t None d.output.width d.output.height x y).1
+              (and-both (in_output d.output.width d.output.height x y) (marks_by_trees (applied_between d e) t.was t.is x y) inside
+              (any-first (λ v. marks_tree v.owner.root) t.was t.is
+              (more (λ v. marks_tree v.owner.root)
+              (ap
+              (λ b. if b then list_any (is_struck_at (applied_between d e) x y) (of_root w.owner.root t.is)
+              else is_in_any x y (of_root w.owner.root t.was) || is_in_any x y (of_root w.owner.root t.is)) other
+              ∙ or_left (is_in_any x y (of_root w.owner.root t.was)) _ in_root)))))
 
   had-after : in_output d.output.width d.output.height x y ≡ true → has_window_at c x y d ≡ true → After
   had-after inside there =
@@ -138,7 +192,7 @@ module _ (c root : ℕ) (d e : Desktop) (t : ChangesTree c root d e) (was_none :
       (λ here. has-after (from-above t.is here))
 
   -- In the output those are marked at most, or are windows that the client has then.
-  pub tree-after : in_output d.output.width d.output.height x y ≡ true → (has_window_at c x y d || is_in_any x y t.is) ≡ true
+  pub run-after : in_output d.output.width d.output.height x y ≡ true → (has_window_at c x y d || is_in_any x y t.is) ≡ true
       → (marks_at_most d e None x y ≡ true) ⊎ (has_window_at c x y e ≡ true)
-  tree-after inside either =
-      either-of After (has_window_at c x y d) (is_in_any x y t.is) either (had-after inside) (λ here. has-after (from-tree t.is (is-own here)))
+  run-after inside either =
+      either-of After (has_window_at c x y d) (is_in_any x y t.is) either (had-after inside) is-after

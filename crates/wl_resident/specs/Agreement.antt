@@ -10,9 +10,10 @@ use Rattle.wl_stacking.specs.Stacking.{Standing}
 use Rattle.wl_scene.specs.Kept.{Stack}
 use Rattle.wl_plain.specs.Desktop.{Desktop, Resident, place}
 use Rattle.wl_laws.specs.Laws.{OwnsNothing}
-use Rattle.wl_owning.specs.Owning.{IsOwned, by_number, names_in, targets_in}
+use Rattle.wl_owning.specs.Owning.{IsOwned, by_number, targets_in}
+use Rattle.wl_owning.specs.RoleNames.{names_of}
 use Rattle.wl_owning.specs.Subsurfaces.{AreOfSurfaces}
-use Rattle.wl_invariants.specs.Standing.{MappedStand}
+use Rattle.wl_invariants.specs.Shown.{ShownStand}
 use Rattle.wl_plain.specs.Framing.{AreFramed}
 use Rattle.wl_plain.specs.Stacked.{all_windows}
 use Rattle.wl_lending.specs.Stacked.{AreStacked}
@@ -24,7 +25,7 @@ use Rattle.wl_resident.specs.View.{DeskView, OwnedView}
 -- that ended owns nothing.
 pub record IsSeat (v : ClientView) (o : OwnedView) (r : Resident) : Type 0 where
   pub peer : IsPeer v r.peer
-  pub owns : IsOwned (names_in v.objects) o.surfaces o.family (kept_of o.shell) r.owned
+  pub owns : IsOwned (names_of v.objects) o.surfaces o.family (kept_of o.shell) r.owned
   pub frames : AreFramed o.surfaces.frames (by_number (targets_in WlSurface v.objects) r.owned.surfaces) (r.peer.requests + 1) r.callbacks
   pub subsurfaces : AreOfSurfaces o.subsurfaces (targets_in WlSurface v.objects) r.subsurfaces
   pub ended : is_some r.peer.status ≡ true → OwnsNothing r
@@ -78,4 +79,4 @@ pub record Matches (v : DeskView) (d : Desktop) : Type 0 where
   pub clients : (k : ℕ) → IsPlace (slice_index_or v.clients k None) (slice_index_or v.owned k None) (place d.clients k)
   pub scene : IsScene (numbers_in v.clients) v.pile.scene d
   pub windows : AreStacked (numbers_in v.clients) v.pile.windows (all_windows d)
-  pub mapped : MappedStand d
+  pub mapped : ShownStand d

@@ -1,7 +1,10 @@
 pub mod Agreement
+pub mod Finding
+pub mod Laws
 pub mod Marking
 pub mod Moving
 pub mod Raising
+pub mod Runs
 pub mod Screens
 pub mod Seats
 pub mod View

@@ -4,7 +4,7 @@ use Rattle.wl_peer.specs.declared.cause.Cause.{Cause}
 use Rattle.wl_peer.specs.Objects.{ById}
 use Rattle.wl_paint.specs.Damage.{Damaged, has}
 use Rattle.wl_marking.specs.Marking.{IsAsLarge}
-use Rattle.wl_invariants.specs.Orderly.{Orderly}
+use Rattle.wl_ordered.specs.Ordered.{Ordered}
 use Rattle.wl_plain.specs.Desktop.{Desktop, Resident, status_in}
 use Rattle.wl_plain.specs.Moments.{marks_at_least, marks_at_least_through, marks_at_most, marks_at_most_through}
 use Rattle.wl_plain.specs.Stacked.{all_windows}
@@ -36,7 +36,7 @@ MarksAtMost c d e old new = status_in c e ≡ None → MarksMost d e old new
 abbrev pub MarksOwnIf : {A : Type 0} → Bool → ℕ → Kept A → Pile → Damaged → Damaged → Type 0
 MarksOwnIf if_so c kept pile old new =
     IsAsLarge old new
-    × ((others : ℕ → ById ℕ) (base d : Desktop) (r : Resident) → IsSeated c others base kept pile d r → Orderly d
+    × ((others : ℕ → ById ℕ) (base d : Desktop) (r : Resident) → IsSeated c others base kept pile d r → Ordered d
     → (x y : ℕ) → x < old.width → y < old.height → has new x y ≡ (has old x y || (if_so && has_window_at c (pos x) (pos y) d)))
 
 -- They are where a client that lived has ended, not where it had ended before.

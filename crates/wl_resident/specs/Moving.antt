@@ -1,13 +1,10 @@
 -- A toplevel is moved with the pointer: what is kept follows, and what is marked.
-use Rattle.std.specs.Prelude.{ℕ, ℤ, ◌≡◌, ◌&&◌, Bool, true, Option, Some, None}
+use Rattle.std.specs.Prelude.{ℕ, ℤ, ◌≡◌, Some}
 use Rattle.wl_interface.specs.declared.interface.Interface.TheVariants.{WlSurface}
 use Rattle.wl_peer.specs.Objects.{ById}
-use Rattle.wl_state.specs.State.{History}
-use Rattle.wl_stacking.specs.Windows.{Place, corner_at}
-use Rattle.wl_invariants.specs.Orderly.{Orderly}
+use Rattle.wl_ordered.specs.Ordered.{Ordered}
 use Rattle.wl_owning.specs.Owning.{targets_in}
 use Rattle.wl_plain.specs.Desktop.{Desktop, Resident}
-use Rattle.wl_plain.specs.Marks.{int_eq}
 use Rattle.wl_plain.specs.Pointing.{moved_standing}
 use Rattle.wl_requests.specs.declared.residents.Resident.{Resident as Kept}
 use Rattle.wl_resident.specs.declared.screens.Screen.{Screen}
@@ -24,14 +21,14 @@ with_moved client surface x y d =
 abbrev pub IsMoved : {A : Type 0} → ℕ → ℕ → ℤ → ℤ → Kept A → Screen A → Screen A → Type 0
 IsMoved c number x y v old new =
     (others : ℕ → ById ℕ) (base d : Desktop) (r : Resident) (surface : ℕ) → IsSeated c others base v (pile_of old) d r
-    → Orderly d → targets_in WlSurface v.client.objects surface ≡ Some number
+    → Ordered d → targets_in WlSurface v.client.objects surface ≡ Some number
     → IsSeated c others base v (pile_of new) (with_moved c surface x y d) r
 
 -- What this step marks at least is to be painted too.
 abbrev pub MarksMoved : {A : Type 0} → ℕ → ℕ → ℤ → ℤ → Kept A → Screen A → Screen A → Type 0
 MarksMoved c number x y v old new =
     (others : ℕ → ById ℕ) (base d : Desktop) (r : Resident) (surface : ℕ) → IsSeated c others base v (pile_of old) d r
-    → Orderly d → targets_in WlSurface v.client.objects surface ≡ Some number
+    → Ordered d → targets_in WlSurface v.client.objects surface ≡ Some number
     → MarksAtLeast d (with_moved c surface x y d) old.damage new.damage
 
 -- No more is than it marks at most.
@@ -39,16 +36,5 @@ abbrev pub MarksMovedMost : {A : Type 0} → ℕ → ℕ → ℤ → ℤ → Kep
 MarksMovedMost c number x y v old new =
     (others : ℕ → ById ℕ) (base d : Desktop) (r : Resident) (surface : ℕ)
     → old.damage.width ≡ d.output.width → old.damage.height ≡ d.output.height → IsSeated c others base v (pile_of old) d r
-    → Orderly d → targets_in WlSurface v.client.objects surface ≡ Some number
+    → Ordered d → targets_in WlSurface v.client.objects surface ≡ Some number
     → MarksMost d (with_moved c surface x y d) old.damage new.damage
-
--- ---- the corner of a surface
-
--- two places are one
-abbrev pub is_place : Place → Place → Bool
-is_place p q = int_eq p.x q.x && int_eq p.y q.y
-
--- A surface has its corner there whether it is placed at the one or at the other. So it is of one that isn't there.
-abbrev pub is_same_corner : Option History → Place → Place → Bool
-is_same_corner None p q = true
-is_same_corner (Some h) p q = is_place (corner_at p h) (corner_at q h)

@@ -3,7 +3,7 @@ use Rattle.std.specs.Prelude.{ℕ, ◌≡◌, if◌then◌else◌, Some, None}
 use Rattle.wl_interface.specs.declared.interface.Interface.TheVariants.{WlSurface}
 use Rattle.wl_peer.specs.Objects.{ById}
 use Rattle.wl_stacking.specs.Stacking.{raised}
-use Rattle.wl_invariants.specs.Orderly.{Orderly}
+use Rattle.wl_ordered.specs.Ordered.{Ordered}
 use Rattle.wl_owning.specs.Owning.{targets_in}
 use Rattle.wl_plain.specs.Desktop.{Desktop, Resident}
 use Rattle.wl_plain.specs.Through.{is_topmost}
@@ -21,14 +21,14 @@ with_raised client surface d = record d { standing = raised client surface d.sta
 abbrev pub IsRaised : {A : Type 0} → ℕ → ℕ → Screen A → Screen A → Type 0
 IsRaised {A} c number old new =
     (v : Kept A) (others : ℕ → ById ℕ) (base d : Desktop) (r : Resident) (surface : ℕ) → IsSeated c others base v (pile_of old) d r
-    → Orderly d → targets_in WlSurface v.client.objects surface ≡ Some number
+    → Ordered d → targets_in WlSurface v.client.objects surface ≡ Some number
     → IsSeated c others base v (pile_of new) (with_raised c surface d) r
 
 -- What this step marks at least is to be painted too.
 abbrev pub MarksRaised : {A : Type 0} → ℕ → ℕ → Screen A → Screen A → Type 0
 MarksRaised {A} c number old new =
     (v : Kept A) (others : ℕ → ById ℕ) (base d : Desktop) (r : Resident) (surface : ℕ) → IsSeated c others base v (pile_of old) d r
-    → Orderly d → targets_in WlSurface v.client.objects surface ≡ Some number
+    → Ordered d → targets_in WlSurface v.client.objects surface ≡ Some number
     → MarksAtLeast d (with_raised c surface d) old.damage new.damage
 
 -- No more is than it marks at most: as one in which a press raised that toplevel, where it wasn't topmost; else as one in which no press
@@ -37,5 +37,5 @@ abbrev pub MarksRaisedMost : {A : Type 0} → ℕ → ℕ → Screen A → Scree
 MarksRaisedMost {A} c number old new =
     (v : Kept A) (others : ℕ → ById ℕ) (base d : Desktop) (r : Resident) (surface : ℕ)
     → old.damage.width ≡ d.output.width → old.damage.height ≡ d.output.height → IsSeated c others base v (pile_of old) d r
-    → Orderly d → targets_in WlSurface v.client.objects surface ≡ Some number
+    → Ordered d → targets_in WlSurface v.client.objects surface ≡ Some number
     → MarksMostBy (if is_topmost c surface d.standing then None else Some (c, surface)) d (with_raised c surface d) old.damage new.damage

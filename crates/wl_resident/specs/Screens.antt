@@ -1,16 +1,16 @@
 -- What a message does to the windows that are kept of the output.
-use Rattle.std.specs.Prelude.{ℕ, ℤ, ◌≡◌, ◌==◌, ◌&&◌, ◌||◌, ◌+◌, ◌≤◌, ◌<◌, pos, Bool}
+use Rattle.std.specs.Prelude.{ℕ, ℤ, ◌≡◌, ◌==◌, ◌&&◌, ◌||◌, ◌+◌, ◌≤◌, ◌<◌, pos, Bool, true, false, is_some}
 use Rattle.std.specs.Prelude.{if◌then◌else◌, List, [], ◌++◌, Option, Some, None, map, find, length}
 use Rattle.std.specs.Prelude.{vec_capacity, vec_len}
 use Rattle.std.specs.List.{list_any}
 use Rattle.std.specs.Option.{option_map}
-use Rattle.wl_linked.specs.Linked.{Stand}
+use Rattle.wl_marking.specs.Marking.{AddsPoints}
 use Rattle.wl_paint.specs.Damage.{has}
-use Rattle.wl_windows.specs.Windows.{rooted, told_of}
 use Rattle.wl_family.specs.Family.{links_in, parents_of, root_by}
 use Rattle.wl_proto.specs.declared.wl_subsurface.WlSubsurfaceRequest.TheVariants as subsurface
 use Rattle.wl_proto.specs.declared.wl_surface.WlSurfaceRequest.TheVariants as surface
-use Rattle.wl_repaint.specs.Repaint.{marks, window_has}
+use Rattle.wl_proto.specs.declared.xdg_popup.XdgPopupRequest.TheVariants as popup
+use Rattle.wl_repaint.specs.Repaint.{AreTogether, marks_trees, window_has}
 use Rattle.wl_requests.specs.declared.messages.Asked.{Asked}
 use Rattle.wl_requests.specs.declared.messages.Asked.TheVariants as asked
 use Rattle.wl_requests.specs.declared.messages.Kind.{Kind}
@@ -20,14 +20,19 @@ use Rattle.wl_requests.specs.declared.residents.Stacking.{Stacking}
 use Rattle.wl_requests.specs.declared.residents.Stacking.TheVariants.{Stays, ToTop, Out}
 use Rattle.wl_requests.specs.declared.xdg_toplevel.ToplevelAsked.TheVariants.{Destruction}
 use Rattle.wl_requests.specs.Linking.{IsChildOf}
-use Rattle.wl_stacking.specs.Stacking.{Standing, is_of as is_standing}
+use Rattle.wl_shell.specs.InOrder.{AreRising}
+use Rattle.wl_stacking.specs.Popups.{stacked_popups}
+use Rattle.wl_stacking.specs.Stacking.{Owned, Standing, is_of as is_standing, root_of}
 use Rattle.wl_scene.specs.Kept.{Stack}
-use Rattle.wl_stacking.specs.Windows.{Owner, Window, tree}
+use Rattle.wl_scene.specs.Roots.{HasRole, IsHeld, standing_at, told_root}
+use Rattle.wl_scene.specs.declared.roots.RootPlace.{RootPlace}
+use Rattle.wl_stacked.specs.Told.{told_trees}
+use Rattle.wl_stacking.specs.Windows.{Owner, roots_of}
 use Rattle.wl_stacked.specs.declared.stacked.Stacked.{Stacked}
-use Rattle.wl_stacked.specs.Stacked.{is_of, replaced, stacked, tree_of, without_tree}
+use Rattle.wl_stacked.specs.Stacked.{is_of, replaced, run_of, stacked, without_run}
 use Rattle.wl_surface.specs.declared.applied.Applied.{Applied}
 use Rattle.wl_surface.specs.declared.applied.Change.{Change}
-use Rattle.wl_surface.specs.Surfaces.{Surfaces}
+use Rattle.wl_xdg_state.specs.Popups.{popups_of}
 use Rattle.wl_windows.specs.declared.window.TreeWindow.{TreeWindow}
 use Rattle.wl_resident.specs.declared.screens.Screen.{Screen}
 use Rattle.wl_resident.specs.Seats.{IsClearedBy, IsRestacked}
@@ -36,12 +41,13 @@ use Rattle.wl_resident.specs.View.{pile_of}
 -- ---- which tree
 
 -- What is asked may change the windows of the tree that this surface is in, by its number: one that is committed or goes, the child of a
--- wl_subsurface that goes or is desynchronised while its link lives, and the surface of a toplevel that goes (wayland.xml, wl_surface and
--- wl_subsurface; xdg-shell.xml, xdg_toplevel.destroy).
+-- wl_subsurface that goes or is desynchronised while its link lives, and the surface of a toplevel or of a popup that goes (wayland.xml,
+-- wl_surface and wl_subsurface; xdg-shell.xml, xdg_toplevel.destroy and xdg_popup.destroy).
 abbrev pub IsTouchedIn : {A : Type 0} → Kept A → ℕ → ℕ → Kind → Option ℕ → Type 0
 IsTouchedIn v object target (kind.Surface surface.Commit) touched = touched ≡ Some target
 IsTouchedIn v object target (kind.Surface surface.Destroy) touched = touched ≡ Some target
 IsTouchedIn v object target (kind.Toplevel Destruction) touched = touched ≡ Some target
+IsTouchedIn v object target (kind.Popup popup.Destroy) touched = touched ≡ Some target
 IsTouchedIn v object target (kind.Subsurface subsurface.Destroy) touched = IsChildOf v object touched
 IsTouchedIn v object target (kind.Subsurface subsurface.SetDesync) touched = IsChildOf v object touched
 IsTouchedIn v object target kind touched = touched ≡ None
@@ -56,30 +62,36 @@ root_in v touched = option_map (λ surface. root_by 16 (parents_of (links_in v.o
 
 -- ---- windows
 
--- those of the tree of a root, as they are kept
-abbrev pub tree_kept : ℕ → Option ℕ → List Stacked → List TreeWindow
-tree_kept c None all = []
-tree_kept c (Some root) all = map (λ s. s.window) (tree_of c root all)
+-- those stacked with a toplevel, as they are kept
+abbrev pub run_kept : ℕ → Option ℕ → List Stacked → List TreeWindow
+run_kept c None all = []
+run_kept c (Some toplevel) all = map (λ s. s.window) (run_of c toplevel all)
 
--- those of the tree of a toplevel that stands, by the surfaces
-abbrev pub tree_at : Owner → Surfaces → ℕ → Option Standing → List Window
-tree_at owner all root None = []
-tree_at owner all root (Some s) = tree 17 (rooted root owner) all root s.place
+-- the roots of the windows of a toplevel that stands, by what the client owns
+abbrev pub roots_at : ℕ → Owned → ℕ → Option Standing → List RootPlace
+roots_at c o toplevel None = []
+roots_at c o toplevel (Some s) =
+    map told_root (roots_of o.surfaces (root_of (λ _. o) (standing_at c toplevel s.place.x s.place.y)) (stacked_popups o))
 
-abbrev pub tree_on : ℕ → Owner → Surfaces → Option ℕ → List Standing → List Window
-tree_on c owner all None standing = []
-tree_on c owner all (Some root) standing = tree_at owner all root (find (is_standing c root) standing)
+abbrev pub roots_on : ℕ → Owned → Option ℕ → List Standing → List RootPlace
+roots_on c o None standing = []
+roots_on c o (Some toplevel) standing = roots_at c o toplevel (find (is_standing c toplevel) standing)
 
--- These are the windows of the tree of a root now: where its toplevel stands as it did they come to the place of those that it had, where
--- it was mapped they come on top, and where it doesn't stand any more it has none.
+-- those windows, as they are told
+abbrev pub run_on : ℕ → Owner → Owned → Option ℕ → List Standing → List TreeWindow
+run_on c owner o toplevel standing = told_trees owner o.surfaces (roots_on c o toplevel standing)
+
+-- These are the windows of a toplevel now: where it stands as it did they come to the place of those that it had, where it was mapped they
+-- come on top, and where it doesn't stand any more it has none.
 abbrev pub restacked : ℕ → ℕ → Stacking → List TreeWindow → List Stacked → List Stacked
-restacked c root Stays is all = replaced c root is all
-restacked c root (ToTop number) is all = if list_any (is_of c root) all then replaced c root is all else all ++ map (stacked c root) is
-restacked c root (Out number) is all = without_tree c root all
+restacked c toplevel Stays is all = replaced c toplevel is all
+restacked c toplevel (ToTop number) is all =
+    if list_any (is_of c toplevel) all then replaced c toplevel is all else all ++ map (stacked c toplevel) is
+restacked c toplevel (Out number) is all = without_run c toplevel all
 
 abbrev pub restacked_if : ℕ → Option ℕ → Stacking → List TreeWindow → List Stacked → List Stacked
 restacked_if c None stacking is all = all
-restacked_if c (Some root) stacking is all = restacked c root stacking is all
+restacked_if c (Some toplevel) stacking is all = restacked c toplevel stacking is all
 
 -- the window is of the client, and contains the point
 abbrev pub is_own_at : ℕ → ℤ → ℤ → Stacked → Bool
@@ -94,11 +106,23 @@ abbrev pub changes_in : {A : Type 0} → Option (Applied A) → List (Change A)
 changes_in None = []
 changes_in (Some applied) = applied.changes.items
 
--- The points that are marked where these windows of a tree are kept, and those it had before and has after a message were told: all of
--- those that are kept, where its toplevel goes; else what the change of the windows marks.
+-- The points that are marked where these windows of a toplevel are kept, and those it had before and has after a message were told: all of
+-- those that are kept, where it goes; else what the change of the windows marks tree by tree.
 abbrev pub turned_has : {A : Type 0} → Stacking → List TreeWindow → List TreeWindow → List TreeWindow → List (Change A) → ℤ → ℤ → Bool
 turned_has (Out number) kept was is changes x y = list_any (window_has x y) kept
-turned_has stacking kept was is changes x y = marks was is changes x y
+turned_has stacking kept was is changes x y = marks_trees was is changes x y
+
+-- Where there is no such toplevel, none are.
+abbrev pub turned_if :
+    {A : Type 0} → Option ℕ → Stacking → List TreeWindow → List TreeWindow → List TreeWindow → List (Change A) → ℤ → ℤ → Bool
+turned_if None stacking kept was is changes x y = false
+turned_if (Some toplevel) stacking kept was is changes x y = turned_has stacking kept was is changes x y
+
+-- Where it stays, or is mapped, the windows of each tree stand together.
+abbrev pub AreToldIf : Option ℕ → Stacking → List TreeWindow → List TreeWindow → Type 0
+AreToldIf None stacking was is = Unit {0}
+AreToldIf (Some toplevel) (Out number) was is = Unit {0}
+AreToldIf (Some toplevel) stacking was is = AreTogether was × AreTogether is
 
 -- ---- room
 
@@ -112,11 +136,16 @@ abbrev pub Fit : Stacking → ℕ → ℕ → Type 0
 Fit (Out number) windows room = Unit {0}
 Fit stacking windows room = windows ≤ room
 
--- There is room for a toplevel more, and for so many windows more of a tree.
+-- of a toplevel that there is
+abbrev pub FitIf : Option ℕ → Stacking → ℕ → ℕ → Type 0
+FitIf None stacking windows room = Unit {0}
+FitIf (Some toplevel) stacking windows room = Fit stacking windows room
+
+-- There is room for a toplevel more, and for so many windows more of one.
 pub record HasRoom {A : Type 0} (count : ℕ) (s : Screen A) : Type 0 where
   pub place : length s.scene.standing < vec_capacity s.spare.toplevels
   pub stack : count ≤ s.stacked.room
-  pub tree : vec_len s.spare.is + count ≤ vec_capacity s.spare.is
+  pub run : vec_len s.spare.is + count ≤ vec_capacity s.spare.is
 
 -- All but the spare memory stays.
 pub record IsSameScreen {A : Type 0} (old new : Screen A) : Type 0 where
@@ -126,25 +155,40 @@ pub record IsSameScreen {A : Type 0} (old new : Screen A) : Type 0 where
 
 -- ---- what a message leads to
 
--- These windows are told of the tree of a root by what is kept of the surfaces, beside those that were told before, where there is room.
-abbrev pub IsToldOn : {A : Type 0} → ℕ → Option ℕ → Kept A → List Standing → Screen A → List TreeWindow → Type 0
-IsToldOn c root v standing s is =
-    (all : Surfaces) (owner : Owner) → Stand v.owned.linked.surfaces v.owned.linked.family all
-    → vec_len s.spare.is + length (tree_on c owner all root standing) ≤ vec_capacity s.spare.is
-    → is ≡ s.spare.is.items ++ map told_of (tree_on c owner all root standing)
+-- What is kept stands for what a client owns, whose popups come in the order of their creation; and where the toplevel stands, the
+-- xdg_surface of its surface, if there is one, has a role object.
+pub record IsRunHeld {A : Type 0} (c : ℕ) (v : Kept A) (toplevel : ℕ) (standing : List Standing) (o : Owned) : Type 0 where
+  pub held : IsHeld v.owned.linked.surfaces v.owned.linked.family v.owned.shell o
+  pub rising : AreRising (popups_of o.shell)
+  pub role : is_some (find (is_standing c toplevel) standing) ≡ true → HasRole v.owned.shell toplevel
+  pub few : length o.shell ≤ 256
 
--- Where the client lives, the toplevels and the windows of the tree are as the message leaves them, and what it changes of them is marked.
-pub record IsFollowed {A : Type 0} (c : ℕ) (root : Option ℕ) (v : Kept A) (stacking : Stacking) (applied : Option (Applied A))
+abbrev pub IsRunHeldIf : {A : Type 0} → ℕ → Kept A → Option ℕ → List Standing → Owned → Type 0
+IsRunHeldIf c v None standing o = Unit {0}
+IsRunHeldIf c v (Some toplevel) standing o = IsRunHeld c v toplevel standing o
+
+-- These windows are told of a toplevel by what is kept, beside those that were told before, where there is room.
+abbrev pub IsToldOn : {A : Type 0} → ℕ → Option ℕ → Kept A → List Standing → Screen A → List TreeWindow → Type 0
+IsToldOn c toplevel v standing s is =
+    (o : Owned) (owner : Owner) → IsRunHeldIf c v toplevel standing o
+    → vec_len s.spare.is + length (run_on c owner o toplevel standing) ≤ vec_capacity s.spare.is
+    → is ≡ s.spare.is.items ++ run_on c owner o toplevel standing
+
+-- Where the client lives, the toplevels and the windows of this one are as the message leaves them, and what it changes of them is marked,
+-- where those of each tree stand together.
+pub record IsFollowed {A : Type 0} (c : ℕ) (toplevel : Option ℕ) (v : Kept A) (stacking : Stacking) (applied : Option (Applied A))
     (old new : Screen A) : Type 0 where
   pub is : List TreeWindow
-  pub told : IsToldOn c root v new.scene.standing old is
+  pub told : IsToldOn c toplevel v new.scene.standing old is
   pub scene : HasPlace stacking old.scene (vec_capacity old.spare.toplevels) → IsRestacked c stacking old.scene new.scene
-  pub windows : Fit stacking (length is) old.stacked.room → new.stacked.windows ≡ restacked_if c root stacking is old.stacked.windows
+  pub windows :
+      FitIf toplevel stacking (length is) old.stacked.room
+      → new.stacked.windows ≡ restacked_if c toplevel stacking is old.stacked.windows
   pub points :
-      (x y : ℕ) → x < old.damage.width → y < old.damage.height
-      → has new.damage x y
-      ≡ (has old.damage x y
-      || turned_has stacking (tree_kept c root old.stacked.windows) old.spare.was.items is (changes_in applied) (pos x) (pos y))
+      AreToldIf toplevel stacking old.spare.was.items is
+      → AddsPoints
+      (turned_if toplevel stacking (run_kept c toplevel old.stacked.windows) old.spare.was.items is (changes_in applied))
+      old.damage new.damage
 
 -- what is done to the stack where something was applied
 abbrev pub IsRestackedIf : {A : Type 0} → Option (Applied A) → ℕ → Stacking → Stack → Stack → ℕ → Type 0
@@ -153,16 +197,16 @@ IsRestackedIf (Some applied) c stacking was is capacity = HasPlace stacking was 
 
 -- and which windows are told
 abbrev pub IsToldIf : {A : Type 0} → Option (Applied A) → ℕ → Option ℕ → Kept A → List Standing → Screen A → List TreeWindow → Type 0
-IsToldIf None c root v standing s is = is ≡ s.spare.is.items
-IsToldIf (Some applied) c root v standing s is = IsToldOn c root v standing s is
+IsToldIf None c toplevel v standing s is = is ≡ s.spare.is.items
+IsToldIf (Some applied) c toplevel v standing s is = IsToldOn c toplevel v standing s is
 
--- Where the client ended by the message, nothing is left of it, and its windows are marked, with those that the tree had for a moment.
-pub record IsParted {A : Type 0} (c : ℕ) (root : Option ℕ) (v w : Kept A) (stacking : Stacking) (applied : Option (Applied A))
+-- Where the client ended by the message, nothing is left of it, and its windows are marked, with those that the toplevel had for a moment.
+pub record IsParted {A : Type 0} (c : ℕ) (toplevel : Option ℕ) (v w : Kept A) (stacking : Stacking) (applied : Option (Applied A))
     (old new : Screen A) : Type 0 where
   pub is : List TreeWindow
   pub between : Stack
   pub scene : IsRestackedIf applied c stacking old.scene between (vec_capacity old.spare.toplevels)
-  pub told : IsToldIf applied c root v between.standing old is
+  pub told : IsToldIf applied c toplevel v between.standing old is
   pub clears : IsClearedBy v.client.ended c v w (record { scene = between; windows = old.stacked.windows }) (pile_of new)
   pub points :
       (x y : ℕ) → x < old.damage.width → y < old.damage.height

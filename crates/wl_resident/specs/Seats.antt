@@ -16,7 +16,7 @@ use Rattle.wl_resident.specs.Agreement.{IsScene, IsSeat, with_numbers}
 use Rattle.wl_plain.specs.Desktop.{Desktop, Resident, become, client_at, with_number}
 use Rattle.wl_plain.specs.Stacked.{all_windows}
 use Rattle.wl_owning.specs.Owning.{targets_in}
-use Rattle.wl_invariants.specs.Standing.{MappedStand}
+use Rattle.wl_invariants.specs.Shown.{ShownStand}
 use Rattle.wl_resident.specs.View.{Pile, owned_view}
 use Rattle.wl_plain.specs.declared.answers.Done.{Done}
 use Rattle.wl_requests.specs.declared.residents.Resident.{Resident as Kept}
@@ -37,7 +37,7 @@ pub record IsSeated {A : Type 0} (c : ℕ) (others : ℕ → ById ℕ) (base : D
   pub seat : IsSeat v.client (owned_view v) r
   pub scene : IsScene (with_numbers c (targets_in WlSurface v.client.objects) others) pile.scene d
   pub windows : AreStacked (with_numbers c (targets_in WlSurface v.client.objects) others) pile.windows (all_windows d)
-  pub mapped : MappedStand d
+  pub mapped : ShownStand d
 
 -- the same, as if no event for it had been refused
 abbrev pub opened_kept : {A : Type 0} → Kept A → Kept A

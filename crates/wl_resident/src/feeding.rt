@@ -12,21 +12,23 @@ ghost use Rattle.wl_paint.specs.Damage.{has};
 ghost use Rattle.wl_requests.specs.PointerAsks.{MessageAsksPointer};
 ghost use Rattle.wl_resident.specs.Screens.{IsFollowed, IsParted, has_own};
 ghost use Rattle.wl_resident.specs.Seats.{IsBare, IsChangedSo, IsClearedBy, IsSeated, ended_by, opened_kept};
+ghost use Rattle.wl_resident.specs.Finding.{IsPlacedBy};
 ghost use Rattle.wl_resident.specs.View.{Pile, pile_of};
 ghost use Rattle.wl_plain.specs.LeftOut.{served_now};
-ghost use Rattle.wl_invariants.specs.Orderly.{Orderly};
+ghost use Rattle.wl_ordered.specs.Ordered.{Ordered};
 ghost use Rattle.wl_plain.specs.Happens.{Serves};
 ghost use Rattle.wl_plain.specs.Through.{ServesThrough};
 ghost use Rattle.wl_plain.specs.Act.{IsLeft, IsSent, IsStored, stored_of};
 
+use crate::laws::message_laws;
 use crate::screens::Screen;
-use crate::touching::{root_of, touched_by};
+use crate::touching::{committed_popup, find_toplevel, root_of, touched_by};
 use std::alloc::Allocator;
 use wl_client::{Cause, Client, StoreNo};
 use wl_linked::Linked;
 use wl_plain::{ClientNo, Done, Stored};
-use wl_requests::{Outcome, PointerAsked, Resident};
-use wl_scene::Owned;
+use wl_requests::{Asked, Outcome, Placing, PointerAsked, Resident};
+use wl_scene::{Owned, parent_corner};
 use wl_shell::Shell;
 use wl_subsurfaces::Subsurfaces;
 use wl_surface::SurfaceNo;
@@ -55,41 +57,41 @@ impl<A: Allocator + Copy> Screen<A> {
         }
     }
 
-    /// A message of a client that lives on: the toplevels and the windows of the tree of this root are as it leaves them, and what it changes of
-    /// them is marked.
+    /// A message of a client that lives on: the toplevels and the windows of this one, if there is one, are as it leaves them, and what it
+    /// changes of them is marked.
     fn follow(
         &mut self,
         resident: &Resident<A>,
         client: ClientNo,
-        root: SurfaceNo,
+        toplevel: Option<SurfaceNo>,
         outcome: &Outcome<A>,
     )
-        ensures follows { IsFollowed client (Some root) resident.now outcome.now.stacking outcome.now.applied self.old self.new }
+        ensures follows { IsFollowed client toplevel resident.now outcome.now.stacking outcome.now.applied self.old self.new }
         ensures sides { IsAsLarge self.old.damage self.new.damage }
     {
         self.restack(client, outcome.stacking);
-        self.add_tree(resident, client, root);
-        self.mark_turned(client, root, outcome.stacking, &outcome.applied);
-        self.restack_windows(client, root, outcome.stacking);
+        self.add_run(resident, client, toplevel);
+        self.mark_turned(client, toplevel, outcome.stacking, &outcome.applied);
+        self.restack_windows(client, toplevel, outcome.stacking);
     }
 
-    /// A message by which the client ended: its windows are marked, with those that the tree of this root had for a moment, and nothing is left of
-    /// what it owned.
+    /// A message by which the client ended: its windows are marked, with those that this toplevel, if there is one, had for a moment, and
+    /// nothing is left of what it owned.
     fn part(
         &mut self,
         resident: &mut Resident<A>,
         client: ClientNo,
-        root: SurfaceNo,
+        toplevel: Option<SurfaceNo>,
         outcome: &Outcome<A>,
         alloc: A,
     )
-        ensures parts { IsParted client (Some root) resident.old resident.new outcome.now.stacking outcome.now.applied self.old self.new }
+        ensures parts { IsParted client toplevel resident.old resident.new outcome.now.stacking outcome.now.applied self.old self.new }
         ensures sides { IsAsLarge self.old.damage self.new.damage }
         ensures client { resident.new.client ≡ resident.old.client }
     {
         if outcome.applied.is_some() {
             self.restack(client, outcome.stacking);
-            self.add_tree(resident, client, root);
+            self.add_run(resident, client, toplevel);
         }
         self.mark_client(client);
         self.mark_new();
@@ -112,9 +114,25 @@ impl<A: Allocator + Copy> Screen<A> {
         self.clear(resident, client, alloc);
     }
 
+    /// What a popup is placed by where what is asked is to commit its surface: within the output, by where the window geometry of its parent
+    /// stands.
+    fn placing(&self, resident: &Resident<A>, client: ClientNo, asked: &Asked) -> Placing
+        ensures { IsPlacedBy self.now client resident.now asked.now result }
+    {
+        let owned = &resident.owned;
+        let parent_at = match committed_popup(&owned.shell, asked) {
+            Some(popup) => parent_corner(&self.scene, client, owned, popup.parent()),
+            None => (0, 0),
+        };
+        Placing {
+            bounds: self.damage.bounds(),
+            parent_at,
+        }
+    }
+
     /// Takes the first whole message of a client that lives, and answers what it asks of the pointer; None where there is none. What it changes
-    /// of the windows of a tree is marked: the damage that it applied, where the windows stand as they did; else all of them, as they were
-    /// before and as they are after. Where the client ends by it, its windows are marked, and no more; so does one that asks for a wl_pointer
+    /// of the windows of a toplevel is marked, tree by tree: the damage that it applied, where the windows of a tree stand as they did; else
+    /// all of them, as they were before and as they are after. Where the client ends by it, its windows are marked, and no more; so does one that asks for a wl_pointer
     /// where there is no seat for that.
     pub fn serve(
         &mut self,
@@ -123,19 +141,23 @@ impl<A: Allocator + Copy> Screen<A> {
         has_seat: bool,
         alloc: A,
     ) -> Option<PointerAsked>
-        ensures serves { is_some result ≡ true → (others : ℕ → ById ℕ) (base d : Desktop) (r : Plain) → IsSeated client others base resident.old (pile_of self.old) d r → Orderly d
+        ensures serves { is_some result ≡ true → (others : ℕ → ById ℕ) (base d : Desktop) (r : Plain)
+            → self.old.damage.width ≡ d.output.width → self.old.damage.height ≡ d.output.height
+            → IsSeated client others base resident.old (pile_of self.old) d r → Ordered d
             → (e : Desktop) × (q : Plain) × Serves served_now client d e × IsSeated client others base resident.new (pile_of self.new) e q }
-        ensures marks { is_some result ≡ true → (others : ℕ → ById ℕ) (base d : Desktop) (r : Plain) → IsSeated client others base resident.old (pile_of self.old) d r → Orderly d
+        ensures marks { is_some result ≡ true → (others : ℕ → ById ℕ) (base d : Desktop) (r : Plain)
+            → self.old.damage.width ≡ d.output.width → self.old.damage.height ≡ d.output.height
+            → IsSeated client others base resident.old (pile_of self.old) d r → Ordered d
             → (e : Desktop) (q : Plain) → Serves served_now client d e → IsSeated client others base resident.new (pile_of self.new) e q
             → MarksAtLeast d e self.old.damage self.new.damage }
         ensures within { is_some result ≡ true → (others : ℕ → ById ℕ) (base d : Desktop) (r : Plain)
             → self.old.damage.width ≡ d.output.width → self.old.damage.height ≡ d.output.height
-            → IsSeated client others base resident.old (pile_of self.old) d r → Orderly d
+            → IsSeated client others base resident.old (pile_of self.old) d r → Ordered d
             → (e : Desktop) (q : Plain) → Serves served_now client d e → IsSeated client others base resident.new (pile_of self.new) e q
             → MarksAtMost client d e self.old.damage self.new.damage }
         ensures through { is_some result ≡ true → (others : ℕ → ById ℕ) (base d : Desktop) (r : Plain)
             → self.old.damage.width ≡ d.output.width → self.old.damage.height ≡ d.output.height
-            → IsSeated client others base resident.old (pile_of self.old) d r → Orderly d
+            → IsSeated client others base resident.old (pile_of self.old) d r → Ordered d
             → (e : Desktop) × (q : Plain) × (path : List Desktop) × ServesThrough served_now client d path e
             × IsSeated client others base resident.new (pile_of self.new) e q × MarksThrough d path self.old.damage self.new.damage }
         ensures asks { IfSome result (λ asked. (resident.old.client.ended ≡ None) × MessageAsksPointer resident.old asked) }
@@ -145,28 +167,31 @@ impl<A: Allocator + Copy> Screen<A> {
         ensures sides { IsAsLarge self.old.damage self.new.damage }
         ensures less { is_some result ≡ true → length resident.new.client.rest < length resident.old.client.rest }
     {
+        message_laws();
         if resident.client.has_ended() {
             return None;
         }
         let asked = resident.asked();
         let pointer = resident.pointer_asked(&asked);
+        let placing = self.placing(resident, client, &asked);
         let Some(surface) = touched_by(resident, &asked) else {
-            let Some(_outcome) = resident.serve(asked, has_seat) else {
+            let Some(_outcome) = resident.serve(asked, has_seat, placing) else {
                 return None;
             };
             self.part_alone(resident, client, alloc);
             return Some(pointer);
         };
         let root = root_of(resident, surface);
+        let toplevel = find_toplevel(&resident.owned.shell, &self.stacked, client, root);
         let surfaces = resident.owned.linked.surfaces.len();
-        let has_room = self.prepare(client, root, surfaces).is_ok();
-        let Some(outcome) = resident.serve(asked, has_room) else {
+        let has_room = self.prepare(client, toplevel, surfaces).is_ok();
+        let Some(outcome) = resident.serve(asked, has_room, placing) else {
             return None;
         };
         if resident.client.has_ended() {
-            self.part(resident, client, root, &outcome, alloc);
+            self.part(resident, client, toplevel, &outcome, alloc);
         } else {
-            self.follow(resident, client, root, &outcome);
+            self.follow(resident, client, toplevel, &outcome);
         }
         Some(pointer)
     }

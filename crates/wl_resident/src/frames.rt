@@ -4,7 +4,7 @@ ghost use Rattle.std.specs.Prelude.{ℕ, ◌≡◌, None, Some, is_some, true};
 ghost use Rattle.wl_peer.specs.Objects.{ById};
 ghost use Rattle.wl_plain.specs.Desktop.{Desktop, Resident as Plain};
 ghost use Rattle.wl_plain.specs.Framing.{FramesToldAt};
-ghost use Rattle.wl_invariants.specs.Orderly.{Orderly};
+ghost use Rattle.wl_ordered.specs.Ordered.{Ordered};
 ghost use Rattle.wl_marking.specs.Marking.{IsAsLarge};
 ghost use Rattle.wl_resident.specs.Marking.{MarksOwnIf};
 ghost use Rattle.wl_resident.specs.Seats.{IsSeated};
@@ -19,7 +19,7 @@ impl<A: Allocator + Copy> Screen<A> {
     /// A frame was shown at this time, in milliseconds: a client that lives is told that the callbacks that are due are done. Where it ends by
     /// that, its windows are marked, and no more, and nothing is left of what it owned.
     pub fn tell_frames(&mut self, resident: &mut Resident<A>, client: ClientNo, time: u32, alloc: A)
-        ensures tells { (others : ℕ → ById ℕ) (base d : Desktop) (r : Plain) → IsSeated client others base resident.old (pile_of self.old) d r → Orderly d
+        ensures tells { (others : ℕ → ById ℕ) (base d : Desktop) (r : Plain) → IsSeated client others base resident.old (pile_of self.old) d r → Ordered d
             → (e : Desktop) × (s : Plain) × FramesToldAt time client (Some r) d e × IsSeated client others base resident.new (pile_of self.new) e s }
         ensures marks { resident.old.client.ended ≡ None
             → MarksOwnIf (is_some resident.new.client.ended) client resident.old (pile_of self.old) self.old.damage self.new.damage }

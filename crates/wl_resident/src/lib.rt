@@ -4,9 +4,12 @@
 
 mod feeding;
 mod frames;
+mod laws;
 mod marking;
 mod moving;
 mod raising;
+mod roots;
+mod run;
 mod screens;
 mod touching;
 

@@ -1,17 +1,17 @@
 //! What of the output is marked to be painted again.
 
-ghost use Rattle.std.specs.Prelude.{ℕ, ◌≡◌, ◌<◌, ◌||◌, map, pos};
+ghost use Rattle.std.specs.Prelude.{ℕ, ◌≡◌, ◌<◌, ◌||◌, Some, map, pos};
 ghost use Rattle.std.specs.List.{list_any};
-ghost use Rattle.wl_marking.specs.Marking.{IsAsLarge};
+ghost use Rattle.wl_marking.specs.Marking.{AddsPoints, IsAsLarge};
 ghost use Rattle.wl_paint.specs.Damage.{has};
-ghost use Rattle.wl_repaint.specs.Repaint.{marks, window_has};
-ghost use Rattle.wl_resident.specs.Screens.{changes_in, has_own, is_own_at, tree_kept, turned_has};
+ghost use Rattle.wl_repaint.specs.Repaint.{AreTogether, marks_trees, window_has};
+ghost use Rattle.wl_resident.specs.Screens.{AreToldIf, changes_in, has_own, is_own_at, run_kept, turned_if};
 
 use crate::screens::Screen;
 use std::alloc::Allocator;
 use wl_paint::Damage;
 use wl_plain::ClientNo;
-use wl_repaint::{mark_tree, mark_windows};
+use wl_repaint::{mark_trees, mark_windows};
 use wl_requests::Stacking;
 use wl_stacked::Stacked;
 use wl_surface::{Applied, Change, SurfaceNo};
@@ -72,7 +72,7 @@ impl<A: Allocator + Copy> Screen<A> {
         mark_own(&mut self.damage, self.stacked.windows(), client);
     }
 
-    /// All points of the windows are marked that the tree has after a message.
+    /// All points of the windows are marked that the toplevel has after a message.
     pub(crate) fn mark_new(&mut self)
         ensures points { (x y : ℕ) → x < self.old.damage.width → y < self.old.damage.height
             → has self.new.damage x y ≡ (has self.old.damage x y || list_any (window_has (pos x) (pos y)) self.old.spare.is.items) }
@@ -83,50 +83,53 @@ impl<A: Allocator + Copy> Screen<A> {
         mark_windows(&mut self.damage, &self.spare.is);
     }
 
-    /// What a message changed of the windows of a tree is marked, by those before and after it and by what it applied to surfaces (wayland.xml,
-    /// wl_surface.damage and wl_subsurface).
+    /// What a message changed of the windows of a toplevel is marked, tree by tree, by those before and after it and by what it applied to
+    /// surfaces (wayland.xml, wl_surface.damage and wl_subsurface; xdg-shell.xml, xdg_popup).
     fn mark_changed(&mut self, applied: &Option<Applied<A>>)
-        ensures points { (x y : ℕ) → x < self.old.damage.width → y < self.old.damage.height
-            → has self.new.damage x y ≡ (has self.old.damage x y || marks self.old.spare.was.items self.old.spare.is.items (changes_in applied.now) (pos x) (pos y)) }
+        ensures points { AreTogether self.old.spare.was.items → AreTogether self.old.spare.is.items
+            → AddsPoints (marks_trees self.old.spare.was.items self.old.spare.is.items (changes_in applied.now)) self.old.damage self.new.damage }
         ensures sides { IsAsLarge self.old.damage self.new.damage }
         ensures scene { self.new.scene ≡ self.old.scene }
         ensures stacked { self.new.stacked ≡ self.old.stacked }
         ensures spare { self.new.spare ≡ self.old.spare }
     {
         let changes = changes_of(applied);
-        mark_tree(&mut self.damage, &self.spare.was, &self.spare.is, changes);
+        mark_trees(&mut self.damage, &self.spare.was, &self.spare.is, changes);
     }
 
-    /// All points of the windows are marked that are kept of the tree of this root.
-    pub(crate) fn mark_gone(&mut self, client: ClientNo, root: SurfaceNo)
+    /// All points of the windows are marked that are kept of this toplevel.
+    pub(crate) fn mark_gone(&mut self, client: ClientNo, toplevel: SurfaceNo)
         ensures points { (x y : ℕ) → x < self.old.damage.width → y < self.old.damage.height
-            → has self.new.damage x y ≡ (has self.old.damage x y || list_any (window_has (pos x) (pos y)) (tree_kept client (Some root) self.old.stacked.windows)) }
+            → has self.new.damage x y ≡ (has self.old.damage x y || list_any (window_has (pos x) (pos y)) (run_kept client (Some toplevel) self.old.stacked.windows)) }
         ensures sides { IsAsLarge self.old.damage self.new.damage }
         ensures scene { self.new.scene ≡ self.old.scene }
         ensures stacked { self.new.stacked ≡ self.old.stacked }
         ensures spare { self.new.spare ≡ self.old.spare }
     {
-        mark_kept(&mut self.damage, self.stacked.tree(client, root));
+        mark_kept(&mut self.damage, self.stacked.run(client, toplevel));
     }
 
-    /// What a message changes of the windows of a tree is marked: all of those that are kept of it, where its toplevel goes.
+    /// What a message changes of the windows of this toplevel, if there is one, is marked: all of those that are kept of it, where it goes.
     pub(crate) fn mark_turned(
         &mut self,
         client: ClientNo,
-        root: SurfaceNo,
+        toplevel: Option<SurfaceNo>,
         stacking: Stacking,
         applied: &Option<Applied<A>>,
     )
-        ensures points { (x y : ℕ) → x < self.old.damage.width → y < self.old.damage.height
-            → has self.new.damage x y ≡ (has self.old.damage x y
-            || turned_has stacking (tree_kept client (Some root) self.old.stacked.windows) self.old.spare.was.items self.old.spare.is.items (changes_in applied.now) (pos x) (pos y)) }
+        ensures points { AreToldIf toplevel stacking self.old.spare.was.items self.old.spare.is.items
+            → AddsPoints (turned_if toplevel stacking (run_kept client toplevel self.old.stacked.windows) self.old.spare.was.items self.old.spare.is.items (changes_in applied.now))
+            self.old.damage self.new.damage }
         ensures sides { IsAsLarge self.old.damage self.new.damage }
         ensures scene { self.new.scene ≡ self.old.scene }
         ensures stacked { self.new.stacked ≡ self.old.stacked }
         ensures spare { self.new.spare ≡ self.old.spare }
     {
+        let Some(toplevel) = toplevel else {
+            return;
+        };
         match stacking {
-            Stacking::Out(_) => self.mark_gone(client, root),
+            Stacking::Out(_) => self.mark_gone(client, toplevel),
             Stacking::Stays | Stacking::ToTop(_) => self.mark_changed(applied),
         }
     }

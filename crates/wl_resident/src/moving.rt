@@ -1,28 +1,46 @@
-//! A toplevel is moved with its windows.
+//! A toplevel is moved with its windows, those of its popups among them.
 
-ghost use Rattle.std.specs.Prelude.{ℕ, ◌≡◌, ◌<◌, ◌≤◌, ◌||◌, ◌+ℤ◌, Some, length, map, pos};
-ghost use Rattle.std.specs.List.{list_any};
-ghost use Rattle.wl_linked.specs.Linked.{Stand};
+ghost use Rattle.std.specs.Prelude.{◌≡◌, ◌≤◌, ◌+ℤ◌, length};
 ghost use Rattle.wl_marking.specs.Marking.{IsAsLarge};
-ghost use Rattle.wl_paint.specs.Damage.{has};
-ghost use Rattle.wl_plain.specs.Marks.{int_eq};
-ghost use Rattle.wl_repaint.specs.Repaint.{window_has};
+ghost use Rattle.wl_scene.specs.Roots.{HasRole, IsHeld};
+ghost use Rattle.wl_shell.specs.InOrder.{AreRising};
 ghost use Rattle.wl_state.specs.State.{within_bounds};
-ghost use Rattle.wl_stacked.specs.Stacked.{replaced, tree_of};
-ghost use Rattle.wl_stacking.specs.Stacking.{moved_to};
-ghost use Rattle.wl_stacking.specs.Windows.{Owner, tree};
-ghost use Rattle.wl_surface.specs.Surfaces.{Surfaces as AskedOf, history_in};
-ghost use Rattle.wl_windows.specs.Windows.{rooted, told_of};
-ghost use Rattle.wl_resident.specs.Moving.{IsMoved, MarksMoved, MarksMovedMost, is_same_corner};
-ghost use Rattle.wl_resident.specs.Screens.{tree_kept};
+ghost use Rattle.wl_stacked.specs.Stacked.{replaced, run_of};
+ghost use Rattle.wl_stacking.specs.Stacking.{Owned as Owns, moved_to};
+ghost use Rattle.wl_stacking.specs.Windows.{Owner};
+ghost use Rattle.wl_xdg_state.specs.Popups.{popups_of};
+ghost use Rattle.wl_resident.specs.Moving.{IsMoved, MarksMoved, MarksMovedMost};
+ghost use Rattle.wl_resident.specs.Runs.{MarksRuns, run_told, trees_at};
 ghost use Rattle.wl_resident.specs.Seats.{opened_kept};
 
+use crate::run::Run;
 use crate::screens::{Screen, toplevel_of};
-use std::alloc::Allocator;
+use std::alloc::{AllocError, Allocator};
+use wl_paint::Damage;
 use wl_plain::ClientNo;
+use wl_repaint::mark_trees;
 use wl_requests::Resident;
-use wl_scene::Surface;
-use wl_surface::SurfaceNo;
+use wl_runs::moves_are_marked;
+use wl_scene::{Owned, Surface};
+use wl_surface::{Change, SurfaceNo};
+use wl_windows::TreeWindow;
+
+/// The windows of a toplevel before it is moved and after.
+#[derive(Drop)]
+pub(crate) struct Moving<A: Allocator> {
+    was: Run<A>,
+    is: Run<A>,
+}
+
+impl<A: Allocator + Copy> Moving<A> {
+    /// None yet. An `Err` is for want of memory.
+    pub(crate) fn new(alloc: A) -> Result<Self, AllocError> {
+        Ok(Moving {
+            was: Run::new(alloc)?,
+            is: Run::new(alloc)?,
+        })
+    }
+}
 
 /// The coordinates of a surface are held within -16,777,216 to 16,777,216 pixels.
 const BOUND: i64 = 16_777_216;
@@ -63,61 +81,53 @@ fn moved(from: i32, by: i64) -> i32
     held(i64::from(from) + by)
 }
 
-/// Whether two coordinates are the same with an offset, held within the bounds.
-fn is_held_alike(one: i32, other: i32, offset: i32) -> bool
-    ensures { result ≡ int_eq (within_bounds (one +ℤ offset)) (within_bounds (other +ℤ offset)) }
+/// What a move changed of the windows of a toplevel, by those before and after, is marked tree by tree. No damage is applied by it.
+fn mark_moved<'a, A: Allocator>(damage: &'a mut Damage<A>, was: &[TreeWindow], is: &[TreeWindow])
+    ensures points { MarksRuns A was.now is.now damage.old damage.new }
+    ensures sides { IsAsLarge damage.old damage.new }
 {
-    held(i64::from(one) + i64::from(offset)) == held(i64::from(other) + i64::from(offset))
-}
-
-/// Whether a surface has its corner at the same point of the output from either place: there is its offset from it, held within the bounds. So
-/// it is of one that isn't there.
-fn keeps_corner<A: Allocator + Copy>(
-    resident: &Resident<A>,
-    surface: SurfaceNo,
-    one: Spot,
-    other: Spot,
-) -> bool
-    ensures { (all : AskedOf) → Stand resident.now.owned.linked.surfaces resident.now.owned.linked.family all
-        → result ≡ is_same_corner (history_in surface all) (record { x = one.x; y = one.y }) (record { x = other.x; y = other.y }) }
-{
-    match resident.owned.linked.surfaces.current(surface) {
-        Some(current) => {
-            is_held_alike(one.x, other.x, current.offset.x)
-                && is_held_alike(one.y, other.y, current.offset.y)
-        }
-        None => true,
-    }
+    let changes: &'a [Change<A>] = &[];
+    mark_trees(damage, was, is, changes);
 }
 
 impl<A: Allocator + Copy> Screen<A> {
-    /// A toplevel stands there with the windows of its tree. Those are marked that it had, and those that it has then.
-    fn put_tree(&mut self, resident: &Resident<A>, client: ClientNo, toplevel: SurfaceNo, to: Spot)
+    /// A toplevel stands there with its popups, and their windows with them. Of these, which are no more than a client can have, those are marked
+    /// that the trees had and have which change by it.
+    fn put_run(&mut self, owned: &Owned<A>, client: ClientNo, toplevel: SurfaceNo, to: Spot)
         ensures standing { self.new.scene.standing ≡ moved_to client toplevel (record { x = to.x; y = to.y }) self.old.scene.standing }
         ensures next { self.new.scene.next ≡ self.old.scene.next }
-        ensures windows { (all : AskedOf) (owner : Owner) → Stand resident.now.owned.linked.surfaces resident.now.owned.linked.family all
-            → length (tree 17 (rooted toplevel owner) all toplevel (record { x = to.x; y = to.y })) ≡ length (tree_of client toplevel self.old.stacked.windows)
-            → self.new.stacked.windows
-            ≡ replaced client toplevel (map told_of (tree 17 (rooted toplevel owner) all toplevel (record { x = to.x; y = to.y }))) self.old.stacked.windows }
-        ensures points { (x y : ℕ) → x < self.old.damage.width → y < self.old.damage.height
-            → has self.new.damage x y ≡ (has self.old.damage x y
-            || (list_any (window_has (pos x) (pos y)) (tree_kept client (Some toplevel) self.old.stacked.windows)
-            || list_any (window_has (pos x) (pos y)) (tree_kept client (Some toplevel) self.new.stacked.windows))) }
+        ensures windows { (o : Owns) (owner : Owner) → IsHeld owned.now.linked.surfaces owned.now.linked.family owned.now.shell o
+            → AreRising (popups_of o.shell) → HasRole owned.now.shell toplevel → length o.shell ≤ 256
+            → length (trees_at o owner client toplevel to.x to.y) ≡ length (run_of client toplevel self.old.stacked.windows)
+            → self.new.stacked.windows ≡ replaced client toplevel (trees_at o owner client toplevel to.x to.y) self.old.stacked.windows }
+        ensures points { length (run_of client toplevel self.old.stacked.windows) ≤ 256 → length (run_of client toplevel self.new.stacked.windows) ≤ 256
+            → MarksRuns A (run_told client toplevel self.old.stacked.windows) (run_told client toplevel self.new.stacked.windows) self.old.damage self.new.damage }
         ensures sides { IsAsLarge self.old.damage self.new.damage }
     {
-        self.mark_gone(client, toplevel);
+        self.spare
+            .moving
+            .was
+            .keep(self.stacked.run(client, toplevel));
         let surface = Surface {
             client,
             surface: toplevel,
         };
         self.scene.move_to(surface, to.x, to.y);
+        self.spare.roots.find(owned, toplevel, to.x, to.y);
+        let roots = self.spare.roots.places();
         self.stacked
-            .move_tree(client, toplevel, &resident.owned.linked, to.x, to.y);
-        self.mark_gone(client, toplevel);
+            .move_run(client, toplevel, &owned.linked, roots);
+        self.spare
+            .moving
+            .is
+            .keep(self.stacked.run(client, toplevel));
+        let Moving { was, is } = &self.spare.moving;
+        mark_moved(&mut self.damage, was.windows(), is.windows());
     }
 
     /// This toplevel of a client, given by the number of its surface, stands so many pixels farther to the right and down, held within the bounds,
-    /// with the windows of its tree. Where these keep their places nothing is marked; else they are as they were and as they are then.
+    /// with its popups. Of their trees, those are marked that change, as they were and as they are then: not that of a popup whose place stays,
+    /// held within the bounds.
     pub fn move_tree(
         &mut self,
         resident: &Resident<A>,
@@ -131,6 +141,8 @@ impl<A: Allocator + Copy> Screen<A> {
         ensures most { MarksMovedMost client toplevel x y (opened_kept resident.now) self.old self.new }
         ensures sides { IsAsLarge self.old.damage self.new.damage }
     {
+        // What a move has to mark, and may, is told by this law.
+        moves_are_marked::<A>();
         let surface = Surface {
             client,
             surface: toplevel,
@@ -138,18 +150,10 @@ impl<A: Allocator + Copy> Screen<A> {
         let Some(found) = toplevel_of(&self.scene, surface) else {
             return;
         };
-        let from = Spot {
-            x: found.x,
-            y: found.y,
-        };
         let to = Spot {
             x: moved(found.x, x),
             y: moved(found.y, y),
         };
-        if keeps_corner(resident, toplevel, from, to) {
-            self.scene.move_to(surface, to.x, to.y);
-        } else {
-            self.put_tree(resident, client, toplevel, to);
-        }
+        self.put_run(&resident.owned, client, toplevel, to);
     }
 }

@@ -10,7 +10,7 @@ ghost use Rattle.wl_stacking.specs.Stacking.{is_of, raised};
 ghost use Rattle.wl_stacked.specs.Stacked.{raised as raised_windows};
 ghost use Rattle.wl_plain.specs.Through.{is_topmost};
 ghost use Rattle.wl_resident.specs.Raising.{IsRaised, MarksRaised, MarksRaisedMost};
-ghost use Rattle.wl_resident.specs.Screens.{tree_kept};
+ghost use Rattle.wl_resident.specs.Screens.{run_kept};
 
 use crate::screens::Screen;
 use std::alloc::Allocator;
@@ -38,14 +38,14 @@ fn is_topmost<A: Allocator>(scene: &Scene<A>, surface: Surface) -> bool
 }
 
 impl<A: Allocator + Copy> Screen<A> {
-    /// A toplevel comes to the top with the windows of its tree, and these are marked.
+    /// A toplevel comes to the top with its windows and those of its popups, and these are marked.
     fn bring_up(&mut self, client: ClientNo, toplevel: SurfaceNo)
         ensures standing { self.new.scene.standing ≡ raised client toplevel self.old.scene.standing }
         ensures next { self.new.scene.next ≡ self.old.scene.next }
         ensures windows { self.new.stacked.windows ≡ raised_windows client toplevel self.old.stacked.windows }
         ensures points { (x y : ℕ) → x < self.old.damage.width → y < self.old.damage.height
             → has self.new.damage x y ≡ (has self.old.damage x y
-            || list_any (window_has (pos x) (pos y)) (tree_kept client (Some toplevel) self.old.stacked.windows)) }
+            || list_any (window_has (pos x) (pos y)) (run_kept client (Some toplevel) self.old.stacked.windows)) }
         ensures sides { IsAsLarge self.old.damage self.new.damage }
     {
         self.mark_gone(client, toplevel);
@@ -56,8 +56,8 @@ impl<A: Allocator + Copy> Screen<A> {
         self.stacked.raise(client, toplevel);
     }
 
-    /// A press raises this toplevel of a client, given by the number of its surface: it comes to the top with the windows of its tree. These are
-    /// marked where it wasn't topmost, and nothing is where it was.
+    /// A press raises this toplevel of a client, given by the number of its surface: it comes to the top with its windows and those of its popups.
+    /// These are marked where it wasn't topmost, and nothing is where it was.
     pub fn raise_tree(&mut self, client: ClientNo, toplevel: SurfaceNo)
         ensures raises { IsRaised client toplevel self.old self.new }
         ensures marks { MarksRaised client toplevel self.old self.new }

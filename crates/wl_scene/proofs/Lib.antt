@@ -1,1 +1,5 @@
 pub mod Stacks
+pub mod Held
+pub mod Geometry
+pub mod Popups
+pub mod Rooted

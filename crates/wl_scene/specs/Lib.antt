@@ -1,2 +1,3 @@
 pub mod Kept
 pub mod Focus
+pub mod Roots

@@ -4,12 +4,16 @@
 
 mod actions;
 mod coordinates;
+mod corners;
 mod focus;
 mod owned;
+mod roots;
 mod scene;
 
 pub use actions::{Action, Actions, Target};
 pub use coordinates::fixed;
+pub use corners::parent_corner;
 pub use focus::{Focus, Point};
 pub use owned::Owned;
+pub use roots::{RootPlace, add_roots};
 pub use scene::{Scene, Surface, Toplevel};

@@ -1,9 +1,12 @@
 //! Which toplevels are mapped, and where they stand.
 
-ghost use Rattle.std.specs.Prelude.{◌≡◌, ◌==◌, ◌<◌, ◌++◌, ◌∷◌, [], IsOk, OnOk, OnErr, vec_capacity, Some, length, map, position, remove, slice_index_or};
+ghost use Rattle.std.specs.Prelude.{◌≡◌, ◌==◌, ◌<◌, ◌++◌, ◌∷◌, [], IsOk, OnOk, OnErr, vec_capacity, Some, find, length, map, position, remove, slice_index_or};
+ghost use Rattle.std.specs.Option.{option_copied, option_map};
+ghost use Rattle.wl_scene.specs.Focus.{place_of};
 ghost use Rattle.wl_stacking.specs.Stacking.{is_of, moved_to, raised, without_client, without_surface_of};
 ghost use Rattle.wl_scene.specs.Kept.{mapped_on, standing_of};
 
+use crate::focus::Point;
 use std::alloc::{AllocError, Allocator};
 use std::marker::Model;
 use std::mem;
@@ -69,6 +72,15 @@ fn position_of(standing: &[Toplevel], surface: Surface) -> Option<usize>
         .position(|toplevel| is_surface(toplevel, surface))
 }
 
+/// The toplevel of this surface.
+fn find_toplevel(standing: &[Toplevel], surface: Surface) -> Option<&Toplevel>
+    ensures { option_copied result ≡ find (λ t. is_of surface.client surface.surface (standing_of t)) standing.now }
+{
+    standing
+        .iter()
+        .find(|toplevel| is_surface(toplevel, surface))
+}
+
 /// The toplevel at this place moves up to the top.
 fn to_top(standing: &mut [Toplevel], place: usize)
     requires { place < length standing.old }
@@ -94,6 +106,19 @@ impl<A: Allocator> Scene<A> {
         ensures { map standing_of result.now ≡ self.now.standing }
     {
         &self.standing[..]
+    }
+
+    /// Where the toplevel of this surface stands in the output in pixels, if it is mapped.
+    pub fn place(&self, surface: Surface) -> Option<Point>
+        ensures { option_map place_of result ≡ option_map (λ s. s.place) (find (is_of surface.client surface.surface) self.now.standing) }
+    {
+        match find_toplevel(&self.standing, surface) {
+            None => None,
+            Some(toplevel) => Some(Point {
+                x: toplevel.x,
+                y: toplevel.y,
+            }),
+        }
     }
 
     /// A toplevel is mapped: it stands on top, in the next place (xdg-shell.xml, xdg_surface: mapping). That it isn't mapped yet is the

@@ -53,7 +53,7 @@ kept-unmarked : (v : DeskView) (c : ℕ) (piece : List ℕ) (d : Desktop) → Ag
 kept-unmarked v c piece d a x y =
     let same : IsStill d (kept_at c piece d) = kept-still c piece d in
     let still : IsStill (unpointed d) (kept_at c piece d) = record { output = same.output; standing = same.standing; owned = same.owned } in
-    still-unmarked (unpointed d) (kept_at c piece d) a.kept.orderly a.kept.matches.mapped still (pos x) (pos y)
+    still-unmarked (unpointed d) (kept_at c piece d) a.kept.ordered still (pos x) (pos y)
 
 -- ---- one step
 

@@ -8,3 +8,5 @@ pub mod Seen
 pub mod Promised
 pub mod Courses
 pub mod Stays
+pub mod Others
+pub mod Untold

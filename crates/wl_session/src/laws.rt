@@ -5,8 +5,9 @@ ghost use Rattle.wl_session.specs.StoreWrites.{PromisesAreEnough, WriteHidesNoth
 ghost use Rattle.wl_session.specs.Seen.{SeenIsScratch, StaysRight};
 ghost use Rattle.wl_session.specs.Unmarked.{UnmarkedStays};
 
-/// Whatever happens but a frame leaves each client that it isn't a step of as it was, with the places and the order of its toplevels: whatever the
-/// client has where the pointer is left alone, and of a motion and a button each client without wl_pointers.
+/// Where nobody points, whatever happens but a frame leaves each client that it isn't a step of as it was, with its popups and the places and
+/// the order of its toplevels: whatever the client has where the pointer is left alone, and of a motion and a button each client without
+/// wl_pointers, where no client holds a grab.
 pub fn others_stay()
     ensures { OthersStay }
 {}

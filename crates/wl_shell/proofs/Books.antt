@@ -1,6 +1,6 @@
 -- What a change of one xdg_surface makes of all.
-use Rattle.std.proofs.Common.{◌≡◌, ◌≢◌, ℕ, suc, ◌∷◌, Bool, true, false, Option, Some, None, Result, refl, ap, subst, sym, ◌∙◌, arith, []}
-use Rattle.std.specs.Prelude.{All, IsSomeAnd, IfSome, OnErr, OnOk, IfOk, Ok, Err, is_some, cond, if◌then◌else◌, ◌==◌, ◌||◌}
+use Rattle.std.proofs.Common.{◌≡◌, ◌≢◌, ℕ, suc, map, ◌∷◌, Bool, true, false, Option, Some, None, Result, refl, ap, subst, sym, ◌∙◌, arith, []}
+use Rattle.std.specs.Prelude.{find, All, IsSomeAnd, IfSome, OnErr, OnOk, IfOk, Ok, Err, is_some, cond, if◌then◌else◌, ◌==◌, ◌||◌}
 use Rattle.std.specs.List.{list_any}
 use Rattle.std.specs.Option.{option_map}
 use Rattle.std.specs.Map.{lookup, set_value}
@@ -9,7 +9,11 @@ use Rattle.std.specs.Ordering.{nat_cmp, is_eq}
 use Rattle.std.proofs.Math.Path.{fun_ext}
 use Rattle.std.proofs.lemmas.Bool.{eqb-true}
 use Rattle.std.proofs.lemmas.Bool.Decides.{nat_tests}
-use Rattle.wl_xdg_state.specs.Kept.{Book, Kept, changing, is_of_base, kept_of, with_kept}
+use Rattle.std.proofs.lemmas.Map.Made.{lookup-map_values}
+use Rattle.wl_xdg_state.specs.Kept.{Book, Kept, changing, is_of_base, kept_changed, kept_of, with_kept}
+use Rattle.wl_xdg_state.specs.Popups.{orphan}
+use Rattle.wl_shell.specs.Laws.{each_changed, orphaned}
+use Rattle.wl_shell.specs.Popups.{IsSurfaceAt, is_of_id}
 
 another : (surface other : ℕ) → (other == surface) ≡ false → is_eq (nat_cmp surface other) ≡ false
 another surface other apart = grind (arith, nat_tests)
@@ -87,3 +91,48 @@ made_by_none base (x ∷ es) surface none = at (x.1.base == base) (is_eq (nat_cm
     at true c here none rest = absurd (cc)
     at false true here none rest = λ same. grind (arith, nat_tests)
     at false false here none rest = rest none
+
+-- each is changed
+each-written : (change : Kept → Kept) (book : Book) → kept_of (map (λ e. (e.0, change e.1)) book) ≡ each_changed change (kept_of book)
+each-written change book = fun_ext (λ (surface : ℕ). lookup-map_values change (λ key. is_eq (nat_cmp surface key)) book)
+
+-- those whose parent has this id have none any more
+pub orphans : (old new : BTreeMap ℕ Kept) (book : Book) (surface id : ℕ) (k : Kept) → old.entries ≡ book → Some k ≡ kept_of book surface → id ≡ k.id
+    → new.entries ≡ map (λ e. (e.0, kept_changed (orphan id) e.1)) old.entries → kept_of new.entries ≡ orphaned (kept_of book surface) (kept_of book)
+orphans old new book surface id k same found is written =
+    ap kept_of written
+    ∙ each-written (kept_changed (orphan id)) old.entries
+    ∙ ap (λ (b : Book). each_changed (kept_changed (orphan id)) (kept_of b)) same
+    ∙ ap (λ (i : ℕ). each_changed (kept_changed (orphan i)) (kept_of book)) is
+    ∙ ap (λ (o : Option Kept). orphaned o (kept_of book)) found
+
+-- ---- the xdg_surface of an id
+
+found_by : (id : ℕ) (book es : Book) → All (λ e. kept_of book e.0 ≡ Some e.1) es
+    → IfSome (option_map (λ (e : ℕ × Kept). e.0) (find (is_of_id id) es)) (λ s. IsSomeAnd (kept_of book s) (λ k. k.id ≡ id))
+found_by id book [] each = tt
+found_by id book (x ∷ es) each = at (x.1.id == id) refl (found_by id book es (λ k d less. each (suc k) d (omega arith)))
+  where
+    at : (b : Bool) → (x.1.id == id) ≡ b → IfSome (option_map (λ (e : ℕ × Kept). e.0) (find (is_of_id id) es)) (λ s. IsSomeAnd (kept_of book s) (λ k. k.id ≡ id))
+        → IfSome (option_map (λ (e : ℕ × Kept). e.0) (if b then Some x else find (is_of_id id) es)) (λ s. IsSomeAnd (kept_of book s) (λ k. k.id ≡ id))
+    at true here rest = subst (λ (o : Option Kept). IsSomeAnd o (λ k. k.id ≡ id)) (sym (each 0 x (omega arith))) (eqb-true x.1.id id here)
+    at false here rest = rest
+
+found_by_none : (id : ℕ) (es : Book) (surface : ℕ) → find (is_of_id id) es ≡ None → IfSome (kept_of es surface) (λ k. k.id ≢ id)
+found_by_none id [] surface none = tt
+found_by_none id (x ∷ es) surface none = at (x.1.id == id) (is_eq (nat_cmp surface x.0)) refl none (found_by_none id es surface)
+  where
+    at : (b c : Bool) → (x.1.id == id) ≡ b → (if b then Some x else find (is_of_id id) es) ≡ None
+        → (find (is_of_id id) es ≡ None → IfSome (kept_of es surface) (λ k. k.id ≢ id)) → IfSome (cond c (Some x.1) (kept_of es surface)) (λ k. k.id ≢ id)
+    at true c here none rest = absurd (cc)
+    at false true here none rest = λ same. grind (arith, nat_tests)
+    at false false here none rest = rest none
+
+pub surface_at : (id : ℕ) (book : Book) (result : Option ℕ) → All (λ e. kept_of book e.0 ≡ Some e.1) book
+    → result ≡ option_map (λ (e : ℕ × Kept). e.0) (find (is_of_id id) book) → IsSurfaceAt id (kept_of book) result
+surface_at id book result each same = subst (λ (o : Option ℕ). IsSurfaceAt id (kept_of book) o) (sym same) (at (find (is_of_id id) book) refl (found_by id book book each))
+  where
+    at : (o : Option (ℕ × Kept)) → find (is_of_id id) book ≡ o → IfSome (option_map (λ (e : ℕ × Kept). e.0) o) (λ s. IsSomeAnd (kept_of book s) (λ k. k.id ≡ id))
+        → IsSurfaceAt id (kept_of book) (option_map (λ (e : ℕ × Kept). e.0) o)
+    at None none found = λ surface. found_by_none id book surface none
+    at (Some e) none found = found

@@ -3,3 +3,10 @@ pub mod Books
 pub mod Shells
 pub mod Reaching
 pub mod Picking
+pub mod Reading
+pub mod Parents
+pub mod Descending
+pub mod Dismissing
+pub mod Standing
+pub mod Ordered
+pub mod Following

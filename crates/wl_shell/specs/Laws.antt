@@ -71,6 +71,11 @@ ManyChanged =
     → IsShell kept histories shell
     → IsShell (each_changed change kept) histories (map step shell)
 
+-- of popups whose parent was this, if it was there
+abbrev pub orphaned : Option Kept → (ℕ → Option Kept) → ℕ → Option Kept
+orphaned None kept = kept
+orphaned (Some k) kept = each_changed (kept_changed (orphan k.id)) kept
+
 -- popups are dismissed
 abbrev pub kept_dismissed : List ℕ → Kept → Kept
 kept_dismissed ids k = if is_among k.id ids then kept_changed dismiss k else k

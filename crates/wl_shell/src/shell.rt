@@ -1,11 +1,13 @@
 //! The xdg_surfaces of a client.
 
-ghost use Rattle.std.specs.Prelude.{◌≡◌, ◌≢◌, ◌&&◌, [], ℕ, All, MatchOption, None, Some, OnOk, OnErr, IfErr, IfOk, IfNone, IfSome, IsOkUnless, IsSomeAnd, Err, is_some, nat_lt};
+ghost use Rattle.std.specs.Prelude.{◌≡◌, ◌≢◌, ◌&&◌, [], ℕ, All, MatchOption, None, Some, OnOk, OnErr, IfErr, IfOk, IfNone, IfSome, IsOkUnless, IsSomeAnd, Err, is_some, nat_lt, true};
 ghost use Rattle.std.specs.List.{list_any};
 ghost use Rattle.std.specs.Option.{option_and_then, option_copied};
 ghost use Rattle.wl_xdg_state.specs.Kept.{acknowledgement_answer, changing, commit_answer, configure_answer, destruction_answer, first_kept, geometry_answer, grab_answer, is_of_base, kept_acknowledging, kept_after, kept_asking, kept_changed, kept_configured, kept_grabbing, kept_of, kept_popup, kept_toplevel, kept_without_role, making_refused, popup_answer, toplevel_answer, with_kept};
 ghost use Rattle.wl_xdg_state.specs.Popups.{dismiss};
-ghost use Rattle.wl_shell.specs.Popups.{IsNewest, IsOldest, dismissible_under, has_child, has_popup, parent_allows, parent_id, parent_of, popup_destruction};
+ghost use Rattle.wl_shell.specs.Found.{AreFound};
+ghost use Rattle.wl_shell.specs.Laws.{orphaned};
+ghost use Rattle.wl_shell.specs.Popups.{IsNewest, IsOldest, IsSurfaceAt, dismissible_under, has_child, has_popup, parent_allows, parent_id, parent_of, popup_destruction};
 
 use crate::popups::{self, Wanted};
 use std::alloc::Allocator;
@@ -240,6 +242,20 @@ impl<A: Allocator> Shell<A> {
         xdg_surface.grab(is_allowed)
     }
 
+    /// The surface of the xdg_surface of this id; none where there is none.
+    pub fn surface_at(&self, id: u32) -> Option<SurfaceNo>
+        ensures { IsSurfaceAt id (kept_of self.now) result }
+    {
+        popups::find_surface(&self.surfaces, id)
+    }
+
+    /// The surface of the oldest popup, of those that are dismissed and of those that aren't; none where there is none.
+    pub fn first_popup(&self) -> Option<SurfaceNo>
+        ensures { IsOldest (has_popup (λ popup. true)) (kept_of self.now) result }
+    {
+        popups::find_popup(&self.surfaces, Wanted::First)
+    }
+
     /// The surface of the oldest popup with a greater number, of those that aren't dismissed and of those that are; none where there is none.
     pub fn popup_after(&self, number: u64) -> Option<SurfaceNo>
         ensures { IsOldest (has_popup (λ popup. nat_lt number popup.number)) (kept_of self.now) result }
@@ -310,6 +326,24 @@ impl<A: Allocator> Shell<A> {
         }
         self.destroy_toplevel(surface);
         Ok(())
+    }
+
+    /// The toplevel of the surface goes: the popups whose parent it is have no parent any more, whether they were dismissed or not.
+    pub fn orphan(&mut self, surface: SurfaceNo)
+        ensures { kept_of self.new ≡ orphaned (kept_of self.old surface) (kept_of self.old) }
+    {
+        let Some(xdg_surface) = self.get(surface) else {
+            return;
+        };
+        let id = xdg_surface.id();
+        popups::orphan(&mut self.surfaces, id);
+    }
+
+    /// Each xdg_surface is found by the number of its surface. It does nothing.
+    pub fn are_found(&self)
+        ensures { AreFound self.now }
+    {
+        popups::are_found(&self.surfaces);
     }
 
     /// xdg_toplevel.destroy: the xdg_surface of the surface has no role object any more, and none of its configures waits.

@@ -1,5 +1,6 @@
+pub mod Kept
 pub mod Places
 pub mod Rooms
+mod Told
 pub mod Together
-pub mod Trees
 pub mod Written

@@ -1,4 +1,4 @@
--- Where the windows of a tree stand, by their places.
+-- Where the windows of a toplevel stand, by their places.
 use Rattle.std.proofs.Common.{◌≡◌, ℕ, zero, suc, ◌+◌, ◌-◌, ◌<◌, ◌≤◌, List, ◌∷◌, ◌++◌, Bool, true, false, Some, None, refl, ap, ap₂, subst, sym, ◌∙◌, length, get_or, take, drop, arith, []}
 use Rattle.std.specs.Prelude.{pos, ◌&&◌, cond, filter, not}
 use Rattle.std.specs.List.{list_all, list_any, position, position_or_len}
@@ -150,9 +150,9 @@ run-at p d (x ∷ xs) (suc k) less here before h =
     at-later p k x xs fails
     (run-at p d xs k (omega (arith, less)) here (λ j lower. before (suc j) (omega (arith, lower))) (run-behind p x xs fails h))
 
--- a window that is of no tree that counts
+-- a window that is of no toplevel that counts
 nobody : Stacked
-nobody = record { client = 0; root = 0; window = record { surface = 0; root = 0; x = pos 0; y = pos 0; w = 0; h = 0; transform = Normal } }
+nobody = record { client = 0; toplevel = 0; window = record { surface = 0; root = 0; x = pos 0; y = pos 0; w = 0; h = 0; transform = Normal } }
 
 pub none-there : (p : Stacked → Bool) (xs : List Stacked) → position p xs ≡ None → list_any p xs ≡ false
 none-there p xs e = absent p nobody xs e

@@ -1,4 +1,4 @@
--- Other windows of a tree are written over those that stand together, one by one.
+-- Other windows of a toplevel are written over those that stand together, one by one.
 use Rattle.std.proofs.Common.{◌≡◌, ℕ, ◌+◌, ◌<◌, ◌≤◌, List, [], ◌∷◌, ◌++◌, Bool, true, false, ap, ap₂, sym, ◌∙◌, length, get_or, set, map, take, drop, arith}
 use Rattle.std.specs.Prelude.{cond, filter, not}
 use Rattle.std.proofs.lemmas.List.{append_assoc, drop_at, drop_more, length-append, length-map, length-take-le, map-append, set_at, take_at, take_more}

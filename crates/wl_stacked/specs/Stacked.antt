@@ -1,28 +1,38 @@
--- The windows of the output from bottom to top, and what becomes of those of one tree (xdg-shell.xml, xdg_surface; wayland.xml,
--- wl_subsurface).
+-- The windows of the output from bottom to top, and what becomes of those that are stacked with one toplevel: its tree, and the trees of its
+-- popups (xdg-shell.xml, xdg_surface and xdg_popup; wayland.xml, wl_subsurface).
 use Rattle.std.specs.Prelude.{ℕ, suc, ◌-◌, ◌≡◌, ◌==◌, ◌&&◌, not, if◌then◌else◌, List, [], ◌∷◌, ◌++◌}
-use Rattle.std.specs.Prelude.{Bool, true, false, drop, filter, length, map, min, take}
+use Rattle.std.specs.Prelude.{Bool, true, false, Option, drop, filter, find, length, map, min, take}
 use Rattle.std.specs.List.{list_all, list_any}
+use Rattle.std.specs.Option.{option_map}
 use Rattle.wl_windows.specs.declared.window.TreeWindow.{TreeWindow}
 use Rattle.wl_stacked.specs.declared.stacked.Stacked.{Stacked}
 
--- the window is of the tree of this root
+-- the window is stacked with this toplevel
 abbrev pub is_of : ℕ → ℕ → Stacked → Bool
-is_of client root s = (s.client == client) && (s.root == root)
+is_of client toplevel s = (s.client == client) && (s.toplevel == toplevel)
 
--- a window of the tree of this root
+-- it is of the tree of this root
+abbrev pub is_rooted : ℕ → ℕ → Stacked → Bool
+is_rooted client root s = (s.client == client) && (s.window.root == root)
+
+-- a window that is stacked with this toplevel
 abbrev pub stacked : ℕ → ℕ → TreeWindow → Stacked
-stacked client root window = record { client = client; root = root; window = window }
+stacked client toplevel window = record { client = client; toplevel = toplevel; window = window }
 
-abbrev pub tree_of : ℕ → ℕ → List Stacked → List Stacked
-tree_of client root all = filter (λ s. is_of client root s) all
+-- the windows stacked with this toplevel
+abbrev pub run_of : ℕ → ℕ → List Stacked → List Stacked
+run_of client toplevel all = filter (λ s. is_of client toplevel s) all
 
-abbrev pub without_tree : ℕ → ℕ → List Stacked → List Stacked
-without_tree client root all = filter (λ s. not (is_of client root s)) all
+abbrev pub without_run : ℕ → ℕ → List Stacked → List Stacked
+without_run client toplevel all = filter (λ s. not (is_of client toplevel s)) all
 
--- Those of the tree of this root come on top: the others keep their order, and so do they.
+-- the toplevel that the lowest window of the tree of this root is stacked with
+abbrev pub toplevel_with : ℕ → ℕ → List Stacked → Option ℕ
+toplevel_with client root all = option_map (λ s. s.toplevel) (find (λ s. is_rooted client root s) all)
+
+-- Those stacked with this toplevel come on top: the others keep their order, and so do they.
 abbrev pub raised : ℕ → ℕ → List Stacked → List Stacked
-raised client root all = without_tree client root all ++ tree_of client root all
+raised client toplevel all = without_run client toplevel all ++ run_of client toplevel all
 
 abbrev pub without_client : ℕ → List Stacked → List Stacked
 without_client client all = filter (λ s. not (s.client == client)) all
@@ -48,9 +58,9 @@ abbrev pub are_a_run : {X : Type 0} → (X → Bool) → List X → Bool
 are_a_run test [] = true
 are_a_run test (x ∷ xs) = if test x then are_in_front test xs else are_a_run test xs
 
--- the windows of each tree stand together
+-- the windows stacked with each toplevel stand together
 abbrev pub AreTogether : List Stacked → Type 0
-AreTogether all = (client root : ℕ) → are_a_run (is_of client root) all ≡ true
+AreTogether all = (client toplevel : ℕ) → are_a_run (is_of client toplevel) all ≡ true
 
 -- Those that pass the test are `count`, one behind another, and the first of them stands at `start`.
 pub record IsRun (test : Stacked → Bool) (start count : ℕ) (all : List Stacked) : Type 0 where
@@ -73,23 +83,23 @@ abbrev pub in_place : {X : Type 0} → (X → Bool) → List X → List X → Li
 in_place test new [] = []
 in_place test new (x ∷ xs) = if test x then new ++ filter (λ y. not (test y)) xs else x ∷ in_place test new xs
 
--- These are the windows of the tree of this root now, where its windows stood: nothing changes where it had none.
+-- These are the windows stacked with this toplevel now, where its windows stood: nothing changes where it had none.
 abbrev pub replaced : ℕ → ℕ → List TreeWindow → List Stacked → List Stacked
-replaced client root windows all = in_place (is_of client root) (map (stacked client root) windows) all
+replaced client toplevel windows all = in_place (is_of client toplevel) (map (stacked client toplevel) windows) all
 
--- The windows of a tree that stand together are others now, and what stands below them and above them stays.
+-- The windows of a toplevel, which stand together, are others now, and what stands below them and above them stays.
 abbrev pub ReplacesARun : Type 0
 ReplacesARun =
-    (client root : ℕ) (windows : List TreeWindow) (below : List Stacked) (first : Stacked) (others above : List Stacked)
-    → list_any (is_of client root) below ≡ false → is_of client root first ≡ true → list_all (is_of client root) others ≡ true
-    → list_any (is_of client root) above ≡ false
-    → replaced client root windows (below ++ ((first ∷ others) ++ above)) ≡ below ++ (map (stacked client root) windows ++ above)
+    (client toplevel : ℕ) (windows : List TreeWindow) (below : List Stacked) (first : Stacked) (others above : List Stacked)
+    → list_any (is_of client toplevel) below ≡ false → is_of client toplevel first ≡ true → list_all (is_of client toplevel) others ≡ true
+    → list_any (is_of client toplevel) above ≡ false
+    → replaced client toplevel windows (below ++ ((first ∷ others) ++ above)) ≡ below ++ (map (stacked client toplevel) windows ++ above)
 
--- Nothing changes where no window of the tree is there.
+-- Nothing changes where no window of the toplevel is there.
 abbrev pub ReplacesNothing : Type 0
 ReplacesNothing =
-    (client root : ℕ) (windows : List TreeWindow) (all : List Stacked) → list_any (is_of client root) all ≡ false
-    → replaced client root windows all ≡ all
+    (client toplevel : ℕ) (windows : List TreeWindow) (all : List Stacked) → list_any (is_of client toplevel) all ≡ false
+    → replaced client toplevel windows all ≡ all
 
 -- the last so many before the others
 abbrev pub last_first : ℕ → List Stacked → List Stacked

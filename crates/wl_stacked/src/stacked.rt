@@ -1,25 +1,32 @@
 //! A window of the output, and whose it is.
 
 ghost use Rattle.std.specs.Prelude.{◌≡◌, ◌++◌, ◌+◌, ◌==◌, ◌≤◌, IsOk, OnErr, OnOk, length, map, vec_capacity, vec_len};
-ghost use Rattle.wl_stacked.specs.Stacked.{is_of, stacked};
+ghost use Rattle.wl_stacked.specs.Stacked.{is_of, is_rooted, stacked};
 
 use std::alloc::{AllocError, Allocator};
 use wl_surface::SurfaceNo;
 use wl_windows::TreeWindow;
 
-/// A window of the output, with the client and the root surface of its tree.
+/// A window of the output, with its client and the surface of the toplevel that it is stacked with.
 #[derive(Clone, Copy, Debug)]
 pub struct Stacked {
     pub client: u32,
-    pub root: SurfaceNo,
+    pub toplevel: SurfaceNo,
     pub window: TreeWindow,
 }
 
-/// Whether a window is of the tree of this root.
-pub(crate) fn is_of_tree(stacked: &Stacked, client: u32, root: SurfaceNo) -> bool
-    ensures { result ≡ is_of client root stacked.now }
+/// Whether a window is stacked with this toplevel.
+pub(crate) fn is_of_toplevel(stacked: &Stacked, client: u32, toplevel: SurfaceNo) -> bool
+    ensures { result ≡ is_of client toplevel stacked.now }
 {
-    stacked.client == client && stacked.root == root
+    stacked.client == client && stacked.toplevel == toplevel
+}
+
+/// Whether a window is of the tree of this root.
+pub(crate) fn is_of_root(stacked: &Stacked, client: u32, root: SurfaceNo) -> bool
+    ensures { result ≡ is_rooted client root stacked.now }
+{
+    stacked.client == client && stacked.window.root == root
 }
 
 /// Whether a window is a client's.
@@ -29,7 +36,7 @@ pub(crate) fn is_of_client(stacked: &Stacked, client: u32) -> bool
     stacked.client == client
 }
 
-/// There is room for so many windows more, both where they are kept and where those of a tree are told.
+/// There is room for so many windows more, both where they are kept and where those of a toplevel are told.
 ///
 /// # Errors
 ///
@@ -51,7 +58,7 @@ pub(crate) fn reserve_both<A: Allocator>(
     spare.try_reserve(all.len() + count)
 }
 
-/// The windows of the tree of a root come on top of the others.
+/// The windows stacked with a toplevel come on top of the others.
 ///
 /// # Errors
 ///
@@ -59,10 +66,10 @@ pub(crate) fn reserve_both<A: Allocator>(
 pub(crate) fn add_all<A: Allocator>(
     all: &mut Vec<Stacked, A>,
     client: u32,
-    root: SurfaceNo,
+    toplevel: SurfaceNo,
     windows: &[TreeWindow],
 ) -> Result<(), AllocError>
-    ensures ok { OnOk result (all.new.items ≡ all.old.items ++ map (stacked client root) windows.now) }
+    ensures ok { OnOk result (all.new.items ≡ all.old.items ++ map (stacked client toplevel) windows.now) }
     ensures err { OnErr result (all.new.items ≡ all.old.items) }
     ensures succeeds { vec_len all.old + length windows.now ≤ vec_capacity all.old → IsOk result }
 {
@@ -70,7 +77,7 @@ pub(crate) fn add_all<A: Allocator>(
     for window in windows {
         all.push_reserved(Stacked {
             client,
-            root,
+            toplevel,
             window: *window,
         });
     }

@@ -3,22 +3,24 @@
 ghost use Rattle.std.specs.Prelude.{◌≡◌, ◌++◌, ◌≤◌, [], IsOk, OnErr, OnOk, false, length, map};
 ghost use Rattle.std.specs.List.{list_any};
 ghost use Rattle.wl_linked.specs.Linked.{Stand};
-ghost use Rattle.wl_stacked.specs.Stacked.{AreTogether, is_of, raised, replaced, stacked, tree_of, without_client, without_tree};
-ghost use Rattle.wl_stacking.specs.Windows.{Owner, tree};
+ghost use Rattle.wl_stacked.specs.Stacked.{AreTogether, is_of, raised, replaced, run_of, stacked, toplevel_with, without_client, without_run};
+ghost use Rattle.wl_stacked.specs.Told.{told_trees};
+ghost use Rattle.wl_stacking.specs.Windows.{Owner};
 ghost use Rattle.wl_surface.specs.Surfaces.{Surfaces as Asked};
-ghost use Rattle.wl_windows.specs.Windows.{rooted, told_of};
 
-use crate::runs::{move_in, raise_in, replace_in, tree_in};
-use crate::stacked::{Stacked, add_all, is_of_client, is_of_tree, reserve_both};
+use crate::roots::add_trees;
+use crate::runs::{lowest_in, move_in, raise_in, replace_in, run_in};
+use crate::stacked::{Stacked, add_all, is_of_client, is_of_toplevel, reserve_both};
 use std::alloc::{AllocError, Allocator};
 use std::marker::Model;
 use wl_linked::Linked;
+use wl_scene::RootPlace;
 use wl_surface::SurfaceNo;
-use wl_windows::{TreeWindow, add_windows};
+use wl_windows::TreeWindow;
 
-/// The windows of all mapped toplevels from bottom to top: of each toplevel those of its tree together (xdg-shell.xml, xdg_surface;
-/// wayland.xml, wl_subsurface). They are seen as that list, and how many more fit without memory. In `spare` all of them fit as well: there
-/// the windows of a tree are told that is moved.
+/// The windows of all mapped toplevels from bottom to top: of each toplevel those that are stacked with it together, which are those of its
+/// tree and of the trees of its popups (xdg-shell.xml, xdg_surface and xdg_popup; wayland.xml, wl_subsurface). They are seen as that list, and
+/// how many more fit without memory. In `spare` all of them fit as well: there the windows of a toplevel are told that is moved.
 #[derive(Drop)]
 pub struct StackedWindows<A: Allocator> {
     windows: Vec<Stacked, A>,
@@ -47,18 +49,23 @@ impl<A: Allocator + Copy> StackedWindows<A> {
         }
     }
 
-    /// The windows of the tree of a root are those of that tree where its root stands at this place of the output, in pixels, one by one: there
-    /// are as many of them. It wants no memory.
-    pub fn move_tree(&mut self, client: u32, root: SurfaceNo, linked: &Linked<A>, x: i32, y: i32)
+    /// The windows stacked with a toplevel are those of the trees of these roots, tree after tree and one by one, where the roots are placed now:
+    /// there are as many of them. It wants no memory.
+    pub fn move_run(
+        &mut self,
+        client: u32,
+        toplevel: SurfaceNo,
+        linked: &Linked<A>,
+        roots: &[RootPlace],
+    )
         ensures windows { (all : Asked) (owner : Owner) → Stand linked.now.surfaces linked.now.family all
-            → length (tree 17 (rooted root owner) all root (record { x = x; y = y })) ≡ length (tree_of client root self.old.windows)
-            → self.new.windows
-            ≡ replaced client root (map told_of (tree 17 (rooted root owner) all root (record { x = x; y = y }))) self.old.windows }
+            → length (told_trees owner all roots.now) ≡ length (run_of client toplevel self.old.windows)
+            → self.new.windows ≡ replaced client toplevel (told_trees owner all roots.now) self.old.windows }
         ensures room { self.old.room ≤ self.new.room }
     {
         self.spare.clear();
-        if add_windows(linked, root, x, y, &mut self.spare).is_ok() {
-            move_in(&mut self.windows, client, root, &self.spare);
+        if add_trees(linked, roots, &mut self.spare).is_ok() {
+            move_in(&mut self.windows, client, toplevel, &self.spare);
         }
     }
 }
@@ -72,20 +79,30 @@ impl<A: Allocator> StackedWindows<A> {
         &self.windows[..]
     }
 
-    /// Whether a window of the tree of this root is there.
-    pub fn has_tree(&self, client: u32, root: SurfaceNo) -> bool
-        ensures { result ≡ list_any (is_of client root) self.now.windows }
+    /// Whether a window is there that is stacked with this toplevel.
+    pub fn has_toplevel(&self, client: u32, toplevel: SurfaceNo) -> bool
+        ensures { result ≡ list_any (is_of client toplevel) self.now.windows }
     {
         self.windows
             .iter()
-            .any(|stacked| is_of_tree(stacked, client, root))
+            .any(|stacked| is_of_toplevel(stacked, client, toplevel))
     }
 
-    /// The windows of the tree of a root, from bottom to top.
-    pub fn tree(&self, client: u32, root: SurfaceNo) -> &[Stacked]
-        ensures { result.now ≡ tree_of client root self.now.windows }
+    /// The windows stacked with a toplevel, from bottom to top.
+    pub fn run(&self, client: u32, toplevel: SurfaceNo) -> &[Stacked]
+        ensures { result.now ≡ run_of client toplevel self.now.windows }
     {
-        tree_in(&self.windows, client, root)
+        run_in(&self.windows, client, toplevel)
+    }
+
+    /// The toplevel that the lowest window of the tree of a root is stacked with. `None` where no window of that tree is there.
+    pub fn toplevel_with(&self, client: u32, root: SurfaceNo) -> Option<SurfaceNo>
+        ensures { result ≡ toplevel_with client root self.now.windows }
+    {
+        match lowest_in(&self.windows, client, root) {
+            Some(stacked) => Some(stacked.toplevel),
+            None => None,
+        }
     }
 
     /// Makes room for so many windows more: as long as no windows are added, adding or replacing so many wants no memory.
@@ -101,7 +118,7 @@ impl<A: Allocator> StackedWindows<A> {
         reserve_both(&mut self.windows, &mut self.spare, count)
     }
 
-    /// The windows of the tree of a root come on top of the others, which are of other trees.
+    /// The windows stacked with a toplevel come on top of the others, none of which is.
     ///
     /// # Errors
     ///
@@ -109,19 +126,19 @@ impl<A: Allocator> StackedWindows<A> {
     pub fn push(
         &mut self,
         client: u32,
-        root: SurfaceNo,
+        toplevel: SurfaceNo,
         windows: &[TreeWindow],
     ) -> Result<(), AllocError>
-        requires { list_any (is_of client root) self.old.windows ≡ false }
-        ensures ok { OnOk result (self.new.windows ≡ self.old.windows ++ map (stacked client root) windows.now) }
+        requires { list_any (is_of client toplevel) self.old.windows ≡ false }
+        ensures ok { OnOk result (self.new.windows ≡ self.old.windows ++ map (stacked client toplevel) windows.now) }
         ensures err { OnErr result (self.new.windows ≡ self.old.windows) }
         ensures succeeds { length windows.now ≤ self.old.room → IsOk result }
     {
         reserve_both(&mut self.windows, &mut self.spare, windows.len())?;
-        add_all(&mut self.windows, client, root, windows)
+        add_all(&mut self.windows, client, toplevel, windows)
     }
 
-    /// The windows of the tree of a root are these now, where the tree stands. Nothing changes where no window of it is there.
+    /// The windows stacked with a toplevel are these now, where it has some. Nothing changes where no window of it is there.
     ///
     /// # Errors
     ///
@@ -129,32 +146,32 @@ impl<A: Allocator> StackedWindows<A> {
     pub fn replace(
         &mut self,
         client: u32,
-        root: SurfaceNo,
+        toplevel: SurfaceNo,
         windows: &[TreeWindow],
     ) -> Result<(), AllocError>
-        ensures ok { OnOk result (self.new.windows ≡ replaced client root windows.now self.old.windows) }
+        ensures ok { OnOk result (self.new.windows ≡ replaced client toplevel windows.now self.old.windows) }
         ensures err { OnErr result (self.new.windows ≡ self.old.windows) }
         ensures succeeds { length windows.now ≤ self.old.room → IsOk result }
     {
         reserve_both(&mut self.windows, &mut self.spare, windows.len())?;
-        replace_in(&mut self.windows, client, root, windows)
+        replace_in(&mut self.windows, client, toplevel, windows)
     }
 
-    /// The windows of the tree of a root come on top of the others: it is raised. Nothing changes where no window of it is there.
-    pub fn raise(&mut self, client: u32, root: SurfaceNo)
-        ensures windows { self.new.windows ≡ raised client root self.old.windows }
+    /// The windows stacked with a toplevel come on top of the others: it is raised. Nothing changes where no window of it is there.
+    pub fn raise(&mut self, client: u32, toplevel: SurfaceNo)
+        ensures windows { self.new.windows ≡ raised client toplevel self.old.windows }
         ensures room { self.old.room ≤ self.new.room }
     {
-        raise_in(&mut self.windows, client, root);
+        raise_in(&mut self.windows, client, toplevel);
     }
 
-    /// The windows of the tree of a root go.
-    pub fn remove(&mut self, client: u32, root: SurfaceNo)
-        ensures windows { self.new.windows ≡ without_tree client root self.old.windows }
+    /// The windows stacked with a toplevel go.
+    pub fn remove(&mut self, client: u32, toplevel: SurfaceNo)
+        ensures windows { self.new.windows ≡ without_run client toplevel self.old.windows }
         ensures room { self.old.room ≤ self.new.room }
     {
         self.windows
-            .retain(|stacked| !is_of_tree(stacked, client, root));
+            .retain(|stacked| !is_of_toplevel(stacked, client, toplevel));
     }
 
     /// All windows of a client go.

@@ -5,12 +5,17 @@ pub mod Commits
 pub mod Created
 pub mod Demands
 pub mod Dismissed
+pub mod Each
 pub mod Fresh
+pub mod Grabbing
 pub mod Kept
 pub mod Left
 pub mod Links
+pub mod Meant
+pub mod Messages
 pub mod One
 pub mod Ordered
+pub mod Orders
 pub mod Painted
 pub mod Popped
 pub mod PopupEnds
@@ -24,3 +29,4 @@ pub mod Toplevels
 pub mod Touched
 pub mod Trees
 pub mod Turns
+pub mod Unroled

@@ -2,9 +2,11 @@
 use Rattle.std.specs.Prelude.{ℕ, Bool}
 use Rattle.wl_state.specs.Request.{Request}
 use Rattle.wl_peer.specs.declared.actions.Action.{Action}
-use Rattle.wl_plain.specs.Ask.{Acknowledge, AskSurface, ConfigureAgain, CreateSurface, EndObject, Ignore, Own}
-use Rattle.wl_plain.specs.Demand.{AskFrame, Asks, CommitTree, EndPopup, EndSubsurface, EndSurface, EndToplevel, GetPointer}
-use Rattle.wl_plain.specs.Demand.{GetSubsurface, Grab, MakeCursor, Move, SetMode}
+use Rattle.wl_xdg_state.specs.Positioner.{Positioner}
+use Rattle.wl_plain.specs.Ask.{Acknowledge, AskSurface, ConfigureAgain, CreateSurface, DestroyXdgSurface, EndObject, GetToplevel}
+use Rattle.wl_plain.specs.Ask.{GetXdgSurface, Ignore, Own}
+use Rattle.wl_plain.specs.Demand.{AskFrame, Asks, CommitTree, Demand, EndPopup, EndSubsurface, EndSurface, EndToplevel, GetPointer}
+use Rattle.wl_plain.specs.Demand.{GetPopup, GetSubsurface, Grab, MakeCursor, Move, SetMode}
 use Rattle.wl_toplevels.specs.Done.{DemandChanges}
 
 -- wl_surface.commit
@@ -41,6 +43,13 @@ pub record StatesChangeNoWindow : Type 0 where
   pub configure_again : (xdg : ℕ) → DemandChanges (Asks (ConfigureAgain xdg))
   pub ignore : DemandChanges (Asks Ignore)
 
+-- xdg_surfaces that come, or go, and toplevels and popups that come and are mapped later
+pub record RolesChangeNoWindow : Type 0 where
+  pub get_xdg_surface : (id version base surface : ℕ) → DemandChanges (Asks (GetXdgSurface id version base surface))
+  pub destroy_xdg_surface : (id : ℕ) → DemandChanges (Asks (DestroyXdgSurface id))
+  pub get_toplevel : (id version xdg : ℕ) → DemandChanges (Asks (GetToplevel id version xdg))
+  pub get_popup : (id version xdg parent : ℕ) (positioner : Positioner) → DemandChanges (GetPopup id version xdg parent positioner)
+
 -- xdg_popup.grab, whether it is taken or refused
 abbrev pub GrabsChangeNoWindow : Type 0
 GrabsChangeNoWindow = (xdg serial : ℕ) → DemandChanges (Grab xdg serial)
@@ -52,3 +61,7 @@ ToplevelEndsChangeOneToplevel = (id xdg surface : ℕ) → DemandChanges (EndTop
 -- xdg_popup.destroy
 abbrev pub PopupEndsChangeOneToplevel : Type 0
 PopupEndsChangeOneToplevel = (id xdg : ℕ) → DemandChanges (EndPopup id xdg)
+
+-- all of them
+abbrev pub DemandsChangeOneToplevel : Type 0
+DemandsChangeOneToplevel = (demand : Demand) → DemandChanges demand

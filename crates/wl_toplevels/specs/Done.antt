@@ -5,8 +5,9 @@ use Rattle.std.specs.Option.{option_map}
 use Rattle.wl_surface.specs.Surfaces.{Link, link_at}
 use Rattle.wl_xdg_state.specs.Popups.{Popped, is_popup_mapped, is_toplevel, popup_at}
 use Rattle.wl_xdg_state.specs.Shell.{Shell, XdgSurface, xdg_at}
+use Rattle.wl_plain.specs.Ask.{DestroyXdgSurface, GetToplevel}
 use Rattle.wl_plain.specs.Changing.{changed_for, stacked_for}
-use Rattle.wl_plain.specs.Demand.{Demand, CommitTree, EndPopup, EndSubsurface, EndSurface, EndToplevel, Grab, SetMode}
+use Rattle.wl_plain.specs.Demand.{Demand, Asks, CommitTree, EndPopup, EndSubsurface, EndSurface, EndToplevel, GetPopup, Grab, SetMode}
 use Rattle.wl_plain.specs.Desktop.{Desktop, Resident, client_at, owned_in}
 use Rattle.wl_plain.specs.Stacked.{all_windows}
 use Rattle.wl_plain.specs.Step.{with_peer}
@@ -40,11 +41,19 @@ pub record HasToplevel (xdg surface : ℕ) (shell : Shell) : Type 0 where
   pub own : it.surface ≡ surface
   pub role : is_toplevel (Some it) ≡ true
 
--- A demand is made as the protocol has it: a toplevel that goes is that of its xdg_surface and of its surface, and a popup that asks for a
--- grab isn't mapped (xdg-shell.xml, xdg_popup.grab).
+-- the xdg_surface of this id, if there is one, has no role object
+abbrev pub HasNoRole : ℕ → Shell → Type 0
+HasNoRole xdg shell = (x : XdgSurface) → xdg_at xdg shell ≡ Some x → x.role ≡ None
+
+-- A demand is made as the protocol has it: a toplevel that goes is that of its xdg_surface and of its surface, a popup that asks for a grab
+-- isn't mapped (xdg-shell.xml, xdg_popup.grab), and an xdg_surface that goes, or gets a toplevel or a popup, has no role object
+-- (xdg-shell.xml, xdg_surface.destroy, xdg_surface.get_toplevel and xdg_surface.get_popup).
 abbrev pub IsMeant : Demand → Resident → Type 0
 IsMeant (EndToplevel id xdg surface) r = HasToplevel xdg surface r.owned.shell
 IsMeant (Grab xdg serial) r = (p : Popped) → popup_at xdg r.owned.shell ≡ Some p → is_popup_mapped p ≡ false
+IsMeant (Asks (DestroyXdgSurface id)) r = HasNoRole id r.owned.shell
+IsMeant (Asks (GetToplevel id version xdg)) r = HasNoRole xdg r.owned.shell
+IsMeant (GetPopup id version xdg parent positioner) r = HasNoRole xdg r.owned.shell
 IsMeant demand r = Unit {0}
 
 -- A demand that is done changes the windows stacked with the toplevel of the tree that it touches, and else none, whatever was taken of its

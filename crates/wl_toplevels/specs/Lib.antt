@@ -2,6 +2,8 @@ pub mod Changes
 pub mod DemandLaws
 pub mod Done
 pub mod Marked
+pub mod Messages
+pub mod OrderLaws
 pub mod Roots
 pub mod StackedWith
 pub mod Toplevel

@@ -4,7 +4,8 @@
 
 ghost use Rattle.wl_toplevels.specs.DemandLaws.{CommitsChangeOneToplevel, GrabsChangeNoWindow, ModesChangeOneToplevel, RequestsChangeNoWindow};
 ghost use Rattle.wl_toplevels.specs.DemandLaws.{StatesChangeNoWindow, SubsurfaceEndsChangeOneToplevel, SurfaceEndsChangeOneToplevel};
-ghost use Rattle.wl_toplevels.specs.DemandLaws.{PopupEndsChangeOneToplevel, ToplevelEndsChangeOneToplevel};
+ghost use Rattle.wl_toplevels.specs.DemandLaws.{DemandsChangeOneToplevel, PopupEndsChangeOneToplevel, RolesChangeNoWindow};
+ghost use Rattle.wl_toplevels.specs.DemandLaws.{ToplevelEndsChangeOneToplevel};
 
 /// A commit changes the windows that are stacked with the toplevel of its tree, or none.
 pub fn commits_change_one_toplevel()
@@ -37,6 +38,11 @@ pub fn states_change_no_window()
     ensures { StatesChangeNoWindow }
 {}
 
+/// An xdg_surface that comes or goes changes no window, nor does a toplevel or a popup that comes and isn't mapped yet.
+pub fn roles_change_no_window()
+    ensures { RolesChangeNoWindow }
+{}
+
 /// A grab changes no window, whether it is taken or refused: what is dismissed by it wasn't stacked.
 pub fn grabs_change_no_window()
     ensures { GrabsChangeNoWindow }
@@ -50,4 +56,9 @@ pub fn toplevel_ends_change_one_toplevel()
 /// The end of a popup changes the windows that are stacked with the toplevel that it was stacked with, or none.
 pub fn popup_ends_change_one_toplevel()
     ensures { PopupEndsChangeOneToplevel }
+{}
+
+/// Whatever a client demands changes the windows that are stacked with one toplevel, or none.
+pub fn demands_change_one_toplevel()
+    ensures { DemandsChangeOneToplevel }
 {}

@@ -21,7 +21,7 @@ use Rattle.wl_plain.specs.Demanding.{effect_of_commit, judge_all}
 use Rattle.wl_plain.specs.Desktop.{Desktop, Resident, become, become_by, client_at, client_in, owned_of, resident_of, status_in, toplevels_of, with_client}
 use Rattle.wl_plain.specs.Framing.{FramesToldAt, FramesToldBy, done_due}
 use Rattle.wl_plain.specs.Happens.{wants_memory}
-use Rattle.wl_plain.specs.LeftOut.{served_now}
+use Rattle.wl_plain.specs.LeftOut.{popups_left_out}
 use Rattle.wl_plain.specs.Settling.{EndsAndSettles, becomes, unstruck}
 use Rattle.wl_plain.specs.Step.{with_peer}
 use Rattle.wl_laws.proofs.Lists.Standings.{of-client}
@@ -134,7 +134,7 @@ module _ (c : ℕ) (r : Resident) (d e : Desktop) (is : client_at c d ≡ Some r
 
   takes-gone : (split : Split) → TakesSimply split c r d e → IsGone c d e
   takes-gone (Whole object opcode size) h =
-      answers-gone (judge_all served_now r object opcode (take (size - 8) (drop 8 r.peer.rest))) (with_peer (with_rest (drop size r.peer.rest) r.peer) r) h
+      answers-gone (judge_all popups_left_out r object opcode (take (size - 8) (drop 8 r.peer.rest))) (with_peer (with_rest (drop size r.peer.rest) r.peer) r) h
   takes-gone Bad h = becomes-gone (Errs (display_error InvalidMethod) r.peer) r d is h
   takes-gone More h = absurd h
 

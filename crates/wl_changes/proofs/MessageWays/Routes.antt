@@ -15,7 +15,7 @@ use Rattle.wl_plain.specs.Demand.{Demand}
 use Rattle.wl_plain.specs.Demanding.{judge_all}
 use Rattle.wl_plain.specs.Desktop.{Desktop, Resident, become, become_by, client_at, client_in, owned_in, owned_of, status_in, with_client}
 use Rattle.wl_plain.specs.Happens.{AnswersThen, BecomesThen, DoesThen, ServesThen, TakesThen, WantsOrThen, done_for, wants_memory}
-use Rattle.wl_plain.specs.LeftOut.{served_now}
+use Rattle.wl_plain.specs.LeftOut.{popups_left_out}
 use Rattle.wl_plain.specs.Replies.{releases, replies}
 use Rattle.wl_plain.specs.Settling.{QueuesFirst, QueuesTo, Strike, becomes, ended_by, struck_by, unstruck}
 use Rattle.wl_plain.specs.Stacked.{all_windows}
@@ -169,7 +169,7 @@ module _ (events : List Said) (c : ℕ) (made there : Resident) (d new : Desktop
 -- ---- what is demanded
 
 -- what is left out leaves itself out
-now-now : LeavesOut served_now served_now
+now-now : LeavesOut popups_left_out popups_left_out
 now-now request e = e
 
 -- one that doesn't live on has ended
@@ -178,7 +178,7 @@ over-some None never = absurd (never refl)
 over-some (Some cause) never = refl
 
 module _ (c : ℕ) (r : Resident) (d e : Desktop) (is : client_at c d ≡ Some r) (alive : r.peer.status ≡ None) (orderly : Orderly d) (stand : MappedStand d) where
-  module _ (rest : List ℕ) (object opcode : ℕ) (body : List ℕ) (demand : Demand) (judged : judge_all served_now r object opcode body ≡ Ok demand)
+  module _ (rest : List ℕ) (object opcode : ℕ) (body : List ℕ) (demand : Demand) (judged : judge_all popups_left_out r object opcode body ≡ Ok demand)
       (demanded : IsDemanded (split_of r.peer.rest) r demand) where
     abbrev Now : Resident
     Now = with_peer (counted (with_rest rest r.peer)) r
@@ -193,10 +193,10 @@ module _ (c : ℕ) (r : Resident) (d e : Desktop) (is : client_at c d ≡ Some r
     Events = told_simply demand Now
 
     owns : OwnsNoPopups Now
-    owns = counted-owns served_now now-now c r rest object opcode body demand d judged orderly.pointer (lives-there c r d orderly is alive)
+    owns = counted-owns popups_left_out now-now c r rest object opcode body demand d judged orderly.pointer (lives-there c r d orderly is alive)
 
     served : IsServed demand
-    served = demand-served served_now now-now c r rest object opcode body demand d judged orderly.pointer (lives-there c r d orderly is alive)
+    served = demand-served popups_left_out now-now c r rest object opcode body demand d judged orderly.pointer (lives-there c r d orderly is alive)
 
     changes : changed_for c demand Now d ≡ Made
     changes = changes_simply c demand Now d orderly.pointer owns served
@@ -204,9 +204,9 @@ module _ (c : ℕ) (r : Resident) (d e : Desktop) (is : client_at c d ≡ Some r
     stacks : done_for c demand Now d ≡ On
     stacks = does_no_more c demand Now d orderly.pointer owns served
 
-    replies-same : replies served_now c demand Now Made (all_windows d) d ≡ Events
+    replies-same : replies popups_left_out c demand Now Made (all_windows d) d ≡ Events
     replies-same =
-        subst (λ (m : Resident). replies served_now c demand Now m (all_windows d) d ≡ answers_simply demand Now ++ releases Now m) changes
+        subst (λ (m : Resident). replies popups_left_out c demand Now m (all_windows d) d ≡ answers_simply demand Now ++ releases Now m) changes
         (replies_simply c demand Now (all_windows d) d orderly.pointer owns served)
 
     leaves : LeavesOthers c d On
@@ -239,10 +239,10 @@ module _ (c : ℕ) (r : Resident) (d e : Desktop) (is : client_at c d ≡ Some r
           trees =
               orderly_has_trees h.own
               (subst Orderly (sym h.own_is)
-              (made-orderly served_now now-now c r d d is alive orderly rest object opcode body demand judged h.told
+              (made-orderly popups_left_out now-now c r d d is alive orderly rest object opcode body demand judged h.told
               (λ lives. told-is Events Made h.told (Some h.cause) h.unqueued)))
               (subst MappedStand (sym h.own_is)
-              (made-stand served_now now-now c r d d is alive orderly stand rest object opcode body demand judged h.told));
+              (made-stand popups_left_out now-now c r d d is alive orderly stand rest object opcode body demand judged h.told));
           mappings = ap (λ (x : Desktop). x.mappings) lived;
           lives = ap (status_in c) h.own_is ∙ status-become c Made h.told On r found ∙ h.lives;
           output = ap (λ (x : Desktop). x.output) lived ∙ leaves.output;
@@ -255,16 +255,16 @@ module _ (c : ℕ) (r : Resident) (d e : Desktop) (is : client_at c d ≡ Some r
     routed path (inr h) = inr (struck-so path h)
 
     -- what is demanded is done, and told
-    does-through : DoesSimply demand c Now d e → (path : List Desktop) × DoesThen served_now c demand Now d (settling_through path e) × RouteBy true c r d path e
+    does-through : DoesSimply demand c Now d e → (path : List Desktop) × DoesThen popups_left_out c demand Now d (settling_through path e) × RouteBy true c r d path e
     does-through h =
         let led-so = led Events c Made r On e found (stacked-pointer c demand Now d ∙ orderly.pointer) living h in
         let path : List Desktop = led-so.0 in
-        let second : IsLed (replies served_now c demand Now Made (all_windows d) d) c Made On path e =
+        let second : IsLed (replies popups_left_out c demand Now Made (all_windows d) d) c Made On path e =
         subst (λ (events : List Said). IsLed events c Made On path e) (sym replies-same) led-so.1 in
-        let third : IsLed (replies served_now c demand Now Made (all_windows d) d) c Made (done_for c demand Now d) path e =
-        subst (λ (x : Desktop). IsLed (replies served_now c demand Now Made (all_windows d) d) c Made x path e) (sym stacks) second in (
+        let third : IsLed (replies popups_left_out c demand Now Made (all_windows d) d) c Made (done_for c demand Now d) path e =
+        subst (λ (x : Desktop). IsLed (replies popups_left_out c demand Now Made (all_windows d) d) c Made x path e) (sym stacks) second in (
           path,
-          subst (λ (m : Resident). IsLed (replies served_now c demand Now m (all_windows d) d) c m (done_for c demand Now d) path e) (sym changes) third,
+          subst (λ (m : Resident). IsLed (replies popups_left_out c demand Now m (all_windows d) d) c m (done_for c demand Now d) path e) (sym changes) third,
           routed path led-so.2,
         )
 
@@ -293,9 +293,9 @@ module _ (c : ℕ) (r : Resident) (d e : Desktop) (is : client_at c d ≡ Some r
   lacks-through false Then now path wants h = absurd (cc)
 
   -- it is answered
-  answers-through : (b : Bool) (rest : List ℕ) (object opcode : ℕ) (body : List ℕ) (answer : Result Demand Refusal) → judge_all served_now r object opcode body ≡ answer
+  answers-through : (b : Bool) (rest : List ℕ) (object opcode : ℕ) (body : List ℕ) (answer : Result Demand Refusal) → judge_all popups_left_out r object opcode body ≡ answer
       → ((demand : Demand) → answer ≡ Ok demand → IsDemanded (split_of r.peer.rest) r demand) → AnswersAs b answer c (with_peer (with_rest rest r.peer) r) d e
-      → (path : List Desktop) × AnswersThen served_now answer c (with_peer (with_rest rest r.peer) r) d (settling_through path e) × RouteBy b c r d path e
+      → (path : List Desktop) × AnswersThen popups_left_out answer c (with_peer (with_rest rest r.peer) r) d (settling_through path e) × RouteBy b c r d path e
   answers-through true rest object opcode body (Ok demand) judged demanded h =
       let k = does-through rest object opcode body demand judged (demanded demand refl) h in
       (k.0, wants-through (wants_memory demand) _ (with_peer (counted (with_rest rest r.peer)) r) k.0 k.1, k.2)
@@ -309,10 +309,10 @@ module _ (c : ℕ) (r : Resident) (d e : Desktop) (is : client_at c d ≡ Some r
 
   -- it is taken
   takes-through : (b : Bool) (split : Split) → split_of r.peer.rest ≡ split → TakesAs b split c r d e
-      → (path : List Desktop) × TakesThen served_now split c r d (settling_through path e) × RouteBy b c r d path e
+      → (path : List Desktop) × TakesThen popups_left_out split c r d (settling_through path e) × RouteBy b c r d path e
   takes-through b (Whole object opcode size) came h =
       let body = take (size - 8) (drop 8 r.peer.rest) in
-      answers-through b (drop size r.peer.rest) object opcode body (judge_all served_now r object opcode body) refl
+      answers-through b (drop size r.peer.rest) object opcode body (judge_all popups_left_out r object opcode body) refl
       (λ demand judged. subst (λ split. IsDemanded split r demand) (sym came) judged) h
   takes-through true Bad came h = absurd h
   takes-through false Bad came h = becomes-through (Errs (display_error InvalidMethod) r.peer) (erred (display_error InvalidMethod) r.peer) r h
@@ -321,4 +321,4 @@ module _ (c : ℕ) (r : Resident) (d e : Desktop) (is : client_at c d ≡ Some r
 pub messages_lead_so : MessagesLeadSo
 messages_lead_so b c r d e orderly stand is alive h =
     let k = takes-through c r d e is alive orderly stand b (split_of r.peer.rest) refl h in
-    (k.0, subst (λ o. ServesThen served_now c o d (settling_through k.0 e)) (sym is) (alive, k.1), k.2)
+    (k.0, subst (λ o. ServesThen popups_left_out c o d (settling_through k.0 e)) (sym is) (alive, k.1), k.2)

@@ -16,7 +16,7 @@ use Rattle.wl_plain.specs.Happens.{wants_memory}
 use Rattle.wl_plain.specs.Step.{with_peer}
 use Rattle.wl_laws.proofs.Runs.Places.{client-become, other-become, status-become}
 use Rattle.wl_invariants.proofs.KeptRecords.Toplevels.Back.{erred, lacking}
-use Rattle.wl_plain.specs.LeftOut.{served_now}
+use Rattle.wl_plain.specs.LeftOut.{popups_left_out}
 use Rattle.wl_invariants.specs.Simple.{AnswersSimply, Becomes, DoesSimply, TakesSimply, WantsOr, changed_simply, stacked_on, stacked_simply}
 use Rattle.wl_invariants.specs.SimpleLaws.{MessagesAreSimple}
 use Rattle.wl_changes.specs.Changes.{IsDemanded, IsDone}
@@ -78,13 +78,13 @@ module _ (c : ℕ) (r : Resident) (d e : Desktop) (here : client_at c d ≡ Some
     abbrev rest : Peer
     rest = with_rest (drop size r.peer.rest) r.peer
 
-    answers : (judged : Result Demand Refusal) → judge_all served_now r object opcode (take (size - 8) (drop 8 r.peer.rest)) ≡ judged
+    answers : (judged : Result Demand Refusal) → judge_all popups_left_out r object opcode (take (size - 8) (drop 8 r.peer.rest)) ≡ judged
         → AnswersSimply judged c (with_peer rest r) d e → Does (Whole object opcode size)
     answers (Ok demand) judged h = (demand, counted rest, judged, wants demand (counted rest) (wants_memory demand) h)
     answers (Err refusal) judged h = absurd (ends (Errs refusal rest) (erred refusal rest) (with_peer rest r) h)
 
   takes : (split : Split) → TakesSimply split c r d e → Does split
-  takes (Whole object opcode size) h = answers object opcode size (judge_all served_now r object opcode (take (size - 8) (drop 8 r.peer.rest))) refl h
+  takes (Whole object opcode size) h = answers object opcode size (judge_all popups_left_out r object opcode (take (size - 8) (drop 8 r.peer.rest))) refl h
   takes Bad h = absurd (ends (Errs (display_error InvalidMethod) r.peer) (erred (display_error InvalidMethod) r.peer) r h)
   takes More h = absurd h
 

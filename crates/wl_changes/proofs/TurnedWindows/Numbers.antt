@@ -42,9 +42,11 @@ root-there (suc levels) all s (w ∷ ws) e = every (w ∷ ws)
     every [] = tt
     every (v ∷ vs) = (there (history_in s.surface all) refl e, every vs)
 
--- Both the root and the surface of each window are there.
+-- The toplevel, the root and the surface of each window are there.
 abbrev AreThere : (ℕ → Owned) → Window → Type 0
-AreThere owned w = (has_surface w.owner.root (owned w.owner.client).surfaces ≡ true) × (has_surface w.surface (owned w.owner.client).surfaces ≡ true)
+AreThere owned w =
+    (has_surface w.owner.toplevel (owned w.owner.client).surfaces ≡ true) × (has_surface w.owner.root (owned w.owner.client).surfaces ≡ true)
+    × (has_surface w.surface (owned w.owner.client).surfaces ≡ true)
 
 windows-there : (owned : ℕ → Owned) (ss : List Standing) → Each (AreThere owned) (windows_on owned ss)
 windows-there owned ss = windows-each (AreThere owned) owned ss (each ss)
@@ -52,6 +54,7 @@ windows-there owned ss = windows-each (AreThere owned) owned ss (each ss)
     turned : (s : Standing) (w : Window) → w.owner ≡ standing_owner s
         → (has_surface s.surface (owned s.client).surfaces ≡ true) × (has_surface w.surface (owned s.client).surfaces ≡ true) → AreThere owned w
     turned s w own there = (
+      subst (λ o. has_surface o.toplevel (owned o.client).surfaces ≡ true) (sym own) there.0,
       subst (λ o. has_surface o.root (owned o.client).surfaces ≡ true) (sym own) there.0,
       subst (λ o. has_surface w.surface (owned o.client).surfaces ≡ true) (sym own) there.1,
     )
@@ -74,11 +77,14 @@ pub renumbered : (old new : ℕ → ById ℕ) (all : List Stacked) (d : Desktop)
     → ((c id : ℕ) → has_surface id (owned_in d c).surfaces ≡ true → new c id ≡ old c id) → AreStacked old all (all_windows d) → AreStacked new all (all_windows d)
 renumbered old new all d none keeps are =
     stacked-renumbered old new all (all_windows d)
+    (All-from_recursion (λ w. new w.owner.client w.owner.toplevel ≡ old w.owner.client w.owner.toplevel) (all_windows d)
+    (each-both (AreThere (owned_in d)) (AreThere (owned_in d)) (λ w. new w.owner.client w.owner.toplevel ≡ old w.owner.client w.owner.toplevel)
+    (λ w a b. keeps w.owner.client w.owner.toplevel a.0) (all_windows d) there there))
     (All-from_recursion (λ w. new w.owner.client w.owner.root ≡ old w.owner.client w.owner.root) (all_windows d)
-    (each-both (AreThere (owned_in d)) (AreThere (owned_in d)) (λ w. new w.owner.client w.owner.root ≡ old w.owner.client w.owner.root) (λ w a b. keeps w.owner.client w.owner.root a.0)
+    (each-both (AreThere (owned_in d)) (AreThere (owned_in d)) (λ w. new w.owner.client w.owner.root ≡ old w.owner.client w.owner.root) (λ w a b. keeps w.owner.client w.owner.root a.1)
     (all_windows d) there there))
     (All-from_recursion (λ w. new w.owner.client w.surface ≡ old w.owner.client w.surface) (all_windows d)
-    (each-both (AreThere (owned_in d)) (AreThere (owned_in d)) (λ w. new w.owner.client w.surface ≡ old w.owner.client w.surface) (λ w a b. keeps w.owner.client w.surface a.1)
+    (each-both (AreThere (owned_in d)) (AreThere (owned_in d)) (λ w. new w.owner.client w.surface ≡ old w.owner.client w.surface) (λ w a b. keeps w.owner.client w.surface a.2)
     (all_windows d) there there))
     are
   where
@@ -92,12 +98,15 @@ pub renumbered-since : (old new : ℕ → ById ℕ) (all : List Stacked) (d e : 
 renumbered-since old new all d e none_d none_e same keeps are =
     subst (λ ws. AreStacked new all ws) (sym same)
     (stacked-renumbered old new all (all_windows d)
+    (All-from_recursion (λ w. new w.owner.client w.owner.toplevel ≡ old w.owner.client w.owner.toplevel) (all_windows d)
+    (each-both (AreThere (owned_in d)) (AreThere (owned_in e)) (λ w. new w.owner.client w.owner.toplevel ≡ old w.owner.client w.owner.toplevel)
+    (λ w a b. keeps w.owner.client w.owner.toplevel a.0 b.0) (all_windows d) before after))
     (All-from_recursion (λ w. new w.owner.client w.owner.root ≡ old w.owner.client w.owner.root) (all_windows d)
     (each-both (AreThere (owned_in d)) (AreThere (owned_in e)) (λ w. new w.owner.client w.owner.root ≡ old w.owner.client w.owner.root)
-    (λ w a b. keeps w.owner.client w.owner.root a.0 b.0) (all_windows d) before after))
+    (λ w a b. keeps w.owner.client w.owner.root a.1 b.1) (all_windows d) before after))
     (All-from_recursion (λ w. new w.owner.client w.surface ≡ old w.owner.client w.surface) (all_windows d)
     (each-both (AreThere (owned_in d)) (AreThere (owned_in e)) (λ w. new w.owner.client w.surface ≡ old w.owner.client w.surface)
-    (λ w a b. keeps w.owner.client w.surface a.1 b.1) (all_windows d) before after))
+    (λ w a b. keeps w.owner.client w.surface a.2 b.2) (all_windows d) before after))
     are)
   where
     before : Each (AreThere (owned_in d)) (all_windows d)

@@ -16,18 +16,21 @@ use Rattle.wl_stacking.specs.Windows.{Owner, Place, Window, surface_windows, tre
 use Rattle.wl_plain.specs.Desktop.{Desktop, owned_in}
 use Rattle.wl_plain.specs.Stacked.{all_windows}
 use Rattle.wl_stacked.specs.declared.stacked.Stacked.{Stacked}
-use Rattle.wl_stacked.specs.Stacked.{tree_of}
-use Rattle.wl_lending.specs.Stacked.{AreNumberedBy, AreNumberedOnce, AreStacked, IsNumberedBy, has_root, told_by}
-use Rattle.wl_lending.proofs.Standing.{stacked-are-told, tree-is-stacked}
+use Rattle.wl_stacked.specs.Stacked.{run_of}
+use Rattle.wl_lending.specs.Stacked.{AreNumberedBy, AreNumberedOnce, AreStacked, IsNumberedBy, has_toplevel, told_by}
+use Rattle.wl_lending.proofs.Standing.{run-is-stacked, stacked-are-told}
 use Rattle.wl_named.specs.Renaming.{IsRenaming, has_surface, renamed}
 use Rattle.wl_changes.specs.RenamedWindows.{IsNamedAlone, has_window}
 use Rattle.wl_changes.proofs.RenamedWindows.Shown.{shows-those-there}
 use Rattle.wl_changes.proofs.RenamedWindows.Trees.{tells-trees-by-name}
+use Rattle.wl_invariants.specs.NoPopups.{NoPopups}
+use Rattle.wl_invariants.specs.TreeMarksLaws.{has_root}
 use Rattle.wl_invariants.specs.TreeStanding.{standing_owner, windows_in}
 use Rattle.wl_invariants.proofs.TreeSteps.Owners.{tree-owned}
 use Rattle.wl_windows.specs.Windows.{rooted, told_tree}
 use Rattle.wl_changes.specs.Changes.{ChangesTree}
 use Rattle.wl_changes.specs.Trees.{windows_at, windows_if}
+use Rattle.wl_changes.proofs.TurnedWindows.Toplevels.{AreOwnTrees, all-with, any-with, own-all, own-both, own-parts}
 
 -- ---- lists
 
@@ -145,18 +148,27 @@ all-client c root (w ∷ ws) all =
 -- What is kept of the windows of the tree tells those that it had, by the numbers of their surfaces.
 pub told-was : (numbers : ℕ → ById ℕ) (all : List Stacked) (c root k : ℕ) (f : ℕ → ℕ) (d e : Desktop) (t : ChangesTree c root d e) → AreStacked numbers all (all_windows d)
     → numbers c root ≡ Some k → AreNumberedOnce (numbers c) → ((id : ℕ) → has_surface id (owned_in d c).surfaces ≡ true → numbers c id ≡ Some (f id))
-    → map (λ s. s.window) (tree_of c k all) ≡ map (told_by f) t.was
-told-was numbers all c root k f d e t are named once by =
-    stacked-are-told numbers (tree_of c k all) t.was c f
-    (subst (λ ws. AreStacked numbers (tree_of c k all) ws) mine (tree-is-stacked numbers all (all_windows d) c root k are named once))
+    → NoPopups d → map (λ s. s.window) (run_of c k all) ≡ map (told_by f) t.was
+told-was numbers all c root k f d e t are named once by none =
+    stacked-are-told numbers (run_of c k all) t.was c f
+    (subst (λ ws. AreStacked numbers (run_of c k all) ws) mine (run-is-stacked numbers all (all_windows d) c root k are named once))
     (all-client c root t.was rooted)
     (subst (λ ws. AreNumberedBy (numbers c) f ws) (sym t.was_of) (numbered-at (numbers c) f c root d by))
   where
     rooted : list_all (has_root c root) t.was ≡ true
     rooted = all-first (has_root c root) t.was t.is t.changes.of_tree.rooted
 
-    mine : filter (λ w. has_root c root w) (all_windows d) ≡ t.was
-    mine = ap (filter (λ w. has_root c root w)) t.before ∙ filter-among (λ w. has_root c root w) t.below t.was t.above rooted t.changes.apart
+    own : AreOwnTrees t.below × AreOwnTrees (t.was ++ t.above)
+    own = own-parts t.below (t.was ++ t.above) (subst (λ ws. AreOwnTrees ws) t.before (own-all d none))
+
+    with-it : list_all (has_toplevel c root) t.was ≡ true
+    with-it = sym (all-with c root t.was (own-parts t.was t.above own.1).0) ∙ rooted
+
+    apart : list_any (has_toplevel c root) (t.below ++ t.above) ≡ false
+    apart = sym (any-with c root (t.below ++ t.above) (own-both t.below t.above own.0 (own-parts t.was t.above own.1).1)) ∙ t.changes.apart
+
+    mine : filter (λ w. has_toplevel c root w) (all_windows d) ≡ t.was
+    mine = ap (filter (λ w. has_toplevel c root w)) t.before ∙ filter-among (λ w. has_toplevel c root w) t.below t.was t.above with-it apart
 
 -- ---- after
 

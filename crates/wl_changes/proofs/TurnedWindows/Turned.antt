@@ -12,10 +12,12 @@ use Rattle.wl_surface.specs.Surfaces.{history_in}
 use Rattle.wl_plain.specs.Desktop.{Desktop, owned_in}
 use Rattle.wl_plain.specs.Stacked.{all_windows}
 use Rattle.wl_stacked.specs.declared.stacked.Stacked.{Stacked}
-use Rattle.wl_stacked.specs.Stacked.{is_of, replaced, stacked, without_tree}
+use Rattle.wl_stacked.specs.Stacked.{is_of, replaced, stacked, without_run}
 use Rattle.wl_stacked.proofs.Together.{place-none}
-use Rattle.wl_lending.specs.Stacked.{AreNumberedBy, AreNumberedOnce, AreStacked, has_root, told_by}
-use Rattle.wl_lending.proofs.Standing.{stacked-pushed, stacked-replaced, stacked-tree-gone, tree-is-there}
+use Rattle.wl_lending.specs.Stacked.{AreNumberedBy, AreNumberedOnce, AreStacked, has_toplevel, told_by}
+use Rattle.wl_lending.proofs.Standing.{run-is-there, stacked-pushed, stacked-replaced, stacked-run-gone}
+use Rattle.wl_invariants.specs.NoPopups.{NoPopups}
+use Rattle.wl_invariants.specs.TreeMarksLaws.{has_root}
 use Rattle.wl_invariants.specs.TreeStanding.{standing_owner, windows_in}
 use Rattle.wl_invariants.proofs.TreeSteps.Owners.{tree-owned}
 use Rattle.wl_changes.specs.Changes.{ChangesTree}
@@ -25,6 +27,7 @@ use Rattle.wl_laws.proofs.Lists.Standings.{of-surface}
 use Rattle.wl_changes.proofs.OneTree.Stacks.{any-none, find-none, found-among, windows-among, windows-each}
 use Rattle.wl_changes.proofs.TurnedWindows.Shown.{shows-window}
 use Rattle.wl_changes.proofs.TurnedWindows.Told.{all-first, all-second}
+use Rattle.wl_changes.proofs.TurnedWindows.Toplevels.{AreOwnTrees, all-with, any-with, own-all, own-at, own-both, own-parts}
 
 -- ---- lists
 
@@ -94,17 +97,17 @@ none-at c root d none = ap (λ (o : Option Standing). windows_if (owned_in d c).
 eq-turned : (a b : ℕ) → (a == b) ≡ (b == a)
 eq-turned a b = same-equal a b b a (λ e. sym e) (λ e. sym e)
 
--- the windows of toplevels of which none is of this surface are of no tree of its
-rooted-elsewhere : (owned : ℕ → Owned) (c root : ℕ) (ss : List Standing) → list_any (is_standing c root) ss ≡ false → list_any (has_root c root) (windows_on owned ss) ≡ false
-rooted-elsewhere owned c root ss none = any-none (has_root c root) (windows_on owned ss) (windows-each (λ w. has_root c root w ≡ false) owned ss (each ss none))
+-- the windows of toplevels of which none is of this surface are stacked with no toplevel of its
+stacked-elsewhere : (owned : ℕ → Owned) (c root : ℕ) (ss : List Standing) → list_any (is_standing c root) ss ≡ false → list_any (has_toplevel c root) (windows_on owned ss) ≡ false
+stacked-elsewhere owned c root ss none = any-none (has_toplevel c root) (windows_on owned ss) (windows-each (λ w. has_toplevel c root w ≡ false) owned ss (each ss none))
   where
-    turned : (s : Standing) → is_standing c root s ≡ false → (w : Window) → w.owner ≡ standing_owner s → has_root c root w ≡ false
-    turned s other w own = ap (λ (o : Owner). (c == o.client) && (root == o.root)) own ∙ (ap₂ (λ a b. a && b) (eq-turned c s.client) (eq-turned root s.surface) ∙ other)
+    turned : (s : Standing) → is_standing c root s ≡ false → (w : Window) → w.owner ≡ standing_owner s → has_toplevel c root w ≡ false
+    turned s other w own = ap (λ (o : Owner). (c == o.client) && (root == o.toplevel)) own ∙ (ap₂ (λ a b. a && b) (eq-turned c s.client) (eq-turned root s.surface) ∙ other)
 
-    each : (ss : List Standing) → list_any (is_standing c root) ss ≡ false → Each (λ s. Each (λ w. has_root c root w ≡ false) (windows_in (owned s.client).surfaces s)) ss
+    each : (ss : List Standing) → list_any (is_standing c root) ss ≡ false → Each (λ s. Each (λ w. has_toplevel c root w ≡ false) (windows_in (owned s.client).surfaces s)) ss
     each [] none = tt
     each (s ∷ ss) none = (
-      each-so (λ w. w.owner ≡ standing_owner s) (λ w. has_root c root w ≡ false) (turned s (or-left (is_standing c root s) (list_any (is_standing c root) ss) none))
+      each-so (λ w. w.owner ≡ standing_owner s) (λ w. has_toplevel c root w ≡ false) (turned s (or-left (is_standing c root s) (list_any (is_standing c root) ss) none))
           (windows_in (owned s.client).surfaces s) (tree-owned 17 (standing_owner s) (owned s.client).surfaces s.surface s.place),
       each ss (or-right (is_standing c root s) (list_any (is_standing c root) ss) none),
     )
@@ -112,12 +115,26 @@ rooted-elsewhere owned c root ss none = any-none (has_root c root) (windows_on o
 -- ---- a tree that changes
 
 module _ (numbers : ℕ → ById ℕ) (all : List Stacked) (c root k : ℕ) (f : ℕ → ℕ) (d e : Desktop) (t : ChangesTree c root d e) (are : AreStacked numbers all (all_windows d))
-    (named : numbers c root ≡ Some k) (once : AreNumberedOnce (numbers c)) (by : AreNumberedBy (numbers c) f t.is) where
-  rooted-was : list_all (has_root c root) t.was ≡ true
-  rooted-was = all-first (has_root c root) t.was t.is t.changes.of_tree.rooted
+    (named : numbers c root ≡ Some k) (once : AreNumberedOnce (numbers c)) (by : AreNumberedBy (numbers c) f t.is) (none_d : NoPopups d) where
+  own-was : AreOwnTrees t.was
+  own-was = subst (λ ws. AreOwnTrees ws) (sym t.was_of) (own-at c root d)
 
-  rooted-is : list_all (has_root c root) t.is ≡ true
-  rooted-is = all-second (has_root c root) t.was t.is t.changes.of_tree.rooted
+  own-is : AreOwnTrees t.is
+  own-is = subst (λ ws. AreOwnTrees ws) (sym t.is_of) (own-at c root e)
+
+  own-others : AreOwnTrees (t.below ++ t.above)
+  own-others =
+      let parts = own-parts t.below (t.was ++ t.above) (subst (λ ws. AreOwnTrees ws) t.before (own-all d none_d)) in
+      own-both t.below t.above parts.0 (own-parts t.was t.above parts.1).1
+
+  with-was : list_all (has_toplevel c root) t.was ≡ true
+  with-was = sym (all-with c root t.was own-was) ∙ all-first (has_root c root) t.was t.is t.changes.of_tree.rooted
+
+  with-is : list_all (has_toplevel c root) t.is ≡ true
+  with-is = sym (all-with c root t.is own-is) ∙ all-second (has_root c root) t.was t.is t.changes.of_tree.rooted
+
+  apart : list_any (has_toplevel c root) (t.below ++ t.above) ≡ false
+  apart = sym (any-with c root (t.below ++ t.above) own-others) ∙ t.changes.apart
 
   before : AreStacked numbers all (t.below ++ (t.was ++ t.above))
   before = subst (λ ws. AreStacked numbers all ws) t.before are
@@ -125,28 +142,28 @@ module _ (numbers : ℕ → ById ℕ) (all : List Stacked) (c root k : ℕ) (f :
   -- where it has no window there is none that is kept
   kept-none : t.was ≡ [] → list_any (is_of c k) all ≡ false
   kept-none none =
-      tree-is-there numbers all (t.below ++ (t.was ++ t.above)) c root k before named once
-      ∙ (ap (λ ws. list_any (has_root c root) (t.below ++ (ws ++ t.above))) none ∙ t.changes.apart)
+      run-is-there numbers all (t.below ++ (t.was ++ t.above)) c root k before named once
+      ∙ (ap (λ ws. list_any (has_toplevel c root) (t.below ++ (ws ++ t.above))) none ∙ apart)
 
   -- Where the toplevel stands as it did, its windows come to the place of those that it had.
   pub stays-turned : (list_any (is_standing c root) d.standing ≡ true → shows_buffer (history_in root (owned_in d c).surfaces) ≡ true) → e.standing ≡ d.standing
       → AreStacked numbers (replaced c k (map (told_by f) t.is) all) (all_windows e)
-  stays-turned shows same = subst (λ ws. AreStacked numbers (replaced c k (map (told_by f) t.is) all) ws) (sym t.after) (at (list_any (has_root c root) t.was) refl)
+  stays-turned shows same = subst (λ ws. AreStacked numbers (replaced c k (map (told_by f) t.is) all) ws) (sym t.after) (at (list_any (has_toplevel c root) t.was) refl)
     where
-      at : (b : Bool) → list_any (has_root c root) t.was ≡ b → AreStacked numbers (replaced c k (map (told_by f) t.is) all) (t.below ++ (t.is ++ t.above))
-      at true some = stacked-replaced numbers all c root k f t.below t.above t.was t.is before rooted-was some t.changes.apart named once rooted-is by
+      at : (b : Bool) → list_any (has_toplevel c root) t.was ≡ b → AreStacked numbers (replaced c k (map (told_by f) t.is) all) (t.below ++ (t.is ++ t.above))
+      at true some = stacked-replaced numbers all c root k f t.below t.above t.was t.is before with-was some apart named once with-is by
       at false none =
-          let no_was : t.was ≡ [] = none-left (has_root c root) t.was rooted-was none in
+          let no_was : t.was ≡ [] = none-left (has_toplevel c root) t.was with-was none in
           let nowhere = none-stands c root d shows (sym t.was_of ∙ no_was) in
           let no_is : t.is ≡ [] = t.is_of ∙ none-at c root e (ap (find (is_standing c root)) same ∙ nowhere) in
           subst (λ xs. AreStacked numbers xs (t.below ++ (t.is ++ t.above))) (sym (place-none (is_of c k) (map (stacked c k) (map (told_by f) t.is)) all (kept-none no_was)))
           (subst (λ ws. AreStacked numbers all (t.below ++ (ws ++ t.above))) (no_was ∙ sym no_is) before)
 
   -- Where it doesn't stand any more, they go.
-  pub out-turned : find (is_standing c root) e.standing ≡ None → AreStacked numbers (without_tree c k all) (all_windows e)
+  pub out-turned : find (is_standing c root) e.standing ≡ None → AreStacked numbers (without_run c k all) (all_windows e)
   out-turned none =
-      subst (λ ws. AreStacked numbers (without_tree c k all) ws) (sym (t.after ∙ ap (λ ws. t.below ++ (ws ++ t.above)) (t.is_of ∙ none-at c root e none)))
-      (stacked-tree-gone numbers all c root k t.below t.above t.was before rooted-was t.changes.apart named once)
+      subst (λ ws. AreStacked numbers (without_run c k all) ws) (sym (t.after ∙ ap (λ ws. t.below ++ (ws ++ t.above)) (t.is_of ∙ none-at c root e none)))
+      (stacked-run-gone numbers all c root k t.below t.above t.was before with-was apart named once)
 
   -- Where it was mapped, they come on top.
   module _ (s : Standing) (its : is_standing c root s ≡ true) (windows : all_windows e ≡ windows_on (owned_in e) e.standing) (stands : e.standing ≡ d.standing ++ s ∷ [])
@@ -162,18 +179,18 @@ module _ (numbers : ℕ → ById ℕ) (all : List Stacked) (c root k : ℕ) (f :
         ap (λ ws. windows_on (owned_in e) d.standing ++ ws) (t.is_of ∙ ap (λ (o : Option Standing). windows_if (owned_in e c).surfaces o) found ∙ sym (append-none _))
         ∙ (sym (windows-among (owned_in e) c root d.standing [] (Some s) its) ∙ (ap (windows_on (owned_in e)) (sym stands) ∙ (sym windows ∙ t.after)))
 
-    none-behind : list_any (has_root c root) t.below ≡ false
-    none-behind = or-left (list_any (has_root c root) t.below) (list_any (has_root c root) t.above) (sym (list_any-append (has_root c root) t.below t.above) ∙ t.changes.apart)
+    none-behind : list_any (has_toplevel c root) t.below ≡ false
+    none-behind = or-left (list_any (has_toplevel c root) t.below) (list_any (has_toplevel c root) t.above) (sym (list_any-append (has_toplevel c root) t.below t.above) ∙ apart)
 
     all-on-top : all_windows e ≡ (t.below ++ (t.was ++ t.above)) ++ t.is
-    all-on-top = t.after ∙ (at t.is refl rooted-is whole ∙ ap (λ ws. (t.below ++ (ws ++ t.above)) ++ t.is) (sym no-was))
+    all-on-top = t.after ∙ (at t.is refl with-is whole ∙ ap (λ ws. (t.below ++ (ws ++ t.above)) ++ t.is) (sym no-was))
       where
-        at : (ws : List Window) → t.is ≡ ws → list_all (has_root c root) ws ≡ true → windows_on (owned_in e) d.standing ++ ws ≡ t.below ++ (ws ++ t.above)
+        at : (ws : List Window) → t.is ≡ ws → list_all (has_toplevel c root) ws ≡ true → windows_on (owned_in e) d.standing ++ ws ≡ t.below ++ (ws ++ t.above)
             → t.below ++ (t.is ++ t.above) ≡ (t.below ++ ([] ++ t.above)) ++ t.is
         at [] is rooted same = ap (λ vs. t.below ++ (vs ++ t.above)) is ∙ (sym (append-none (t.below ++ t.above)) ∙ ap (λ vs. (t.below ++ t.above) ++ vs) (sym is))
         at (w ∷ ws) is rooted same =
-            let cut = cut-same (has_root c root) (windows_on (owned_in e) d.standing) t.below w w ws (ws ++ t.above) (rooted-elsewhere (owned_in e) c root d.standing nowhere) none-behind
-            (and-left (has_root c root w) (list_all (has_root c root) ws) rooted) (and-left (has_root c root w) (list_all (has_root c root) ws) rooted) same in
+            let cut = cut-same (has_toplevel c root) (windows_on (owned_in e) d.standing) t.below w w ws (ws ++ t.above) (stacked-elsewhere (owned_in e) c root d.standing nowhere) none-behind
+            (and-left (has_toplevel c root w) (list_all (has_toplevel c root) ws) rooted) (and-left (has_toplevel c root w) (list_all (has_toplevel c root) ws) rooted) same in
             let no_above : t.above ≡ [] = append-self ws t.above (sym cut.1) in
             ap (λ vs. t.below ++ (t.is ++ vs)) no_above
             ∙ (ap (λ vs. t.below ++ vs) (append-none t.is)
@@ -183,4 +200,4 @@ module _ (numbers : ℕ → ById ℕ) (all : List Stacked) (c root k : ℕ) (f :
     top-turned =
         subst (λ b. AreStacked numbers (if b then replaced c k (map (told_by f) t.is) all else all ++ map (stacked c k) (map (told_by f) t.is)) (all_windows e)) (sym (kept-none no-was))
         (subst (λ ws. AreStacked numbers (all ++ map (stacked c k) (map (told_by f) t.is)) ws) (sym all-on-top)
-        (stacked-pushed numbers all (t.below ++ (t.was ++ t.above)) c root k f t.is before named rooted-is by))
+        (stacked-pushed numbers all (t.below ++ (t.was ++ t.above)) c root k f t.is before named with-is by))

@@ -9,7 +9,7 @@ use Rattle.wl_plain.specs.Changing.{changed_for, stacked_for}
 use Rattle.wl_plain.specs.Demand.{Demand}
 use Rattle.wl_plain.specs.Demanding.{judge_all}
 use Rattle.wl_plain.specs.Desktop.{Desktop, Resident, become, client_at, client_in, owned_in, owned_of, toplevels_of, with_client}
-use Rattle.wl_plain.specs.LeftOut.{LeftOut, served_now}
+use Rattle.wl_plain.specs.LeftOut.{LeftOut, popups_left_out}
 use Rattle.wl_plain.specs.Stacked.{all_windows}
 use Rattle.wl_plain.specs.Step.{with_peer}
 use Rattle.wl_laws.specs.Laws.{AreApart}
@@ -52,7 +52,7 @@ mapped d orderly stand = (mapped_is_shown d (no-popups d orderly)).1 stand
 
 -- ---- what is demanded is done, whatever is told then
 
-module _ (left : LeftOut) (leaves : LeavesOut served_now left) (c : ℕ) (r : Resident) (d new : Desktop) (is : client_at c d ≡ Some r) (alive : r.peer.status ≡ None) (orderly : Orderly d)
+module _ (left : LeftOut) (leaves : LeavesOut popups_left_out left) (c : ℕ) (r : Resident) (d new : Desktop) (is : client_at c d ≡ Some r) (alive : r.peer.status ≡ None) (orderly : Orderly d)
     (stand : MappedStand d) (rest : List ℕ) (object opcode : ℕ) (body : List ℕ) (demand : Demand) (judged : judge_all left r object opcode body ≡ Ok demand) where
   abbrev Now : Resident
   Now = counted_of r rest

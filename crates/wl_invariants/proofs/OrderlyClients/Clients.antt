@@ -14,7 +14,7 @@ use Rattle.wl_laws.proofs.Soundness.First.{no-trees}
 use Rattle.wl_laws.proofs.Soundness.Sound.{all-apart}
 use Rattle.wl_invariants.proofs.XdgRoots.Tied.{tied-first}
 use Rattle.wl_invariants.specs.NoPopups.{OwnsNoPopupsAt, OwnsNoPopupsBy}
-use Rattle.wl_plain.specs.LeftOut.{served_now}
+use Rattle.wl_plain.specs.LeftOut.{popups_left_out}
 use Rattle.wl_invariants.specs.Orderly.{AreMappedOnce, HangOrderly, HasMappedToplevel, LeavesOut, OrderlyAt, OrderlyBy}
 use Rattle.wl_invariants.specs.OrderlyLaws.{ClientsAreOrderly, DemandsKeepOrder, EmptyIsOrderly, EndedOwnNothing, EndsKeepOrder, FramesKeepOrder, MessagesKeepOrder}
 use Rattle.wl_invariants.specs.OrderlyLaws.{MessagesKeepOrderWhere, OnlyPeerChanges, OrderlyHasNoPopups, OrderlyStays, OrderlyStaysWhere, PiecesKeepOrder, SurfacesHangOrderly}
@@ -100,20 +100,20 @@ pub empty_is_orderly : EmptyIsOrderly
 empty_is_orderly output = empty-orderly output
 
 -- what is left out leaves itself out
-now-now : LeavesOut served_now served_now
+now-now : LeavesOut popups_left_out popups_left_out
 now-now request e = e
 
 pub orderly_stays_where : OrderlyStaysWhere
 orderly_stays_where left leaves act done d e alone orderly h = happens-orderly left leaves act done d e alone orderly h
 
 pub orderly_stays : OrderlyStays
-orderly_stays act done d e alone orderly h = happens-orderly served_now now-now act done d e alone orderly h
+orderly_stays act done d e alone orderly h = happens-orderly popups_left_out now-now act done d e alone orderly h
 
 pub messages_keep_order_where : MessagesKeepOrderWhere
 messages_keep_order_where left leaves c d e orderly h = serves-orderly left leaves c d e orderly h
 
 pub messages_keep_order : MessagesKeepOrder
-messages_keep_order c d e orderly h = serves-orderly served_now now-now c d e orderly h
+messages_keep_order c d e orderly h = serves-orderly popups_left_out now-now c d e orderly h
 
 pub pieces_keep_order : PiecesKeepOrder
 pieces_keep_order c r bytes d orderly is alive = kept-orderly c r bytes d orderly is alive

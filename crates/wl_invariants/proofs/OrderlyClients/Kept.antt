@@ -10,7 +10,7 @@ use Rattle.wl_plain.specs.Demand.{Demand}
 use Rattle.wl_plain.specs.Demanding.{judge_all}
 use Rattle.wl_plain.specs.Desktop.{Desktop, Resident, arrival, toplevels_of}
 use Rattle.wl_plain.specs.Framing.{done_due}
-use Rattle.wl_plain.specs.LeftOut.{LeftOut, served_now}
+use Rattle.wl_plain.specs.LeftOut.{LeftOut, popups_left_out}
 use Rattle.wl_plain.specs.Stacked.{all_windows}
 use Rattle.wl_plain.specs.Step.{with_peer}
 use Rattle.wl_invariants.specs.NoPopups.{OwnsNoPopups}
@@ -36,7 +36,7 @@ framed-lives r tops lives = let k = to-order r tops lives in of-order (done_due 
 
 -- ---- a message is accepted
 
-module _ (left : LeftOut) (leaves : LeavesOut served_now left) (c : ℕ) (r : Resident) (rest : List ℕ) (object opcode : ℕ) (body : List ℕ) (demand : Demand) (d : Desktop)
+module _ (left : LeftOut) (leaves : LeavesOut popups_left_out left) (c : ℕ) (r : Resident) (rest : List ℕ) (object opcode : ℕ) (body : List ℕ) (demand : Demand) (d : Desktop)
     (judged : judge_all left r object opcode body ≡ Ok demand) (still : d.pointer ≡ first_pointer) (lives : Lives r (toplevels_of c d)) where
   abbrev pub Counted : Resident
   Counted = with_peer (counted (with_rest rest r.peer)) r
@@ -48,7 +48,7 @@ module _ (left : LeftOut) (leaves : LeavesOut served_now left) (c : ℕ) (r : Re
   Tops = toplevels_of c (stacked_simply c demand Counted d)
 
   pub demand-served : IsServed demand
-  demand-served = demands_are_served r object opcode body demand (judged-less demand served_now left leaves r object opcode body judged)
+  demand-served = demands_are_served r object opcode body demand (judged-less demand popups_left_out left leaves r object opcode body judged)
 
   pub counted-owns : OwnsNoPopups Counted
   counted-owns = only-peer r (counted (with_rest rest r.peer)) refl lives.0.no_popups

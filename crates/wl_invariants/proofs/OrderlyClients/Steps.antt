@@ -10,7 +10,7 @@ use Rattle.wl_plain.specs.Demanding.{judge_all}
 use Rattle.wl_plain.specs.Desktop.{Desktop, Resident, become, client_at, toplevels_of, with_client}
 use Rattle.wl_plain.specs.Framing.{FramesToldAt}
 use Rattle.wl_plain.specs.Happens.{Happens, Serves}
-use Rattle.wl_plain.specs.LeftOut.{LeftOut, served_now}
+use Rattle.wl_plain.specs.LeftOut.{LeftOut, popups_left_out}
 use Rattle.wl_plain.specs.Stacked.{all_windows}
 use Rattle.wl_plain.specs.Step.{with_peer}
 use Rattle.wl_invariants.specs.Acts.{LeavesPointer}
@@ -31,7 +31,7 @@ kept-orderly c r bytes d orderly is alive = of-all _ (piece-keeps NoneStands Ord
 pub frame-orderly : (time c : ℕ) (d new : Desktop) → Orderly d → FramesToldAt time c (client_at c d) d new → Orderly new
 frame-orderly time c d new orderly h = of-all new (frame-keeps NoneStands OrderlyBy orderly-kept time c d new (to-all d orderly) h)
 
-module _ (left : LeftOut) (leaves : LeavesOut served_now left) where
+module _ (left : LeftOut) (leaves : LeavesOut popups_left_out left) where
   demands-orderly : DemandsKeep left OrderlyBy
   demands-orderly c r rest object opcode body demand d judged still lives = made-lives left leaves c r rest object opcode body demand d judged still lives
 

@@ -7,7 +7,7 @@ use Rattle.wl_plain.specs.declared.answers.Done.{Done}
 use Rattle.wl_plain.specs.Desktop.{Desktop, Resident, client_at, toplevels_of}
 use Rattle.wl_invariants.specs.NoPopups.{HasNoPointers, NoPopups}
 use Rattle.wl_invariants.specs.NoPopupsLaws.{OthersStay}
-use Rattle.wl_plain.specs.LeftOut.{served_now}
+use Rattle.wl_plain.specs.LeftOut.{popups_left_out}
 use Rattle.wl_plain.specs.Act.{Act, Connect, Feed, Store, Leave, Tick, Send, Close, Motion, Button, is_tick, lowest}
 use Rattle.wl_laws.proofs.Runs.Forms.{ConnectsAt}
 use Rattle.wl_plain.specs.Happens.{Happens}
@@ -61,7 +61,7 @@ nobody (Some k) old new done none (inr h) = absurd (none-some (k + 1) (sym none 
 
 -- what happens that is no client's step, and no frame, leaves each client as it was that has no wl_pointers
 no-client : (act : Act) (old new : Desktop) (done : Done) (other : ℕ) → is_tick act ≡ false → NoPopups old → HasNoPointers (client_at other old) → client_of act done ≡ None
-    → Happens served_now act done old new
+    → Happens popups_left_out act done old new
     → (client_at other new ≡ client_at other old) × (toplevels_of other new ≡ toplevels_of other old)
 no-client Connect old new done other untimed has bare none h = same-all other old new (nobody (lowest old.clients) old new done none h)
 no-client (Tick time) old new done other untimed has bare none h = absurd (differ untimed)
@@ -74,12 +74,12 @@ no-client (Send c n) old new done other untimed has bare none h = absurd (none-s
 no-client (Close c) old new done other untimed has bare none h = absurd (none-some c (sym none))
 
 -- whatever happens, where the client has no wl_pointers
-bare-stays : (act : Act) (done : Done) (old new : Desktop) (other : ℕ) → is_tick act ≡ false → NoPopups old → HasNoPointers (client_at other old) → Happens served_now act done old new
+bare-stays : (act : Act) (done : Done) (old new : Desktop) (other : ℕ) → is_tick act ≡ false → NoPopups old → HasNoPointers (client_at other old) → Happens popups_left_out act done old new
     → client_of act done ≢ Some other → (client_at other new ≡ client_at other old) × (toplevels_of other new ≡ toplevels_of other old)
 bare-stays act done old new other untimed has bare h apart = at (client_of act done) refl
   where
     at : (o : Option ℕ) → client_of act done ≡ o → (client_at other new ≡ client_at other old) × (toplevels_of other new ≡ toplevels_of other old)
-    at (Some c) e = alone-same other old new bare (others_are_left_alone served_now act done c other old new e h (λ same. apart (e ∙ ap Some same)))
+    at (Some c) e = alone-same other old new bare (others_are_left_alone popups_left_out act done c other old new e h (λ same. apart (e ∙ ap Some same)))
     at None e = no-client act old new done other untimed has bare e h
 
 pub others_stay : OthersStay

@@ -28,7 +28,7 @@ use Rattle.wl_laws.proofs.Soundness.RunSteady.{changed-steady}
 use Rattle.wl_invariants.proofs.KeptRecords.Toplevels.Back.{settled-back, told-back}
 use Rattle.wl_invariants.proofs.KeptRecords.Toplevels.Serves.{IsDone, after-same, becomes-same, becomes-whole, by-pointer, ended_why, is-done}
 use Rattle.wl_invariants.specs.NoPopups.{NoPopups, OwnsNoPopups, OwnsNoPopupsAt, OwnsNoPopupsBy}
-use Rattle.wl_plain.specs.LeftOut.{served_now}
+use Rattle.wl_plain.specs.LeftOut.{popups_left_out}
 use Rattle.wl_invariants.specs.Simple.{AnswersSimply, Becomes, DoesSimply, IsServed, TakesSimply, WantsOr, answers_simply, changed_simply, stacked_simply, told_simply}
 use Rattle.wl_invariants.specs.SimpleLaws.{MessagesAreSimple}
 use Rattle.wl_invariants.proofs.WithoutPopups.Served.{IsServedSo, judge-served}
@@ -89,9 +89,9 @@ module _ (c : ℕ) (demand : Demand) (r there : Resident) (d new : Desktop) (is 
   stacks : done_for c demand r d ≡ on
   stacks = does_no_more c demand r d still owns served
 
-  replies-same : replies served_now c demand r made (all_windows d) d ≡ told_simply demand r
+  replies-same : replies popups_left_out c demand r made (all_windows d) d ≡ told_simply demand r
   replies-same =
-      subst (λ (m : Resident). replies served_now c demand r m (all_windows d) d ≡ answers_simply demand r ++ releases r m) changes
+      subst (λ (m : Resident). replies popups_left_out c demand r m (all_windows d) d ≡ answers_simply demand r ++ releases r m) changes
       (replies_simply c demand r (all_windows d) d still owns served)
 
   found : client_at c on ≡ Some there
@@ -103,22 +103,22 @@ module _ (c : ℕ) (demand : Demand) (r there : Resident) (d new : Desktop) (is 
   on-still : on.pointer ≡ first_pointer
   on-still = stacked-pointer c demand r d ∙ still
 
-  does-back : Does served_now c demand r d new → DoesSimply demand c r d new
+  does-back : Does popups_left_out c demand r d new → DoesSimply demand c r d new
   does-back h =
-      let third : IsDone (replies served_now c demand r made (all_windows d) d) c made (done_for c demand r d) new =
-      subst (λ (m : Resident). IsDone (replies served_now c demand r m (all_windows d) d) c m (done_for c demand r d) new) changes h in
-      let second : IsDone (replies served_now c demand r made (all_windows d) d) c made on new =
-      subst (λ (e : Desktop). IsDone (replies served_now c demand r made (all_windows d) d) c made e new) stacks third in
+      let third : IsDone (replies popups_left_out c demand r made (all_windows d) d) c made (done_for c demand r d) new =
+      subst (λ (m : Resident). IsDone (replies popups_left_out c demand r m (all_windows d) d) c m (done_for c demand r d) new) changes h in
+      let second : IsDone (replies popups_left_out c demand r made (all_windows d) d) c made on new =
+      subst (λ (e : Desktop). IsDone (replies popups_left_out c demand r made (all_windows d) d) c made e new) stacks third in
       let first : IsDone (told_simply demand r) c made on new = subst (λ (events : List Said). IsDone events c made on new) replies-same second in
       done-back (told_simply demand r) c made there on new found on-still lives first
 
-  does-whole : DoesSimply demand c r d new → Does served_now c demand r d new
+  does-whole : DoesSimply demand c r d new → Does popups_left_out c demand r d new
   does-whole h =
       let first : IsDone (told_simply demand r) c made on new = is-done (told_simply demand r) c made there on new found on-still lives h in
-      let second : IsDone (replies served_now c demand r made (all_windows d) d) c made on new = subst (λ (events : List Said). IsDone events c made on new) (sym replies-same) first in
-      let third : IsDone (replies served_now c demand r made (all_windows d) d) c made (done_for c demand r d) new =
-      subst (λ (e : Desktop). IsDone (replies served_now c demand r made (all_windows d) d) c made e new) (sym stacks) second in
-      subst (λ (m : Resident). IsDone (replies served_now c demand r m (all_windows d) d) c m (done_for c demand r d) new) (sym changes) third
+      let second : IsDone (replies popups_left_out c demand r made (all_windows d) d) c made on new = subst (λ (events : List Said). IsDone events c made on new) (sym replies-same) first in
+      let third : IsDone (replies popups_left_out c demand r made (all_windows d) d) c made (done_for c demand r d) new =
+      subst (λ (e : Desktop). IsDone (replies popups_left_out c demand r made (all_windows d) d) c made e new) (sym stacks) second in
+      subst (λ (m : Resident). IsDone (replies popups_left_out c demand r m (all_windows d) d) c m (done_for c demand r d) new) (sym changes) third
 
 -- ---- a message
 
@@ -134,7 +134,7 @@ module _ (c : ℕ) (there : Resident) (d new : Desktop) (is : client_at c d ≡ 
   wants-whole true r Later Then next (inr h) = inr (next h)
 
   answers-so : (judged : Result Demand Refusal) → IsServedSo judged → (r : Resident) → r.peer.status ≡ None → OwnsNoPopups r
-      → StepAnswers served_now judged c r d new ↔ AnswersSimply judged c r d new
+      → StepAnswers popups_left_out judged c r d new ↔ AnswersSimply judged c r d new
   answers-so (Ok demand) served r alive owns =
       let now : Resident = with_peer (counted r.peer) r in
       let mine : OwnsNoPopups now = only-peer r (counted r.peer) refl owns in (
@@ -144,10 +144,10 @@ module _ (c : ℕ) (there : Resident) (d new : Desktop) (is : client_at c d ≡ 
   answers-so (Err refusal) served r alive owns =
       (λ h. becomes-back (Errs refusal r.peer) c r d new still h, λ h. becomes-whole (Errs refusal r.peer) c r d new still h)
 
-  takes-so : (split : Split) (r : Resident) → r.peer.status ≡ None → OwnsNoPopups r → Takes served_now split c r d new ↔ TakesSimply split c r d new
+  takes-so : (split : Split) (r : Resident) → r.peer.status ≡ None → OwnsNoPopups r → Takes popups_left_out split c r d new ↔ TakesSimply split c r d new
   takes-so (Message object opcode size) r alive owns =
       let body = take (size - 8) (drop 8 r.peer.rest) in
-      answers-so (judge_all served_now r object opcode body) (judge-served r object opcode body) (with_peer (with_rest (drop size r.peer.rest) r.peer) r) alive
+      answers-so (judge_all popups_left_out r object opcode body) (judge-served r object opcode body) (with_peer (with_rest (drop size r.peer.rest) r.peer) r) alive
       (only-peer r (with_rest (drop size r.peer.rest) r.peer) refl owns)
   takes-so Bad r alive owns =
       (λ h. becomes-back (Errs (display_error InvalidMethod) r.peer) c r d new still h, λ h. becomes-whole (Errs (display_error InvalidMethod) r.peer) c r d new still h)
@@ -156,15 +156,15 @@ module _ (c : ℕ) (there : Resident) (d new : Desktop) (is : client_at c d ≡ 
 pub messages_are_simple : MessagesAreSimple
 messages_are_simple c r d new has is = (there, back)
   where
-    so : r.peer.status ≡ None → Takes served_now (split_of r.peer.rest) c r d new ↔ TakesSimply (split_of r.peer.rest) c r d new
+    so : r.peer.status ≡ None → Takes popups_left_out (split_of r.peer.rest) c r d new ↔ TakesSimply (split_of r.peer.rest) c r d new
     so alive = takes-so c r d new is has.pointer (split_of r.peer.rest) r alive (owns-there c r d has is alive)
 
-    there : ServesAt served_now c (client_at c d) d new → (r.peer.status ≡ None) × TakesSimply (split_of r.peer.rest) c r d new
+    there : ServesAt popups_left_out c (client_at c d) d new → (r.peer.status ≡ None) × TakesSimply (split_of r.peer.rest) c r d new
     there h =
-        let k : ServesAt served_now c (Some r) d new = subst (λ (o : Option Resident). ServesAt served_now c o d new) is h in
+        let k : ServesAt popups_left_out c (Some r) d new = subst (λ (o : Option Resident). ServesAt popups_left_out c o d new) is h in
         (k.0, (so k.0).0 k.1)
 
-    back : (r.peer.status ≡ None) × TakesSimply (split_of r.peer.rest) c r d new → ServesAt served_now c (client_at c d) d new
+    back : (r.peer.status ≡ None) × TakesSimply (split_of r.peer.rest) c r d new → ServesAt popups_left_out c (client_at c d) d new
     back h =
-        let k : ServesAt served_now c (Some r) d new = (h.0, (so h.0).1 h.1) in
-        subst (λ (o : Option Resident). ServesAt served_now c o d new) (sym is) k
+        let k : ServesAt popups_left_out c (Some r) d new = (h.0, (so h.0).1 h.1) in
+        subst (λ (o : Option Resident). ServesAt popups_left_out c o d new) (sym is) k

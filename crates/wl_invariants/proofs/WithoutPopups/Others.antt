@@ -16,7 +16,7 @@ use Rattle.wl_plain.specs.Demand.{Demand}
 use Rattle.wl_plain.specs.Demanding.{judge_all}
 use Rattle.wl_plain.specs.Desktop.{Desktop, Resident, arrival, become, become_by, client_at, client_in, resident_of, toplevels_of, with_client}
 use Rattle.wl_plain.specs.Happens.{FeedsAt, Happens, IsFedAt, Reaches, Serves, StopsAt, wants_memory}
-use Rattle.wl_plain.specs.LeftOut.{served_now}
+use Rattle.wl_plain.specs.LeftOut.{popups_left_out}
 use Rattle.wl_plain.specs.Settling.{EndsAndSettles, becomes, unstruck}
 use Rattle.wl_plain.specs.Step.{with_peer}
 use Rattle.wl_laws.specs.Others.{client_of}
@@ -97,14 +97,14 @@ module _ (c : ℕ) (d e : Desktop) where
 
   takes-others : (split : Split) (r : Resident) → TakesSimply split c r d e → LeavesOthers c d e
   takes-others (Message object opcode size) r h =
-      answers-others (judge_all served_now r object opcode (take (size - 8) (drop 8 r.peer.rest))) (with_peer (with_rest (drop size r.peer.rest) r.peer) r) h
+      answers-others (judge_all popups_left_out r object opcode (take (size - 8) (drop 8 r.peer.rest))) (with_peer (with_rest (drop size r.peer.rest) r.peer) r) h
   takes-others Bad r h = becomes-others (Errs (display_error InvalidMethod) r.peer) r h
   takes-others More r h = absurd h
 
-serves-others : (c : ℕ) (d e : Desktop) → NoPopups d → Serves served_now c d e → LeavesOthers c d e
+serves-others : (c : ℕ) (d e : Desktop) → NoPopups d → Serves popups_left_out c d e → LeavesOthers c d e
 serves-others c d e has h = at (client_at c d) refl h
   where
-    at : (o : Option Resident) → client_at c d ≡ o → ServesAt served_now c o d e → LeavesOthers c d e
+    at : (o : Option Resident) → client_at c d ≡ o → ServesAt popups_left_out c o d e → LeavesOthers c d e
     at None is served = absurd served
     at (Some r) is served =
         let k : ServesSimply c r d e = (messages_are_simple c r d e has is).0 h in
@@ -112,7 +112,7 @@ serves-others c d e has h = at (client_at c d) refl h
 
 -- ---- a piece
 
-reaches-others : (n c : ℕ) (d e : Desktop) → NoPopups d → Reaches served_now c n d e → LeavesOthers c d e
+reaches-others : (n c : ℕ) (d e : Desktop) → NoPopups d → Reaches popups_left_out c n d e → LeavesOthers c d e
 reaches-others zero c d e has h = same-others c d e h
 reaches-others (suc n) c d e has h =
     then-others c d h.0 e (reaches-others n c d h.0 has h.1) (serves-others c h.0 e (reaches-has n c d h.0 has h.1) h.2)
@@ -122,7 +122,7 @@ stops-others c None d e has h = absurd h
 stops-others c (Some r) d e has (inl h) = same-others c d e h.0
 stops-others c (Some r) d e has (inr h) = settled-others c Memory r d e has h.1
 
-feeds-others : (s : Option Cause) (c : ℕ) (piece : List ℕ) (r : Resident) (d e : Desktop) → client_at c d ≡ Some r → NoPopups d → FeedsAt served_now c piece s r d e → LeavesOthers c d e
+feeds-others : (s : Option Cause) (c : ℕ) (piece : List ℕ) (r : Resident) (d e : Desktop) → client_at c d ≡ Some r → NoPopups d → FeedsAt popups_left_out c piece s r d e → LeavesOthers c d e
 feeds-others (Some cause) c piece r d e is has h = same-others c d e h
 feeds-others None c piece r d e is has h =
     let come : Peer = with_rest (r.peer.rest ++ piece) r.peer in
@@ -131,7 +131,7 @@ feeds-others None c piece r d e is has h =
     then-others c d from e (with-others c (Some (with_peer come r)) d from refl)
     (then-others c from h.1 e (reaches-others h.0 c from h.1 start h.2) (stops-others c (client_at c h.1) h.1 e (reaches-has h.0 c from h.1 start h.2) h.3))
 
-fed-others : (c : ℕ) (piece : List ℕ) (o : Option Resident) (d : Desktop) (done : Done) (e : Desktop) → client_at c d ≡ o → NoPopups d → IsFedAt served_now c piece o d done e
+fed-others : (c : ℕ) (piece : List ℕ) (o : Option Resident) (d : Desktop) (done : Done) (e : Desktop) → client_at c d ≡ o → NoPopups d → IsFedAt popups_left_out c piece o d done e
     → LeavesOthers c d e
 fed-others c piece None d done e is has h = same-others c d e h.1
 fed-others c piece (Some r) d done e is has h = feeds-others r.peer.status c piece r d e is has h.0
@@ -163,7 +163,7 @@ connects-as-was (Some k) other old new done apart (inr h) =
 
 -- ---- every step that leaves the pointer alone
 
-pub unpointed-stay : (act : Act) (done : Done) (old new : Desktop) (other : ℕ) → is_tick act ≡ false → LeavesPointer act → NoPopups old → Happens served_now act done old new
+pub unpointed-stay : (act : Act) (done : Done) (old new : Desktop) (other : ℕ) → is_tick act ≡ false → LeavesPointer act → NoPopups old → Happens popups_left_out act done old new
     → client_of act done ≢ Some other → IsAsWas other old new
 unpointed-stay Connect done old new other untimed leaves has h apart = connects-as-was (lowest old.clients) other old new done apart h
 unpointed-stay (Feed c piece) done old new other untimed leaves has h apart =

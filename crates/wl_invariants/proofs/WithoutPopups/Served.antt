@@ -39,8 +39,8 @@ use Rattle.wl_plain.specs.WlPointer.{cursor_set, is_no_cursor}
 use Rattle.wl_plain.specs.WlSubsurface.{beside, demand_by_link, has_subsurface, is_no_subsurface, link_of_subsurface, placed_beside, subsurface_made}
 use Rattle.wl_plain.specs.WlSurface.{surface_created, transform_set}
 use Rattle.wl_plain.specs.XdgShell.{acknowledged_by, base_destroyed, geometry_set, role_of, state_asked, toplevel_made, xdg_surface_destroyed, xdg_surface_made}
-use Rattle.wl_plain.specs.LeftOut.{served_now}
-use Rattle.wl_plain.specs.Served.{unserved_now}
+use Rattle.wl_plain.specs.LeftOut.{popups_left_out}
+use Rattle.wl_plain.specs.Served.{of_popups}
 use Rattle.wl_invariants.specs.Simple.{IsServed}
 use Rattle.wl_invariants.specs.SimpleLaws.{DemandsAreServed}
 
@@ -111,7 +111,7 @@ base-served r object version (base.CreatePositioner id) = tt
 base-served r object version (base.GetXdgSurface id surface) = demands-served (xdg_surface_made r object version id surface)
 base-served r object version (base.Pong serial) = tt
 
-xdg-served : (r : Resident) (x : Option Xdg) (version : ℕ) (request : XdgSurfaceRequest) → unserved_now (ToXdgSurface request) ≡ false → IsServedSo (xdg_asked r x version request)
+xdg-served : (r : Resident) (x : Option Xdg) (version : ℕ) (request : XdgSurfaceRequest) → of_popups (ToXdgSurface request) ≡ false → IsServedSo (xdg_asked r x version request)
 xdg-served r None version request served = tt
 xdg-served r (Some x) version xdg.Destroy served = demands-served (xdg_surface_destroyed x)
 xdg-served r (Some x) version (xdg.GetToplevel id) served = demands-served (toplevel_made r x version id)
@@ -142,7 +142,7 @@ toplevel-served object (Some x) request = tt
 own-served : (r : Resident) (object version : ℕ) (request : Request) → IsServedSo (own_demand r object version request)
 own-served r object version request = demands-served (owns (action_of (known_of r.peer) object version request))
 
-interface-served : (request : Request) (r : Resident) (object version : ℕ) → unserved_now request ≡ false → IsServedSo (demand_by request r object version)
+interface-served : (request : Request) (r : Resident) (object version : ℕ) → of_popups request ≡ false → IsServedSo (demand_by request r object version)
 interface-served (ToCompositor (compositor.CreateSurface id)) r object version served = demands-served (surface_created r id version)
 interface-served (ToCompositor (compositor.CreateRegion id)) r object version served = own-served r object version (ToCompositor (compositor.CreateRegion id))
 interface-served (ToSurface request) r object version served = surface-served r object version request
@@ -159,9 +159,9 @@ interface-served (ToPointer (pointer.SetCursor serial surface x y)) r object ver
 interface-served (ToPopup request) r object version served = absurd (cc)
 interface-served request r object version served = own-served r object version request
 
-demand-served : (r : Resident) (object version : ℕ) (m : Message) → IsServedSo (demand_of served_now r object version m)
+demand-served : (r : Resident) (object version : ℕ) (m : Message) → IsServedSo (demand_of popups_left_out r object version m)
 demand-served r object version m =
-    if-served (unserved_now (request_of m)) _ _ (λ left. tt) (λ served. interface-served (request_of m) r object version served)
+    if-served (of_popups (request_of m)) _ _ (λ left. tt) (λ served. interface-served (request_of m) r object version served)
 
 -- ---- the judgement
 
@@ -177,13 +177,13 @@ judged-served objects held demand (Ok m) served =
     if-served (list_all (fits objects) (objects_named m)) _ _ (λ fit. new_id-served objects held (new_id_in m) (demand m) (served m)) (λ unfit. tt)
 
 judged_at-served : (r : Resident) (object opcode : ℕ) (body : List ℕ) (o : Option Object)
-    → IsServedSo (judged_at r.peer.objects r.peer.held (λ version m. demand_of served_now r object version m) opcode body o)
+    → IsServedSo (judged_at r.peer.objects r.peer.held (λ version m. demand_of popups_left_out r object version m) opcode body o)
 judged_at-served r object opcode body None = tt
 judged_at-served r object opcode body (Some o) =
-    judged-served r.peer.objects r.peer.held (λ m. demand_of served_now r object o.version m) (decoded o.interface o.version opcode body) (λ m. demand-served r object o.version m)
+    judged-served r.peer.objects r.peer.held (λ m. demand_of popups_left_out r object o.version m) (decoded o.interface o.version opcode body) (λ m. demand-served r object o.version m)
 
 -- a message is served so, or refused
-pub judge-served : (r : Resident) (object opcode : ℕ) (body : List ℕ) → IsServedSo (judge_all served_now r object opcode body)
+pub judge-served : (r : Resident) (object opcode : ℕ) (body : List ℕ) → IsServedSo (judge_all popups_left_out r object opcode body)
 judge-served r object opcode body = judged_at-served r object opcode body (r.peer.objects object)
 
 pub demands_are_served : DemandsAreServed

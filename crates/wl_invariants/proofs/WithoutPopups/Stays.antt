@@ -11,7 +11,7 @@ use Rattle.wl_plain.specs.Demand.{Demand, CommitTree, EndToplevel}
 use Rattle.wl_plain.specs.Desktop.{Desktop, Resident, arrival, client_at, toplevels_of, with_client}
 use Rattle.wl_plain.specs.Framing.{done_due}
 use Rattle.wl_plain.specs.Happens.{Reaches, is_counting}
-use Rattle.wl_plain.specs.LeftOut.{served_now}
+use Rattle.wl_plain.specs.LeftOut.{popups_left_out}
 use Rattle.wl_plain.specs.Step.{with_peer}
 use Rattle.wl_laws.proofs.Isolation.Others.{left_out, on_top, one_surface}
 use Rattle.wl_laws.proofs.Soundness.Allowed.{allowed}
@@ -76,13 +76,13 @@ none-kept = record {
 }
 
 -- what is served demands none
-demands-none : DemandsKeep served_now OwnsNoPopupsBy
+demands-none : DemandsKeep popups_left_out OwnsNoPopupsBy
 demands-none c r rest object opcode body demand d judged still owns =
     let now : Resident = counted_of r rest in
     let counts : OwnsNoPopups now = only-peer r now.peer refl owns in
     let changes = changes_simply c demand now d still counts (demands_are_served r object opcode body demand judged) in
     of-known (changed_for c demand now d)
-    (demanded-known c demand now d (allowed-counted r rest demand (allowed served_now r object opcode body demand judged)) (known-of now counts))
+    (demanded-known c demand now d (allowed-counted r rest demand (allowed popups_left_out r object opcode body demand judged)) (known-of now counts))
     (subst (λ (q : Resident). AreToplevels q.owned.shell) (sym changes) (tops-kept demand now counts.roles))
 
 of-all : (d : Desktop) → AllAre Any OwnsNoPopupsBy d → NoPopups d
@@ -100,8 +100,8 @@ empty_has_no_popups output = of-all _ (empty-all Any OwnsNoPopupsBy none-kept ou
 pub piece-has : (c : ℕ) (r : Resident) (bytes : List ℕ) (d : Desktop) → NoPopups d → client_at c d ≡ Some r → NoPopups (with_client c (Some (with_peer (with_rest bytes r.peer) r)) d)
 piece-has c r bytes d has is = of-all _ (piece-keeps Any OwnsNoPopupsBy none-kept c r bytes d (to-all d has) is)
 
-pub reaches-has : (n c : ℕ) (d e : Desktop) → NoPopups d → Reaches served_now c n d e → NoPopups e
-reaches-has n c d e has h = of-all e (reaches-keeps Any OwnsNoPopupsBy none-kept served_now demands-none n c d e (to-all d has) h)
+pub reaches-has : (n c : ℕ) (d e : Desktop) → NoPopups d → Reaches popups_left_out c n d e → NoPopups e
+reaches-has n c d e has h = of-all e (reaches-keeps Any OwnsNoPopupsBy none-kept popups_left_out demands-none n c d e (to-all d has) h)
 
 pub no_popups_stay : NoPopupsStay
-no_popups_stay act done d e leaves has h = of-all e (happens-keeps Any OwnsNoPopupsBy none-kept served_now demands-none act done d e leaves (to-all d has) h)
+no_popups_stay act done d e leaves has h = of-all e (happens-keeps Any OwnsNoPopupsBy none-kept popups_left_out demands-none act done d e leaves (to-all d has) h)

@@ -1,14 +1,14 @@
 -- What each thing that is asked changes of what a client owns, and of what is kept of it.
 use Rattle.std.proofs.Common.{◌≡◌, ℕ, ◌+◌, List, Bool, true, false, Option, Some, None, cond, length, refl, ap, sym, subst, ◌∙◌, eq-eqb}
 use Rattle.std.specs.Prelude.{◌==◌, ℤ, IfSome, Ok, Result, fold, is_some}
-use Rattle.std.specs.Option.{option_map, option_map_or}
+use Rattle.std.specs.Option.{option_and_then, option_map, option_map_or}
 use Rattle.wl_geom.specs.declared.rect.Rect.{Rect}
 use Rattle.wl_family.specs.Family.{Tied}
 use Rattle.wl_surface.specs.Slots.{Changes, Numbered, Slots, StandForAll, with_at, count as count_kept}
 use Rattle.wl_state.specs.Request.{Request, Commit, SetWindowGeometry}
 use Rattle.wl_state.specs.State.{History, apply, geometry_asked, is_commit}
 use Rattle.wl_state.specs.Surface.{Surface, asking, new_surface, with_role}
-use Rattle.wl_surface.specs.Surfaces.{Surfaces, history_in, surface_at, with_change as with_surface_change}
+use Rattle.wl_surface.specs.Surfaces.{history_in, with_change as with_surface_change}
 use Rattle.wl_state.specs.declared.role.Role.TheVariants.{Cursor as AsCursor, Toplevel as AsToplevel}
 use Rattle.wl_shell.specs.Agreement.{with_history}
 use Rattle.wl_xdg_state.specs.Kept.{Kept, Stands, changing, commit_answer, effect_answer, first_kept, kept_acknowledging, kept_after, kept_asking, kept_configuring, kept_toplevel, kept_without_role}
@@ -17,7 +17,7 @@ use Rattle.wl_xdg_state.specs.Laws.{one_more}
 use Rattle.wl_xdg_state.specs.Shell.{Effect, Stays, Unconfigured, Configures, Maps, Unmaps, Fresh, Waiting, Mapped, Popup, RoleObject, Shell, XdgSurface, acknowledging, at_stage, configuring}
 use Rattle.wl_xdg_state.specs.Shell.{Configure as Waits, in_stage, is_full}
 use Rattle.wl_xdg_state.specs.Shell.{is_role, new_toplevel, role_acknowledged, unmapping, with_change, without_role, xdg_of}
-use Rattle.wl_xdg_state.specs.Popups.{effect_in, kind_popup, placing, popup_changed, popup_in, with_effect, with_popup_role, without_grab}
+use Rattle.wl_xdg_state.specs.Popups.{effect_in, kind_popup, placing, popup_in, with_effect, without_grab}
 use Rattle.wl_xdg_state.specs.Positioner.{Placed, place}
 use Rattle.wl_xdg_state.specs.declared.acts.ShellAct.{ShellAct}
 use Rattle.wl_xdg_state.specs.declared.acts.ShellAct.TheVariants.{Configure, Map, Unmap, Nothing}
@@ -36,6 +36,7 @@ use Rattle.wl_tree_laws.specs.Stacks.{is_about_children}
 use Rattle.wl_stacking.specs.Stacking.{Owned}
 use Rattle.wl_plain.specs.Ask.{CreateSurface, AskSurface, GetXdgSurface, DestroyXdgSurface, GetToplevel, Acknowledge, ConfigureAgain}
 use Rattle.wl_plain.specs.Desktop.{Resident}
+use Rattle.wl_owning.specs.Popups.{popup_of_surface}
 use Rattle.wl_owning.specs.Owning.{IsOwned, IsXdg, KeepsRole, Names, effect_by, with_surface, with_toplevel, with_xdg}
 use Rattle.wl_plain.specs.Step.{asked_so_far, toplevel_given, xdg_changed}
 use Rattle.wl_owning.proofs.Keeping.OwningChanges.{IsOwned-history, IsOwned-left, IsOwned-made, IsOwned-shelled}
@@ -45,33 +46,17 @@ use Rattle.wl_owning.proofs.Keeping.Ids.{ids-changed, ids-committed, ids-without
 use Rattle.wl_owning.proofs.Keeping.OwningSurfaces.{AreKept-left, AreKept-then, geometry-asked, surface-named}
 use Rattle.wl_owning.proofs.Keeping.OwningTies.{asked-by, committed-by, left-by, role-by}
 use Rattle.wl_owning.proofs.Keeping.Roots.{agree-child, agree-committed}
-use Rattle.wl_owning.proofs.Keeping.OwningXdg.{histories-changed, histories-same, xdg-of, xdg-of-none}
-use Rattle.wl_plain.specs.Changing.{drawing, is_configure, tree_committed}
+use Rattle.wl_owning.proofs.Keeping.OwningXdg.{histories-same, xdg-of, xdg-of-none}
+use Rattle.wl_plain.specs.Changing.{drawing, effect_placing, is_configure, tree_committed}
 use Rattle.wl_plain.specs.Demand.{Asks, EndSurface, EndToplevel, MakeCursor}
 use Rattle.wl_plain.specs.Demanding.{effect_on_xdg}
 use Rattle.wl_invariants.specs.Simple.{changed_simply, effect_on}
 use Rattle.wl_invariants.specs.Toplevels.{AreToplevels, IsToplevel}
 use Rattle.wl_invariants.proofs.KeptRecords.Toplevels.Judged.{IsToplevelAt, found-toplevel}
 use Rattle.wl_owning.proofs.Keeping.OwningReads.{effect-by-role}
-
--- ---- histories of a surface that changes
-
-surface-of : (o : Option Surface) (h : History) → option_map (λ (s : Surface). s.history) o ≡ Some h → (s : Surface) × (o ≡ Some s) × (s.history ≡ h)
-surface-of None h e = absurd (cc)
-surface-of (Some s) h e = (s, refl, cc)
-
-histories-to : (id : ℕ) (change : Surface → Surface) (to : History → History) (all : Surfaces) (h : History) → ((s : Surface) → (change s).id ≡ s.id)
-    → ((s : Surface) → (change s).history ≡ to s.history) → history_in id all ≡ Some h
-    → (λ other. history_in other (with_surface_change id change all)) ≡ with_history id (Some (to h)) (λ other. history_in other all)
-histories-to id change to all h keeps moves there =
-    let one = surface-of (surface_at id all) h there in
-    histories-changed id change all one.0 keeps one.1 ∙ ap (λ (g : History). with_history id (Some g) (λ other. history_in other all)) (moves one.0 ∙ ap to one.2)
+use Rattle.wl_owning.proofs.Popups.Stepping.{histories-to, popup-keeps, same-role}
 
 -- ---- changes of an xdg_surface
-
-same-role : (change : RoleObject → RoleObject) (object : ℕ) (o : Option RoleObject) → ((r : RoleObject) → (change r).id ≡ r.id) → is_role object (option_map change o) ≡ is_role object o
-same-role change object None keeps = refl
-same-role change object (Some r) keeps = ap (λ i. i == object) (keeps r)
 
 itself-keeps : KeepsRole (λ x. x)
 itself-keeps = record { id = λ x. refl; surface = λ x. refl; role = λ object x. refl }
@@ -84,10 +69,6 @@ acknowledging-keeps serial = record { id = λ x. refl; surface = λ x. refl; rol
 
 configuring-keeps : (serial : ℕ) → KeepsRole (configuring serial)
 configuring-keeps serial = record { id = λ x. refl; surface = λ x. refl; role = λ object x. refl }
-
--- a popup's change leaves the role object's id
-popup-keeps : (change : Popup → Popup) → KeepsRole (popup_changed change)
-popup-keeps change = record { id = λ x. refl; surface = λ x. refl; role = λ object x. same-role (with_popup_role change) object x.role (λ r. refl) }
 
 effect-keeps : (serial since : ℕ) (where_to : Popup → Option Placed) (effect : Effect) → KeepsRole (with_effect serial since where_to effect)
 effect-keeps serial since where_to Stays = itself-keeps
@@ -109,9 +90,9 @@ drawn-owned true r = refl
 drawn-owned false r = refl
 
 -- what a commit comes to, as one change
-effect-owned : (id : ℕ) (effect : Effect) (x : XdgSurface) (r : Resident)
-    → (effect_on id effect (Some x) r).owned ≡ record r.owned { shell = with_change x.id (with_effect r.peer.serial (asked_so_far id r) (λ popup. None) effect) r.owned.shell }
-effect-owned id effect x r = drawn-owned (is_configure effect) (xdg_changed x.id (with_effect r.peer.serial (asked_so_far id r) (λ popup. None) effect) r)
+effect-owned : (where_to : Popup → Option Placed) (id : ℕ) (effect : Effect) (x : XdgSurface) (r : Resident)
+    → (effect_placing where_to id effect (Some x) r).owned ≡ record r.owned { shell = with_change x.id (with_effect r.peer.serial (asked_so_far id r) where_to effect) r.owned.shell }
+effect-owned where_to id effect x r = drawn-owned (is_configure effect) (xdg_changed x.id (with_effect r.peer.serial (asked_so_far id r) where_to effect) r)
 
 -- ---- what is asked
 
@@ -119,6 +100,10 @@ effect-owned id effect x r = drawn-owned (is_configure effect) (xdg_changed x.id
 no-popup : (o : Option RoleObject) → IsToplevel o → popup_in o ≡ None
 no-popup None top = refl
 no-popup (Some object) top = ap kind_popup top
+
+no-popup-on : (o : Option XdgSurface) → IsToplevelAt o → option_and_then (λ x. popup_in x.role) o ≡ None
+no-popup-on None top = refl
+no-popup-on (Some x) top = no-popup x.role top
 
 module _ (names : Names) (slots : Slots) (tied : Tied) (kept : ℕ → Option Kept) (r : Resident) (is : IsOwned names slots tied kept r.owned) where
   pub owned-created : (id version number : ℕ) (new : Slots) (now : Names) → names.surfaces id ≡ None
@@ -256,45 +241,48 @@ module _ (names : Names) (slots : Slots) (tied : Tied) (kept : ℕ → Option Ke
         (sym (histories-same x.surface (Some h) (λ other. history_in other r.owned.surfaces) one.history))) (changes_stand.destruction k x h one.stands)))
 
     -- a commit of its surface
-    committed-with : (shows : Bool) (bounds : Rect) (parent_at : ℤ × ℤ) (act : ShellAct) (new : Slots) (tying : Tied) → AreOnceLinked r.owned.surfaces.links → AreNumbered r.owned.surfaces.links
+    committed-with : (where_to : Popup → Option Placed) (shows : Bool) (bounds : Rect) (parent_at : ℤ × ℤ) (act : ShellAct) (new : Slots) (tying : Tied)
+        → AreOnceLinked r.owned.surfaces.links → AreNumbered r.owned.surfaces.links
         → ((surface : ℕ) → is_some (xdg_of surface r.owned.shell) ≡ true → IsNoChild surface r.owned.surfaces)
-        → IsToplevel x.role → Makes slots tied new tying (committed_in number) → commit_answer shows bounds parent_at (Some k) ≡ Ok act
+        → IfSome (popup_in x.role) (λ popup. where_to popup ≡ place popup.positioner bounds parent_at) → Makes slots tied new tying (committed_in number)
+        → commit_answer shows bounds parent_at (Some k) ≡ Ok act
         → IsOwned names new tying (changing number (kept_after r.peer.serial act) kept)
-        (effect_on x.surface (effect_in shows x.role) (Some x) (tree_committed x.surface r)).owned
-    committed-with shows bounds parent_at act new tying once apart roots top makes answer =
+        (effect_placing where_to x.surface (effect_in shows x.role) (Some x) (tree_committed x.surface r)).owned
+    committed-with where_to shows bounds parent_at act new tying once apart roots placed makes answer =
         let all = committed_in x.surface r.owned.surfaces in
         let then = tree_committed x.surface r in
         let effect = effect_in shows x.role in
-        let placed = subst (λ (o : Option Popup). IfSome o (λ popup. None ≡ place popup.positioner bounds parent_at)) (sym (no-popup x.role top)) tt in
         let now = apply (one_more Commit h) in
         let has : is_some (xdg_of x.surface r.owned.shell) ≡ true = ap is_some one.of_surface in
         let histories = agree-committed r.owned.surfaces r.owned.shell once apart roots x.surface h one.history has in
         let since : asked_so_far x.surface then ≡ length (one_more Commit h).requests =
         ap (λ (g : Option History). option_map_or (λ (h : History). length h.requests) g 0) (sym (histories x.surface has))
         ∙ ap (λ b. option_map_or (λ (h : History). length h.requests) (cond b (Some now) (history_in x.surface r.owned.surfaces)) 0) (eq-eqb x.surface x.surface refl) in
-        let stands : Stands (kept_after r.peer.serial act k) (with_effect r.peer.serial (asked_so_far x.surface then) (λ popup. None) effect x) now =
-        subst (λ n. Stands (kept_after r.peer.serial act k) (with_effect r.peer.serial n (λ popup. None) effect x) now) (sym since)
-        (changes_stand.commit shows bounds parent_at r.peer.serial (λ popup. None) act k x h answer placed one.stands) in
-        subst (λ (o : Owned). IsOwned names new tying (changing number (kept_after r.peer.serial act) kept) o) (sym (effect-owned x.surface effect x then))
+        let stands : Stands (kept_after r.peer.serial act k) (with_effect r.peer.serial (asked_so_far x.surface then) where_to effect x) now =
+        subst (λ n. Stands (kept_after r.peer.serial act k) (with_effect r.peer.serial n where_to effect x) now) (sym since)
+        (changes_stand.commit shows bounds parent_at r.peer.serial where_to act k x h answer placed one.stands) in
+        subst (λ (o : Owned). IsOwned names new tying (changing number (kept_after r.peer.serial act) kept) o) (sym (effect-owned where_to x.surface effect x then))
         (IsOwned-stepped names slots tied kept r.owned is number k x h one (kept_after r.peer.serial act)
-        (with_effect r.peer.serial (asked_so_far x.surface then) (λ popup. None) effect) now new tying all
-        (effect-keeps r.peer.serial (asked_so_far x.surface then) (λ popup. None) effect)
+        (with_effect r.peer.serial (asked_so_far x.surface then) where_to effect) now new tying all
+        (effect-keeps r.peer.serial (asked_so_far x.surface then) where_to effect)
         (AreKept-then names.surfaces slots tied r.owned.surfaces is.surfaces new tying all (ids-committed x.surface r.owned.surfaces)
         (committed-by names.surfaces slots tied r.owned.surfaces is.surfaces x.surface number one.surface new tying makes))
         histories stands)
 
-  pub owned-committed : (id number : ℕ) (shows : Bool) (bounds : Rect) (parent_at : ℤ × ℤ) (act : ShellAct) (new : Slots) (tying : Tied) (after : ℕ → Option Kept) → AreToplevels r.owned.shell
-      → AreOnceLinked r.owned.surfaces.links
+  -- a popup is placed so
+  pub owned-placed : (where_to : Popup → Option Placed) (id number : ℕ) (shows : Bool) (bounds : Rect) (parent_at : ℤ × ℤ) (act : ShellAct) (new : Slots) (tying : Tied) (after : ℕ → Option Kept)
+      → IfSome (popup_of_surface id r.owned.shell) (λ popup. where_to popup ≡ place popup.positioner bounds parent_at) → AreOnceLinked r.owned.surfaces.links
       → AreNumbered r.owned.surfaces.links → ((surface : ℕ) → is_some (xdg_of surface r.owned.shell) ≡ true → IsNoChild surface r.owned.surfaces)
       → names.surfaces id ≡ Some number → Makes slots tied new tying (committed_in number)
       → commit_answer shows bounds parent_at (kept number) ≡ Ok act → after ≡ changing number (kept_after r.peer.serial act) kept
-      → IsOwned names new tying after (effect_on id (effect_on_xdg shows (xdg_of id r.owned.shell)) (xdg_of id r.owned.shell) (tree_committed id r)).owned
-  owned-committed id number shows bounds parent_at act new tying after tops once apart roots named makes answer keeps =
-      subst (λ (ks : ℕ → Option Kept). IsOwned names new tying ks (effect_on id (effect_on_xdg shows (xdg_of id r.owned.shell)) (xdg_of id r.owned.shell) (tree_committed id r)).owned) (sym keeps)
+      → IsOwned names new tying after (effect_placing where_to id (effect_on_xdg shows (xdg_of id r.owned.shell)) (xdg_of id r.owned.shell) (tree_committed id r)).owned
+  owned-placed where_to id number shows bounds parent_at act new tying after places once apart roots named makes answer keeps =
+      subst (λ (ks : ℕ → Option Kept). IsOwned names new tying ks (effect_placing where_to id (effect_on_xdg shows (xdg_of id r.owned.shell)) (xdg_of id r.owned.shell) (tree_committed id r)).owned)
+      (sym keeps)
       (at (kept number) refl)
     where
       Done : Option XdgSurface → ℕ → Type 0
-      Done o i = IsOwned names new tying (changing number (kept_after r.peer.serial act) kept) (effect_on i (effect_on_xdg shows o) o (tree_committed i r)).owned
+      Done o i = IsOwned names new tying (changing number (kept_after r.peer.serial act) kept) (effect_placing where_to i (effect_on_xdg shows o) o (tree_committed i r)).owned
 
       at : (o : Option Kept) → kept number ≡ o → Done (xdg_of id r.owned.shell) id
       at None here =
@@ -310,12 +298,25 @@ module _ (names : Names) (slots : Slots) (tied : Tied) (kept : ℕ → Option Ke
           refl (λ x some found. refl) is.known))
       at (Some k) here =
           let xdg = xdg-of names slots tied kept r.owned is id number k named here in
-          let top : IsToplevel xdg.0.role = subst IsToplevelAt xdg.3 (found-toplevel (λ x. x.surface == id) r.owned.shell tops) in
-          let done = committed-with number k xdg.0 xdg.1 xdg.2 shows bounds parent_at act new tying once apart roots top makes (ap (commit_answer shows bounds parent_at) (sym here) ∙ answer) in
+          let placed = subst (λ (o : Option XdgSurface). IfSome (option_and_then (λ x. popup_in x.role) o) (λ popup. where_to popup ≡ place popup.positioner bounds parent_at)) xdg.3 places in
+          let done = committed-with number k xdg.0 xdg.1 xdg.2 where_to shows bounds parent_at act new tying once apart roots placed makes
+          (ap (commit_answer shows bounds parent_at) (sym here) ∙ answer) in
           subst (λ (o : Option XdgSurface). Done o id) (sym xdg.3)
           (subst (λ i. Done (Some xdg.0) i) xdg.4
-          (subst (λ effect. IsOwned names new tying (changing number (kept_after r.peer.serial act) kept) (effect_on xdg.0.surface effect (Some xdg.0) (tree_committed xdg.0.surface r)).owned)
+          (subst (λ effect. IsOwned names new tying (changing number (kept_after r.peer.serial act) kept)
+          (effect_placing where_to xdg.0.surface effect (Some xdg.0) (tree_committed xdg.0.surface r)).owned)
           (sym (effect-by-role shows xdg.0)) done))
+
+  pub owned-committed : (id number : ℕ) (shows : Bool) (bounds : Rect) (parent_at : ℤ × ℤ) (act : ShellAct) (new : Slots) (tying : Tied) (after : ℕ → Option Kept) → AreToplevels r.owned.shell
+      → AreOnceLinked r.owned.surfaces.links
+      → AreNumbered r.owned.surfaces.links → ((surface : ℕ) → is_some (xdg_of surface r.owned.shell) ≡ true → IsNoChild surface r.owned.surfaces)
+      → names.surfaces id ≡ Some number → Makes slots tied new tying (committed_in number)
+      → commit_answer shows bounds parent_at (kept number) ≡ Ok act → after ≡ changing number (kept_after r.peer.serial act) kept
+      → IsOwned names new tying after (effect_on id (effect_on_xdg shows (xdg_of id r.owned.shell)) (xdg_of id r.owned.shell) (tree_committed id r)).owned
+  owned-committed id number shows bounds parent_at act new tying after tops =
+      owned-placed (λ popup. None) id number shows bounds parent_at act new tying after
+      (subst (λ (o : Option Popup). IfSome o (λ popup. None ≡ place popup.positioner bounds parent_at))
+      (sym (no-popup-on (xdg_of id r.owned.shell) (found-toplevel (λ x. x.surface == id) r.owned.shell tops))) tt)
 
   -- what a commit comes to for the shell is what the shell answered
   pub answered-effect : (id number : ℕ) (shows : Bool) (bounds : Rect) (parent_at : ℤ × ℤ) (act : ShellAct) → names.surfaces id ≡ Some number → commit_answer shows bounds parent_at (kept number) ≡ Ok act

@@ -4,5 +4,5 @@ use Rattle.wl_stacked.proofs.Places.{placed-run}
 use Rattle.wl_stacked.proofs.replaces_a_run.Goals as goal
 
 pub returns : goal.returns
-returns c = λ client root windows below first others above none here all over.
-    placed-run (is_of client root) (map (stacked client root) windows) below first others above none here all over
+returns c = λ client toplevel windows below first others above none here all over.
+    placed-run (is_of client toplevel) (map (stacked client toplevel) windows) below first others above none here all over

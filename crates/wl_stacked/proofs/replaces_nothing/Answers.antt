@@ -4,4 +4,4 @@ use Rattle.wl_stacked.proofs.Together.{place-none}
 use Rattle.wl_stacked.proofs.replaces_nothing.Goals as goal
 
 pub returns : goal.returns
-returns c = λ client root windows all none. place-none (is_of client root) (map (stacked client root) windows) all none
+returns c = λ client toplevel windows all none. place-none (is_of client toplevel) (map (stacked client toplevel) windows) all none

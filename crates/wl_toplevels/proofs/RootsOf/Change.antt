@@ -64,7 +64,7 @@ OthersAreKept c t d e = Each (λ s. is_of c t s ≡ false → ToplevelIsKept d e
 module _ (c t : ℕ) (d e : Desktop) (had : IsSound d) (has : IsSound e) (others : OthersAreKept c t d e) (roots : List ℕ) (turn : AreInTurn roots (windows_with c t d))
     (turn-now : AreInTurn roots (windows_with c t e)) (same : All (λ w. All (SameRoot w) (windows_with c t d)) (windows_with c t e)) where
   -- The toplevel stands, or not, among the others.
-  toplevel-changes : (below above : List Standing) (o p : Option Standing) → d.standing ≡ below ++ stand o above → e.standing ≡ below ++ stand p above
+  pub toplevel-changes : (below above : List Standing) (o p : Option Standing) → d.standing ≡ below ++ stand o above → e.standing ≡ below ++ stand p above
       → IsItsOwn c t o → IsItsOwn c t p → list_any (is_of c t) below ≡ false → list_any (is_of c t) above ≡ false → ChangesToplevel c t d e
   toplevel-changes below above o p parts parts-now own own-now no_lower no_higher =
       record {

@@ -1,20 +1,20 @@
 -- What each demand changes of the windows.
-use Rattle.std.specs.Prelude.{◌==◌}
-use Rattle.std.proofs.Common.{None, Option, ◌≡◌, ℕ, Bool, true, false, cond, Some, map, refl, ap, sym, subst, ◌∙◌}
+use Rattle.std.specs.Prelude.{◌==◌, filter}
+use Rattle.std.proofs.Common.{None, Option, ◌≡◌, ℕ, Bool, true, false, cond, Some, [], ◌∷◌, ◌++◌, map, refl, ap, sym, subst, ◌∙◌}
 use Rattle.std.specs.Option.{option_and_then, option_map}
 use Rattle.std.proofs.lemmas.Bool.{eqb-true}
 use Rattle.wl_peer.specs.Peer.{Peer}
 use Rattle.wl_state.specs.Request.{Frame}
-use Rattle.wl_state.specs.declared.role.Role.TheVariants.{Cursor as AsCursor}
+use Rattle.wl_state.specs.declared.role.Role.TheVariants.{Cursor as AsCursor, Popup as AsPopup, Toplevel as AsToplevel}
 use Rattle.wl_surface.specs.Surfaces.{Surfaces, link_at, with_new}
-use Rattle.wl_xdg_state.specs.Popups.{Popped, dismissing, first_of, is_parent_of, is_popup_mapped, orphaning, popped_of, popup_at, popup_changed, with_grab}
-use Rattle.wl_xdg_state.specs.Shell.{XdgSurface, acknowledging, configuring, with_change as with_xdg, without_role, xdg_at}
+use Rattle.wl_xdg_state.specs.Popups.{Popped, dismissing, first_of, is_parent_of, is_popup_mapped, new_popup, orphaning, popped_of, popup_at, popup_changed, with_grab}
+use Rattle.wl_xdg_state.specs.Shell.{Shell, XdgSurface, acknowledging, configuring, new_toplevel, with_change as with_xdg, without_role, without_xdg, xdg_at}
 use Rattle.wl_stacking.specs.Stacking.{Owned}
-use Rattle.wl_plain.specs.Ask.{Acknowledge, AskSurface, ConfigureAgain, CreateSurface, EndObject, Ignore, Own}
-use Rattle.wl_plain.specs.Changing.{drawing, grab_allowed, grabbed, has_focus}
-use Rattle.wl_plain.specs.Demand.{AskFrame, Asks, Demand, EndPopup, EndSubsurface, EndSurface, GetPointer, GetSubsurface, Grab, MakeCursor, Move, SetMode}
+use Rattle.wl_plain.specs.Ask.{Acknowledge, AskSurface, ConfigureAgain, CreateSurface, DestroyXdgSurface, EndObject, GetToplevel, GetXdgSurface, Ignore, Own}
+use Rattle.wl_plain.specs.Changing.{drawing, grab_allowed, grabbed, has_focus, popup_given_to}
+use Rattle.wl_plain.specs.Demand.{AskFrame, Asks, Demand, EndPopup, EndSubsurface, EndSurface, GetPointer, GetPopup, GetSubsurface, Grab, MakeCursor, Move, SetMode}
 use Rattle.wl_plain.specs.Desktop.{Desktop, Resident, client_at, owned_in, owned_of}
-use Rattle.wl_plain.specs.Step.{with_peer}
+use Rattle.wl_plain.specs.Step.{asked_so_far, toplevel_given, with_peer}
 use Rattle.wl_plain.specs.WlSubsurface.{subsurface_at}
 use Rattle.wl_tree_laws.specs.Hanging.{AreNumbered, AreTied}
 use Rattle.wl_tree_laws.specs.Laws.{AreOnceLinked}
@@ -23,9 +23,9 @@ use Rattle.wl_invariants.proofs.TreeSteps.Commits.{request-keeps-all, role-keeps
 use Rattle.wl_invariants.proofs.TreeSteps.Ends.{destruction-keeps-others}
 use Rattle.wl_invariants.proofs.TreeSteps.Modes.{mode-keeps-all}
 use Rattle.wl_toplevels.specs.Changes.{HasTrees, StaysPainted}
-use Rattle.wl_toplevels.specs.Done.{IsDone, IsMeant}
-use Rattle.wl_toplevels.specs.DemandLaws.{CommitsChangeOneToplevel, GrabsChangeNoWindow, ModesChangeOneToplevel, PopupEndsChangeOneToplevel, RequestsChangeNoWindow, StatesChangeNoWindow}
-use Rattle.wl_toplevels.specs.DemandLaws.{SubsurfaceEndsChangeOneToplevel, SurfaceEndsChangeOneToplevel, ToplevelEndsChangeOneToplevel}
+use Rattle.wl_toplevels.specs.Done.{HasNoRole, IsDone, IsMeant}
+use Rattle.wl_toplevels.specs.DemandLaws.{CommitsChangeOneToplevel, GrabsChangeNoWindow, ModesChangeOneToplevel, PopupEndsChangeOneToplevel, RequestsChangeNoWindow, RolesChangeNoWindow}
+use Rattle.wl_toplevels.specs.DemandLaws.{StatesChangeNoWindow, SubsurfaceEndsChangeOneToplevel, SurfaceEndsChangeOneToplevel, ToplevelEndsChangeOneToplevel}
 use Rattle.wl_toplevels.specs.StackedWith.{ChangesAt, ChangesWith, IsStackedAs, popup_of}
 use Rattle.wl_toplevels.specs.Toplevel.{ChangesToplevel}
 use Rattle.wl_toplevels.proofs.RootsOf.Toplevels.{toplevel-end-changes}
@@ -44,6 +44,8 @@ use Rattle.wl_toplevels.proofs.RootsOf.PopupEnds.{popup-end-changes}
 use Rattle.wl_toplevels.proofs.RootsOf.Popped.{IsPopped, IsThere, KeepsPopups}
 use Rattle.wl_toplevels.proofs.RootsOf.Requests.{acknowledging-keeps, acknowledging-stacked, changed-stacked, configuring-keeps, configuring-stacked, desynchronised, ended, given, grab-keeps}
 use Rattle.wl_toplevels.proofs.RootsOf.Requests.{grab-stacked, kept, kept-by, same-keeps, tree-kept}
+use Rattle.wl_toplevels.proofs.RootsOf.Unroled.{changed-painted, gone-painted, new-painted}
+use Rattle.wl_xdg_state.specs.Positioner.{Positioner}
 
 module _ (c : ℕ) (r : Resident) (p : Peer) (d e : Desktop) (had : HasTrees d) (has : HasTrees e) (here : client_at c d ≡ Some r) where
   abbrev all : Surfaces
@@ -220,4 +222,62 @@ states-change = record {
       (changed-keeps xdg (configuring p.serial) (configuring-keeps p.serial)) (changed-stacked xdg (configuring p.serial) (configuring-stacked p.serial)) refl;
   ignore = λ c r p d e had has here meant done.
       still c r p d e had has here (Asks Ignore) done done.stack _ done.own refl (same-keeps r.owned.surfaces);
+}
+
+-- ---- xdg_surfaces without role objects
+
+module _ (c : ℕ) (r : Resident) (p : Peer) (d e : Desktop) (had : HasTrees d) (has : HasTrees e) (here : client_at c d ≡ Some r) (demand : Demand)
+    (done : IsDone c demand (with_peer p r) d e) (stack : e.standing ≡ d.standing) (o : Owned) (own : owned_in e c ≡ o) (keeps : KeepsAll r.owned.surfaces o.surfaces) where
+  keeps-left : KeepsAll (surfaces_in d c) (surfaces_in e c)
+  keeps-left =
+      subst (λ (x : Surfaces). KeepsAll (surfaces_in d c) x) (ap (λ (o : Owned). o.surfaces) (sym own))
+      (subst (λ (x : Surfaces). KeepsAll x o.surfaces) (sym (was c r p d e had has here)) keeps)
+
+  left-shell : (f : Shell → Shell) → o.shell ≡ f r.owned.shell → (owned_in e c).shell ≡ f (owned_in d c).shell
+  left-shell f shell = ap (λ (o : Owned). o.shell) own ∙ (shell ∙ ap (λ (o : Owned). f o.shell) (sym (was-owned c r p d e had has here)))
+
+  -- one comes
+  comes : (x : XdgSurface) → x.role ≡ None → o.shell ≡ r.owned.shell ++ x ∷ [] → StaysPainted d e
+  comes x bare shell = new-painted c x d e had has done.others stack keeps-left bare (left-shell (λ s. s ++ x ∷ []) shell)
+
+  module _ (xdg : ℕ) (bare : HasNoRole xdg r.owned.shell) where
+    bare-there : (x : XdgSurface) → xdg_at xdg (owned_in d c).shell ≡ Some x → x.role ≡ None
+    bare-there x found = bare x (ap (λ (o : Owned). xdg_at xdg o.shell) (sym (was-owned c r p d e had has here)) ∙ found)
+
+    -- or goes
+    goes : o.shell ≡ without_xdg xdg r.owned.shell → StaysPainted d e
+    goes shell = gone-painted c xdg d e had done.others stack keeps-left bare-there (left-shell (without_xdg xdg) shell)
+
+    -- or gets a role object that isn't mapped
+    given-role : (change : XdgSurface → XdgSurface) → ((x : XdgSurface) → (change x).id ≡ x.id) → ((x : XdgSurface) → (change x).surface ≡ x.surface)
+        → ((x : XdgSurface) → filter is_popup_mapped (popped_of (change x)) ≡ []) → o.shell ≡ with_xdg xdg change r.owned.shell → StaysPainted d e
+    given-role change ids surfaces none shell =
+        changed-painted c xdg d e had done.others stack keeps-left bare-there change ids surfaces none (left-shell (with_xdg xdg change) shell)
+
+toplevel-given : (id version xdg c : ℕ) (r : Resident) (p : Peer) (d e : Desktop) → HasTrees d → HasTrees e → client_at c d ≡ Some r → IsMeant (Asks (GetToplevel id version xdg)) r
+    → IsDone c (Asks (GetToplevel id version xdg)) (with_peer p r) d e → (o : Option XdgSurface) → owned_in e c ≡ (toplevel_given id xdg o (with_peer p r)).owned → StaysPainted d e
+toplevel-given id version xdg c r p d e had has here meant done None own =
+    still c r p d e had has here (Asks (GetToplevel id version xdg)) done done.stack _ own refl (same-keeps r.owned.surfaces)
+toplevel-given id version xdg c r p d e had has here meant done (Some x) own =
+    given-role c r p d e had has here (Asks (GetToplevel id version xdg)) done done.stack _ own (role-keeps-all r.owned.surfaces x.surface AsToplevel).1 xdg meant
+    (new_toplevel id (asked_so_far x.surface (with_peer p r))) (λ y. refl) (λ y. refl) (λ y. refl) refl
+
+popup-given : (id version xdg parent : ℕ) (q : Positioner) (c : ℕ) (r : Resident) (p : Peer) (d e : Desktop) → HasTrees d → HasTrees e → client_at c d ≡ Some r
+    → IsMeant (GetPopup id version xdg parent q) r → IsDone c (GetPopup id version xdg parent q) (with_peer p r) d e → (o : Option XdgSurface)
+    → owned_in e c ≡ (popup_given_to id xdg parent q o (with_peer p r)).owned → StaysPainted d e
+popup-given id version xdg parent q c r p d e had has here meant done None own =
+    still c r p d e had has here (GetPopup id version xdg parent q) done done.stack _ own refl (same-keeps r.owned.surfaces)
+popup-given id version xdg parent q c r p d e had has here meant done (Some x) own =
+    given-role c r p d e had has here (GetPopup id version xdg parent q) done done.stack _ own (role-keeps-all r.owned.surfaces x.surface AsPopup).1 xdg meant
+    (new_popup id parent q p.requests (asked_so_far x.surface (with_peer p r))) (λ y. refl) (λ y. refl) (λ y. refl) refl
+
+pub roles-change : RolesChangeNoWindow
+roles-change = record {
+  get_xdg_surface = λ id version base surface c r p d e had has here meant done.
+      comes c r p d e had has here (Asks (GetXdgSurface id version base surface)) done done.stack _ done.own (same-keeps r.owned.surfaces)
+      (record { id = id; base = base; surface = surface; role = None; configures = []; since = 0 }) refl refl;
+  destroy_xdg_surface = λ id c r p d e had has here meant done.
+      goes c r p d e had has here (Asks (DestroyXdgSurface id)) done done.stack _ done.own (same-keeps r.owned.surfaces) id meant refl;
+  get_toplevel = λ id version xdg c r p d e had has here meant done. toplevel-given id version xdg c r p d e had has here meant done (xdg_at xdg r.owned.shell) done.own;
+  get_popup = λ id version xdg parent q c r p d e had has here meant done. popup-given id version xdg parent q c r p d e had has here meant done (xdg_at xdg r.owned.shell) done.own;
 }

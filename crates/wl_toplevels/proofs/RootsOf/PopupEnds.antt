@@ -27,7 +27,7 @@ use Rattle.wl_toplevels.proofs.RootsOf.Touched.{HadParent, Touches, is_other}
 use Rattle.wl_toplevels.proofs.RootsOf.Trees.{any-tree}
 use Rattle.wl_toplevels.proofs.RootsOf.Turns.{AreFrom, from-filter, popup_surfaces}
 
-filter-append : {X : Type 0} (k : X → Bool) (xs ys : List X) → filter k (xs ++ ys) ≡ filter k xs ++ filter k ys
+pub filter-append : {X : Type 0} (k : X → Bool) (xs ys : List X) → filter k (xs ++ ys) ≡ filter k xs ++ filter k ys
 filter-append k [] ys = refl
 filter-append k (x ∷ xs) ys = at (k x) (filter-append k xs ys)
   where

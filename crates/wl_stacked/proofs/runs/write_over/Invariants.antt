@@ -3,4 +3,4 @@ use Rattle.wl_stacked.specs.Stacked.{stacked}
 use Rattle.wl_stacked.proofs.runs.write_over.Given as goal
 
 abbrev pub invariant-loop-k : goal.invariant-loop-k
-invariant-loop-k l = l.all ≡ take l.start l.initial.all ++ (map (stacked l.client l.root) (take l.k l.windows) ++ drop (l.start + l.k) l.initial.all)
+invariant-loop-k l = l.all ≡ take l.start l.initial.all ++ (map (stacked l.client l.toplevel) (take l.k l.windows) ++ drop (l.start + l.k) l.initial.all)

@@ -5,7 +5,7 @@ use Rattle.wl_stacked.proofs.stacked.add_all.Given as goal
 
 abbrev pub invariant-loop-window : goal.invariant-loop-window
 invariant-loop-window g l = record {
-  added : l.all.items ≡ l.fn.all.items ++ map (stacked l.client l.root) (take l.window-index l.windows);
+  added : l.all.items ≡ l.fn.all.items ++ map (stacked l.client l.toplevel) (take l.window-index l.windows);
   len : vec_len l.all ≤ vec_len l.initial.all + l.window-index;
   capacity : vec_capacity l.all ≡ vec_capacity l.initial.all;
 }

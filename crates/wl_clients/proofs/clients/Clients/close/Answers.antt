@@ -56,7 +56,7 @@ returns-clause-step g c =
     steps-whole (Close c.args.client) tt _ _ _ (λ d a.
     closed c.self.inside.output c.self.inside.residents.items pile c.args.client c.in-Some.k c.in-Some-index.resident
     (found _ _ _ _ _ _ c.deref.ensures.value c.in-Some.ensures.some c.index.ensures c.in-Some-index.is) d (rw (← c.self.view_is) at a.matches)
-    now (sym c.has_ended.ensures ∙ c.if-not-has_ended.false) a.orderly c.unmap_all.ensures.standing c.unmap_all.ensures.next c.remove_client.ensures.windows)
+    now (sym c.has_ended.ensures ∙ c.if-not-has_ended.false) a.ordered c.unmap_all.ensures.standing c.unmap_all.ensures.next c.remove_client.ensures.windows)
 
 pub returns-clause-marks : goal.returns-clause-marks
 returns-clause-marks g c =

@@ -36,17 +36,17 @@ returns-clause-step g c =
 pub returns-in_default-clause-marks : goal.returns-in_default-clause-marks
 returns-in_default-clause-marks g c =
     steps-still c.args.self.now.desk c.args.self.now.damage c.args.self.now.damage refl
-    Connect _ (λ d e orderly step. connects-still d e _ step)
+    Connect _ (λ d e ordered step. connects-still d e _ step)
 
 pub returns-in_default-new-clause-marks : goal.returns-in_default-new-clause-marks
 returns-in_default-new-clause-marks g c =
     steps-still c.args.self.now.desk c.args.self.now.damage c.args.self.now.damage refl
-    Connect _ (λ d e orderly step. connects-still d e _ step)
+    Connect _ (λ d e ordered step. connects-still d e _ step)
 
 pub returns-clause-marks : goal.returns-clause-marks
 returns-clause-marks g c =
     steps-still c.args.self.now.desk c.args.self.now.damage c.self.inside.screen.damage (ap (λ (m : MarkedDesk). m.damage) c.self.view_is)
-    Connect _ (λ d e orderly step. connects-still d e _ step)
+    Connect _ (λ d e ordered step. connects-still d e _ step)
 
 pub returns-clause-sides : goal.returns-clause-sides
 returns-clause-sides g c = as-large _ _ c.self.view_is

@@ -86,7 +86,7 @@ pub returns-clause-most : goal.returns-clause-most
 returns-clause-most g c =
     λ d e a step b.
     own-most c.args.client c.args.self.now _ d e c.end.new.self.damage a b (sized _ _ d c.self.view_is c.self.invariant.1 a)
-    (ends-away c.args.client c.args.cause d e a.orderly step) (returns-clause-within g c d a)
+    (ends-away c.args.client c.args.cause d e a.ordered step) (returns-clause-within g c d a)
 
 pub returns-clause-sides : goal.returns-clause-sides
 returns-clause-sides g c = rw (← c.self.view_is) c.end.ensures.marks.0

@@ -25,7 +25,7 @@ returns-clause-shows g c = λ d a.
     let all : c.loop-before.before ≡ 32 = omega (arith, c.loop-before-test.false) in
     let last = c.loop-before.invariant.told d a in
     let told = subst (λ (n : ℕ). HasTold c.args.time n c.args.self.now c.loop-before.self d last.0) all last.1 in
-    (last.0, (refl, shows-told c.args.time d last.0 a.orderly.pointer told.told), told.agrees, told.marks, told-most c.args.time 31 c.args.self.now c.loop-before.self d last.0 a told, told.quiet)
+    (last.0, (refl, shows-told c.args.time d last.0 a.ordered.in_order.pointer told.told), told.agrees, told.marks, told-most c.args.time 31 c.args.self.now c.loop-before.self d last.0 a told, told.quiet)
 
 pub returns-clause-leads : goal.returns-clause-leads
 returns-clause-leads g c = frames-led c.args.time _ _ _ _ (returns-clause-shows g c)

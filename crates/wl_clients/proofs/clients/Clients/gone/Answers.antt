@@ -89,7 +89,7 @@ pub returns-clause-most : goal.returns-clause-most
 returns-clause-most g c =
     λ d e a step b.
     own-most c.args.client c.args.self.now _ d e c.gone.new.self.damage a b (sized _ _ d c.self.view_is c.self.invariant.1 a)
-    (leaves-away c.args.client (gave.Gone c.gone.result) d e a.orderly step) (returns-clause-within g c d a)
+    (leaves-away c.args.client (gave.Gone c.gone.result) d e a.ordered step) (returns-clause-within g c d a)
 
 pub returns-clause-sides : goal.returns-clause-sides
 returns-clause-sides g c = rw (← c.self.view_is) c.gone.ensures.marks.0

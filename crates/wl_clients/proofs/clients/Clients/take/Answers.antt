@@ -103,7 +103,7 @@ returns-clause-leads g c =
     (through-whole c.args.client _ _ c.args.self.now.damage c.serve-taken.new.self.damage (λ d a.
     rw (← c.self.view_is) (serves-through c.self.inside.output c.self.inside.residents.items pile c.args.client c.in-Some.k c.in-Some-index_mut.resident
     (found _ _ _ _ _ _ c.deref.ensures.value c.in-Some.ensures.some c.index_mut.ensures.value c.in-Some-index_mut.is) d (rw (← c.self.view_is) at a.matches)
-    c.serve-taken.new.resident (pile_of c.serve-taken.new.self) c.self.inside.screen.damage c.serve-taken.new.self.damage a.orderly
+    c.serve-taken.new.resident (pile_of c.serve-taken.new.self) c.self.inside.screen.damage c.serve-taken.new.self.damage a.ordered
     (λ r width height. c.serve-taken.ensures.through (sym c.is_some.ensures ∙ served-took _ _ _ c.served_of.ensures some) (numbers_in (client_views c.self.inside.residents.items)) d d r width height)
     c.self.invariant.1)))
 

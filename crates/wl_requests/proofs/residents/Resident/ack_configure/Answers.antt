@@ -3,7 +3,8 @@ use Rattle.std.proofs.Common.{ap, inr, refl, subst, sym}
 use Rattle.wl_peer.specs.Peer.{counted}
 use Rattle.wl_xdg_state.specs.Kept.{acknowledgement_answer, kept_of}
 use Rattle.wl_plain.specs.Ask.{Acknowledge}
-use Rattle.wl_owning.specs.Owning.{IsOwned, Names, names_in, shell_refusal}
+use Rattle.wl_owning.specs.Owning.{IsOwned, Names, shell_refusal}
+use Rattle.wl_owning.specs.RoleNames.{names_of}
 use Rattle.wl_plain.specs.Step.{changed_by, with_peer}
 use Rattle.wl_plain.specs.XdgShell.{acknowledged_by}
 use Rattle.wl_owning.proofs.Keeping.OwningAsks.{owned-acknowledged}
@@ -11,18 +12,18 @@ use Rattle.wl_owning.proofs.Keeping.OwningReads.{acknowledged-by}
 use Rattle.wl_requests.proofs.Shelling.{accepted, names-counted, told-err, told-ok, xdg-answered, xdg-refused}
 use Rattle.wl_requests.proofs.Numbers.{keeps-names}
 use Rattle.wl_requests.proofs.Naming.{subsurfaces-names}
-use Rattle.wl_requests.proofs.Simply.{simply}
+use Rattle.wl_requests.proofs.Meeting.{as-asked}
 use Rattle.wl_requests.proofs.residents.Resident.ack_configure.Goals as goal
 use Rattle.wl_requests.proofs.Framing.{framed-names, one-more}
 
 pub returns-in-Ok-clause-answers : goal.returns-in-Ok-clause-answers
 returns-in-Ok-clause-answers g c = λ named client r on is only.
     let v = c.args.self.now in
-    let names = names_in v.client.objects in
+    let names = names_of v.client.objects in
     let kept = kept_of v.owned.shell in
     let serial = c.args.serial in
     xdg-answered v _ c.args.object c.args.surface c.args.version (xdg.AckConfigure c.args.serial) client on r is named
-    (λ k x h one same. simply _ _ client on r only (acknowledged_by x c.args.serial) (
+    (λ k x h one same. as-asked _ _ client on r only (acknowledged_by x c.args.serial) (
     let judged = acknowledged-by names kept r c.args.surface k x h one c.args.object serial in
     accepted _ r (acknowledged_by x serial) (Acknowledge x.id serial)
     (told-ok _ _ (shell_refusal x.base x.id c.args.object) (acknowledgement_answer serial (kept c.args.surface)) c.ack.result judged c.ack.ensures.answer c.in-Ok.is) (
@@ -48,8 +49,8 @@ returns-in-Err-clause-answers g c = λ named client r on is only.
     let kept = kept_of v.owned.shell in
     let serial = c.args.serial in
     xdg-answered v _ c.args.object c.args.surface c.args.version (xdg.AckConfigure c.args.serial) client on r is named
-    (λ k x h one same. simply _ _ client on r only (acknowledged_by x c.args.serial) (
-    let judged = acknowledged-by (names_in v.client.objects) kept r c.args.surface k x h one c.args.object serial in
+    (λ k x h one same. as-asked _ _ client on r only (acknowledged_by x c.args.serial) (
+    let judged = acknowledged-by (names_of v.client.objects) kept r c.args.surface k x h one c.args.object serial in
     xdg-refused v _ (kept_of c.ack.new.self) r c.args.object c.args.surface k x h c.in-Err.error (acknowledged_by x serial) one same
     (told-err _ _ (shell_refusal x.base x.id c.args.object) (acknowledgement_answer serial (kept c.args.surface)) c.ack.result c.in-Err.error judged c.ack.ensures.answer c.in-Err.is)
     (ap kept_of c.in-Err.ensures.err)

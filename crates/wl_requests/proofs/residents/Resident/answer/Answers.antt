@@ -1,9 +1,10 @@
 use Rattle.std.proofs.Common.{◌≡◌, ℕ, Bool, ap, refl, subst, sym, ◌∙◌}
 use Rattle.std.specs.Prelude.{if◌then◌else◌, is_some}
-use Rattle.wl_interface.specs.declared.interface.Interface.TheVariants.{WlSubcompositor, WlSubsurface, XdgSurface as AnXdgSurface, XdgToplevel, XdgWmBase}
+use Rattle.wl_interface.specs.declared.interface.Interface.TheVariants.{WlSubcompositor, WlSubsurface, XdgPopup as AnXdgPopup, XdgSurface as AnXdgSurface, XdgToplevel, XdgWmBase}
 use Rattle.wl_peer.specs.Requests.{request_of}
 use Rattle.wl_proto.specs.Messages.{Message, wl_compositor_request, wl_pointer_request, wl_seat_request, wl_subcompositor_request, wl_subsurface_request, wl_surface_request, xdg_surface_request}
-use Rattle.wl_proto.specs.Messages.{xdg_wm_base_request}
+use Rattle.wl_proto.specs.Messages.{xdg_popup_request, xdg_wm_base_request}
+use Rattle.wl_proto.specs.declared.wl_surface.WlSurfaceRequest.{WlSurfaceRequest}
 use Rattle.wl_proto.specs.declared.wl_compositor.WlCompositorRequest.{WlCompositorRequest}
 use Rattle.wl_proto.specs.declared.wl_compositor.WlCompositorRequest.TheVariants as compositor
 use Rattle.wl_proto.specs.declared.wl_seat.WlSeatRequest.{WlSeatRequest}
@@ -15,16 +16,20 @@ use Rattle.wl_plain.specs.WlSurface.{surface_created}
 use Rattle.wl_plain.specs.LeftOut.{served_now}
 use Rattle.wl_owning.proofs.Keeping.OwningNames.{targets-at}
 use Rattle.wl_requests.specs.Messages.{IsKind}
+use Rattle.wl_requests.specs.Placing.{IsPlacingFor}
+use Rattle.wl_requests.specs.declared.messages.Kind.{Kind}
 use Rattle.wl_requests.specs.declared.messages.Kind.TheVariants as kinds
+use Rattle.wl_requests.specs.declared.residents.Placing.{Placing}
 use Rattle.wl_requests.specs.declared.residents.Resident.{Resident as Kept}
 use Rattle.wl_requests.specs.declared.residents.Stacking.{Stacking}
 use Rattle.wl_requests.specs.declared.residents.Stacking.TheVariants.{Stays}
-use Rattle.wl_requests.specs.Residents.{AnswersDemand, AnswersDemandAs, NewIsFree, ObjectsFit, Stacks, StacksSo}
+use Rattle.wl_requests.specs.Residents.{AnswersAs, AnswersDemand, AnswersDemandAs, AnswersPlaced, AnswersPlacedAs, AnswersSo, NewIsFree, ObjectsFit, Stacks, StacksSo}
 use Rattle.wl_requests.proofs.Doing.{named-by}
-use Rattle.wl_requests.proofs.Interfaces.{object-is, of-base, of-subcompositor, of-subsurface, of-surface, of-xdg-surface}
-use Rattle.wl_requests.proofs.Simply.{asks-stay}
+use Rattle.wl_requests.proofs.Interfaces.{object-is, of-base, of-popup, of-subcompositor, of-subsurface, of-surface, of-xdg-surface}
+use Rattle.wl_requests.proofs.Meeting.{asks-stay}
 use Rattle.wl_requests.proofs.PointerAsks.{seat-asked}
-use Rattle.wl_requests.proofs.Stackings.{base-stays, pointer-stays, subcompositor-stays, subsurface-stays, xdg-stays}
+use Rattle.wl_requests.proofs.Stackings.{base-stays, pointer-stays, popup-stays, subcompositor-stays, subsurface-stays, xdg-stays}
+use Rattle.wl_requests.proofs.HoldingFirst.{held-message, held-placed}
 use Rattle.wl_requests.proofs.residents.Resident.answer.Goals as goal
 
 -- ---- the message is that of the request
@@ -40,6 +45,22 @@ decided done old new object version m n told h = subst (λ (x : Message). Answer
 stacked : {A : Type 0} (old : Kept A) (stacking : Stacking) (object version : ℕ) (m n : Message) → m ≡ n → Stacks (λ r. demand_of served_now r object version n) old stacking
     → Stacks (λ r. demand_of served_now r object version m) old stacking
 stacked old stacking object version m n told h = subst (λ (x : Message). Stacks (λ r. demand_of served_now r object version x) old stacking) (sym told) h
+
+-- the surface of a commit is what a popup is placed for
+placed-so : {A : Type 0} (old new : Kept A) (placing : Placing) (object version : ℕ) (k : Kind) (request : WlSurfaceRequest) (m : Message) → k ≡ kinds.Surface request → m ≡ wl_surface_request request
+    → AnswersPlaced placing (kinds.Surface request) object (λ r. demand_of served_now r object version (wl_surface_request request)) old new
+    → AnswersPlaced placing k object (λ r. demand_of served_now r object version m) old new
+placed-so old new placing object version k request m is told h = λ c r d its only placed.
+    subst (λ (x : Message). AnswersSo (demand_of served_now r object version x) c r d old new) (sym told)
+    (h c r d its only (subst (λ (j : Kind). IsPlacingFor placing object j c r d) is placed))
+
+placed-as : {A : Type 0} (done : Bool) (old new : Kept A) (placing : Placing) (object version : ℕ) (k : Kind) (request : WlSurfaceRequest) (m : Message) → k ≡ kinds.Surface request
+    → m ≡ wl_surface_request request
+    → AnswersPlacedAs done placing (kinds.Surface request) object (λ r. demand_of served_now r object version (wl_surface_request request)) old new
+    → AnswersPlacedAs done placing k object (λ r. demand_of served_now r object version m) old new
+placed-as done old new placing object version k request m is told h = λ c r d its only placed.
+    subst (λ (x : Message). AnswersAs done (demand_of served_now r object version x) c r d old new) (sym told)
+    (h c r d its only (subst (λ (j : Kind). IsPlacingFor placing object j c r d) is placed))
 
 -- what isn't served is refused
 unserved-answered : {A : Type 0} (old new : Kept A) (object version : ℕ) (m : Message) → IsKind kinds.Unserved m → AnswersDemand (λ r. past_limit) old new
@@ -71,71 +92,78 @@ returns-in-Surface-clause-answers g c = λ m kind entry free fit.
     let v = c.args.self.now in
     let told : m ≡ wl_surface_request c.in-Surface.request = rw c.in-Surface.is at kind in
     let named = named-by v.client.objects c.args.object c.args.target _ entry (ap (λ (n : Message). n.interface) told ∙ of-surface c.in-Surface.request) refl in
-    answered v c.wl_surface.new.self c.args.object c.args.version m _ told
+    placed-so v c.wl_surface.new.self c.args.placing c.args.object c.args.version c.args.kind c.in-Surface.request m c.in-Surface.is told
     (c.wl_surface.ensures.answers named (subst (λ (n : Message). NewIsFree v n) told free))
 
 pub returns-in-Toplevel-clause-answers : goal.returns-in-Toplevel-clause-answers
-returns-in-Toplevel-clause-answers g c = λ m kind entry free fit.
+returns-in-Toplevel-clause-answers g c = λ m kind entry free fit client r on its only placed.
     let v = c.args.self.now in
     let asked : IsKind (kinds.Toplevel c.in-Toplevel.asked) m = rw c.in-Toplevel.is at kind in
-    c.xdg_toplevel.ensures.answers (targets-at XdgToplevel v.client.objects c.args.object _ entry asked.0) c.args.version m asked.0 asked.1
+    c.xdg_toplevel.ensures.answers (targets-at XdgToplevel v.client.objects c.args.object _ entry asked.0) c.args.version m asked.0 asked.1 client r on its only
 
 pub returns-in-Compositor-clause-answers : goal.returns-in-Compositor-clause-answers
-returns-in-Compositor-clause-answers g c = λ m kind entry free fit.
+returns-in-Compositor-clause-answers g c = λ m kind entry free fit client r on its only placed.
     let v = c.args.self.now in
     let told : m ≡ wl_compositor_request c.in-Compositor.request = rw c.in-Compositor.is at kind in
     answered v c.wl_compositor.new.self c.args.object c.args.version m _ told
-    (c.wl_compositor.ensures.answers (subst (λ (n : Message). NewIsFree v n) told free))
+    (c.wl_compositor.ensures.answers (subst (λ (n : Message). NewIsFree v n) told free)) client r on its only
 
 pub returns-in-Subcompositor-clause-answers : goal.returns-in-Subcompositor-clause-answers
-returns-in-Subcompositor-clause-answers g c = λ m kind entry free fit.
+returns-in-Subcompositor-clause-answers g c = λ m kind entry free fit client r on its only placed.
     let v = c.args.self.now in
     let told : m ≡ wl_subcompositor_request c.in-Subcompositor.request = rw c.in-Subcompositor.is at kind in
     let is = object-is WlSubcompositor v.client.objects c.args.object _ entry (ap (λ (n : Message). n.interface) told ∙ of-subcompositor c.in-Subcompositor.request) in
     answered v c.wl_subcompositor.new.self c.args.object c.args.version m _ told
-    (c.wl_subcompositor.ensures.answers is (subst (λ (n : Message). NewIsFree v n) told free) (subst (λ (n : Message). ObjectsFit v n) told fit))
+    (c.wl_subcompositor.ensures.answers is (subst (λ (n : Message). NewIsFree v n) told free) (subst (λ (n : Message). ObjectsFit v n) told fit)) client r on its only
 
 pub returns-in-Subsurface-clause-answers : goal.returns-in-Subsurface-clause-answers
-returns-in-Subsurface-clause-answers g c = λ m kind entry free fit.
+returns-in-Subsurface-clause-answers g c = λ m kind entry free fit client r on its only placed.
     let v = c.args.self.now in
     let told : m ≡ wl_subsurface_request c.in-Subsurface.request = rw c.in-Subsurface.is at kind in
     let is = object-is WlSubsurface v.client.objects c.args.object _ entry (ap (λ (n : Message). n.interface) told ∙ of-subsurface c.in-Subsurface.request) in
     answered v c.wl_subsurface.new.self c.args.object c.args.version m _ told
-    (c.wl_subsurface.ensures.answers is (subst (λ (n : Message). ObjectsFit v n) told fit))
+    (c.wl_subsurface.ensures.answers is (subst (λ (n : Message). ObjectsFit v n) told fit)) client r on its only
 
 pub returns-in-Seat-clause-answers : goal.returns-in-Seat-clause-answers
-returns-in-Seat-clause-answers g c = λ m kind entry free fit.
+returns-in-Seat-clause-answers g c = λ m kind entry free fit client r on its only placed.
     let v = c.args.self.now in
     let told : m ≡ wl_seat_request c.in-Seat.request = rw c.in-Seat.is at kind in
     answered v c.wl_seat.new.self c.args.object c.args.version m _ told
-    (c.wl_seat.ensures.answers (subst (λ (n : Message). NewIsFree v n) told free))
+    (c.wl_seat.ensures.answers (subst (λ (n : Message). NewIsFree v n) told free)) client r on its only
 
 pub returns-in-Pointer-clause-answers : goal.returns-in-Pointer-clause-answers
-returns-in-Pointer-clause-answers g c = λ m kind entry free fit.
+returns-in-Pointer-clause-answers g c = λ m kind entry free fit client r on its only placed.
     let v = c.args.self.now in
     let told : m ≡ wl_pointer_request c.in-Pointer.request = rw c.in-Pointer.is at kind in
     answered v c.wl_pointer.new.self c.args.object c.args.version m _ told
-    (c.wl_pointer.ensures.answers (subst (λ (n : Message). ObjectsFit v n) told fit))
+    (c.wl_pointer.ensures.answers (subst (λ (n : Message). ObjectsFit v n) told fit)) client r on its only
 
 pub returns-in-Base-clause-answers : goal.returns-in-Base-clause-answers
-returns-in-Base-clause-answers g c = λ m kind entry free fit.
+returns-in-Base-clause-answers g c = λ m kind entry free fit client r on its only placed.
     let v = c.args.self.now in
     let told : m ≡ xdg_wm_base_request c.in-Base.request = rw c.in-Base.is at kind in
     let is = object-is XdgWmBase v.client.objects c.args.object _ entry (ap (λ (n : Message). n.interface) told ∙ of-base c.in-Base.request) in
     answered v c.xdg_wm_base.new.self c.args.object c.args.version m _ told
-    (c.xdg_wm_base.ensures.answers is (subst (λ (n : Message). NewIsFree v n) told free) (subst (λ (n : Message). ObjectsFit v n) told fit))
+    (c.xdg_wm_base.ensures.answers is (subst (λ (n : Message). NewIsFree v n) told free) (subst (λ (n : Message). ObjectsFit v n) told fit)) client r on its only
 
 pub returns-in-XdgSurface-clause-answers : goal.returns-in-XdgSurface-clause-answers
-returns-in-XdgSurface-clause-answers g c = λ m kind entry free fit.
+returns-in-XdgSurface-clause-answers g c = λ m kind entry free fit client r on its only placed.
     let v = c.args.self.now in
     let told : m ≡ xdg_surface_request c.in-XdgSurface.request = rw c.in-XdgSurface.is at kind in
     let named = targets-at AnXdgSurface v.client.objects c.args.object _ entry (ap (λ (n : Message). n.interface) told ∙ of-xdg-surface c.in-XdgSurface.request) in
     answered v c.xdg_surface.new.self c.args.object c.args.version m _ told
-    (c.xdg_surface.ensures.answers named (subst (λ (n : Message). NewIsFree v n) told free))
+    (c.xdg_surface.ensures.answers named (subst (λ (n : Message). NewIsFree v n) told free) (subst (λ (n : Message). ObjectsFit v n) told fit)) client r on its only
+
+pub returns-in-Popup-clause-answers : goal.returns-in-Popup-clause-answers
+returns-in-Popup-clause-answers g c = λ m kind entry free fit client r on its only placed.
+    let v = c.args.self.now in
+    let told : m ≡ xdg_popup_request c.in-Popup.request = rw c.in-Popup.is at kind in
+    let named = targets-at AnXdgPopup v.client.objects c.args.object _ entry (ap (λ (n : Message). n.interface) told ∙ of-popup c.in-Popup.request) in
+    answered v c.xdg_popup.new.self c.args.object c.args.version m _ told (c.xdg_popup.ensures.answers named) client r on its only
 
 pub returns-in-Unserved-clause-answers : goal.returns-in-Unserved-clause-answers
-returns-in-Unserved-clause-answers g c = λ m kind entry free fit.
-    unserved-answered c.args.self.now c.refuse_unserved.new.self c.args.object c.args.version m (rw c.in-Unserved.is at kind) c.refuse_unserved.ensures.answers
+returns-in-Unserved-clause-answers g c = λ m kind entry free fit client r on its only placed.
+    unserved-answered c.args.self.now c.refuse_unserved.new.self c.args.object c.args.version m (rw c.in-Unserved.is at kind) c.refuse_unserved.ensures.answers client r on its only
 
 -- ---- what becomes of the stack
 
@@ -193,6 +221,12 @@ returns-in-XdgSurface-clause-stacks g c = rw c.of-in-XdgSurface.ensures (λ m ki
     let told : m ≡ xdg_surface_request c.in-XdgSurface.request = rw c.in-XdgSurface.is at kind in
     stacked v Stays c.args.object c.args.version m _ told (λ r is only. xdg-stays v r c.args.object c.args.version c.in-XdgSurface.request))
 
+pub returns-in-Popup-clause-stacks : goal.returns-in-Popup-clause-stacks
+returns-in-Popup-clause-stacks g c = rw c.xdg_popup.ensures.stays (λ m kind entry.
+    let v = c.args.self.now in
+    let told : m ≡ xdg_popup_request c.in-Popup.request = rw c.in-Popup.is at kind in
+    stacked v Stays c.args.object c.args.version m _ told (λ r is only. popup-stays v r c.args.object c.args.version c.in-Popup.request))
+
 pub returns-in-Unserved-clause-stacks : goal.returns-in-Unserved-clause-stacks
 returns-in-Unserved-clause-stacks g c = rw c.of-in-Unserved.ensures (λ m kind entry r is only.
     unserved-stays c.args.self.now r c.args.object c.args.version m (rw c.in-Unserved.is at kind))
@@ -204,7 +238,7 @@ returns-in-Surface-clause-decides g c = λ touch touches m kind entry.
     let v = c.args.self.now in
     let told : m ≡ wl_surface_request c.in-Surface.request = rw c.in-Surface.is at kind in
     let named = named-by v.client.objects c.args.object c.args.target _ entry (ap (λ (n : Message). n.interface) told ∙ of-surface c.in-Surface.request) refl in
-    decided (is_some c.wl_surface.result.applied) v c.wl_surface.new.self c.args.object c.args.version m _ told
+    placed-as (is_some c.wl_surface.result.applied) v c.wl_surface.new.self c.args.placing c.args.object c.args.version c.args.kind c.in-Surface.request m c.in-Surface.is told
     (c.wl_surface.ensures.decides touch (rw c.in-Surface.is at touches) named)
 
 pub returns-in-Surface-clause-touched : goal.returns-in-Surface-clause-touched
@@ -241,12 +275,12 @@ pub returns-in-Subcompositor-clause-nothing : goal.returns-in-Subcompositor-clau
 returns-in-Subcompositor-clause-nothing g c = λ none numbers ss are. rw c.of-in-Subcompositor.ensures
 
 pub returns-in-Subsurface-clause-decides : goal.returns-in-Subsurface-clause-decides
-returns-in-Subsurface-clause-decides g c = λ touch touches m kind entry.
+returns-in-Subsurface-clause-decides g c = λ touch touches m kind entry client r on its only placed.
     let v = c.args.self.now in
     let told : m ≡ wl_subsurface_request c.in-Subsurface.request = rw c.in-Subsurface.is at kind in
     let is = object-is WlSubsurface v.client.objects c.args.object _ entry (ap (λ (n : Message). n.interface) told ∙ of-subsurface c.in-Subsurface.request) in
     decided (is_some c.wl_subsurface.result.applied) v c.wl_subsurface.new.self c.args.object c.args.version m _ told
-    (c.wl_subsurface.ensures.decides c.args.target touch (rw c.in-Subsurface.is at touches) is)
+    (c.wl_subsurface.ensures.decides c.args.target touch (rw c.in-Subsurface.is at touches) is) client r on its only
 
 pub returns-in-Subsurface-clause-touched : goal.returns-in-Subsurface-clause-touched
 returns-in-Subsurface-clause-touched g c = λ touch touches. c.wl_subsurface.ensures.touched c.args.target touch (rw c.in-Subsurface.is at touches)
@@ -290,6 +324,20 @@ returns-in-XdgSurface-clause-touched g c = λ touch touches. absurd (rw c.in-Xdg
 pub returns-in-XdgSurface-clause-nothing : goal.returns-in-XdgSurface-clause-nothing
 returns-in-XdgSurface-clause-nothing g c = λ none numbers ss are. rw c.of-in-XdgSurface.ensures
 
+pub returns-in-Popup-clause-decides : goal.returns-in-Popup-clause-decides
+returns-in-Popup-clause-decides g c = λ touch touches m kind entry client r on its only placed.
+    let v = c.args.self.now in
+    let told : m ≡ xdg_popup_request c.in-Popup.request = rw c.in-Popup.is at kind in
+    let named = targets-at AnXdgPopup v.client.objects c.args.object _ entry (ap (λ (n : Message). n.interface) told ∙ of-popup c.in-Popup.request) in
+    decided (is_some c.xdg_popup.result.applied) v c.xdg_popup.new.self c.args.object c.args.version m _ told
+    (c.xdg_popup.ensures.decides touch (rw c.in-Popup.is at touches) named) client r on its only
+
+pub returns-in-Popup-clause-touched : goal.returns-in-Popup-clause-touched
+returns-in-Popup-clause-touched g c = λ touch touches. c.xdg_popup.ensures.touched touch (rw c.in-Popup.is at touches)
+
+pub returns-in-Popup-clause-nothing : goal.returns-in-Popup-clause-nothing
+returns-in-Popup-clause-nothing g c = λ none numbers ss are. c.xdg_popup.ensures.nothing (λ touch touches. none touch (rw c.in-Popup.is touches))
+
 pub returns-in-Unserved-clause-decides : goal.returns-in-Unserved-clause-decides
 returns-in-Unserved-clause-decides g c = λ touch touches. absurd (rw c.in-Unserved.is at touches)
 
@@ -328,6 +376,9 @@ returns-in-Base-clause-rest g c = c.xdg_wm_base.ensures.rest
 pub returns-in-XdgSurface-clause-rest : goal.returns-in-XdgSurface-clause-rest
 returns-in-XdgSurface-clause-rest g c = c.xdg_surface.ensures.rest
 
+pub returns-in-Popup-clause-rest : goal.returns-in-Popup-clause-rest
+returns-in-Popup-clause-rest g c = c.xdg_popup.ensures.rest
+
 pub returns-in-Unserved-clause-rest : goal.returns-in-Unserved-clause-rest
 returns-in-Unserved-clause-rest g c = c.refuse_unserved.ensures.rest
 
@@ -357,6 +408,9 @@ returns-in-Base-clause-seat g c = λ id e without. let same = sym c.in-Base.is �
 pub returns-in-XdgSurface-clause-seat : goal.returns-in-XdgSurface-clause-seat
 returns-in-XdgSurface-clause-seat g c = λ id e without. let same = sym c.in-XdgSurface.is ∙ seat-asked c.args.target c.args.kind id e in absurd (cc)
 
+pub returns-in-Popup-clause-seat : goal.returns-in-Popup-clause-seat
+returns-in-Popup-clause-seat g c = λ id e without. let same = sym c.in-Popup.is ∙ seat-asked c.args.target c.args.kind id e in absurd (cc)
+
 pub returns-in-Unserved-clause-seat : goal.returns-in-Unserved-clause-seat
 returns-in-Unserved-clause-seat g c = λ id e without. let same = sym c.in-Unserved.is ∙ seat-asked c.args.target c.args.kind id e in absurd (cc)
 
@@ -364,3 +418,53 @@ pub returns-in-Seat-clause-seat : goal.returns-in-Seat-clause-seat
 returns-in-Seat-clause-seat g c = λ id e without.
     let same = sym c.in-Seat.is ∙ seat-asked c.args.target c.args.kind id e in
     c.wl_seat.ensures.room id (cc) without
+
+-- ---- what is kept stands by the numbers from before
+
+pub returns-in-Surface-clause-holds : goal.returns-in-Surface-clause-holds
+returns-in-Surface-clause-holds g c = λ touch touches m kind entry.
+    let v = c.args.self.now in
+    let told : m ≡ wl_surface_request c.in-Surface.request = rw c.in-Surface.is at kind in
+    let named = named-by v.client.objects c.args.object c.args.target _ entry (ap (λ (n : Message). n.interface) told ∙ of-surface c.in-Surface.request) refl in
+    held-placed (is_some c.wl_surface.result.applied) v c.wl_surface.new.self c.args.placing c.args.object c.args.version c.args.kind c.in-Surface.request m c.in-Surface.is told
+    (c.wl_surface.ensures.holds touch (rw c.in-Surface.is at touches) named)
+
+pub returns-in-Subsurface-clause-holds : goal.returns-in-Subsurface-clause-holds
+returns-in-Subsurface-clause-holds g c = λ touch touches m kind entry.
+    let v = c.args.self.now in
+    let told : m ≡ wl_subsurface_request c.in-Subsurface.request = rw c.in-Subsurface.is at kind in
+    let is = object-is WlSubsurface v.client.objects c.args.object _ entry (ap (λ (n : Message). n.interface) told ∙ of-subsurface c.in-Subsurface.request) in
+    held-message (is_some c.wl_subsurface.result.applied) v c.wl_subsurface.new.self c.args.placing c.args.object c.args.version c.args.kind m _ told
+    (c.wl_subsurface.ensures.holds c.args.target touch (rw c.in-Subsurface.is at touches) is)
+
+pub returns-in-Popup-clause-holds : goal.returns-in-Popup-clause-holds
+returns-in-Popup-clause-holds g c = λ touch touches m kind entry.
+    let v = c.args.self.now in
+    let told : m ≡ xdg_popup_request c.in-Popup.request = rw c.in-Popup.is at kind in
+    let named = targets-at AnXdgPopup v.client.objects c.args.object _ entry (ap (λ (n : Message). n.interface) told ∙ of-popup c.in-Popup.request) in
+    held-message (is_some c.xdg_popup.result.applied) v c.xdg_popup.new.self c.args.placing c.args.object c.args.version c.args.kind m _ told
+    (c.xdg_popup.ensures.holds touch (rw c.in-Popup.is at touches) named)
+
+pub returns-in-Toplevel-clause-holds : goal.returns-in-Toplevel-clause-holds
+returns-in-Toplevel-clause-holds g c = λ touch touches. absurd (rw c.in-Toplevel.is at touches)
+
+pub returns-in-Compositor-clause-holds : goal.returns-in-Compositor-clause-holds
+returns-in-Compositor-clause-holds g c = λ touch touches. absurd (rw c.in-Compositor.is at touches)
+
+pub returns-in-Subcompositor-clause-holds : goal.returns-in-Subcompositor-clause-holds
+returns-in-Subcompositor-clause-holds g c = λ touch touches. absurd (rw c.in-Subcompositor.is at touches)
+
+pub returns-in-Seat-clause-holds : goal.returns-in-Seat-clause-holds
+returns-in-Seat-clause-holds g c = λ touch touches. absurd (rw c.in-Seat.is at touches)
+
+pub returns-in-Pointer-clause-holds : goal.returns-in-Pointer-clause-holds
+returns-in-Pointer-clause-holds g c = λ touch touches. absurd (rw c.in-Pointer.is at touches)
+
+pub returns-in-Base-clause-holds : goal.returns-in-Base-clause-holds
+returns-in-Base-clause-holds g c = λ touch touches. absurd (rw c.in-Base.is at touches)
+
+pub returns-in-XdgSurface-clause-holds : goal.returns-in-XdgSurface-clause-holds
+returns-in-XdgSurface-clause-holds g c = λ touch touches. absurd (rw c.in-XdgSurface.is at touches)
+
+pub returns-in-Unserved-clause-holds : goal.returns-in-Unserved-clause-holds
+returns-in-Unserved-clause-holds g c = λ touch touches. absurd (rw c.in-Unserved.is at touches)

@@ -12,7 +12,7 @@ lives-of None e = refl
 lives-of (Some cause) e = absurd (cc)
 
 pub loop-callback-init : goal.loop-callback-init
-loop-callback-init g c = (λ lives r is only. (r, none-answered c.args.time r (sym is.peer.status ∙ lives) only.no_popups.callbacks, is, refl), refl)
+loop-callback-init g c = (λ lives r is only. (r, none-answered c.args.time r (sym is.peer.status ∙ lives) only.order.known.callbacks, is, refl), refl)
 
 pub loop-callback-preserved : goal.loop-callback-preserved
 loop-callback-preserved g c = (

@@ -1,7 +1,7 @@
 use Rattle.std.proofs.Common.{◌≡◌, None, length}
 use Rattle.wl_plain.specs.Desktop.{Resident}
-use Rattle.wl_invariants.specs.Orderly.{OwnsOrderly}
-use Rattle.wl_owning.specs.Owning.{names_in}
+use Rattle.wl_ordered.specs.Ordered.{OwnsOrdered}
+use Rattle.wl_owning.specs.RoleNames.{names_of}
 use Rattle.wl_requests.specs.Residents.{IsResident}
 use Rattle.wl_requests.proofs.Answering.{IsAnswered}
 use Rattle.wl_requests.proofs.residents.Resident.answer_frames.Given as goal
@@ -9,8 +9,8 @@ use Rattle.wl_requests.proofs.residents.Resident.answer_frames.Given as goal
 -- the client lives, and was told of some of its callbacks
 abbrev pub invariant-loop-callback : goal.invariant-loop-callback
 invariant-loop-callback g l =
-    (l.fn.self.client.ended ≡ None → (r : Resident) → IsResident l.fn.self r → OwnsOrderly r
-    → (mid : Resident) × IsAnswered l.time r mid × IsResident l.self mid × (names_in l.self.client.objects ≡ names_in l.fn.self.client.objects))
+    (l.fn.self.client.ended ≡ None → (r : Resident) → IsResident l.fn.self r → OwnsOrdered r
+    → (mid : Resident) × IsAnswered l.time r mid × IsResident l.self mid × (names_of l.self.client.objects ≡ names_of l.fn.self.client.objects))
     × (l.self.owned.linked.surfaces.places ≡ l.fn.self.owned.linked.surfaces.places)
 
 abbrev pub decreases-loop-callback : goal.decreases-loop-callback

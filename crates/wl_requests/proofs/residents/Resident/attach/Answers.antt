@@ -4,7 +4,7 @@ use Rattle.wl_xdg_state.specs.Kept.{kept_of}
 use Rattle.wl_state.specs.Request.{Attach}
 use Rattle.wl_surface.specs.Surfaces.{surface_at}
 use Rattle.wl_surface.specs.declared.frames.Waiting.{Waiting}
-use Rattle.wl_owning.specs.Owning.{names_in}
+use Rattle.wl_owning.specs.RoleNames.{names_of}
 use Rattle.wl_plain.specs.Step.{after_surface, asked_of}
 use Rattle.wl_plain.specs.WlSurface.{buffer_named}
 use Rattle.wl_requests.proofs.Doing.{had-by, let-go-so}
@@ -15,7 +15,7 @@ use Rattle.wl_requests.proofs.Framing.{IsFramed, framed-asked, no-more}
 pub returns-clause-does : goal.returns-clause-does
 returns-clause-does g c = λ named r is.
     let v = c.args.self.now in
-    let names = names_in v.client.objects in
+    let names = names_of v.client.objects in
     let request = Attach (buffer_named r c.args.buffer) c.args.x c.args.y in
     let changes = rw (c.attached-attached.ensures r is.peer) at (simp (to_z-of_z w32 c.args.x c.ranges.x, to_z-of_z w32 c.args.y c.ranges.y) at c.attach.ensures.changes) in
     let owned = owned-asked names v.owned.linked.surfaces v.owned.linked.family (kept_of v.owned.shell) r is.owns c.args.object c.args.surface request c.attach.new.self named refl refl

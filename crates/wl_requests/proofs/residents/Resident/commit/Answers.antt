@@ -1,11 +1,11 @@
 use Rattle.std.proofs.Common.{◌≡◌, ℕ, Bool, Result, refl, ap, subst, sym, ◌∙◌}
-use Rattle.std.specs.Prelude.{ℤ, pos, Err, is_some}
-use Rattle.wl_geom.specs.declared.rect.Rect.{Rect}
+use Rattle.std.specs.Prelude.{Ok, Err, is_some}
 use Rattle.wl_peer.specs.Peer.{counted}
 use Rattle.wl_xdg_state.specs.Kept.{changing, commit_answer, kept_after, kept_of}
 use Rattle.wl_xdg_state.specs.declared.acts.ShellAct.{ShellAct}
 use Rattle.wl_peer.specs.declared.refusals.Refusal.{Refusal}
-use Rattle.wl_owning.specs.Owning.{asks_by, kept_base, kept_id, names_in, shell_refusal}
+use Rattle.wl_owning.specs.Owning.{asks_by, kept_base, kept_id, shell_refusal}
+use Rattle.wl_owning.specs.RoleNames.{names_of}
 use Rattle.wl_plain.specs.Step.{with_peer}
 use Rattle.wl_plain.specs.WlSurface.{will_show}
 use Rattle.wl_owning.proofs.Keeping.OwningAsks.{answered-effect}
@@ -13,42 +13,41 @@ use Rattle.wl_owning.proofs.Keeping.OwningReads.{committed-by, pending-read}
 use Rattle.wl_plain.specs.Demand.{Demand, CommitTree}
 use Rattle.wl_plain.specs.Demanding.{commit_demand}
 use Rattle.wl_requests.specs.Residents.{AnswersAs, StacksSo}
-use Rattle.wl_requests.proofs.Simply.{counted-orderly}
+use Rattle.wl_requests.proofs.Meeting.{counted-ordered}
+use Rattle.wl_requests.proofs.Committing.{toplevel-read}
 use Rattle.wl_requests.proofs.Stackings.{commit-stacks}
 use Rattle.wl_requests.proofs.Shelling.{meets-from, names-counted, objects-counted, refused-as, told-err}
+use Rattle.wl_requests.specs.Holding.{HoldsSo}
+use Rattle.wl_requests.proofs.Holding.{held-so}
 use Rattle.wl_requests.proofs.residents.Resident.commit.Goals as goal
 use Rattle.wl_requests.proofs.Framing.{framed-names, one-more}
 
--- within what, and beside which corner, a toplevel is placed: it isn't
-abbrev no_bounds : Rect
-no_bounds = record { x = pos 0; y = pos 0; w = pos 0; h = pos 0 }
-
-abbrev corner : ℤ × ℤ
-corner = (pos 0, pos 0)
-
 pub returns-in-Ok-clause-answers : goal.returns-in-Ok-clause-answers
-returns-in-Ok-clause-answers g c = λ named client r on is only.
+returns-in-Ok-clause-answers g c = λ named client r on is only placed.
     let v = c.args.self.now in
     let object = c.args.object in
+    let bounds = c.args.placing.bounds in
+    let corner = c.args.placing.parent_at in
     let number = c.args.surface in
     let act = c.in-Ok.act in
-    let names = names_in v.client.objects in
+    let names = names_of v.client.objects in
     let kept = kept_of v.owned.shell in
     let shows = c.is_some-has_buffer.result in
     let will : shows ≡ will_show r object = c.is_some-has_buffer.ensures ∙ pending-read names v.owned.linked.surfaces v.owned.linked.family kept r is.owns object number c.pending_buffer.result
     named c.pending_buffer.ensures in
     let answer = sym c.on_commit.ensures.answer ∙ c.in-Ok.is in
-    let judged = committed-by names v.owned.linked.surfaces v.owned.linked.family kept r is.owns no_bounds corner object number 0 0 named
-    ∙ ap (λ (b : Bool). asks_by (λ (a : ShellAct). CommitTree object) (shell_refusal 0 (kept_id (kept number)) 0) (commit_answer b no_bounds corner (kept number))) (sym will)
+    let judged = committed-by names v.owned.linked.surfaces v.owned.linked.family kept r is.owns bounds corner object number 0 0 named
+    ∙ ap (λ (b : Bool). asks_by (λ (a : ShellAct). CommitTree object) (shell_refusal 0 (kept_id (kept number)) 0) (commit_answer b bounds corner (kept number))) (sym will)
     ∙ ap (asks_by (λ (a : ShellAct). CommitTree object) (shell_refusal 0 (kept_id (kept number)) 0)) answer in
     let serial : c.serial-serial.result ≡ r.peer.serial = c.serial-serial.ensures ∙ is.peer.serial in
     let shell = c.in-Ok.ensures.ok ∙ ap (λ (n : ℕ). changing number (kept_after n act) kept) serial in
-    let comes = answered-effect names v.owned.linked.surfaces v.owned.linked.family kept r is.owns object number (will_show r object) no_bounds corner act named
-    (ap (λ (b : Bool). commit_answer b no_bounds corner (kept number)) (sym will) ∙ answer) in
-    let applied = c.apply-applied.ensures.applies client (with_peer (counted r.peer) r) on names object kept shows no_bounds corner (counted-orderly r only) comes
+    let comes = answered-effect names v.owned.linked.surfaces v.owned.linked.family kept r is.owns object number (will_show r object) bounds corner act named
+    (ap (λ (b : Bool). commit_answer b bounds corner (kept number)) (sym will) ∙ answer) in
+    let applied = c.apply-applied.ensures.applies client (with_peer (counted r.peer) r) on names object kept bounds corner (counted-ordered r only) comes
     (sym is.peer.status ∙ is.lives) (c.count.ensures.counts r.peer is.peer) is.owns
     (framed-names v.owned.linked.surfaces.frames v.client.objects v.client.objects r (with_peer (counted r.peer) r) refl (one-more r.peer.requests) is.frames refl refl)
-    is.subsurfaces (names-counted v.client c.count.new.self c.count.ensures.only) named answer serial shell in
+    is.subsurfaces (names-counted v.client c.count.new.self c.count.ensures.only) named placed.bounds placed.parent
+    (ap (λ (b : Bool). commit_answer b bounds corner (kept number)) (sym will) ∙ answer) serial shell in
     let done = is_some c.apply-applied.result in
     subst (λ (j : Result Demand Refusal). AnswersAs done j client r on v c.apply-applied.new.self) (sym judged)
     (meets-from done (CommitTree object) client (with_peer (counted r.peer) r) on v (record v { client = c.count.new.self; owned = record v.owned { shell = c.on_commit.new.self } })
@@ -56,22 +55,25 @@ returns-in-Ok-clause-answers g c = λ named client r on is only.
     (objects-counted v.client c.count.new.self c.count.ensures.only) applied)
 
 pub returns-in-Err-clause-answers : goal.returns-in-Err-clause-answers
-returns-in-Err-clause-answers g c = rw c.of.ensures (λ named client r on is only.
+returns-in-Err-clause-answers g c = rw c.of.ensures (λ named client r on is only placed.
     let v = c.args.self.now in
     let object = c.args.object in
+    let bounds = c.args.placing.bounds in
+    let corner = c.args.placing.parent_at in
     let number = c.args.surface in
     let error = c.in-Err.error in
-    let names = names_in v.client.objects in
+    let names = names_of v.client.objects in
     let kept = kept_of v.owned.shell in
     let xdg = c.xdg_surface_of-xdg_surface.result in
     let base = kept_base (kept_of c.on_commit.new.self number) in
     let will : c.is_some-has_buffer.result ≡ will_show r object = c.is_some-has_buffer.ensures
     ∙ pending-read names v.owned.linked.surfaces v.owned.linked.family kept r is.owns object number c.pending_buffer.result named c.pending_buffer.ensures in
     let same : kept_id (kept number) ≡ xdg = sym (c.xdg_surface_of-xdg_surface.ensures ∙ ap (λ b. kept_id (kept_of b number)) c.in-Err.ensures.err) in
-    let judged = told-err (commit_demand r object) (λ (a : ShellAct). CommitTree object) (shell_refusal base (kept_id (kept number)) xdg) (commit_answer (will_show r object) no_bounds corner (kept number))
+    let judged = told-err (commit_demand r object) (λ (a : ShellAct). CommitTree object) (shell_refusal base (kept_id (kept number)) xdg) (commit_answer (will_show r object) bounds corner
+    (kept number))
     c.on_commit.result error
-    (committed-by names v.owned.linked.surfaces v.owned.linked.family kept r is.owns no_bounds corner object number base xdg named)
-    (c.on_commit.ensures.answer ∙ ap (λ (b : Bool). commit_answer b no_bounds corner (kept number)) will) c.in-Err.is in
+    (committed-by names v.owned.linked.surfaces v.owned.linked.family kept r is.owns bounds corner object number base xdg named)
+    (c.on_commit.ensures.answer ∙ ap (λ (b : Bool). commit_answer b bounds corner (kept number)) will) c.in-Err.is in
     refused-as _ _ client r on (commit_demand r object) (shell_refusal base xdg xdg error) (judged ∙ ap (λ i. Err (shell_refusal base i xdg error)) same)
     c.refuse_xdg_surface.ensures.ended
     (c.refuse_xdg_surface.ensures.errs r.peer is.peer))
@@ -80,18 +82,21 @@ pub returns-in-Ok-clause-stacks : goal.returns-in-Ok-clause-stacks
 returns-in-Ok-clause-stacks g c = λ named r is only.
     let v = c.args.self.now in
     let object = c.args.object in
+    let bounds = c.args.placing.bounds in
+    let corner = c.args.placing.parent_at in
     let number = c.args.surface in
-    let names = names_in v.client.objects in
+    let names = names_of v.client.objects in
     let kept = kept_of v.owned.shell in
     let will : c.is_some-has_buffer.result ≡ will_show r object = c.is_some-has_buffer.ensures
     ∙ pending-read names v.owned.linked.surfaces v.owned.linked.family kept r is.owns object number c.pending_buffer.result named c.pending_buffer.ensures in
-    let judged = committed-by names v.owned.linked.surfaces v.owned.linked.family kept r is.owns no_bounds corner object number 0 0 named
-    ∙ ap (λ (b : Bool). asks_by (λ (a : ShellAct). CommitTree object) (shell_refusal 0 (kept_id (kept number)) 0) (commit_answer b no_bounds corner (kept number))) (sym will)
+    let judged = committed-by names v.owned.linked.surfaces v.owned.linked.family kept r is.owns bounds corner object number 0 0 named
+    ∙ ap (λ (b : Bool). asks_by (λ (a : ShellAct). CommitTree object) (shell_refusal 0 (kept_id (kept number)) 0) (commit_answer b bounds corner (kept number))) (sym will)
     ∙ ap (asks_by (λ (a : ShellAct). CommitTree object) (shell_refusal 0 (kept_id (kept number)) 0)) (sym c.on_commit.ensures.answer ∙ c.in-Ok.is) in
-    let comes = answered-effect names v.owned.linked.surfaces v.owned.linked.family kept r is.owns object number (will_show r object) no_bounds corner c.in-Ok.act named
-    (ap (λ (b : Bool). commit_answer b no_bounds corner (kept number)) (sym will)
+    let comes = answered-effect names v.owned.linked.surfaces v.owned.linked.family kept r is.owns object number (will_show r object) bounds corner c.in-Ok.act named
+    (ap (λ (b : Bool). commit_answer b bounds corner (kept number)) (sym will)
     ∙ sym c.on_commit.ensures.answer ∙ c.in-Ok.is) in
-    commit-stacks v r object number c.in-Ok.act (commit_demand r object) c.stacking_of.result named judged comes c.stacking_of.ensures
+    commit-stacks v r object number c.in-Ok.act c.has_toplevel-is_toplevel.result (commit_demand r object) c.stacking_of.result named judged comes
+    (c.has_toplevel-is_toplevel.ensures ∙ toplevel-read names v.owned.linked.surfaces v.owned.linked.family kept r is.owns object number named) c.stacking_of.ensures
 
 pub returns-in-Ok-clause-rest : goal.returns-in-Ok-clause-rest
 returns-in-Ok-clause-rest g c = rw (← c.count.ensures.rest) c.apply-applied.ensures.rest
@@ -103,19 +108,22 @@ pub returns-in-Err-clause-stacks : goal.returns-in-Err-clause-stacks
 returns-in-Err-clause-stacks g c = λ named r is only.
     let v = c.args.self.now in
     let object = c.args.object in
+    let bounds = c.args.placing.bounds in
+    let corner = c.args.placing.parent_at in
     let number = c.args.surface in
     let error = c.in-Err.error in
-    let names = names_in v.client.objects in
+    let names = names_of v.client.objects in
     let kept = kept_of v.owned.shell in
     let xdg = c.xdg_surface_of-xdg_surface.result in
     let base = kept_base (kept_of c.on_commit.new.self number) in
     let will : c.is_some-has_buffer.result ≡ will_show r object = c.is_some-has_buffer.ensures
     ∙ pending-read names v.owned.linked.surfaces v.owned.linked.family kept r is.owns object number c.pending_buffer.result named c.pending_buffer.ensures in
     let same : kept_id (kept number) ≡ xdg = sym (c.xdg_surface_of-xdg_surface.ensures ∙ ap (λ b. kept_id (kept_of b number)) c.in-Err.ensures.err) in
-    let judged = told-err (commit_demand r object) (λ (a : ShellAct). CommitTree object) (shell_refusal base (kept_id (kept number)) xdg) (commit_answer (will_show r object) no_bounds corner (kept number))
+    let judged = told-err (commit_demand r object) (λ (a : ShellAct). CommitTree object) (shell_refusal base (kept_id (kept number)) xdg) (commit_answer (will_show r object) bounds corner
+    (kept number))
     c.on_commit.result error
-    (committed-by names v.owned.linked.surfaces v.owned.linked.family kept r is.owns no_bounds corner object number base xdg named)
-    (c.on_commit.ensures.answer ∙ ap (λ (b : Bool). commit_answer b no_bounds corner (kept number)) will) c.in-Err.is in
+    (committed-by names v.owned.linked.surfaces v.owned.linked.family kept r is.owns bounds corner object number base xdg named)
+    (c.on_commit.ensures.answer ∙ ap (λ (b : Bool). commit_answer b bounds corner (kept number)) will) c.in-Err.is in
     subst (λ (j : Result Demand Refusal). StacksSo v r j c.of.result.stacking) (sym judged) tt
 
 pub returns-in-Ok-clause-touched : goal.returns-in-Ok-clause-touched
@@ -123,3 +131,31 @@ returns-in-Ok-clause-touched g c = c.apply-applied.ensures.touched
 
 pub returns-in-Err-clause-touched : goal.returns-in-Err-clause-touched
 returns-in-Err-clause-touched g c = rw c.of.ensures tt
+
+-- ---- what is kept stands by the numbers from before
+
+pub returns-in-Ok-clause-holds : goal.returns-in-Ok-clause-holds
+returns-in-Ok-clause-holds g c = λ named client r on is only placed done.
+    let v = c.args.self.now in
+    let object = c.args.object in
+    let bounds = c.args.placing.bounds in
+    let corner = c.args.placing.parent_at in
+    let number = c.args.surface in
+    let act = c.in-Ok.act in
+    let names = names_of v.client.objects in
+    let kept = kept_of v.owned.shell in
+    let will : c.is_some-has_buffer.result ≡ will_show r object = c.is_some-has_buffer.ensures
+    ∙ pending-read names v.owned.linked.surfaces v.owned.linked.family kept r is.owns object number c.pending_buffer.result named c.pending_buffer.ensures in
+    let answer = ap (λ (b : Bool). commit_answer b bounds corner (kept number)) (sym will) ∙ sym c.on_commit.ensures.answer ∙ c.in-Ok.is in
+    let judged = committed-by names v.owned.linked.surfaces v.owned.linked.family kept r is.owns bounds corner object number 0 0 named
+    ∙ ap (asks_by (λ (a : ShellAct). CommitTree object) (shell_refusal 0 (kept_id (kept number)) 0)) answer in
+    let serial : c.serial-serial.result ≡ r.peer.serial = c.serial-serial.ensures ∙ is.peer.serial in
+    let shell = c.in-Ok.ensures.ok ∙ ap (λ (n : ℕ). changing number (kept_after n act) kept) serial in
+    subst (λ (j : Result Demand Refusal). HoldsSo j client r on v c.apply-applied.new.self) (sym judged)
+    (held-so v (record v { client = c.count.new.self; owned = record v.owned { shell = c.on_commit.new.self } }) c.apply-applied.new.self (Ok (CommitTree object)) client r on
+    (objects-counted v.client c.count.new.self c.count.ensures.only)
+    (c.apply-applied.ensures.holds client (with_peer (counted r.peer) r) on names object kept bounds corner (counted-ordered r only) is.owns
+    (names-counted v.client c.count.new.self c.count.ensures.only) named placed.bounds placed.parent answer shell done))
+
+pub returns-in-Err-clause-holds : goal.returns-in-Err-clause-holds
+returns-in-Err-clause-holds g c = rw c.of.ensures (λ named client r on is only placed done. absurd (cc))

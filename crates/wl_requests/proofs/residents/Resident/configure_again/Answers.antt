@@ -7,7 +7,8 @@ use Rattle.wl_client.specs.View.{ClientView}
 use Rattle.wl_xdg_state.specs.Kept.{Kept as KeptXdg, changing, configure_answer, kept_configured, kept_configuring, kept_of}
 use Rattle.wl_xdg_state.specs.Shell.{XdgSurface as Xdg, is_role, next_serial, xdg_with}
 use Rattle.wl_interface.specs.declared.interface.Interface.TheVariants.{WlSurface}
-use Rattle.wl_owning.specs.Owning.{IsOwned, IsXdg, Names, kept_id, names_in, shell_refusal, targets_in}
+use Rattle.wl_owning.specs.Owning.{IsOwned, IsXdg, Names, kept_id, shell_refusal, targets_in}
+use Rattle.wl_owning.specs.RoleNames.{names_of}
 use Rattle.wl_owning.specs.Subsurfaces.{AreOfSurfaces}
 use Rattle.wl_peer.specs.declared.refusals.Refusal.{Refusal}
 use Rattle.wl_plain.specs.Ask.{Ask, ConfigureAgain, Ignore}
@@ -22,25 +23,27 @@ use Rattle.wl_state.specs.State.{History}
 use Rattle.wl_requests.proofs.Shelling.{accepted, changing-same, drawn, events-told, names-counted, owns-told, refused-again, told-again, xdg-refused}
 use Rattle.wl_requests.proofs.Numbers.{keeps-names}
 use Rattle.wl_requests.proofs.Naming.{subsurfaces-names}
-use Rattle.wl_requests.proofs.Simply.{AnswersSo, simply}
+use Rattle.wl_requests.proofs.Meeting.{AnswersSo, as-asked}
+use Rattle.wl_owning.proofs.Popups.Naming.{roles-named}
 use Rattle.wl_requests.proofs.residents.Resident.configure_again.Goals as goal
 use Rattle.wl_requests.proofs.Framing.{IsFramed, framed-names, one-more}
 use Rattle.wl_scene.specs.declared.owned.Owned.{Owned as Lent}
 
 -- the object is a toplevel
 toplevel-asked : {A : Type 0} (old new : Kept A) (object number : ℕ) (judged : Option Xdg → Result Ask Refusal) (r : Resident) → IsResident old r → IsToplevel old object number
-    → ((k : KeptXdg) (x : Xdg) (h : History) → IsXdg (names_in old.client.objects) (kept_of old.owned.shell) r.owned number k x h → is_role object x.role ≡ true
+    → ((k : KeptXdg) (x : Xdg) (h : History) → IsXdg (names_of old.client.objects) (kept_of old.owned.shell) r.owned number k x h → is_role object x.role ≡ true
     → AnswersSo (judged (Some x)) r old new)
     → AnswersSo (judged (xdg_with object r.owned.shell)) r old new
 toplevel-asked old new object number judged r is named answers =
-    let one = toplevel-named (names_in old.client.objects) old.owned.linked.surfaces old.owned.linked.family (kept_of old.owned.shell) r.owned is.owns object number named in
+    let one = toplevel-named (names_of old.client.objects) old.owned.linked.surfaces old.owned.linked.family (kept_of old.owned.shell) r.owned is.owns object number
+    (roles-named.toplevel old.client.objects object number named) in
     subst (λ (o : Option Xdg). AnswersSo (judged o) r old new) (sym one.4) (answers one.0 one.1 one.2 one.3 one.5)
 
 pub returns-in-Ok-true-clause-answers : goal.returns-in-Ok-true-clause-answers
 returns-in-Ok-true-clause-answers g c = λ named client r on is only.
-    simply _ _ client on r only (state_asked (xdg_with c.args.object r.owned.shell)) (
+    as-asked _ _ client on r only (state_asked (xdg_with c.args.object r.owned.shell)) (
     let v = c.args.self.now in
-    let names = names_in v.client.objects in
+    let names = names_of v.client.objects in
     let kept = kept_of v.owned.shell in
     let object = c.args.object in
     let number = c.args.surface in
@@ -59,18 +62,18 @@ returns-in-Ok-true-clause-answers g c = λ named client r on is only.
           told.1),
       record {
         peer = told.2;
-        numbers = λ alive. keeps-names v.client.objects new.client.objects (ap names_in (c.tell_configure.ensures.table alive ∙ ap (λ (w : ClientView). w.objects) c.draw_serial.ensures)
+        numbers = λ alive. keeps-names v.client.objects new.client.objects (ap names_of (c.tell_configure.ensures.table alive ∙ ap (λ (w : ClientView). w.objects) c.draw_serial.ensures)
             ∙ names-counted v.client c.count.new.self c.count.ensures.only);
         frames = λ alive.
-            let table = ap names_in (c.tell_configure.ensures.table alive ∙ ap (λ (w : ClientView). w.objects) c.draw_serial.ensures) ∙ names-counted v.client c.count.new.self c.count.ensures.only in
+            let table = ap names_of (c.tell_configure.ensures.table alive ∙ ap (λ (w : ClientView). w.objects) c.draw_serial.ensures) ∙ names-counted v.client c.count.new.self c.count.ensures.only in
             let after = changed_by (ConfigureAgain x.id) (with_peer (counted r.peer) r) in
             subst (λ (o : Lent _). IsFramed o.linked.surfaces.frames new.client.objects after) (sym c.tell_configure.ensures.owned)
             (framed-names v.owned.linked.surfaces.frames v.client.objects new.client.objects r after refl (one-more r.peer.requests) is.frames table refl);
         subsurfaces = λ alive.
-            let table = ap names_in (c.tell_configure.ensures.table alive ∙ ap (λ (w : ClientView). w.objects) c.draw_serial.ensures) ∙ names-counted v.client c.count.new.self c.count.ensures.only in
+            let table = ap names_of (c.tell_configure.ensures.table alive ∙ ap (λ (w : ClientView). w.objects) c.draw_serial.ensures) ∙ names-counted v.client c.count.new.self c.count.ensures.only in
             subst (λ ids. AreOfSurfaces ids (targets_in WlSurface new.client.objects) r.subsurfaces) (sym c.tell_configure.ensures.subsurfaces)
             (subsurfaces-names v.subsurfaces r.subsurfaces v.client.objects new.client.objects is.subsurfaces table);
-        owns = λ alive. owns-told new _ names _ (ap names_in (c.tell_configure.ensures.table alive ∙ ap (λ (w : ClientView). w.objects) c.draw_serial.ensures)
+        owns = λ alive. owns-told new _ names _ (ap names_of (c.tell_configure.ensures.table alive ∙ ap (λ (w : ClientView). w.objects) c.draw_serial.ensures)
             ∙ names-counted v.client c.count.new.self c.count.ensures.only) c.tell_configure.ensures.owned
             (owned-configured names v.owned.linked.surfaces v.owned.linked.family kept r is.owns number k x h one (kept_of c.configure.new.self)
             (c.in-Ok-true.ensures.ok ∙ ap (λ b. changing number (kept_configured b c.serial-serial.result) kept) c.in-Ok-true.field-0-test
@@ -80,9 +83,9 @@ returns-in-Ok-true-clause-answers g c = λ named client r on is only.
 
 pub returns-in-Ok-false-clause-answers : goal.returns-in-Ok-false-clause-answers
 returns-in-Ok-false-clause-answers g c = λ named client r on is only.
-    simply _ _ client on r only (state_asked (xdg_with c.args.object r.owned.shell)) (
+    as-asked _ _ client on r only (state_asked (xdg_with c.args.object r.owned.shell)) (
     let v = c.args.self.now in
-    let names = names_in v.client.objects in
+    let names = names_of v.client.objects in
     let kept = kept_of v.owned.shell in
     let object = c.args.object in
     let number = c.args.surface in
@@ -109,9 +112,9 @@ returns-in-Ok-false-clause-answers g c = λ named client r on is only.
 
 pub returns-in-Err-clause-answers : goal.returns-in-Err-clause-answers
 returns-in-Err-clause-answers g c = λ named client r on is only.
-    simply _ _ client on r only (state_asked (xdg_with c.args.object r.owned.shell)) (
+    as-asked _ _ client on r only (state_asked (xdg_with c.args.object r.owned.shell)) (
     let v = c.args.self.now in
-    let names = names_in v.client.objects in
+    let names = names_of v.client.objects in
     let kept = kept_of v.owned.shell in
     let object = c.args.object in
     let number = c.args.surface in

@@ -3,7 +3,7 @@ use Rattle.wl_peer.specs.declared.actions.Action.TheVariants.{CreateRegion}
 use Rattle.wl_plain.specs.Ask.{Own}
 use Rattle.std.proofs.Common.{◌≡◌, Some, None, refl, subst, sym}
 use Rattle.wl_peer.specs.Objects.{entry_at_version}
-use Rattle.wl_owning.proofs.Keeping.OwningNames.{names-other-made}
+use Rattle.wl_requests.proofs.Roles.{names-other-made}
 use Rattle.wl_interface.specs.declared.interface.Interface.TheVariants.{WlRegion}
 use Rattle.wl_peer.specs.Peer.{counted}
 use Rattle.wl_xdg_state.specs.Kept.{kept_of}
@@ -12,13 +12,13 @@ use Rattle.wl_plain.specs.Step.{changed_by, with_peer}
 use Rattle.wl_requests.proofs.Numbers.{keeps-names}
 use Rattle.wl_requests.proofs.Naming.{subsurfaces-names}
 use Rattle.wl_requests.proofs.Shelling.{holds-counted}
-use Rattle.wl_requests.proofs.Simply.{simply}
+use Rattle.wl_requests.proofs.Meeting.{as-asked}
 use Rattle.wl_requests.proofs.residents.Resident.create_region.Goals as goal
 use Rattle.wl_requests.proofs.Framing.{framed-names, one-more}
 
 pub returns-clause-answers : goal.returns-clause-answers
 returns-clause-answers g c = λ free client r on is only.
-    simply _ _ client on r only (Ok (Own (CreateRegion c.args.id c.args.version))) (
+    as-asked _ _ client on r only (Ok (Own (CreateRegion c.args.id c.args.version))) (
     let v = c.args.self.now in
     let made = c.create_region.ensures.acts (counted r.peer) (c.count.ensures.counts r.peer is.peer) in
     let named = λ (alive : c.create_region.new.self.ended ≡ None). names-other-made v.client.objects c.create_region.new.self.objects c.args.id (entry_at_version WlRegion c.args.version) free refl

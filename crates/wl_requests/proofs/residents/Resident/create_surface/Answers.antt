@@ -8,7 +8,8 @@ use Rattle.wl_peer.specs.declared.refusals.Refusal.{Refusal}
 use Rattle.wl_plain.specs.Ask.{Ask, CreateSurface}
 use Rattle.wl_plain.specs.Demanding.{demands}
 use Rattle.wl_requests.specs.Residents.{AnswersSo}
-use Rattle.wl_owning.specs.Owning.{names_in, Names}
+use Rattle.wl_owning.specs.Owning.{Names}
+use Rattle.wl_owning.specs.RoleNames.{names_of}
 use Rattle.wl_owning.specs.Subsurfaces.{AreOfSurfaces}
 use Rattle.wl_plain.specs.Step.{changed_by, with_peer}
 use Rattle.wl_plain.specs.WlSurface.{surface_created}
@@ -16,30 +17,31 @@ use Rattle.wl_requests.proofs.Doing.{lacked}
 use Rattle.wl_requests.proofs.Numbers.{keeps-made}
 use Rattle.wl_requests.proofs.Subsurfaces.{made-subsurfaces}
 use Rattle.wl_owning.proofs.Keeping.OwningAsks.{owned-created}
-use Rattle.wl_owning.proofs.Keeping.OwningNames.{names-surface-made, targets-free}
+use Rattle.wl_owning.proofs.Keeping.OwningNames.{targets-free}
+use Rattle.wl_requests.proofs.Roles.{names-surface-made}
 use Rattle.wl_owning.proofs.Keeping.Creating.{created-past, created-short, created-within}
 use Rattle.wl_requests.proofs.Shelling.{accepted, holds-counted}
-use Rattle.wl_requests.proofs.Simply.{simply}
+use Rattle.wl_requests.proofs.Meeting.{as-asked}
 use Rattle.wl_requests.proofs.residents.Resident.create_surface.Goals as goal
 use Rattle.wl_requests.proofs.Framing.{IsFramed, framed-made, one-more}
 use Rattle.wl_surface.specs.declared.frames.Waiting.{Waiting}
 
 pub returns-in-Ok-clause-answers : goal.returns-in-Ok-clause-answers
 returns-in-Ok-clause-answers g c = λ free client r on is only.
-    simply _ _ client on r only (surface_created r c.args.id c.args.version) (
+    as-asked _ _ client on r only (surface_created r c.args.id c.args.version) (
     let v = c.args.self.now in
     let id = c.args.id in
     let made = c.add.ensures.makes (counted r.peer) (c.count.ensures.counts r.peer is.peer) in
     let names = names-surface-made v.client.objects c.add.new.self.objects id _ free refl in
     accepted _ r (surface_created r id c.args.version) (CreateSurface id c.args.version)
-    (created-within (names_in v.client.objects) v.owned.linked.surfaces v.owned.linked.family r id c.args.version (is.owns.surfaces) c.in-Ok.ensures.room) (
+    (created-within (names_of v.client.objects) v.owned.linked.surfaces v.owned.linked.family r id c.args.version (is.owns.surfaces) c.in-Ok.ensures.room) (
       made.0,
       made.1,
       record {
         peer = made.2;
-        owns = λ alive. owned-created (names_in v.client.objects) v.owned.linked.surfaces v.owned.linked.family (kept_of v.owned.shell) (with_peer (counted r.peer) r) is.owns id c.args.version
+        owns = λ alive. owned-created (names_of v.client.objects) v.owned.linked.surfaces v.owned.linked.family (kept_of v.owned.shell) (with_peer (counted r.peer) r) is.owns id c.args.version
             c.in-Ok.surface c.create.new.self
-            (names_in c.add.new.self.objects)
+            (names_of c.add.new.self.objects)
             (targets-free WlSurface v.client.objects id free) c.in-Ok.ensures.ok c.in-Ok.ensures.count
             (names (holds-counted v.client c.count.new.self c.add.new.self.objects id _ c.count.ensures.only (c.add.ensures.table alive)));
         frames = λ alive.
@@ -53,7 +55,7 @@ returns-in-Ok-clause-answers g c = λ free client r on is only.
         subsurfaces = λ alive.
             let now = names (holds-counted v.client c.count.new.self c.add.new.self.objects id _ c.count.ensures.only (c.add.ensures.table alive)) in
             subst (λ (numbers : ById ℕ). AreOfSurfaces v.subsurfaces numbers r.subsurfaces) (sym (ap (λ (n : Names). n.surfaces) now))
-            (made-subsurfaces v.subsurfaces (names_in v.client.objects).surfaces r.subsurfaces id (Some c.in-Ok.surface) (targets-free WlSurface v.client.objects id free) is.subsurfaces);
+            (made-subsurfaces v.subsurfaces (names_of v.client.objects).surfaces r.subsurfaces id (Some c.in-Ok.surface) (targets-free WlSurface v.client.objects id free) is.subsurfaces);
         numbers = λ alive. keeps-made v.client.objects c.add.new.self.objects id c.in-Ok.surface (targets-free WlSurface v.client.objects id free)
             (names (holds-counted v.client c.count.new.self c.add.new.self.objects id _ c.count.ensures.only (c.add.ensures.table alive)));
       },
@@ -64,18 +66,18 @@ returns-then-is_too_many-clause-answers g c = λ free client r on is only.
     let v = c.args.self.now in
     let many = c.is_too_many.ensures.0 c.if-is_too_many.true in
     subst (λ (j : Result Ask Refusal). AnswersSo (demands j) client r on v c.refuse_unserved.new.self)
-    (sym (created-past (names_in v.client.objects) v.owned.linked.surfaces v.owned.linked.family r c.args.id c.args.version c.in-Err.error is.owns.surfaces c.in-Err.ensures.cause many))
+    (sym (created-past (names_of v.client.objects) v.owned.linked.surfaces v.owned.linked.family r c.args.id c.args.version c.in-Err.error is.owns.surfaces c.in-Err.ensures.cause many))
     (rw c.in-Err.ensures.err at c.refuse_unserved.ensures.answers client r on is only)
 
 pub returns-else-is_too_many-clause-answers : goal.returns-else-is_too_many-clause-answers
 returns-else-is_too_many-clause-answers g c = λ free client r on is only.
-    simply _ _ client on r only (surface_created r c.args.id c.args.version) (
+    as-asked _ _ client on r only (surface_created r c.args.id c.args.version) (
     let v = c.args.self.now in
     let id = c.args.id in
     let ask = CreateSurface id c.args.version in
     let then = with_peer (counted r.peer) r in
     let lacks = lacked v _ (changed_by ask then) then (c.lack_memory.ensures.lacks (counted r.peer) (c.count-else-is_too_many.ensures.counts r.peer is.peer)) c.lack_memory.ensures.ended in
     accepted _ r (surface_created r id c.args.version) ask
-    (created-short (names_in v.client.objects) v.owned.linked.surfaces v.owned.linked.family r id c.args.version c.in-Err.error is.owns.surfaces c.in-Err.ensures.cause
+    (created-short (names_of v.client.objects) v.owned.linked.surfaces v.owned.linked.family r id c.args.version c.in-Err.error is.owns.surfaces c.in-Err.ensures.cause
     (λ many. absurd (let told = c.is_too_many.ensures.1 many in let not = c.if-is_too_many.false in cc)))
     (lacks.0, inl lacks.1, lacks.2))

@@ -7,11 +7,16 @@ use Rattle.wl_plain.specs.Demand.{Demand, EndSurface}
 use Rattle.wl_plain.specs.Demanding.{surface_destroyed}
 use Rattle.wl_requests.specs.Residents.{AnswersAs}
 use Rattle.wl_plain.specs.Desktop.{Resident}
-use Rattle.wl_owning.specs.Owning.{names_in}
+use Rattle.wl_owning.specs.RoleNames.{names_of}
 use Rattle.wl_plain.specs.WlSubsurface.{refuses}
 use Rattle.wl_owning.proofs.Keeping.OwningReads.{destroyed-by}
 use Rattle.wl_requests.proofs.Counting.{counted-told}
-use Rattle.wl_requests.proofs.Shelling.{absent-kept, refused-as, surface-counted}
+use Rattle.wl_requests.proofs.Shelling.{absent-kept, counted-on, objects-counted, refused-as, surface-counted}
+use Rattle.wl_peer.specs.Peer.{counted}
+use Rattle.wl_plain.specs.Step.{with_peer}
+use Rattle.wl_requests.specs.Holding.{HoldsSo}
+use Rattle.wl_requests.proofs.Holding.{held-so}
+use Rattle.wl_requests.proofs.Meeting.{counted-ordered}
 use Rattle.wl_requests.proofs.residents.Resident.destroy.Goals as goal
 
 pub returns-then-has_xdg_surface-clause-answers : goal.returns-then-has_xdg_surface-clause-answers
@@ -19,7 +24,7 @@ returns-then-has_xdg_surface-clause-answers g c = rw c.of.ensures (λ named clie
     let v = c.args.self.now in
     let id = c.args.object in
     let there = sym c.has_xdg_surface.ensures ∙ c.if-has_xdg_surface.true in
-    let judged = destroyed-by (names_in v.client.objects) v.owned.linked.surfaces v.owned.linked.family (kept_of v.owned.shell) r is.owns id c.args.surface named
+    let judged = destroyed-by (names_of v.client.objects) v.owned.linked.surfaces v.owned.linked.family (kept_of v.owned.shell) r is.owns id c.args.surface named
     ∙ ap (λ (b : Bool). if b then refuses id SurfaceHasRoleObject else Ok (EndSurface id)) there in
     refused-as _ _ client r on (surface_destroyed r id) _ (judged ∙ ap (λ (f : Refusal). Err f) (sym c.of-refusal.ensures)) c.refuse.ensures.ended (c.refuse.ensures.errs r.peer is.peer))
 
@@ -28,7 +33,7 @@ returns-clause-answers g c = λ named client r on is only.
     let v = c.args.self.now in
     let id = c.args.object in
     let there = sym c.has_xdg_surface.ensures ∙ c.if-has_xdg_surface.false in
-    let judged = destroyed-by (names_in v.client.objects) v.owned.linked.surfaces v.owned.linked.family (kept_of v.owned.shell) r is.owns id c.args.surface named
+    let judged = destroyed-by (names_of v.client.objects) v.owned.linked.surfaces v.owned.linked.family (kept_of v.owned.shell) r is.owns id c.args.surface named
     ∙ ap (λ (b : Bool). if b then refuses id SurfaceHasRoleObject else Ok (EndSurface id)) there in
     subst (λ (j : Result Demand Refusal). AnswersAs (is_some c.destroy_surface.result) j client r on v c.destroy_surface.new.self) (sym judged)
     (counted-told v (record v { client = c.count.new.self }) c.destroy_surface.new.self c.destroy_surface.result client r on (λ (q : Resident). EndSurface id) is only
@@ -52,3 +57,21 @@ returns-then-has_xdg_surface-clause-rest g c = rw c.refuse.ensures.rest (omega a
 
 pub returns-clause-rest : goal.returns-clause-rest
 returns-clause-rest g c = rw (← c.count.ensures.rest) c.destroy_surface.ensures.rest
+
+-- ---- what is kept stands by the numbers from before
+
+pub returns-then-has_xdg_surface-clause-holds : goal.returns-then-has_xdg_surface-clause-holds
+returns-then-has_xdg_surface-clause-holds g c = rw c.of.ensures (λ named client r on is only done. absurd (cc))
+
+pub returns-clause-holds : goal.returns-clause-holds
+returns-clause-holds g c = λ named client r on is only done.
+    let v = c.args.self.now in
+    let id = c.args.object in
+    let mid = record v { client = c.count.new.self } in
+    let there = sym c.has_xdg_surface.ensures ∙ c.if-has_xdg_surface.false in
+    let judged = destroyed-by (names_of v.client.objects) v.owned.linked.surfaces v.owned.linked.family (kept_of v.owned.shell) r is.owns id c.args.surface named
+    ∙ ap (λ (b : Bool). if b then refuses id SurfaceHasRoleObject else Ok (EndSurface id)) there in
+    subst (λ (j : Result Demand Refusal). HoldsSo j client r on v c.destroy_surface.new.self) (sym judged)
+    (held-so v mid c.destroy_surface.new.self (Ok (EndSurface id)) client r on (objects-counted v.client c.count.new.self c.count.ensures.only)
+    (c.destroy_surface.ensures.holds (surface-counted v.client c.count.new.self id c.args.surface c.count.ensures.only named) (absent-kept _ there) client (with_peer (counted r.peer) r) on
+    (counted-on v mid r is c.count.ensures.only refl refl (c.count.ensures.counts r.peer is.peer)) (counted-ordered r only) done))

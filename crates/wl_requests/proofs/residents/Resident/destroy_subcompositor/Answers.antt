@@ -4,12 +4,12 @@ use Rattle.wl_interface.specs.declared.interface.Interface.TheVariants.{WlSubcom
 use Rattle.wl_plain.specs.Ask.{EndObject}
 use Rattle.wl_plain.specs.Desktop.{Resident}
 use Rattle.wl_requests.proofs.Shelling.{counted-does, object-held}
-use Rattle.wl_requests.proofs.Simply.{simply}
+use Rattle.wl_requests.proofs.Meeting.{as-asked}
 use Rattle.wl_requests.proofs.residents.Resident.destroy_subcompositor.Goals as goal
 
 pub returns-clause-answers : goal.returns-clause-answers
 returns-clause-answers g c = λ here client r on is only.
-    simply _ _ client on r only (Ok (EndObject c.args.object)) (
+    as-asked _ _ client on r only (Ok (EndObject c.args.object)) (
     let v = c.args.self.now in
     counted-does v (record v { client = c.count.new.self }) c.end_object.new.self r (λ (q : Resident). EndObject c.args.object) is c.count.ensures.only refl refl
     (c.count.ensures.counts r.peer is.peer)

@@ -32,7 +32,8 @@ use Rattle.wl_plain.specs.Releases.{let_if}
 use Rattle.wl_plain.specs.Replies.{is_same_buffer}
 use Rattle.wl_plain.specs.Step.{is_over, letting_go, with_surfaces}
 use Rattle.wl_owning.specs.Freed.{freed_of}
-use Rattle.wl_owning.specs.Owning.{Names, by_number, names_in}
+use Rattle.wl_owning.specs.Owning.{Names, by_number}
+use Rattle.wl_owning.specs.RoleNames.{names_of}
 use Rattle.wl_owning.proofs.Keeping.Freeing.{releases-freed}
 use Rattle.wl_owning.proofs.Keeping.Ids.{waits-without-links}
 use Rattle.wl_owning.proofs.Keeping.OwningAsks.{owned-destroyed}
@@ -46,20 +47,21 @@ use Rattle.wl_requests.proofs.Doing.{had-by, kept-there, lacked, one-let}
 use Rattle.wl_requests.proofs.Framing.{left-by}
 use Rattle.wl_requests.proofs.Going.{are-heard, asked-read, going-buffers, going-removed, going-requests, going-status, going-told, surface-gone-with}
 use Rattle.wl_requests.proofs.Numbers.{keeps-gone}
-use Rattle.wl_requests.proofs.Simply.{meets-as}
+use Rattle.wl_requests.proofs.Meeting.{meets-as}
 use Rattle.wl_requests.proofs.Subsurfaces.{gone-subsurfaces}
 use Rattle.wl_requests.proofs.Trees.{are-one, destroy-lets-go, goes-too, is-freed, lived, pending-had, told-all}
+use Rattle.wl_requests.proofs.Holding.{holds-without}
 use Rattle.wl_requests.proofs.residents.Resident.destroy_surface.Goals as goal
 
 pub returns-in_default-clause-does : goal.returns-in_default-clause-does
 returns-in_default-clause-does g c = λ named bare client r on is only.
-    meets-as _ _ client on (EndSurface c.args.object) r only.no_popups tt false (
+    meets-as _ _ client on (EndSurface c.args.object) r refl false (
     let lacks = lacked c.args.self.now _ _ r (c.lack_memory.ensures.lacks r.peer is.peer) c.lack_memory.ensures.ended in
     (refl, lacks.0, lacks.1, lacks.2))
 
 pub returns-in_default-let_go_of_told-clause-does : goal.returns-in_default-let_go_of_told-clause-does
 returns-in_default-let_go_of_told-clause-does g c = λ named bare client r on is only.
-    meets-as _ _ client on (EndSurface c.args.object) r only.no_popups tt false (
+    meets-as _ _ client on (EndSurface c.args.object) r refl false (
     let lacks = lacked c.args.self.now _ _ r (c.in_default-let_go_of_told.ensures.lacks r.peer is.peer) c.in_default-let_go_of_told.ensures.ended in
     (refl, lacks.0, lacks.1, lacks.2))
 
@@ -68,7 +70,7 @@ returns-clause-does g c = λ named bare client r on is only.
     let v = c.args.self.now in
     let id = c.args.object in
     let number = c.args.surface in
-    let names = names_in v.client.objects in
+    let names = names_of v.client.objects in
     let slots = v.owned.linked.surfaces in
     let tied = v.owned.linked.family in
     let kept = kept_of v.owned.shell in
@@ -97,7 +99,7 @@ returns-clause-does g c = λ named bare client r on is only.
     (c.let_go_if_over.ensures.stores (letting_go gone then) without one kept_there) in
     let after = after_all r then in
     let peer_then = subst (λ (x : Resident). IsPeer c.let_go_if_over.new.self.client x.peer)
-    (destroy-lets-go r then left id there.0 freed shown only.buffers only.no_popups.apart there.1 called.frees (waits-without-links id r.owned.surfaces) refl)
+    (destroy-lets-go r then left id there.0 freed shown only.order.buffers only.order.known.apart there.1 called.frees (waits-without-links id r.owned.surfaces) refl)
     (subst (λ (s : Stock). IsPeer c.let_go_if_over.new.self.client (record then.peer { stores = s }))
     (ap (λ (o : Option Buffer). let_if (is_over then) went o (letting_go gone then).peer.stores) first ∙ goes-too then gone extra went same_went) two) in
     let asked = asked-read v.client.objects r slots tied is.owns.surfaces id number named in
@@ -116,7 +118,7 @@ returns-clause-does g c = λ named bare client r on is only.
     subst (λ (p : Peer). Queues telling (removed id p) told.0) (going-removed cs calls after.peer ids)
     (subst (λ (es : List Said). Queues es (removed id (all_removed calls after.peer)) told.0) (going-told id cs calls ids) told.1) in
     let those = c.in-Some.ensures.lets_go.those in
-    let rel = releases-freed r made freed shown (are-one r only.buffers) called.frees released c.in-Some.ensures.lets_go.rising
+    let rel = releases-freed r made freed shown (are-one r only.order.buffers) called.frees released c.in-Some.ensures.lets_go.rising
     (λ thing. those r is.peer thing
     ∙ ap (λ (f : ById Made). list_any (λ b. (b.object == thing) && is_same_buffer b.number (option_map (λ (m : Made). m.number) (f b.object))) gone) (sym (going-buffers cs after.peer))) in
     let queues = rw c.deref-3.ensures.value at c.tell_releases.ensures.queues in
@@ -124,20 +126,20 @@ returns-clause-does g c = λ named bare client r on is only.
     (going-status cs after.peer ∙ sym is.peer.status ∙ is.lives) first_told told.2 queues c.tell_releases.ensures.ended in
     let kept_owned = c.tell_releases.ensures.owned ∙ c.let_go_if_over.ensures.owned ∙ c.let_go_of_told.ensures.owned in
     let table = λ (alive : c.tell_releases.new.self.client.ended ≡ None).
-    ap names_in (c.tell_releases.ensures.table alive)
-    ∙ surface-gone-with v.client.objects c.remove_with.new.self.objects id calls (are-heard id r v.client.objects calls only.no_popups is.peer.objects ids)
+    ap names_of (c.tell_releases.ensures.table alive)
+    ∙ surface-gone-with v.client.objects c.remove_with.new.self.objects id calls (are-heard id r v.client.objects calls only.order.known is.peer.objects ids)
     (subst (λ (held : Held). HoldsWithout held c.remove_with.new.self.objects (id ∷ calls))
     (ap (λ (w : ClientView). w.objects) (c.let_go_if_over.ensures.only) ∙ ap (λ (w : ClientView). w.objects) c.in-Some.ensures.lets_go.only)
     (c.remove_with.ensures.table (lived c.remove_with.new.self c.tell_releases.new.self.client c.tell_releases.ensures.ended alive)))
     number named in
-    meets-as _ _ client on (EndSurface id) r only.no_popups tt true (
+    meets-as _ _ client on (EndSurface id) r refl true (
       next.0,
       subst (λ (es : List Said). Queues es made.peer next.0) (ap (λ (es : List Said). telling ++ es) (sym rel)) next.1,
       record {
         peer = next.2;
         owns = λ alive. rw kept_owned
-            (owned-destroyed names slots tied kept r is.owns id number c.destroy.new.self.surfaces c.destroy.new.self.family (names_in c.tell_releases.new.self.client.objects)
-            only.once only.numbered only.roots named none c.in-Ok.ensures.ok (table alive));
+            (owned-destroyed names slots tied kept r is.owns id number c.destroy.new.self.surfaces c.destroy.new.self.family (names_of c.tell_releases.new.self.client.objects)
+            only.order.once only.order.numbered only.order.roots named none c.in-Ok.ensures.ok (table alive));
         frames = λ alive. rw (kept_owned, ap (λ (n : Names). n.surfaces) (table alive), going-requests cs after.peer)
             (subst (λ (ls : List Callback). AreFramed c.destroy.new.self.surfaces.frames (by_number without then.owned.surfaces) (r.peer.requests + 1) ls)
             (ap (λ ns. filter (λ x. not (is_in ns x)) r.callbacks) asked ∙ sym (left-by (frames_asked (history_in id r.owned.surfaces)) r.callbacks)) (called.framed is.frames));
@@ -153,3 +155,25 @@ returns-clause-touched g c = (
       (sym (c.tell_releases.ensures.owned ∙ c.let_go_if_over.ensures.owned ∙ c.let_go_of_told.ensures.owned)) c.in-Ok.ensures.ok,
   c.in-Ok.ensures.changes,
 )
+
+-- ---- what is kept stands by the numbers from before
+
+pub returns-in_default-clause-holds : goal.returns-in_default-clause-holds
+returns-in_default-clause-holds g c = λ named bare client r on is only done. absurd (cc)
+
+pub returns-in_default-let_go_of_told-clause-holds : goal.returns-in_default-let_go_of_told-clause-holds
+returns-in_default-let_go_of_told-clause-holds g c = λ named bare client r on is only done. absurd (cc)
+
+pub returns-clause-holds : goal.returns-clause-holds
+returns-clause-holds g c = λ named bare client r on is only done.
+    let v = c.args.self.now in
+    let id = c.args.object in
+    let number = c.args.surface in
+    let names = names_of v.client.objects in
+    let slots = v.owned.linked.surfaces in
+    let tied = v.owned.linked.family in
+    let kept = kept_of v.owned.shell in
+    let none = xdg-of-none names slots tied kept r.owned is.owns id number named bare in
+    holds-without v c.tell_releases.new.self names id _ refl (rw (c.tell_releases.ensures.owned ∙ c.let_go_if_over.ensures.owned ∙ c.let_go_of_told.ensures.owned)
+    (owned-destroyed names slots tied kept r is.owns id number c.destroy.new.self.surfaces c.destroy.new.self.family (record names { surfaces = with_id id None names.surfaces })
+    only.order.once only.order.numbered only.order.roots named none c.in-Ok.ensures.ok refl))

@@ -4,7 +4,8 @@ use Rattle.std.specs.Prelude.{Ok, None}
 use Rattle.wl_peer.specs.Peer.{counted}
 use Rattle.wl_xdg_state.specs.Kept.{destruction_answer, kept_of}
 use Rattle.wl_plain.specs.Ask.{DestroyXdgSurface}
-use Rattle.wl_owning.specs.Owning.{IsOwned, names_in, shell_refusal, with_xdg, Names}
+use Rattle.wl_owning.specs.Owning.{IsOwned, shell_refusal, with_xdg, Names}
+use Rattle.wl_owning.specs.RoleNames.{names_of}
 use Rattle.wl_plain.specs.Step.{changed_by, with_peer}
 use Rattle.wl_plain.specs.XdgShell.{xdg_surface_destroyed}
 use Rattle.wl_owning.proofs.Keeping.OwningAsks.{owned-xdg-gone}
@@ -12,22 +13,22 @@ use Rattle.wl_owning.proofs.Keeping.OwningReads.{bare-destroyed, xdg-destroyed-b
 use Rattle.wl_requests.proofs.Shelling.{accepted, told-err, told-ok, xdg-answered, xdg-gone, xdg-refused}
 use Rattle.wl_requests.proofs.Numbers.{keeps-xdg}
 use Rattle.wl_requests.proofs.Naming.{subsurfaces-named}
-use Rattle.wl_requests.proofs.Simply.{simply}
+use Rattle.wl_requests.proofs.Meeting.{as-asked}
 use Rattle.wl_requests.proofs.residents.Resident.destroy_xdg_surface.Goals as goal
 use Rattle.wl_requests.proofs.Framing.{framed-kept, one-more}
 
 pub returns-in-Ok-clause-answers : goal.returns-in-Ok-clause-answers
 returns-in-Ok-clause-answers g c = λ named client r on is only.
     let v = c.args.self.now in
-    let names = names_in v.client.objects in
+    let names = names_of v.client.objects in
     let kept = kept_of v.owned.shell in
     let object = c.args.object in
     let number = c.args.surface in
-    let left = names_in c.remove.new.self.objects in
+    let left = names_of c.remove.new.self.objects in
     let after = kept_of c.destroy_xdg_surface.new.self in
     let gone = c.remove.ensures.removes (counted r.peer) (c.count.ensures.counts r.peer is.peer) in
     xdg-answered v _ object number c.args.version xdg.Destroy client on r is named
-    (λ k x h one same. simply _ _ client on r only (xdg_surface_destroyed x) (
+    (λ k x h one same. as-asked _ _ client on r only (xdg_surface_destroyed x) (
     let judged = xdg-destroyed-by names kept r number k x h one object in
     let bare = bare-destroyed names kept r number k x h one object (sym c.destroy_xdg_surface.ensures.answer ∙ c.in-Ok.is) in
     accepted _ r (xdg_surface_destroyed x) (DestroyXdgSurface object)
@@ -60,8 +61,8 @@ returns-in-Err-clause-answers g c = λ named client r on is only.
     let v = c.args.self.now in
     let kept = kept_of v.owned.shell in
     xdg-answered v _ c.args.object c.args.surface c.args.version xdg.Destroy client on r is named
-    (λ k x h one same. simply _ _ client on r only (xdg_surface_destroyed x) (
-    let judged = xdg-destroyed-by (names_in v.client.objects) kept r c.args.surface k x h one c.args.object in
+    (λ k x h one same. as-asked _ _ client on r only (xdg_surface_destroyed x) (
+    let judged = xdg-destroyed-by (names_of v.client.objects) kept r c.args.surface k x h one c.args.object in
     xdg-refused v _ (kept_of c.destroy_xdg_surface.new.self) r c.args.object c.args.surface k x h c.in-Err.error (xdg_surface_destroyed x) one same
     (told-err _ _ (shell_refusal x.base x.id c.args.object) (destruction_answer (kept c.args.surface)) c.destroy_xdg_surface.result c.in-Err.error judged c.destroy_xdg_surface.ensures.answer
     c.in-Err.is)

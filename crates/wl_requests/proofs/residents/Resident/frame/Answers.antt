@@ -6,23 +6,24 @@ use Rattle.wl_table.specs.declared.entry.Entry.{Entry}
 use Rattle.wl_xdg_state.specs.Kept.{kept_of}
 use Rattle.wl_state.specs.Request.{Frame}
 use Rattle.wl_plain.specs.Demand.{AskFrame}
-use Rattle.wl_owning.specs.Owning.{names_in}
+use Rattle.wl_owning.specs.RoleNames.{names_of}
 use Rattle.wl_plain.specs.Step.{with_peer}
 use Rattle.wl_owning.proofs.Keeping.OwningAsks.{owned-asked}
-use Rattle.wl_owning.proofs.Keeping.OwningNames.{names-other-made}
-use Rattle.wl_invariants.specs.Simple.{changed_simply}
+use Rattle.wl_requests.proofs.Roles.{names-other-made}
+use Rattle.wl_plain.specs.Changing.{changed_for}
+use Rattle.wl_plain.specs.Desktop.{unpointed}
 use Rattle.wl_requests.proofs.Doing.{lacked}
 use Rattle.wl_requests.proofs.Framing.{framed-frame}
 use Rattle.wl_requests.proofs.Numbers.{keeps-names}
 use Rattle.wl_requests.proofs.Naming.{subsurfaces-names}
 use Rattle.wl_requests.proofs.Shelling.{asked-releases, holds-counted, wants-told}
-use Rattle.wl_requests.proofs.Simply.{counted-orderly, meets-simply}
+use Rattle.wl_requests.proofs.Meeting.{meets-so}
 use Rattle.wl_requests.proofs.residents.Resident.frame.Goals as goal
 
 pub returns-in-Ok-clause-answers : goal.returns-in-Ok-clause-answers
 returns-in-Ok-clause-answers g c = λ named free client r on is only.
     let v = c.args.self.now in
-    let names = names_in v.client.objects in
+    let names = names_of v.client.objects in
     let object = c.args.object in
     let number = c.args.surface in
     let callback = c.args.callback in
@@ -31,17 +32,18 @@ returns-in-Ok-clause-answers g c = λ named free client r on is only.
     let n = (counted r.peer).requests in
     let ask = AskFrame callback version object in
     let entry : Entry = record { interface = WlCallback; version = version; target = 0 } in
-    meets-simply _ _ client on ask then (counted-orderly r only).no_popups tt (
+    meets-so _ _ client on ask then refl (
     let made = c.add.ensures.makes (counted r.peer) (c.count.ensures.counts r.peer is.peer) in
     let table = λ (alive : c.add.new.self.ended ≡ None). names-other-made v.client.objects c.add.new.self.objects callback entry free refl
     (holds-counted v.client c.count.new.self c.add.new.self.objects callback (Some entry) c.count.ensures.only (c.add.ensures.table alive)) in (
       made.0,
-      wants-told true _ _ (counted r.peer) (changed_simply ask then).peer made.0
+      wants-told true _ _ (counted r.peer) (changed_for client ask then (unpointed on)).peer made.0
           (asked-releases names.surfaces v.owned.linked.surfaces v.owned.linked.family then object number (Frame n) refl is.owns.surfaces named) made.1,
       record {
         peer = made.2;
         numbers = λ alive. keeps-names v.client.objects c.add.new.self.objects (table alive);
-        frames = λ alive. framed-frame v.client.objects c.add.new.self.objects r (changed_simply ask then) v.owned.linked.surfaces v.owned.linked.family is.owns.surfaces is.frames object number
+        frames = λ alive. framed-frame v.client.objects c.add.new.self.objects r (changed_for client ask then
+            (unpointed on)) v.owned.linked.surfaces v.owned.linked.family is.owns.surfaces is.frames object number
             named c.frame.new.self.frames n
             callback refl refl c.in-Ok.ensures.waits refl (table alive) refl;
         subsurfaces = λ alive. subsurfaces-names v.subsurfaces r.subsurfaces v.client.objects c.add.new.self.objects is.subsurfaces (table alive);
@@ -58,6 +60,7 @@ returns-in-Err-clause-answers g c = λ named free client r on is only.
     let object = c.args.object in
     let then = with_peer (counted r.peer) r in
     let ask = AskFrame callback version object in
-    meets-simply _ _ client on ask then (counted-orderly r only).no_popups tt (
-    let lacks = lacked c.args.self.now _ (changed_simply ask then) then (c.lack_memory.ensures.lacks (counted r.peer) (c.count.ensures.counts r.peer is.peer)) c.lack_memory.ensures.ended in
+    meets-so _ _ client on ask then refl (
+    let lacks = lacked c.args.self.now _ (changed_for client ask then (unpointed on)) then (c.lack_memory.ensures.lacks (counted r.peer)
+    (c.count.ensures.counts r.peer is.peer)) c.lack_memory.ensures.ended in
     (lacks.0, inl lacks.1, lacks.2))

@@ -1,8 +1,9 @@
 use Rattle.std.proofs.Common.{None, Some, inl, refl, subst, sym, true, ◌≡◌}
 use Rattle.wl_interface.specs.declared.interface.Interface.TheVariants.{WlPointer}
 use Rattle.wl_invariants.proofs.KeptRecords.Toplevels.Releases.{still-released}
-use Rattle.wl_invariants.specs.Simple.{changed_simply}
-use Rattle.wl_owning.proofs.Keeping.OwningNames.{names-other-made}
+use Rattle.wl_plain.specs.Changing.{changed_for}
+use Rattle.wl_plain.specs.Desktop.{unpointed}
+use Rattle.wl_requests.proofs.Roles.{names-other-made}
 use Rattle.wl_owning.specs.Owning.{IsOwned, Names}
 use Rattle.wl_peer.specs.Peer.{counted}
 use Rattle.wl_plain.specs.Demand.{GetPointer}
@@ -14,7 +15,7 @@ use Rattle.wl_requests.proofs.Framing.{framed-names, one-more}
 use Rattle.wl_requests.proofs.Naming.{subsurfaces-names}
 use Rattle.wl_requests.proofs.Numbers.{keeps-names}
 use Rattle.wl_requests.proofs.Shelling.{holds-counted, wants-told}
-use Rattle.wl_requests.proofs.Simply.{counted-orderly, meets-simply}
+use Rattle.wl_requests.proofs.Meeting.{meets-so}
 use Rattle.wl_requests.proofs.residents.Resident.get_pointer.Goals as goal
 
 pub returns-clause-answers : goal.returns-clause-answers
@@ -24,13 +25,13 @@ returns-clause-answers g c = λ free client r on is only.
     let version = c.args.version in
     let then = with_peer (counted r.peer) r in
     let demand = GetPointer id version in
-    let after = changed_simply demand then in
+    let after = changed_for client demand then (unpointed on) in
     let now = c.add.new.self.objects in
     let entry : Entry = record { interface = WlPointer; version = version; target = 0 } in
     let made = c.add.ensures.makes (counted r.peer) (c.count.ensures.counts r.peer is.peer) in
     let table = λ (alive : c.add.new.self.ended ≡ None). names-other-made v.client.objects now id entry free refl
     (holds-counted v.client c.count.new.self now id (Some entry) c.count.ensures.only (c.add.ensures.table alive)) in
-    meets-simply _ _ client on demand then (counted-orderly r only).no_popups tt (
+    meets-so _ _ client on demand then refl (
       made.0,
       wants-told true _ _ (counted r.peer) after.peer made.0 (still-released then after refl) made.1,
       record {
@@ -51,5 +52,5 @@ returns-then-not-has_room-clause-answers g c = λ free client r on is only.
     let v = c.args.self.now in
     let demand = GetPointer c.args.id c.args.version in
     let then = with_peer (counted r.peer) r in
-    let lacks = lacked v _ (changed_simply demand then) then (c.lack_memory.ensures.lacks (counted r.peer) (c.count.ensures.counts r.peer is.peer)) c.lack_memory.ensures.ended in
-    meets-simply _ _ client on demand then (counted-orderly r only).no_popups tt (lacks.0, inl lacks.1, lacks.2)
+    let lacks = lacked v _ (changed_for client demand then (unpointed on)) then (c.lack_memory.ensures.lacks (counted r.peer) (c.count.ensures.counts r.peer is.peer)) c.lack_memory.ensures.ended in
+    meets-so _ _ client on demand then refl (lacks.0, inl lacks.1, lacks.2)

@@ -4,8 +4,9 @@ use Rattle.std.specs.Option.{option_map}
 use Rattle.wl_client.specs.Agreement.{IsPeer}
 use Rattle.wl_client.specs.View.{ClientView}
 use Rattle.wl_interface.specs.declared.interface.Interface.TheVariants.{WlSubsurface}
-use Rattle.wl_owning.specs.Owning.{IsOwned, Names, by_number, names_in}
-use Rattle.wl_owning.proofs.Keeping.OwningNames.{names-other-made}
+use Rattle.wl_owning.specs.Owning.{IsOwned, Names, by_number}
+use Rattle.wl_owning.specs.RoleNames.{names_of}
+use Rattle.wl_requests.proofs.Roles.{names-other-made}
 use Rattle.wl_peer.specs.Objects.{Objects, object_of}
 use Rattle.wl_peer.specs.Peer.{counted}
 use Rattle.wl_peer.specs.declared.refusals.Refusal.{Refusal}
@@ -17,7 +18,8 @@ use Rattle.wl_surface.specs.Slots.{Numbered}
 use Rattle.wl_surface.specs.Waiting.{counted_at, frames_at}
 use Rattle.wl_surface.specs.declared.frames.Waiting.{Waiting}
 use Rattle.wl_table.specs.declared.entry.Entry.{Entry}
-use Rattle.wl_invariants.specs.Simple.{changed_simply}
+use Rattle.wl_plain.specs.Changing.{changed_for}
+use Rattle.wl_plain.specs.Desktop.{unpointed}
 use Rattle.wl_requests.specs.declared.residents.Resident.{Resident as Kept}
 use Rattle.wl_requests.specs.Linking.{IsJudged}
 use Rattle.wl_requests.specs.Residents.{AnswersSo}
@@ -27,7 +29,7 @@ use Rattle.wl_requests.proofs.Joined.{counted-only, linked-counts, linked-frames
 use Rattle.wl_requests.proofs.Naming.{subsurfaces-names}
 use Rattle.wl_requests.proofs.Numbers.{keeps-names}
 use Rattle.wl_requests.proofs.Shelling.{holds-counted, refused-whole, wants-told}
-use Rattle.wl_requests.proofs.Simply.{counted-orderly, meets-simply}
+use Rattle.wl_requests.proofs.Meeting.{meets-so}
 use Rattle.wl_requests.proofs.residents.Resident.get_subsurface.Goals as goal
 
 pub returns-in-Some-clause-answers : goal.returns-in-Some-clause-answers
@@ -35,7 +37,7 @@ returns-in-Some-clause-answers g c = λ surface above free below over client r d
     let v = c.args.self.now in
     let demand = GetSubsurface c.args.id c.args.version surface above in
     let judged = subsurface_made r c.args.object c.args.version c.args.id surface above in
-    let so = c.in-Err.ensures.judged (names_in v.client.objects) r surface above c.args.object c.args.version c.args.id
+    let so = c.in-Err.ensures.judged (names_of v.client.objects) r surface above c.args.object c.args.version c.args.id
     (record { orderly = orderly; owns = is.owns; subsurfaces = is.subsurfaces; child_named = below; parent_named = over }) in
     let peer = subst (λ (w : ClientView). IsPeer w r.peer) (sym c.link.ensures.client) is.peer in
     refused-whole v _ client r d judged c.in-Some.refusal (subst (λ (o : Option Refusal). IsJudged o demand judged) (sym c.refusal_of.ensures ∙ c.in-Some.is) so)
@@ -46,25 +48,26 @@ returns-in-None-clause-answers g c = λ surface above free below over client r d
     let v = c.args.self.now in
     let demand = GetSubsurface c.args.id c.args.version surface above in
     let judged = subsurface_made r c.args.object c.args.version c.args.id surface above in
-    let so = c.in-Err.ensures.judged (names_in v.client.objects) r surface above c.args.object c.args.version c.args.id
+    let so = c.in-Err.ensures.judged (names_of v.client.objects) r surface above c.args.object c.args.version c.args.id
     (record { orderly = orderly; owns = is.owns; subsurfaces = is.subsurfaces; child_named = below; parent_named = over }) in
     let peer = subst (λ (w : ClientView). IsPeer w r.peer) (sym c.link.ensures.client) is.peer in
     let new : Kept _ = record c.link.new.self { client = c.lack_memory.new.self } in
     let one_more = with_peer (counted r.peer) r in
-    let lacks = lacked v new (changed_simply demand one_more) one_more (c.lack_memory.ensures.lacks (counted r.peer) (c.count-in-None.ensures.counts r.peer peer)) c.lack_memory.ensures.ended in
+    let lacks = lacked v new (changed_for client demand one_more (unpointed d)) one_more (c.lack_memory.ensures.lacks (counted r.peer)
+    (c.count-in-None.ensures.counts r.peer peer)) c.lack_memory.ensures.ended in
     subst (λ (j : Result Demand Refusal). AnswersSo j client r d v new) (sym (subst (λ (o : Option Refusal). IsJudged o demand judged) (sym c.refusal_of.ensures ∙ c.in-None.is) so))
-    (meets-simply v new client d demand one_more (counted-orderly r orderly).no_popups tt (lacks.0, inl lacks.1, lacks.2))
+    (meets-so v new client d demand one_more refl (lacks.0, inl lacks.1, lacks.2))
 
 pub returns-in-Ok-clause-answers : goal.returns-in-Ok-clause-answers
 returns-in-Ok-clause-answers g c = λ surface above free below over client r d is orderly.
     let v = c.args.self.now in
     let id = c.args.id in
     let version = c.args.version in
-    let names = names_in v.client.objects in
+    let names = names_of v.client.objects in
     let then = with_peer (counted r.peer) r in
     let n = (counted r.peer).requests in
     let demand = GetSubsurface id version surface above in
-    let after = changed_simply demand then in
+    let after = changed_for client demand then (unpointed d) in
     let now = c.add.new.self.objects in
     let entry : Entry = record { interface = WlSubsurface; version = version; target = c.args.child } in
     let new : Kept _ = record c.link.new.self { client = c.add.new.self } in
@@ -80,7 +83,7 @@ returns-in-Ok-clause-answers g c = λ surface above free below over client r d i
     (holds-counted v.client c.count.new.self now id (Some entry) only (c.add.ensures.table alive)) in
     let named = λ (alive : c.add.new.self.ended ≡ None). ap (λ (x : Names). by_number x.surfaces after.owned.surfaces) (table alive) in
     subst (λ (j : Result Demand Refusal). AnswersSo j client r d v new) (sym so)
-    (meets-simply v new client d demand then (counted-orderly r orderly).no_popups tt (
+    (meets-so v new client d demand then refl (
       made.0,
       wants-told true _ _ (counted r.peer) after.peer made.0
           (linked-released n surface above names.surfaces v.owned.linked.surfaces v.owned.linked.family r.owned.surfaces is.owns.surfaces then after refl refl) made.1,

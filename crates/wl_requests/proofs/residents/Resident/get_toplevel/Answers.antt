@@ -5,17 +5,19 @@ use Rattle.wl_interface.specs.declared.interface.Interface.TheVariants.{WlSurfac
 use Rattle.wl_peer.specs.Peer.{counted}
 use Rattle.wl_xdg_state.specs.Kept.{kept_of, toplevel_answer}
 use Rattle.wl_plain.specs.Ask.{GetToplevel}
-use Rattle.wl_owning.specs.Owning.{names_in, shell_refusal, Names, targets_in}
+use Rattle.wl_owning.specs.Owning.{shell_refusal, Names, targets_in}
+use Rattle.wl_owning.specs.RoleNames.{names_of}
 use Rattle.wl_owning.specs.Subsurfaces.{AreOfSurfaces}
 use Rattle.wl_plain.specs.Step.{with_peer, making, toplevel_given}
 use Rattle.wl_plain.specs.XdgShell.{is_no_toplevel, role_of, toplevel_made}
 use Rattle.wl_owning.proofs.Keeping.OwningAsks.{owned-toplevel-made}
-use Rattle.wl_owning.proofs.Keeping.OwningNames.{names-toplevel-made, targets-free}
+use Rattle.wl_owning.proofs.Popups.Naming.{roles-named}
+use Rattle.wl_requests.proofs.Roles.{names-toplevel-made}
 use Rattle.wl_owning.proofs.Keeping.OwningReads.{bare-toplevel, role-read, toplevel-made-by}
 use Rattle.wl_requests.proofs.Shelling.{accepted, acts-given, holds-counted, role-given, told-err, told-ok, xdg-answered, xdg-refused}
 use Rattle.wl_requests.proofs.Numbers.{keeps-toplevel}
 use Rattle.wl_requests.proofs.Naming.{subsurfaces-named}
-use Rattle.wl_requests.proofs.Simply.{simply}
+use Rattle.wl_requests.proofs.Meeting.{as-asked}
 use Rattle.wl_requests.proofs.residents.Resident.get_toplevel.Goals as goal
 use Rattle.wl_requests.proofs.Framing.{IsFramed, framed-role, one-more}
 use Rattle.wl_surface.specs.declared.frames.Waiting.{Waiting}
@@ -24,14 +26,14 @@ use Rattle.wl_state.specs.declared.role.Role.TheVariants.{Toplevel as AsToplevel
 pub returns-in-Ok-clause-answers : goal.returns-in-Ok-clause-answers
 returns-in-Ok-clause-answers g c = λ named free client r on is only.
     let v = c.args.self.now in
-    let names = names_in v.client.objects in
+    let names = names_of v.client.objects in
     let kept = kept_of v.owned.shell in
     let number = c.args.surface in
     let id = c.args.id in
     let version = c.args.version in
     let made = c.add.ensures.makes (counted r.peer) (c.count.ensures.counts r.peer is.peer) in
     xdg-answered v _ c.args.object number c.args.version (xdg.GetToplevel c.args.id) client on r is named
-    (λ k x h one same. simply _ _ client on r only (toplevel_made r x c.args.version c.args.id) (
+    (λ k x h one same. as-asked _ _ client on r only (toplevel_made r x c.args.version c.args.id) (
     let other : c.is_other_role-has_other_role.result ≡ is_no_toplevel (role_of r x.surface) =
     c.is_other_role-has_other_role.ensures ∙ ap is_no_toplevel
     (role-read names v.owned.linked.surfaces v.owned.linked.family kept r is.owns x.surface number c.role.result one.surface c.role.ensures) in
@@ -66,8 +68,8 @@ returns-in-Ok-clause-answers g c = λ named free client r on is only.
             (subsurfaces-named v.subsurfaces r.subsurfaces v.client.objects c.add.new.self.objects is.subsurfaces (ap (λ (n : Names). n.surfaces) now));
         owns = λ alive. owned-toplevel-made names v.owned.linked.surfaces v.owned.linked.family kept (with_peer (counted r.peer) r) is.owns number k x h one id version c.give_role-given.new.self
             (kept_of c.get_toplevel.new.self)
-            (names_in c.add.new.self.objects) bare.0
-            (targets-free XdgToplevel v.client.objects id free)
+            (names_of c.add.new.self.objects) bare.0
+            (roles-named.free v.client.objects id free)
             (role-given names v.owned.linked.surfaces v.owned.linked.family kept r is.owns x.surface number c.role.result c.give_role-given.result c.give_role-given.new.self one.surface bare.1
             c.role.ensures
             c.give_role-given.ensures.refused c.give_role-given.ensures.ok)
@@ -81,11 +83,11 @@ returns-in-Ok-clause-answers g c = λ named free client r on is only.
 pub returns-in-Err-clause-answers : goal.returns-in-Err-clause-answers
 returns-in-Err-clause-answers g c = λ named free client r on is only.
     let v = c.args.self.now in
-    let names = names_in v.client.objects in
+    let names = names_of v.client.objects in
     let kept = kept_of v.owned.shell in
     let number = c.args.surface in
     xdg-answered v _ c.args.object number c.args.version (xdg.GetToplevel c.args.id) client on r is named
-    (λ k x h one same. simply _ _ client on r only (toplevel_made r x c.args.version c.args.id) (
+    (λ k x h one same. as-asked _ _ client on r only (toplevel_made r x c.args.version c.args.id) (
     let other : c.is_other_role-has_other_role.result ≡ is_no_toplevel (role_of r x.surface) =
     c.is_other_role-has_other_role.ensures ∙ ap is_no_toplevel
     (role-read names v.owned.linked.surfaces v.owned.linked.family kept r is.owns x.surface number c.role.result one.surface c.role.ensures) in

@@ -5,25 +5,27 @@ use Rattle.wl_peer.specs.Peer.{counted}
 use Rattle.wl_xdg_state.specs.Kept.{kept_of, making_refused}
 use Rattle.wl_xdg_state.specs.declared.error.ShellError.{ShellError}
 use Rattle.wl_plain.specs.Ask.{GetXdgSurface}
-use Rattle.wl_owning.specs.Owning.{asks_unless, names_in, shell_refusal, Names}
+use Rattle.wl_owning.specs.Owning.{asks_unless, shell_refusal, Names}
+use Rattle.wl_owning.specs.RoleNames.{names_of}
 use Rattle.wl_plain.specs.Step.{changed_by, with_peer}
 use Rattle.wl_plain.specs.XdgShell.{has_any, is_foreign, role_of, xdg_surface_made}
 use Rattle.wl_requests.proofs.Doing.{lacked}
 use Rattle.wl_owning.proofs.Keeping.OwningAsks.{owned-xdg-made}
-use Rattle.wl_owning.proofs.Keeping.OwningNames.{names-xdg-made, targets-free}
+use Rattle.wl_owning.proofs.Keeping.OwningNames.{targets-free}
+use Rattle.wl_requests.proofs.Roles.{names-xdg-made}
 use Rattle.wl_owning.proofs.Keeping.OwningReads.{content-read, free-made, made-by, role-read}
 use Rattle.wl_requests.proofs.Shelling.{accepted, making-err, making-memory, making-ok, making-read, holds-counted, refused-so}
 use Rattle.wl_requests.proofs.Numbers.{keeps-xdg}
 use Rattle.wl_requests.proofs.Naming.{subsurfaces-named}
-use Rattle.wl_requests.proofs.Simply.{simply}
+use Rattle.wl_requests.proofs.Meeting.{as-asked}
 use Rattle.wl_requests.proofs.residents.Resident.get_xdg_surface.Goals as goal
 use Rattle.wl_requests.proofs.Framing.{framed-kept, one-more}
 
 pub returns-in-Ok-clause-answers : goal.returns-in-Ok-clause-answers
 returns-in-Ok-clause-answers g c = λ free named client r on is only.
-    simply _ _ client on r only (xdg_surface_made r c.args.object c.args.version c.args.id c.args.surface) (
+    as-asked _ _ client on r only (xdg_surface_made r c.args.object c.args.version c.args.id c.args.surface) (
     let v = c.args.self.now in
-    let names = names_in v.client.objects in
+    let names = names_of v.client.objects in
     let kept = kept_of v.owned.shell in
     let base = c.args.object in
     let id = c.args.id in
@@ -59,7 +61,7 @@ returns-in-Ok-clause-answers g c = λ free named client r on is only.
             (c.add.ensures.table alive)) in
             subsurfaces-named v.subsurfaces r.subsurfaces v.client.objects c.add.new.self.objects is.subsurfaces (ap (λ (n : Names). n.surfaces) now);
         owns = λ alive. owned-xdg-made names v.owned.linked.surfaces v.owned.linked.family kept r is.owns id version base surface number (kept_of c.get_xdg_surface.new.self)
-            (names_in c.add.new.self.objects) named
+            (names_of c.add.new.self.objects) named
             (free-made (is_foreign (role_of r surface)) (has_any r surface) (kept number) none).2
             (targets-free XdgSurface v.client.objects id free)
             c.in-Ok.ensures.ok
@@ -71,9 +73,9 @@ returns-in-Ok-clause-answers g c = λ free named client r on is only.
 
 pub returns-then-is_memory-clause-answers : goal.returns-then-is_memory-clause-answers
 returns-then-is_memory-clause-answers g c = λ free named client r on is only.
-    simply _ _ client on r only (xdg_surface_made r c.args.object c.args.version c.args.id c.args.surface) (
+    as-asked _ _ client on r only (xdg_surface_made r c.args.object c.args.version c.args.id c.args.surface) (
     let v = c.args.self.now in
-    let names = names_in v.client.objects in
+    let names = names_of v.client.objects in
     let kept = kept_of v.owned.shell in
     let base = c.args.object in
     let id = c.args.id in
@@ -96,9 +98,9 @@ returns-then-is_memory-clause-answers g c = λ free named client r on is only.
 
 pub returns-else-is_memory-clause-answers : goal.returns-else-is_memory-clause-answers
 returns-else-is_memory-clause-answers g c = λ free named client r on is only.
-    simply _ _ client on r only (xdg_surface_made r c.args.object c.args.version c.args.id c.args.surface) (
+    as-asked _ _ client on r only (xdg_surface_made r c.args.object c.args.version c.args.id c.args.surface) (
     let v = c.args.self.now in
-    let names = names_in v.client.objects in
+    let names = names_of v.client.objects in
     let kept = kept_of v.owned.shell in
     let base = c.args.object in
     let id = c.args.id in

@@ -8,13 +8,13 @@ use Rattle.wl_plain.specs.Step.{with_peer}
 use Rattle.wl_requests.proofs.Shelling.{names-counted}
 use Rattle.wl_requests.proofs.Numbers.{keeps-names}
 use Rattle.wl_requests.proofs.Naming.{subsurfaces-names}
-use Rattle.wl_requests.proofs.Simply.{simply}
+use Rattle.wl_requests.proofs.Meeting.{as-asked}
 use Rattle.wl_requests.proofs.residents.Resident.ignore.Goals as goal
 use Rattle.wl_requests.proofs.Framing.{framed-names, one-more}
 
 pub returns-clause-answers : goal.returns-clause-answers
 returns-clause-answers g c = λ client r on is only.
-    simply _ _ client on r only (Ok Ignore) (
+    as-asked _ _ client on r only (Ok Ignore) (
     let v = c.args.self.now in (
       counted r.peer,
       refl,

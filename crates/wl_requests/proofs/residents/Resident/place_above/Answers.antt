@@ -2,7 +2,7 @@ use Rattle.std.proofs.Common.{ap, refl, ◌∙◌}
 use Rattle.std.specs.Prelude.{false}
 use Rattle.std.proofs.lemmas.Bool.{false_from_ne_true}
 use Rattle.wl_family.specs.Family.{is_bad_sibling, links_in}
-use Rattle.wl_owning.specs.Owning.{names_in}
+use Rattle.wl_owning.specs.RoleNames.{names_of}
 use Rattle.wl_owning.proofs.Keeping.OwningLinks.{owned-above}
 use Rattle.wl_plain.specs.WlSubsurface.{demand_by_link, placed_beside}
 use Rattle.wl_proto.specs.declared.wl_subsurface.WlSubsurfaceRequest.TheVariants as subsurface
@@ -10,7 +10,7 @@ use Rattle.wl_xdg_state.specs.Kept.{kept_of}
 use Rattle.wl_state.specs.Request.{PlaceAbove}
 use Rattle.wl_requests.proofs.Beside.{placed-kept}
 use Rattle.wl_requests.proofs.Linking.{link-of-child, no-link-of}
-use Rattle.wl_requests.proofs.Placing.{asked-so, ignored-so, unplaced-so}
+use Rattle.wl_requests.proofs.Positions.{asked-so, ignored-so, unplaced-so}
 use Rattle.wl_requests.proofs.residents.Resident.place_above.Goals as goal
 
 pub returns-in_default-clause-answers : goal.returns-in_default-clause-answers
@@ -32,7 +32,7 @@ returns-in-Ok-clause-answers g c = λ here there client r d is orderly.
     asked-so v _ client r d is orderly c.count-in-Ok.ensures.only (c.count-in-Ok.ensures.counts r.peer is.peer) refl refl c.place_above.ensures.surfaces _ object child its
     (PlaceAbove its.link.number placed.0)
     (ap (λ o. demand_by_link r object o (subsurface.PlaceAbove sibling)) its.of_object ∙ ap (placed_beside object its.link.parent (PlaceAbove its.link.number)) placed.1) refl (λ v. refl) refl
-    (owned-above (names_in v.client.objects) v.owned.linked.surfaces v.owned.linked.family (kept_of v.owned.shell) r.owned is.owns its.link.number child its.link its.here its.lives its.named
+    (owned-above (names_of v.client.objects) v.owned.linked.surfaces v.owned.linked.family (kept_of v.owned.shell) r.owned is.owns its.link.number child its.link its.here its.lives its.named
     c.place_above.new.self.surfaces c.place_above.new.self.family its.above sibling c.args.beside placed.0 its.parent there placed.2 c.in-Ok.ensures.ok)
 
 pub returns-in-Err-clause-answers : goal.returns-in-Err-clause-answers

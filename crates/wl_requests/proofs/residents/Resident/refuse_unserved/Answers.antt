@@ -3,12 +3,12 @@ use Rattle.wl_peer.specs.Told.{display_error}
 use Rattle.wl_peer.specs.declared.refusals.ErrorCode.TheVariants.{Implementation}
 use Rattle.wl_plain.specs.WlSurface.{refuse_limit}
 use Rattle.wl_requests.proofs.Shelling.{refused-so}
-use Rattle.wl_requests.proofs.Simply.{simply}
+use Rattle.wl_requests.proofs.Meeting.{as-asked}
 use Rattle.wl_requests.proofs.residents.Resident.refuse_unserved.Goals as goal
 
 pub returns-clause-answers : goal.returns-clause-answers
 returns-clause-answers g c = λ client r on is only.
-    simply _ _ client on r only refuse_limit (
+    as-asked _ _ client on r only refuse_limit (
     refused-so _ _ r refuse_limit c.of_display.result (display_error Implementation) refl c.of_display.ensures c.refuse.ensures.ended (c.refuse.ensures.errs r.peer is.peer))
 
 pub returns-clause-surfaces : goal.returns-clause-surfaces

@@ -1,9 +1,11 @@
 use Rattle.std.proofs.Common.{Err, List, Result, ap, false, inr, refl, subst, sym, true, ◌≡◌, ◌∙◌}
 use Rattle.std.specs.Prelude.{is_some}
 use Rattle.wl_invariants.proofs.KeptRecords.Toplevels.Releases.{role-released}
-use Rattle.wl_invariants.specs.Simple.{changed_simply}
+use Rattle.wl_plain.specs.Changing.{changed_for}
+use Rattle.wl_plain.specs.Desktop.{unpointed}
 use Rattle.wl_owning.proofs.Keeping.OwningAsks.{owned-cursor}
-use Rattle.wl_owning.specs.Owning.{IsOwned, Names, by_number, names_in}
+use Rattle.wl_owning.specs.Owning.{IsOwned, Names, by_number}
+use Rattle.wl_owning.specs.RoleNames.{names_of}
 use Rattle.wl_peer.specs.Peer.{counted}
 use Rattle.wl_peer.specs.declared.refusals.Refusal.{Refusal}
 use Rattle.wl_plain.specs.Demand.{Demand, MakeCursor}
@@ -20,7 +22,7 @@ use Rattle.wl_requests.proofs.Naming.{subsurfaces-names}
 use Rattle.wl_requests.proofs.Numbers.{keeps-names}
 use Rattle.wl_requests.proofs.Pointing.{has-other, has-xdg, is-made}
 use Rattle.wl_requests.proofs.Shelling.{names-counted, refused-whole, wants-told}
-use Rattle.wl_requests.proofs.Simply.{counted-orderly, meets-simply}
+use Rattle.wl_requests.proofs.Meeting.{counted-ordered, meets-so}
 use Rattle.wl_requests.proofs.residents.Resident.set_cursor.Goals as goal
 
 pub returns-then-is_some-clause-answers : goal.returns-then-is_some-clause-answers
@@ -33,7 +35,7 @@ returns-then-is_some-clause-answers g c = λ id named client r d is orderly.
 pub returns-in-Err-clause-answers : goal.returns-in-Err-clause-answers
 returns-in-Err-clause-answers g c = λ id named client r d is orderly.
     let v = c.args.self.now in
-    let all = by_number (names_in v.client.objects).surfaces r.owned.surfaces in
+    let all = by_number (names_of v.client.objects).surfaces r.owned.surfaces in
     let other = (c.give_role.ensures.refused all is.owns.surfaces.stand).0 (rw c.in-Err.is refl) in
     refused-whole v _ client r d (cursor_set r c.args.object id) c.of-in-Err.result
     (has-other v r is c.args.object id c.args.surface named other ∙ ap (λ (f : Refusal). Err f) (sym c.of-in-Err.ensures))
@@ -50,15 +52,15 @@ returns-in-Ok-clause-answers g c = λ id named client r d is orderly.
     let kept : Kept _ = record v { client = c.count.new.self; owned = record v.owned { linked = record v.owned.linked { surfaces = new } } } in
     let then = with_peer (counted r.peer) r in
     let demand = MakeCursor id in
-    let after = changed_simply demand then in
-    let names = names_in v.client.objects in
+    let after = changed_for client demand then (unpointed d) in
+    let names = names_of v.client.objects in
     let all = by_number names.surfaces r.owned.surfaces in
     let bare : is_some (kept_of v.owned.shell number) ≡ false = sym (ap is_some c.get.ensures) ∙ copied-there c.get.result ∙ sym c.is_some.ensures ∙ c.if-is_some.false in
     let judged = is-made v r is c.args.object id number named bare (λ other. absurd (let errs = (c.give_role.ensures.refused all is.owns.surfaces.stand).1 other in cc (rw c.in-Ok.is at errs))) in
     let table = names-counted v.client c.count.new.self c.count.ensures.only in
-    let owns = (counted-orderly r orderly).no_popups in
+    let owns = (counted-ordered r orderly).order.known in
     subst (λ (j : Result Demand Refusal). AnswersSo j client r d v kept) (sym judged)
-    (meets-simply v kept client d demand then owns tt (
+    (meets-so v kept client d demand then refl (
       counted r.peer,
       wants-told true _ _ (counted r.peer) after.peer (counted r.peer) (role-released id AsCursor then owns.apart) (inr refl),
       record {

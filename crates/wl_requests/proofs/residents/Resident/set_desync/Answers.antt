@@ -17,7 +17,7 @@ use Rattle.wl_plain.specs.Demand.{Demand, SetMode}
 use Rattle.wl_plain.specs.Desktop.{Resident}
 use Rattle.wl_plain.specs.Step.{with_peer, with_surfaces}
 use Rattle.wl_plain.specs.WlSubsurface.{demand_by_link}
-use Rattle.wl_owning.specs.Owning.{names_in}
+use Rattle.wl_owning.specs.RoleNames.{names_of}
 use Rattle.wl_owning.proofs.Keeping.Freeing.{releases-freed}
 use Rattle.wl_owning.proofs.Keeping.Ids.{waits-desynchronised}
 use Rattle.wl_owning.proofs.Keeping.OwningLinks.{owned-desynchronised}
@@ -31,9 +31,11 @@ use Rattle.wl_requests.proofs.Framing.{framed-names, one-more}
 use Rattle.wl_requests.proofs.Subsurfaces.{only-number}
 use Rattle.wl_requests.proofs.Linking.{link-of-child, no-link-of}
 use Rattle.wl_requests.proofs.Numbers.{keeps-same}
-use Rattle.wl_requests.proofs.Placing.{ignored-so}
-use Rattle.wl_requests.proofs.Simply.{answered-so, counted-orderly, meets-as}
+use Rattle.wl_requests.proofs.Positions.{ignored-so}
+use Rattle.wl_requests.proofs.Meeting.{answered-so, counted-ordered, meets-as}
 use Rattle.wl_requests.proofs.Trees.{are-one, told-all, tree-lets-go}
+use Rattle.wl_requests.specs.Holding.{HoldsSo}
+use Rattle.wl_requests.proofs.Holding.{holds-same}
 use Rattle.wl_requests.proofs.residents.Resident.set_desync.Goals as goal
 
 pub returns-in_err-child-clause-answers : goal.returns-in_err-child-clause-answers
@@ -57,7 +59,7 @@ returns-in_default-clause-decides g c = λ child of here client r d is orderly.
     subst (λ (j : Result Demand Refusal). AnswersAs false j client r d c.args.self.now
     (record c.args.self.now { client = c.lack_memory.new.self; owned = record c.args.self.now.owned { linked = c.set_desync.new.self } })) (sym (ap
     (λ o. demand_by_link r object o SetDesync) its.of_object))
-    (meets-as c.args.self.now _ client d (SetMode its.link.number false) then (counted-orderly r orderly).no_popups tt false (
+    (meets-as c.args.self.now _ client d (SetMode its.link.number false) then refl false (
     let lacks = lacked c.args.self.now _ _ then (c.lack_memory.ensures.lacks (counted r.peer) (c.count.ensures.counts r.peer is.peer)) c.lack_memory.ensures.ended in
     (refl, lacks.0, lacks.1, lacks.2)))
 
@@ -75,7 +77,7 @@ returns-in_default-let_go_of_told-clause-decides g c = λ child of here client r
     subst (λ (j : Result Demand Refusal). AnswersAs false j client r d c.args.self.now
     c.let_go_of_told.new.self) (sym (ap
     (λ o. demand_by_link r object o SetDesync) its.of_object))
-    (meets-as c.args.self.now _ client d (SetMode its.link.number false) then (counted-orderly r orderly).no_popups tt false (
+    (meets-as c.args.self.now _ client d (SetMode its.link.number false) then refl false (
     let lacks = lacked c.args.self.now _ _ then (c.in_default-let_go_of_told.ensures.lacks (counted r.peer) (c.count.ensures.counts r.peer is.peer))
     c.in_default-let_go_of_told.ensures.ended in
     (refl, lacks.0, lacks.1, lacks.2)))
@@ -93,12 +95,12 @@ returns-clause-decides g c = λ child of here client r d is orderly.
     let below = c.in_ok-child.child in
     let its = link-of-child v r is orderly object below (subst (λ (o : Option ℕ). IsChildOf v object o) c.in_ok-child.was c.child_of.ensures) in
     let number = its.link.number in
-    let names = names_in v.client.objects in
+    let names = names_of v.client.objects in
     let slots = v.owned.linked.surfaces in
     let tied = v.owned.linked.family in
     let one_more = with_peer (counted r.peer) r in
     let peer_one = c.count.ensures.counts r.peer is.peer in
-    let order = counted-orderly r orderly in
+    let order = counted-ordered r orderly in
     let then = with_surfaces (desynchronised_in number r.owned.surfaces) one_more in
     let after = mode_set number false one_more in
     let freed = c.in-Ok.told.applied.freed.items in
@@ -107,12 +109,12 @@ returns-clause-decides g c = λ child of here client r d is orderly.
     freed shown c.in-Ok.ensures.among c.in-Ok.ensures.ok c.in-Ok.ensures.waits c.in-Ok.ensures.freed c.in-Ok.ensures.shown in
     let stores = c.in-Some.ensures.lets_go.stores in
     let peer_then = subst (λ (x : Resident). IsPeer c.let_go_of_told.new.self.client x.peer)
-    (tree-lets-go one_more then freed shown order.buffers called.frees (waits-desynchronised number r.owned.surfaces))
+    (tree-lets-go one_more then freed shown order.order.buffers called.frees (waits-desynchronised number r.owned.surfaces))
     (stores then names.surfaces peer_one called.are (once-freed freed shown r.owned.surfaces then.owned.surfaces called.frees)) in
     let ids = c.in-Some.released.items in
     let releasing = map (λ thing. said thing (says WlBuffer 0 [])) ids in
     let those = c.in-Some.ensures.lets_go.those in
-    let rel = releases-freed one_more after freed shown (are-one one_more order.buffers) called.frees ids c.in-Some.ensures.lets_go.rising (λ thing. those one_more peer_one thing) in
+    let rel = releases-freed one_more after freed shown (are-one one_more order.order.buffers) called.frees ids c.in-Some.ensures.lets_go.rising (λ thing. those one_more peer_one thing) in
     let queues = rw c.deref.ensures.value at c.tell_releases.ensures.queues in
     let next = told-all c.let_go_of_told.new.self.client c.tell_releases.new.self.client [] releasing after.peer after.peer (sym is.peer.status ∙ is.lives) refl peer_then
     queues c.tell_releases.ensures.ended in
@@ -120,14 +122,14 @@ returns-clause-decides g c = λ child of here client r d is orderly.
     let table = λ (alive : c.tell_releases.new.self.client.ended ≡ None).
     c.tell_releases.ensures.table alive ∙ ap (λ (w : ClientView). w.objects) c.in-Some.ensures.lets_go.only ∙ ap (λ (w : ClientView). w.objects) c.count.ensures.only in
     subst (λ (j : Result Demand Refusal). AnswersAs true j client r d v c.tell_releases.new.self) (sym (ap (λ o. demand_by_link r object o SetDesync) its.of_object))
-    (meets-as v c.tell_releases.new.self client d (SetMode number false) one_more order.no_popups tt true (
+    (meets-as v c.tell_releases.new.self client d (SetMode number false) one_more refl true (
       next.0,
       subst (λ (es : List Said). Queues es after.peer next.0) (sym rel) next.1,
       record {
         peer = next.2;
         owns = λ alive. rw (kept_owned, table alive)
             (owned-desynchronised names slots tied (kept_of v.owned.shell) r.owned is.owns number below its.link its.here its.lives its.named c.set_desync.new.self.surfaces
-            c.set_desync.new.self.family orderly.once orderly.numbered orderly.roots c.in-Ok.ensures.ok);
+            c.set_desync.new.self.family orderly.order.once orderly.order.numbered orderly.order.roots c.in-Ok.ensures.ok);
         frames = λ alive. rw (kept_owned, table alive)
             (called.framed (framed-names slots.frames v.client.objects v.client.objects r one_more refl (one-more r.peer.requests) is.frames refl refl));
         subsurfaces = λ alive. rw (c.tell_releases.ensures.subsurfaces, c.let_go_of_told.ensures.subsurfaces, table alive) is.subsurfaces;
@@ -154,3 +156,29 @@ pub returns-clause-nothing : goal.returns-clause-nothing
 returns-clause-nothing g c = λ never numbers ss are.
     let of = subst (λ (o : Option ℕ). IsChildOf c.args.self.now c.args.object o) c.in_ok-child.was c.child_of.ensures in
     absurd (never c.in_ok-child.child (of, λ other there. only-number _ numbers ss c.args.object other c.in_ok-child.child are there of.0))
+
+-- ---- what is kept stands by the numbers from before
+
+pub returns-in_err-child-clause-holds : goal.returns-in_err-child-clause-holds
+returns-in_err-child-clause-holds g c = λ child of here client r d is orderly done.
+    let none = subst (λ (o : Option ℕ). IsChildOf c.args.self.now c.args.object o) c.in_err-child.was c.child_of.ensures in
+    absurd (gone _ of.0.1 (none _ _ is.subsurfaces child of.0.0))
+
+pub returns-in_default-clause-holds : goal.returns-in_default-clause-holds
+returns-in_default-clause-holds g c = λ child of here client r d is orderly done. absurd (cc)
+
+pub returns-in_default-let_go_of_told-clause-holds : goal.returns-in_default-let_go_of_told-clause-holds
+returns-in_default-let_go_of_told-clause-holds g c = λ child of here client r d is orderly done. absurd (cc)
+
+pub returns-clause-holds : goal.returns-clause-holds
+returns-clause-holds g c = λ child of here client r d is orderly done.
+    let v = c.args.self.now in
+    let object = c.args.object in
+    let below = c.in_ok-child.child in
+    let its = link-of-child v r is orderly object below (subst (λ (o : Option ℕ). IsChildOf v object o) c.in_ok-child.was c.child_of.ensures) in
+    let number = its.link.number in
+    let names = names_of v.client.objects in
+    subst (λ (j : Result Demand Refusal). HoldsSo j client r d v c.tell_releases.new.self) (sym (ap (λ o. demand_by_link r object o SetDesync) its.of_object))
+    (holds-same v c.tell_releases.new.self names _ refl (rw (c.tell_releases.ensures.owned ∙ c.let_go_of_told.ensures.owned)
+    (owned-desynchronised names v.owned.linked.surfaces v.owned.linked.family (kept_of v.owned.shell) r.owned is.owns number below its.link its.here its.lives its.named
+    c.set_desync.new.self.surfaces c.set_desync.new.self.family orderly.order.once orderly.order.numbered orderly.order.roots c.in-Ok.ensures.ok)))

@@ -1,6 +1,6 @@
 use Rattle.std.proofs.Common.{ap, refl, w32}
 use Rattle.std.proofs.lemmas.Int.{to_z-of_z}
-use Rattle.wl_owning.specs.Owning.{names_in}
+use Rattle.wl_owning.specs.RoleNames.{names_of}
 use Rattle.wl_owning.proofs.Keeping.OwningLinks.{owned-moved}
 use Rattle.wl_peer.specs.Peer.{counted}
 use Rattle.wl_plain.specs.WlSubsurface.{demand_by_link}
@@ -8,7 +8,7 @@ use Rattle.wl_proto.specs.declared.wl_subsurface.WlSubsurfaceRequest.TheVariants
 use Rattle.wl_xdg_state.specs.Kept.{kept_of}
 use Rattle.wl_state.specs.Request.{SetPosition}
 use Rattle.wl_requests.proofs.Linking.{link-of-child, no-link-of}
-use Rattle.wl_requests.proofs.Placing.{asked-so, ignored-so, lacked-so}
+use Rattle.wl_requests.proofs.Positions.{asked-so, ignored-so, lacked-so}
 use Rattle.wl_requests.proofs.residents.Resident.set_position.Goals as goal
 
 pub returns-in_default-clause-answers : goal.returns-in_default-clause-answers
@@ -25,7 +25,7 @@ returns-in-Ok-clause-answers g c = λ here client r d is orderly.
     let its = link-of-child v r is orderly object c.in-Some.child c.in-Some.ensures in
     asked-so v _ client r d is orderly c.count.ensures.only (c.count.ensures.counts r.peer is.peer) refl refl c.set_position.ensures.surfaces _ object c.in-Some.child its
     (SetPosition its.link.number c.args.x c.args.y) (ap (λ o. demand_by_link r object o (subsurface.SetPosition c.args.x c.args.y)) its.of_object) refl (λ v. refl) refl
-    (owned-moved (names_in v.client.objects) v.owned.linked.surfaces v.owned.linked.family (kept_of v.owned.shell) r.owned is.owns its.link.number c.in-Some.child its.link its.here its.lives
+    (owned-moved (names_of v.client.objects) v.owned.linked.surfaces v.owned.linked.family (kept_of v.owned.shell) r.owned is.owns its.link.number c.in-Some.child its.link its.here its.lives
     its.named c.set_position.new.self.surfaces c.set_position.new.self.family its.above c.args.x c.args.y its.parent
     (simp (to_z-of_z w32 c.args.x c.ranges.x, to_z-of_z w32 c.args.y c.ranges.y) at c.in-Ok.ensures.ok))
 

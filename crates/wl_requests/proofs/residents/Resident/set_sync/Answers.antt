@@ -2,7 +2,7 @@ use Rattle.std.proofs.Common.{ap, refl}
 use Rattle.wl_plain.specs.WlSubsurface.{demand_by_link}
 use Rattle.wl_proto.specs.declared.wl_subsurface.WlSubsurfaceRequest.TheVariants.{SetSync}
 use Rattle.wl_requests.proofs.Linking.{link-of-child, no-link-of}
-use Rattle.wl_requests.proofs.Placing.{ignored-so, synchronised-so}
+use Rattle.wl_requests.proofs.Positions.{ignored-so, synchronised-so}
 use Rattle.wl_requests.proofs.residents.Resident.set_sync.Goals as goal
 
 pub returns-in-Some-clause-answers : goal.returns-in-Some-clause-answers

@@ -4,7 +4,8 @@ use Rattle.wl_peer.specs.Peer.{counted}
 use Rattle.wl_state.specs.Request.{SetWindowGeometry}
 use Rattle.wl_xdg_state.specs.Kept.{geometry_answer, kept_of}
 use Rattle.wl_plain.specs.Ask.{AskSurface}
-use Rattle.wl_owning.specs.Owning.{IsOwned, Names, names_in, shell_refusal}
+use Rattle.wl_owning.specs.Owning.{IsOwned, Names, shell_refusal}
+use Rattle.wl_owning.specs.RoleNames.{names_of}
 use Rattle.wl_plain.specs.Step.{changed_by, with_peer}
 use Rattle.wl_plain.specs.XdgShell.{geometry_set}
 use Rattle.wl_owning.proofs.Keeping.OwningAsks.{owned-geometry}
@@ -12,18 +13,18 @@ use Rattle.wl_owning.proofs.Keeping.OwningReads.{geometry-set-by}
 use Rattle.wl_requests.proofs.Shelling.{accepted, asked-releases, geometry-keeps, names-counted, told-err, told-ok, wants-told, xdg-answered, xdg-refused}
 use Rattle.wl_requests.proofs.Numbers.{keeps-names}
 use Rattle.wl_requests.proofs.Naming.{subsurfaces-names}
-use Rattle.wl_requests.proofs.Simply.{simply}
+use Rattle.wl_requests.proofs.Meeting.{as-asked}
 use Rattle.wl_requests.proofs.residents.Resident.set_window_geometry.Goals as goal
 use Rattle.wl_requests.proofs.Framing.{framed-asked, one-more}
 
 pub returns-in-Ok-clause-answers : goal.returns-in-Ok-clause-answers
 returns-in-Ok-clause-answers g c = λ named client r on is only.
     let v = c.args.self.now in
-    let names = names_in v.client.objects in
+    let names = names_of v.client.objects in
     let kept = kept_of v.owned.shell in
     let rect = c.args.rect in
     xdg-answered v _ c.args.object c.args.surface c.args.version (xdg.SetWindowGeometry c.args.rect.x c.args.rect.y c.args.rect.w c.args.rect.h) client on r is named
-    (λ k x h one same. simply _ _ client on r only (geometry_set x c.args.rect) (
+    (λ k x h one same. as-asked _ _ client on r only (geometry_set x c.args.rect) (
     let judged = geometry-set-by names kept r c.args.surface k x h one c.args.object rect in
     accepted _ r (geometry_set x rect) (AskSurface x.surface (SetWindowGeometry rect))
     (told-ok _ _ (shell_refusal x.base x.id c.args.object) (geometry_answer rect (kept c.args.surface)) c.geometry.result judged c.geometry.ensures.answer c.in-Ok.is) (
@@ -55,8 +56,8 @@ returns-in-Err-clause-answers g c = λ named client r on is only.
     let kept = kept_of v.owned.shell in
     let rect = c.args.rect in
     xdg-answered v _ c.args.object c.args.surface c.args.version (xdg.SetWindowGeometry c.args.rect.x c.args.rect.y c.args.rect.w c.args.rect.h) client on r is named
-    (λ k x h one same. simply _ _ client on r only (geometry_set x c.args.rect) (
-    let judged = geometry-set-by (names_in v.client.objects) kept r c.args.surface k x h one c.args.object rect in
+    (λ k x h one same. as-asked _ _ client on r only (geometry_set x c.args.rect) (
+    let judged = geometry-set-by (names_of v.client.objects) kept r c.args.surface k x h one c.args.object rect in
     xdg-refused v _ (kept_of c.geometry.new.self) r c.args.object c.args.surface k x h c.in-Err.error (geometry_set x rect) one same
     (told-err _ _ (shell_refusal x.base x.id c.args.object) (geometry_answer rect (kept c.args.surface)) c.geometry.result c.in-Err.error judged c.geometry.ensures.answer c.in-Err.is)
     (ap kept_of c.in-Err.ensures.err)

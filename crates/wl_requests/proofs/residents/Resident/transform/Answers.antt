@@ -6,16 +6,16 @@ use Rattle.wl_peer.specs.Peer.{counted}
 use Rattle.wl_state.specs.Request.{SetBufferTransform}
 use Rattle.wl_plain.specs.Ask.{AskSurface}
 use Rattle.wl_plain.specs.Desktop.{Resident}
-use Rattle.wl_owning.specs.Owning.{names_in}
+use Rattle.wl_owning.specs.RoleNames.{names_of}
 use Rattle.wl_plain.specs.Step.{with_peer}
 use Rattle.wl_plain.specs.WlSurface.{refuse, transform_set}
 use Rattle.wl_requests.proofs.Shelling.{accepted, asked-releases, counted-does, refused-so, surface-counted}
-use Rattle.wl_requests.proofs.Simply.{simply}
+use Rattle.wl_requests.proofs.Meeting.{as-asked}
 use Rattle.wl_requests.proofs.residents.Resident.transform.Goals as goal
 
 pub returns-then-not-is_valid-clause-answers : goal.returns-then-not-is_valid-clause-answers
 returns-then-not-is_valid-clause-answers g c = λ named client r on is only.
-    simply _ _ client on r only (transform_set c.args.object c.args.transform) (
+    as-asked _ _ client on r only (transform_set c.args.object c.args.transform) (
     let id = c.args.object in
     let z = c.args.transform in
     let valid = sym (simp (to_z-of_z w32 z c.ranges.transform) at c.is_valid.ensures) ∙ c.if-not-is_valid.true in
@@ -24,7 +24,7 @@ returns-then-not-is_valid-clause-answers g c = λ named client r on is only.
 
 pub returns-clause-answers : goal.returns-clause-answers
 returns-clause-answers g c = λ named client r on is only.
-    simply _ _ client on r only (transform_set c.args.object c.args.transform) (
+    as-asked _ _ client on r only (transform_set c.args.object c.args.transform) (
     let v = c.args.self.now in
     let id = c.args.object in
     let z = c.args.transform in
@@ -35,6 +35,6 @@ returns-clause-answers g c = λ named client r on is only.
     accepted _ r (transform_set id z) ask judged
     (counted-does v (record v { client = c.count.new.self }) c.set_buffer_transform.new.self r (λ (q : Resident). ask) is c.count.ensures.only refl refl
     (c.count.ensures.counts r.peer is.peer)
-    (asked-releases (names_in v.client.objects).surfaces v.owned.linked.surfaces v.owned.linked.family (with_peer (counted r.peer) r) id c.args.surface (SetBufferTransform (unsigned_abs z)) refl
+    (asked-releases (names_of v.client.objects).surfaces v.owned.linked.surfaces v.owned.linked.family (with_peer (counted r.peer) r) id c.args.surface (SetBufferTransform (unsigned_abs z)) refl
     is.owns.surfaces named)
     (does valid (surface-counted v.client c.count.new.self id c.args.surface c.count.ensures.only named))))

@@ -41,3 +41,21 @@ returns-clause-decides g c = elim c.match-request.branch [
       let of = rw w.in-SetDesync.is at touches in
       rw (w.applied-is, w.self-is, w.in-SetDesync.is) (w.set_desync-applied.ensures.decides of.0 of.1 here)
 ]
+
+-- ---- what is kept stands by the numbers from before
+
+pub returns-clause-holds : goal.returns-clause-holds
+returns-clause-holds g c = elim c.match-request.branch [
+  | in-Destroy w ↦ λ target touch touches here.
+      let of = rw w.in-Destroy.is at touches in
+      rw (w.applied-is, w.self-is, w.in-Destroy.is) (w.destroy_subsurface-applied.ensures.holds of.0 of.1 here)
+  | in-SetPosition w ↦ λ target touch touches here. absurd (rw w.in-SetPosition.is at touches)
+  | in-PlaceAbove+in-Some w ↦ λ target touch touches here. absurd (rw w.in-PlaceAbove.is at touches)
+  | in-PlaceAbove+in_default w ↦ λ target touch touches here. absurd (rw w.in-PlaceAbove.is at touches)
+  | in-PlaceBelow+in-Some-surface_of w ↦ λ target touch touches here. absurd (rw w.in-PlaceBelow.is at touches)
+  | in-PlaceBelow+in_default-surface_of w ↦ λ target touch touches here. absurd (rw w.in-PlaceBelow.is at touches)
+  | in-SetSync w ↦ λ target touch touches here. absurd (rw w.in-SetSync.is at touches)
+  | in-SetDesync w ↦ λ target touch touches here.
+      let of = rw w.in-SetDesync.is at touches in
+      rw (w.applied-is, w.self-is, w.in-SetDesync.is) (w.set_desync-applied.ensures.holds of.0 of.1 here)
+]

@@ -8,7 +8,7 @@ use Rattle.wl_plain.specs.Ask.{AskSurface}
 use Rattle.wl_peer.specs.declared.refusals.ErrorCode.TheVariants.{SurfaceHasRoleObject}
 use Rattle.wl_plain.specs.Demand.{EndSurface}
 use Rattle.wl_plain.specs.Desktop.{Resident}
-use Rattle.wl_owning.specs.Owning.{names_in}
+use Rattle.wl_owning.specs.RoleNames.{names_of}
 use Rattle.wl_plain.specs.Step.{with_peer}
 use Rattle.wl_plain.specs.WlSubsurface.{refuses}
 use Rattle.wl_plain.specs.WlSurface.{buffer_named, region_named, transform_set}
@@ -18,11 +18,11 @@ use Rattle.wl_requests.specs.declared.residents.Stacking.TheVariants.{Stays}
 use Rattle.wl_requests.specs.Residents.{StacksSo}
 use Rattle.wl_requests.specs.Touching.{Commits, Destroys, IsTouched, Touch}
 use Rattle.wl_requests.proofs.Shelling.{asked-releases, counted-does, surface-counted}
-use Rattle.wl_requests.proofs.Simply.{answered-so, asks-stay, simply}
+use Rattle.wl_requests.proofs.Meeting.{answered-so, asks-stay, as-asked}
 use Rattle.wl_requests.proofs.residents.Resident.wl_surface.Goals as goal
 
 pub returns-in-Attach-clause-answers : goal.returns-in-Attach-clause-answers
-returns-in-Attach-clause-answers g c = λ named new client r on is only.
+returns-in-Attach-clause-answers g c = λ named new client r on is only placed.
     let v = c.args.self.now in
     let id = c.args.object in
     let x = c.in-Attach.x in
@@ -31,15 +31,15 @@ returns-in-Attach-clause-answers g c = λ named new client r on is only.
     let y-fits : FitsSigned w32 y = search rules in
     let does = simp (to_z-of_z w32 x x-fits, to_z-of_z w32 y y-fits) at c.attach.ensures.does in
     rw c.in-Attach.is
-    (simply _ _ client on r only (Ok (AskSurface id (Attach (buffer_named r c.in-Attach.buffer) x y)))
+    (as-asked _ _ client on r only (Ok (AskSurface id (Attach (buffer_named r c.in-Attach.buffer) x y)))
     (counted-does v (record v { client = c.count.new.self }) c.attach.new.self r (λ (q : Resident). AskSurface id (Attach (buffer_named q c.in-Attach.buffer) x y)) is
     c.count.ensures.only refl refl (c.count.ensures.counts r.peer is.peer)
-    (asked-releases (names_in v.client.objects).surfaces v.owned.linked.surfaces v.owned.linked.family (with_peer (counted r.peer) r) id c.args.surface
+    (asked-releases (names_of v.client.objects).surfaces v.owned.linked.surfaces v.owned.linked.family (with_peer (counted r.peer) r) id c.args.surface
     (Attach (buffer_named r c.in-Attach.buffer) x y) refl is.owns.surfaces named)
     (does (surface-counted v.client c.count.new.self id c.args.surface c.count.ensures.only named))))
 
 pub returns-in-Damage-clause-answers : goal.returns-in-Damage-clause-answers
-returns-in-Damage-clause-answers g c = λ named new client r on is only.
+returns-in-Damage-clause-answers g c = λ named new client r on is only placed.
     let v = c.args.self.now in
     let id = c.args.object in
     let rect : Rect = record { x = c.in-Damage.x; y = c.in-Damage.y; w = c.in-Damage.w; h = c.in-Damage.h } in
@@ -50,37 +50,37 @@ returns-in-Damage-clause-answers g c = λ named new client r on is only.
     let h-fits : FitsSigned w32 c.in-Damage.h = search rules in
     let does = simp (to_z-of_z w32 c.in-Damage.x x-fits, to_z-of_z w32 c.in-Damage.y y-fits, to_z-of_z w32 c.in-Damage.w w-fits, to_z-of_z w32 c.in-Damage.h h-fits) at c.damage.ensures.does in
     rw c.in-Damage.is
-    (simply _ _ client on r only (Ok (AskSurface id (Damage rect)))
+    (as-asked _ _ client on r only (Ok (AskSurface id (Damage rect)))
     (counted-does v (record v { client = count.new.self }) c.damage.new.self r (λ (q : Resident). AskSurface id (Damage rect)) is count.ensures.only refl refl
     (count.ensures.counts r.peer is.peer)
-    (asked-releases (names_in v.client.objects).surfaces v.owned.linked.surfaces v.owned.linked.family (with_peer (counted r.peer) r) id c.args.surface (Damage rect) refl is.owns.surfaces named)
+    (asked-releases (names_of v.client.objects).surfaces v.owned.linked.surfaces v.owned.linked.family (with_peer (counted r.peer) r) id c.args.surface (Damage rect) refl is.owns.surfaces named)
     (does (surface-counted v.client count.new.self id c.args.surface count.ensures.only named))))
 
 pub returns-in-SetOpaqueRegion-clause-answers : goal.returns-in-SetOpaqueRegion-clause-answers
-returns-in-SetOpaqueRegion-clause-answers g c = λ named new client r on is only.
+returns-in-SetOpaqueRegion-clause-answers g c = λ named new client r on is only placed.
     let v = c.args.self.now in
     let id = c.args.object in
     let region = c.in-SetOpaqueRegion.region in
     let count = c.count-in-SetOpaqueRegion in
     rw c.in-SetOpaqueRegion.is
-    (simply _ _ client on r only (Ok (AskSurface id (SetOpaqueRegion (region_named r region))))
+    (as-asked _ _ client on r only (Ok (AskSurface id (SetOpaqueRegion (region_named r region))))
     (counted-does v (record v { client = count.new.self }) c.set_opaque_region.new.self r (λ (q : Resident). AskSurface id (SetOpaqueRegion (region_named q region))) is
     count.ensures.only refl refl (count.ensures.counts r.peer is.peer)
-    (asked-releases (names_in v.client.objects).surfaces v.owned.linked.surfaces v.owned.linked.family (with_peer (counted r.peer) r) id c.args.surface (SetOpaqueRegion (region_named r region))
+    (asked-releases (names_of v.client.objects).surfaces v.owned.linked.surfaces v.owned.linked.family (with_peer (counted r.peer) r) id c.args.surface (SetOpaqueRegion (region_named r region))
     refl is.owns.surfaces named)
     (c.set_opaque_region.ensures.does (surface-counted v.client count.new.self id c.args.surface count.ensures.only named))))
 
 pub returns-in-SetInputRegion-clause-answers : goal.returns-in-SetInputRegion-clause-answers
-returns-in-SetInputRegion-clause-answers g c = λ named new client r on is only.
+returns-in-SetInputRegion-clause-answers g c = λ named new client r on is only placed.
     let v = c.args.self.now in
     let id = c.args.object in
     let region = c.in-SetInputRegion.region in
     let count = c.count-in-SetInputRegion in
     rw c.in-SetInputRegion.is
-    (simply _ _ client on r only (Ok (AskSurface id (SetInputRegion (region_named r region))))
+    (as-asked _ _ client on r only (Ok (AskSurface id (SetInputRegion (region_named r region))))
     (counted-does v (record v { client = count.new.self }) c.set_input_region.new.self r (λ (q : Resident). AskSurface id (SetInputRegion (region_named q region))) is count.ensures.only
     refl refl (count.ensures.counts r.peer is.peer)
-    (asked-releases (names_in v.client.objects).surfaces v.owned.linked.surfaces v.owned.linked.family (with_peer (counted r.peer) r) id c.args.surface (SetInputRegion (region_named r region))
+    (asked-releases (names_of v.client.objects).surfaces v.owned.linked.surfaces v.owned.linked.family (with_peer (counted r.peer) r) id c.args.surface (SetInputRegion (region_named r region))
     refl is.owns.surfaces named)
     (c.set_input_region.ensures.does (surface-counted v.client count.new.self id c.args.surface count.ensures.only named))))
 
@@ -143,15 +143,16 @@ returns-in-SetBufferTransform-clause-stacks g c = rw (c.in-SetBufferTransform.is
 -- ---- what touches several surfaces, and what doesn't
 
 pub returns-in-Commit-clause-answers : goal.returns-in-Commit-clause-answers
-returns-in-Commit-clause-answers g c = λ named new client r on is only.
-    rw c.in-Commit.is (answered-so (is_some c.commit.result.applied) _ client r on c.args.self.now c.commit.new.self (c.commit.ensures.answers named client r on is only))
+returns-in-Commit-clause-answers g c = λ named new client r on is only placed.
+    rw c.in-Commit.is (answered-so (is_some c.commit.result.applied) _ client r on c.args.self.now c.commit.new.self (c.commit.ensures.answers named client r on is only (rw c.in-Commit.is at placed)))
 
 pub returns-in-Destroy-clause-answers : goal.returns-in-Destroy-clause-answers
-returns-in-Destroy-clause-answers g c = λ named new client r on is only.
+returns-in-Destroy-clause-answers g c = λ named new client r on is only placed.
     rw c.in-Destroy.is (answered-so (is_some c.destroy.result.applied) _ client r on c.args.self.now c.destroy.new.self (c.destroy.ensures.answers named client r on is only))
 
 pub returns-in-Commit-clause-decides : goal.returns-in-Commit-clause-decides
-returns-in-Commit-clause-decides g c = λ touch touches named client r on is only. rw c.in-Commit.is (c.commit.ensures.answers named client r on is only)
+returns-in-Commit-clause-decides g c = λ touch touches named client r on is only placed.
+    rw c.in-Commit.is (c.commit.ensures.answers named client r on is only (rw c.in-Commit.is at placed))
 
 pub returns-in-Commit-clause-touched : goal.returns-in-Commit-clause-touched
 returns-in-Commit-clause-touched g c = λ touch touches.
@@ -161,7 +162,7 @@ pub returns-in-Commit-clause-nothing : goal.returns-in-Commit-clause-nothing
 returns-in-Commit-clause-nothing g c = λ none. absurd (none (Commits c.args.surface) (rw c.in-Commit.is refl))
 
 pub returns-in-Destroy-clause-decides : goal.returns-in-Destroy-clause-decides
-returns-in-Destroy-clause-decides g c = λ touch touches named client r on is only. rw c.in-Destroy.is (c.destroy.ensures.answers named client r on is only)
+returns-in-Destroy-clause-decides g c = λ touch touches named client r on is only placed. rw c.in-Destroy.is (c.destroy.ensures.answers named client r on is only)
 
 pub returns-in-Destroy-clause-touched : goal.returns-in-Destroy-clause-touched
 returns-in-Destroy-clause-touched g c = λ touch touches.
@@ -171,14 +172,14 @@ pub returns-in-Destroy-clause-nothing : goal.returns-in-Destroy-clause-nothing
 returns-in-Destroy-clause-nothing g c = λ none. absurd (none (Destroys c.args.surface) (rw c.in-Destroy.is refl))
 
 pub returns-in-Frame-clause-answers : goal.returns-in-Frame-clause-answers
-returns-in-Frame-clause-answers g c = λ named new client r on is only. rw c.in-Frame.is (c.frame.ensures.answers named (rw c.in-Frame.is at new) client r on is only)
+returns-in-Frame-clause-answers g c = λ named new client r on is only placed. rw c.in-Frame.is (c.frame.ensures.answers named (rw c.in-Frame.is at new) client r on is only)
 
 pub returns-in-SetBufferTransform-clause-answers : goal.returns-in-SetBufferTransform-clause-answers
 returns-in-SetBufferTransform-clause-answers g c = λ named new.
     let z = c.in-SetBufferTransform.transform in
     let fits : FitsSigned w32 z = search rules in
     let answers = simp (to_z-of_z w32 z fits) at c.transform.ensures.answers in
-    rw c.in-SetBufferTransform.is (answers named)
+    λ client r on is only placed. rw c.in-SetBufferTransform.is (answers named client r on is only)
 
 pub returns-in-Attach-clause-decides : goal.returns-in-Attach-clause-decides
 returns-in-Attach-clause-decides g c = λ touch touches. absurd (rw c.in-Attach.is at touches)
@@ -233,3 +234,30 @@ returns-in-SetBufferTransform-clause-touched g c = λ touch touches. absurd (rw 
 
 pub returns-in-SetBufferTransform-clause-nothing : goal.returns-in-SetBufferTransform-clause-nothing
 returns-in-SetBufferTransform-clause-nothing g c = λ none. rw c.of-in-SetBufferTransform.ensures
+
+-- ---- what is kept stands by the numbers from before
+
+pub returns-in-Commit-clause-holds : goal.returns-in-Commit-clause-holds
+returns-in-Commit-clause-holds g c = λ touch touches named client r on is only placed done.
+    rw c.in-Commit.is (c.commit.ensures.holds named client r on is only (rw c.in-Commit.is at placed) done)
+
+pub returns-in-Destroy-clause-holds : goal.returns-in-Destroy-clause-holds
+returns-in-Destroy-clause-holds g c = λ touch touches named client r on is only placed done. rw c.in-Destroy.is (c.destroy.ensures.holds named client r on is only done)
+
+pub returns-in-Attach-clause-holds : goal.returns-in-Attach-clause-holds
+returns-in-Attach-clause-holds g c = λ touch touches. absurd (rw c.in-Attach.is at touches)
+
+pub returns-in-Damage-clause-holds : goal.returns-in-Damage-clause-holds
+returns-in-Damage-clause-holds g c = λ touch touches. absurd (rw c.in-Damage.is at touches)
+
+pub returns-in-Frame-clause-holds : goal.returns-in-Frame-clause-holds
+returns-in-Frame-clause-holds g c = λ touch touches. absurd (rw c.in-Frame.is at touches)
+
+pub returns-in-SetOpaqueRegion-clause-holds : goal.returns-in-SetOpaqueRegion-clause-holds
+returns-in-SetOpaqueRegion-clause-holds g c = λ touch touches. absurd (rw c.in-SetOpaqueRegion.is at touches)
+
+pub returns-in-SetInputRegion-clause-holds : goal.returns-in-SetInputRegion-clause-holds
+returns-in-SetInputRegion-clause-holds g c = λ touch touches. absurd (rw c.in-SetInputRegion.is at touches)
+
+pub returns-in-SetBufferTransform-clause-holds : goal.returns-in-SetBufferTransform-clause-holds
+returns-in-SetBufferTransform-clause-holds g c = λ touch touches. absurd (rw c.in-SetBufferTransform.is at touches)

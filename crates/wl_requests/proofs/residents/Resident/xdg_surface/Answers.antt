@@ -4,10 +4,10 @@ use Rattle.std.proofs.lemmas.Int.{to_z-of_z}
 use Rattle.wl_requests.proofs.residents.Resident.xdg_surface.Goals as goal
 
 pub returns-in-GetPopup-clause-answers : goal.returns-in-GetPopup-clause-answers
-returns-in-GetPopup-clause-answers g c = λ named free client r on is only. rw c.in-GetPopup.is (c.refuse_unserved.ensures.answers client r on is only)
+returns-in-GetPopup-clause-answers g c = λ named free fit. rw c.in-GetPopup.is (c.get_popup.ensures.answers named (rw c.in-GetPopup.is at free) (rw c.in-GetPopup.is at fit))
 
 pub returns-in-SetWindowGeometry-clause-answers : goal.returns-in-SetWindowGeometry-clause-answers
-returns-in-SetWindowGeometry-clause-answers g c = λ named free.
+returns-in-SetWindowGeometry-clause-answers g c = λ named free fit.
     let x = c.in-SetWindowGeometry.x in
     let y = c.in-SetWindowGeometry.y in
     let width = c.in-SetWindowGeometry.width in

@@ -10,7 +10,8 @@ use Rattle.wl_peer.specs.Requests.{toplevel_request}
 use Rattle.wl_peer.specs.ToplevelRequest.{ToplevelRequest}
 use Rattle.wl_peer.specs.ToplevelRequest as toplevel
 use Rattle.wl_plain.specs.Desktop.{Desktop, Resident}
-use Rattle.wl_owning.specs.Owning.{names_in}
+use Rattle.wl_owning.proofs.Popups.Naming.{roles-named}
+use Rattle.wl_owning.specs.RoleNames.{names_of}
 use Rattle.wl_owning.proofs.Keeping.OwningXdg.{toplevel-named}
 use Rattle.wl_plain.specs.Demand.{Demand, Asks}
 use Rattle.wl_requests.specs.declared.residents.Resident.{Resident as Kept}
@@ -51,7 +52,8 @@ returns-in-Nothing-clause-answers g c = λ named version m interface asked clien
     let v = c.args.self.now in
     let object = c.args.object in
     let request = toplevel_request m.opcode m.fields in
-    let one = toplevel-named (names_in v.client.objects) v.owned.linked.surfaces v.owned.linked.family (kept_of v.owned.shell) r.owned is.owns object c.args.surface named in
+    let one = toplevel-named (names_of v.client.objects) v.owned.linked.surfaces v.owned.linked.family (kept_of v.owned.shell) r.owned is.owns object c.args.surface
+    (roles-named.toplevel v.client.objects object c.args.surface named) in
     subst (λ (j : Result Demand Refusal). AnswersSo j client r on v c.ignore.new.self) (sym (toplevel-of r object version m interface))
     (subst (λ (o : Option Xdg). AnswersSo (toplevel_asked object o request) client r on v c.ignore.new.self) (sym one.4)
     (ignored v c.ignore.new.self client r on object one.1 request (λ is. let both = sym is ∙ sym asked ∙ c.in-Nothing.is in absurd (cc))
@@ -62,7 +64,8 @@ returns-in-Move-clause-answers g c = λ named version m interface asked client r
     let v = c.args.self.now in
     let object = c.args.object in
     let request = toplevel_request m.opcode m.fields in
-    let one = toplevel-named (names_in v.client.objects) v.owned.linked.surfaces v.owned.linked.family (kept_of v.owned.shell) r.owned is.owns object c.args.surface named in
+    let one = toplevel-named (names_of v.client.objects) v.owned.linked.surfaces v.owned.linked.family (kept_of v.owned.shell) r.owned is.owns object c.args.surface
+    (roles-named.toplevel v.client.objects object c.args.surface named) in
     subst (λ (j : Result Demand Refusal). AnswersSo j client r on v c.ignore-in-Move.new.self) (sym (toplevel-of r object version m interface))
     (subst (λ (o : Option Xdg). AnswersSo (toplevel_asked object o request) client r on v c.ignore-in-Move.new.self) (sym one.4)
     (ignored v c.ignore-in-Move.new.self client r on object one.1 request (λ is. let both = sym is ∙ sym asked ∙ c.in-Move.is in absurd (cc))

@@ -1,71 +1,111 @@
-use Rattle.std.proofs.Common.{Some, ap, refl, sym, subst, ◌∙◌}
+use Rattle.std.proofs.Common.{ap, sym, subst, ◌∙◌}
 use Rattle.std.specs.Prelude.{is_some}
 use Rattle.wl_client.specs.View.{ClientView}
 use Rattle.wl_requests.specs.declared.residents.Resident.{Resident as Kept}
 use Rattle.wl_resident.specs.declared.screens.Screen.{Screen}
 use Rattle.wl_resident.specs.Seats.{IsSeated}
 use Rattle.wl_resident.specs.View.{pile_of}
-use Rattle.wl_resident.proofs.Apart.{settled-least, settled-most, settled-seated, settled-through}
-use Rattle.wl_resident.proofs.Assembling.{lives-least, lives-most, lives-seated, lives-through}
-use Rattle.wl_resident.proofs.Ended.{ended-least, ended-on, ended-seated, ended-through, ending-tree}
-use Rattle.wl_resident.proofs.Served.{asks-apart, asks-so, ended-so, lives-so, no-pointer, unapplied}
+use Rattle.wl_resident.proofs.Alone.{alone-least, alone-most, alone-seated, alone-through, unapplied}
+use Rattle.wl_resident.proofs.Assembling.{live-least, live-most, live-seated, live-through}
+use Rattle.wl_resident.proofs.Parting.{over-least, over-on, over-seated, over-through}
+use Rattle.wl_resident.proofs.Served.{asks-so, ended-so, lives-so, no-pointer}
 use Rattle.wl_resident.proofs.screens.Screen.serve.Goals as goal
 use Rattle.wl_resident.proofs.screens.Screen.serve.Goals.{then-has_ended-2, else-has_ended-2}
 
 -- ---- no tree is touched
 
 pub returns-in_default-clause-serves : goal.returns-in_default-clause-serves
-returns-in_default-clause-serves g c = λ some others base d r is orderly.
+returns-in_default-clause-serves g c = λ some others base d r width height is ordered.
     let v = c.args.resident.now in
     let mid = c.serve.new.self in
     let was = c.args.self.now in
     let o = c.in-Some-serve._outcome in
     let said = c.in-Some-serve.ensures in
-    let none = unapplied v c.asked-asked.result o.applied c.in_default.ensures said.nothing _ _ is.seat.subsurfaces in
-    let asks = asks-apart c.args.client v mid was c.asked-asked.result o.stacking o.applied said.lives c.asked-asked.ensures c.in_default.ensures said.takes said.decides said.touched none in
-    settled-seated c.args.client others base d r v mid c.part_alone.new.resident was c.part_alone.new.self is orderly c.asked-asked.result o.stacking o.applied asks c.in_default.ensures none c.part_alone.ensures.clears
-    c.part_alone.ensures.points c.part_alone.ensures.lives
+    alone-seated c.message_laws.ensures c.args.client others base d r v mid c.part_alone.new.resident was c.part_alone.new.self is ordered c.asked-asked.result
+    c.placing-placing.result o.stacking o.applied
+    (record {
+      lives = said.lives;
+      asks = c.asked-asked.ensures;
+      by = c.in_default.ensures;
+      placed = c.placing-placing.ensures;
+      takes = said.takes;
+      decides = said.decides;
+      none = unapplied v c.asked-asked.result o.applied c.in_default.ensures said.nothing _ _ is.seat.subsurfaces;
+      clears = c.part_alone.ensures.clears;
+      points = c.part_alone.ensures.points;
+      same = c.part_alone.ensures.lives;
+    }) width height
 
 pub returns-in_default-clause-marks : goal.returns-in_default-clause-marks
-returns-in_default-clause-marks g c = λ some others base d r is orderly e q serves after.
+returns-in_default-clause-marks g c = λ some others base d r width height is ordered e q serves after.
     let v = c.args.resident.now in
     let mid = c.serve.new.self in
     let was = c.args.self.now in
     let o = c.in-Some-serve._outcome in
     let said = c.in-Some-serve.ensures in
-    let none = unapplied v c.asked-asked.result o.applied c.in_default.ensures said.nothing _ _ is.seat.subsurfaces in
-    let asks = asks-apart c.args.client v mid was c.asked-asked.result o.stacking o.applied said.lives c.asked-asked.ensures c.in_default.ensures said.takes said.decides said.touched none in
-    settled-least c.args.client others base d r v mid c.part_alone.new.resident was c.part_alone.new.self is orderly c.asked-asked.result o.stacking o.applied asks c.in_default.ensures none c.part_alone.ensures.clears
-    c.part_alone.ensures.points c.part_alone.ensures.lives e q serves after
+    alone-least c.message_laws.ensures c.args.client others base d r v mid c.part_alone.new.resident was c.part_alone.new.self is ordered c.asked-asked.result
+    c.placing-placing.result o.stacking o.applied
+    (record {
+      lives = said.lives;
+      asks = c.asked-asked.ensures;
+      by = c.in_default.ensures;
+      placed = c.placing-placing.ensures;
+      takes = said.takes;
+      decides = said.decides;
+      none = unapplied v c.asked-asked.result o.applied c.in_default.ensures said.nothing _ _ is.seat.subsurfaces;
+      clears = c.part_alone.ensures.clears;
+      points = c.part_alone.ensures.points;
+      same = c.part_alone.ensures.lives;
+    }) width height e q serves after
 
 pub returns-in_default-clause-within : goal.returns-in_default-clause-within
-returns-in_default-clause-within g c = λ some others base d r width height is orderly e q serves after lives.
+returns-in_default-clause-within g c = λ some others base d r width height is ordered e q serves after lives.
     let v = c.args.resident.now in
     let mid = c.serve.new.self in
     let was = c.args.self.now in
     let o = c.in-Some-serve._outcome in
     let said = c.in-Some-serve.ensures in
-    let none = unapplied v c.asked-asked.result o.applied c.in_default.ensures said.nothing _ _ is.seat.subsurfaces in
-    let asks = asks-apart c.args.client v mid was c.asked-asked.result o.stacking o.applied said.lives c.asked-asked.ensures c.in_default.ensures said.takes said.decides said.touched none in
-    settled-most c.args.client others base d r v mid c.part_alone.new.resident was c.part_alone.new.self is orderly c.asked-asked.result o.stacking o.applied asks c.in_default.ensures none c.part_alone.ensures.clears
-    c.part_alone.ensures.points c.part_alone.ensures.lives e q serves after lives
+    alone-most c.message_laws.ensures c.args.client others base d r v mid c.part_alone.new.resident was c.part_alone.new.self is ordered c.asked-asked.result
+    c.placing-placing.result o.stacking o.applied
+    (record {
+      lives = said.lives;
+      asks = c.asked-asked.ensures;
+      by = c.in_default.ensures;
+      placed = c.placing-placing.ensures;
+      takes = said.takes;
+      decides = said.decides;
+      none = unapplied v c.asked-asked.result o.applied c.in_default.ensures said.nothing _ _ is.seat.subsurfaces;
+      clears = c.part_alone.ensures.clears;
+      points = c.part_alone.ensures.points;
+      same = c.part_alone.ensures.lives;
+    }) width height e q serves after lives
 
 pub returns-in_default-clause-through : goal.returns-in_default-clause-through
-returns-in_default-clause-through g c = λ some others base d r width height is orderly.
+returns-in_default-clause-through g c = λ some others base d r width height is ordered.
     let v = c.args.resident.now in
     let mid = c.serve.new.self in
     let was = c.args.self.now in
     let o = c.in-Some-serve._outcome in
     let said = c.in-Some-serve.ensures in
-    let none = unapplied v c.asked-asked.result o.applied c.in_default.ensures said.nothing _ _ is.seat.subsurfaces in
-    let asks = asks-apart c.args.client v mid was c.asked-asked.result o.stacking o.applied said.lives c.asked-asked.ensures c.in_default.ensures said.takes said.decides said.touched none in
-    settled-through c.args.client others base d r v mid c.part_alone.new.resident was c.part_alone.new.self is orderly c.asked-asked.result o.stacking o.applied asks c.in_default.ensures none c.part_alone.ensures.clears
-    c.part_alone.ensures.points c.part_alone.ensures.lives width height
+    alone-through c.message_laws.ensures c.args.client others base d r v mid c.part_alone.new.resident was c.part_alone.new.self is ordered c.asked-asked.result
+    c.placing-placing.result o.stacking o.applied
+    (record {
+      lives = said.lives;
+      asks = c.asked-asked.ensures;
+      by = c.in_default.ensures;
+      placed = c.placing-placing.ensures;
+      takes = said.takes;
+      decides = said.decides;
+      none = unapplied v c.asked-asked.result o.applied c.in_default.ensures said.nothing _ _ is.seat.subsurfaces;
+      clears = c.part_alone.ensures.clears;
+      points = c.part_alone.ensures.points;
+      same = c.part_alone.ensures.lives;
+    }) width height
 
--- ---- a tree is touched
+-- ---- a surface is touched
 
 pub returns-clause-serves : goal.returns-clause-serves
-returns-clause-serves g c = λ some others base d r is orderly.
+returns-clause-serves g c = λ some others base d r width height is ordered.
     let v = c.args.resident.now in
     let mid = c.serve-2.new.self in
     let was = c.args.self.now in
@@ -73,25 +113,31 @@ returns-clause-serves g c = λ some others base d r is orderly.
     let o = c.in-Some-serve-2.outcome in
     let said = c.in-Some-serve-2.ensures in
     let asked = c.asked-asked.result in
-    let root = Some c.root_of-root.result in
+    let placing = c.placing-placing.result in
+    let surface = c.in-Some.surface in
+    let root = c.root_of-root.result in
+    let found = c.find_toplevel-toplevel.result in
+    let laws = c.message_laws.ensures in
     let asks =
-    asks-so c.args.client v mid c.is_ok-has_room.result was ready asked c.in-Some.surface c.root_of-root.result o.stacking o.applied c.prepare.result c.len-surfaces.result said.lives
-    c.asked-asked.ensures c.in-Some.ensures c.root_of-root.ensures.root c.root_of-root.ensures.none said.takes said.decides said.touched said.nothing said.room c.is_ok-has_room.ensures.value
-    c.len-surfaces.ensures c.prepare.ensures.same c.prepare.ensures.was c.prepare.ensures.room c.prepare.ensures.is _ _ is.seat.subsurfaces in
+    asks-so c.args.client v mid c.is_ok-has_room.result was ready asked placing surface root found o.stacking o.applied c.prepare.result c.len-surfaces.result said.lives
+    c.asked-asked.ensures c.in-Some.ensures c.root_of-root.ensures.root c.root_of-root.ensures.none c.find_toplevel-toplevel.ensures c.placing-placing.ensures said.takes said.decides said.touched
+    said.holds said.nothing said.room c.is_ok-has_room.ensures.value c.len-surfaces.ensures c.prepare.ensures.same c.prepare.ensures.was c.prepare.ensures.room c.prepare.ensures.is _ _
+    is.seat.subsurfaces in
     elim c.if-has_ended-2.branch [
       | then-has_ended-2 w ↦
           let over = ended-so mid.client.ended (sym c.has_ended-2.ensures ∙ w.if-has_ended-2.true) in
           rw (w.self-is, w.resident-is)
-          (ended-seated c.args.client others base d r v mid w.part.new.resident was ready w.part.new.self is orderly asked root o.stacking o.applied asks over.0 over.1
-          (ending-tree c.args.client v mid w.part.new.resident was ready w.part.new.self asked root o.stacking o.applied asks c.prepare.ensures.is w.part.ensures.parts))
+          (over-seated laws c.args.client others base d r v mid w.part.new.resident was ready w.part.new.self is ordered asked placing surface root found o.stacking o.applied asks width height
+          over.0 over.1
+          w.part.ensures.parts)
       | else-has_ended-2 w ↦
           rw (w.self-is, w.resident-is)
-          (lives-seated c.args.client others base d r v mid was ready w.follow.new.self is orderly asked root o.stacking o.applied asks
-          (lives-so mid.client.ended (sym c.has_ended-2.ensures ∙ w.if-has_ended-2.false)) c.root_of-root.result refl w.follow.ensures.follows)
+          (live-seated laws c.args.client others base d r v mid was ready is ordered asked placing surface root found o.stacking o.applied asks width height
+          (lives-so mid.client.ended (sym c.has_ended-2.ensures ∙ w.if-has_ended-2.false)) w.follow.new.self w.follow.ensures.follows)
     ]
 
 pub returns-clause-marks : goal.returns-clause-marks
-returns-clause-marks g c = λ some others base d r is orderly e q serves after.
+returns-clause-marks g c = λ some others base d r width height is ordered e q serves after.
     let v = c.args.resident.now in
     let mid = c.serve-2.new.self in
     let was = c.args.self.now in
@@ -99,29 +145,35 @@ returns-clause-marks g c = λ some others base d r is orderly e q serves after.
     let o = c.in-Some-serve-2.outcome in
     let said = c.in-Some-serve-2.ensures in
     let asked = c.asked-asked.result in
-    let root = Some c.root_of-root.result in
+    let placing = c.placing-placing.result in
+    let surface = c.in-Some.surface in
+    let root = c.root_of-root.result in
+    let found = c.find_toplevel-toplevel.result in
+    let laws = c.message_laws.ensures in
     let asks =
-    asks-so c.args.client v mid c.is_ok-has_room.result was ready asked c.in-Some.surface c.root_of-root.result o.stacking o.applied c.prepare.result c.len-surfaces.result said.lives
-    c.asked-asked.ensures c.in-Some.ensures c.root_of-root.ensures.root c.root_of-root.ensures.none said.takes said.decides said.touched said.nothing said.room c.is_ok-has_room.ensures.value
-    c.len-surfaces.ensures c.prepare.ensures.same c.prepare.ensures.was c.prepare.ensures.room c.prepare.ensures.is _ _ is.seat.subsurfaces in
+    asks-so c.args.client v mid c.is_ok-has_room.result was ready asked placing surface root found o.stacking o.applied c.prepare.result c.len-surfaces.result said.lives
+    c.asked-asked.ensures c.in-Some.ensures c.root_of-root.ensures.root c.root_of-root.ensures.none c.find_toplevel-toplevel.ensures c.placing-placing.ensures said.takes said.decides said.touched
+    said.holds said.nothing said.room c.is_ok-has_room.ensures.value c.len-surfaces.ensures c.prepare.ensures.same c.prepare.ensures.was c.prepare.ensures.room c.prepare.ensures.is _ _
+    is.seat.subsurfaces in
     elim c.if-has_ended-2.branch [
       | then-has_ended-2 w ↦
           let over = ended-so mid.client.ended (sym c.has_ended-2.ensures ∙ w.if-has_ended-2.true) in
           rw (w.self-is)
-          (ended-least c.args.client others base d r v mid w.part.new.resident was ready w.part.new.self is orderly asked root o.stacking o.applied asks over.0 over.1
-          (ending-tree c.args.client v mid w.part.new.resident was ready w.part.new.self asked root o.stacking o.applied asks c.prepare.ensures.is w.part.ensures.parts) e q serves
+          (over-least laws c.args.client others base d r v mid w.part.new.resident was ready w.part.new.self is ordered asked placing surface root found o.stacking o.applied asks width height
+          over.0 over.1
+          w.part.ensures.parts e q serves
           (subst (λ (k : Kept _). IsSeated c.args.client others base k (pile_of w.part.new.self) e q) w.resident-is
           (subst (λ (s : Screen _). IsSeated c.args.client others base c.if-has_ended-2.resident (pile_of s) e q) w.self-is after)))
       | else-has_ended-2 w ↦
           rw (w.self-is)
-          (lives-least c.args.client others base d r v mid was ready w.follow.new.self is orderly asked root o.stacking o.applied asks
-          (lives-so mid.client.ended (sym c.has_ended-2.ensures ∙ w.if-has_ended-2.false)) c.root_of-root.result refl w.follow.ensures.follows e q serves
+          (live-least laws c.args.client others base d r v mid was ready is ordered asked placing surface root found o.stacking o.applied asks width height
+          (lives-so mid.client.ended (sym c.has_ended-2.ensures ∙ w.if-has_ended-2.false)) w.follow.new.self w.follow.ensures.follows e q serves
           (subst (λ (k : Kept _). IsSeated c.args.client others base k (pile_of w.follow.new.self) e q) w.resident-is
           (subst (λ (s : Screen _). IsSeated c.args.client others base c.if-has_ended-2.resident (pile_of s) e q) w.self-is after)))
     ]
 
 pub returns-clause-within : goal.returns-clause-within
-returns-clause-within g c = λ some others base d r width height is orderly e q serves after lives.
+returns-clause-within g c = λ some others base d r width height is ordered e q serves after status.
     let v = c.args.resident.now in
     let mid = c.serve-2.new.self in
     let was = c.args.self.now in
@@ -129,29 +181,35 @@ returns-clause-within g c = λ some others base d r width height is orderly e q 
     let o = c.in-Some-serve-2.outcome in
     let said = c.in-Some-serve-2.ensures in
     let asked = c.asked-asked.result in
-    let root = Some c.root_of-root.result in
+    let placing = c.placing-placing.result in
+    let surface = c.in-Some.surface in
+    let root = c.root_of-root.result in
+    let found = c.find_toplevel-toplevel.result in
+    let laws = c.message_laws.ensures in
     let asks =
-    asks-so c.args.client v mid c.is_ok-has_room.result was ready asked c.in-Some.surface c.root_of-root.result o.stacking o.applied c.prepare.result c.len-surfaces.result said.lives
-    c.asked-asked.ensures c.in-Some.ensures c.root_of-root.ensures.root c.root_of-root.ensures.none said.takes said.decides said.touched said.nothing said.room c.is_ok-has_room.ensures.value
-    c.len-surfaces.ensures c.prepare.ensures.same c.prepare.ensures.was c.prepare.ensures.room c.prepare.ensures.is _ _ is.seat.subsurfaces in
+    asks-so c.args.client v mid c.is_ok-has_room.result was ready asked placing surface root found o.stacking o.applied c.prepare.result c.len-surfaces.result said.lives
+    c.asked-asked.ensures c.in-Some.ensures c.root_of-root.ensures.root c.root_of-root.ensures.none c.find_toplevel-toplevel.ensures c.placing-placing.ensures said.takes said.decides said.touched
+    said.holds said.nothing said.room c.is_ok-has_room.ensures.value c.len-surfaces.ensures c.prepare.ensures.same c.prepare.ensures.was c.prepare.ensures.room c.prepare.ensures.is _ _
+    is.seat.subsurfaces in
     elim c.if-has_ended-2.branch [
       | then-has_ended-2 w ↦
           let over = ended-so mid.client.ended (sym c.has_ended-2.ensures ∙ w.if-has_ended-2.true) in
           absurd
-          (ended-on c.args.client others base d r v mid w.part.new.resident was ready w.part.new.self is orderly asked root o.stacking o.applied asks over.0 over.1
-          (ending-tree c.args.client v mid w.part.new.resident was ready w.part.new.self asked root o.stacking o.applied asks c.prepare.ensures.is w.part.ensures.parts) e q
+          (over-on laws c.args.client others base d r v mid w.part.new.resident was ready w.part.new.self is ordered asked placing surface root found o.stacking o.applied asks width height
+          over.0 over.1
+          w.part.ensures.parts e q
           (subst (λ (k : Kept _). IsSeated c.args.client others base k (pile_of w.part.new.self) e q) w.resident-is
-          (subst (λ (s : Screen _). IsSeated c.args.client others base c.if-has_ended-2.resident (pile_of s) e q) w.self-is after)) lives)
+          (subst (λ (s : Screen _). IsSeated c.args.client others base c.if-has_ended-2.resident (pile_of s) e q) w.self-is after)) status)
       | else-has_ended-2 w ↦
           rw (w.self-is)
-          (lives-most c.args.client others base d r v mid was ready w.follow.new.self is orderly asked root o.stacking o.applied asks
-          (lives-so mid.client.ended (sym c.has_ended-2.ensures ∙ w.if-has_ended-2.false)) c.root_of-root.result refl w.follow.ensures.follows e q serves
+          (live-most laws c.args.client others base d r v mid was ready is ordered asked placing surface root found o.stacking o.applied asks width height
+          (lives-so mid.client.ended (sym c.has_ended-2.ensures ∙ w.if-has_ended-2.false)) w.follow.new.self w.follow.ensures.follows e q serves
           (subst (λ (k : Kept _). IsSeated c.args.client others base k (pile_of w.follow.new.self) e q) w.resident-is
-          (subst (λ (s : Screen _). IsSeated c.args.client others base c.if-has_ended-2.resident (pile_of s) e q) w.self-is after)) width height)
+          (subst (λ (s : Screen _). IsSeated c.args.client others base c.if-has_ended-2.resident (pile_of s) e q) w.self-is after)))
     ]
 
 pub returns-clause-through : goal.returns-clause-through
-returns-clause-through g c = λ some others base d r width height is orderly.
+returns-clause-through g c = λ some others base d r width height is ordered.
     let v = c.args.resident.now in
     let mid = c.serve-2.new.self in
     let was = c.args.self.now in
@@ -159,21 +217,27 @@ returns-clause-through g c = λ some others base d r width height is orderly.
     let o = c.in-Some-serve-2.outcome in
     let said = c.in-Some-serve-2.ensures in
     let asked = c.asked-asked.result in
-    let root = Some c.root_of-root.result in
+    let placing = c.placing-placing.result in
+    let surface = c.in-Some.surface in
+    let root = c.root_of-root.result in
+    let found = c.find_toplevel-toplevel.result in
+    let laws = c.message_laws.ensures in
     let asks =
-    asks-so c.args.client v mid c.is_ok-has_room.result was ready asked c.in-Some.surface c.root_of-root.result o.stacking o.applied c.prepare.result c.len-surfaces.result said.lives
-    c.asked-asked.ensures c.in-Some.ensures c.root_of-root.ensures.root c.root_of-root.ensures.none said.takes said.decides said.touched said.nothing said.room c.is_ok-has_room.ensures.value
-    c.len-surfaces.ensures c.prepare.ensures.same c.prepare.ensures.was c.prepare.ensures.room c.prepare.ensures.is _ _ is.seat.subsurfaces in
+    asks-so c.args.client v mid c.is_ok-has_room.result was ready asked placing surface root found o.stacking o.applied c.prepare.result c.len-surfaces.result said.lives
+    c.asked-asked.ensures c.in-Some.ensures c.root_of-root.ensures.root c.root_of-root.ensures.none c.find_toplevel-toplevel.ensures c.placing-placing.ensures said.takes said.decides said.touched
+    said.holds said.nothing said.room c.is_ok-has_room.ensures.value c.len-surfaces.ensures c.prepare.ensures.same c.prepare.ensures.was c.prepare.ensures.room c.prepare.ensures.is _ _
+    is.seat.subsurfaces in
     elim c.if-has_ended-2.branch [
       | then-has_ended-2 w ↦
           let over = ended-so mid.client.ended (sym c.has_ended-2.ensures ∙ w.if-has_ended-2.true) in
           rw (w.self-is, w.resident-is)
-          (ended-through c.args.client others base d r v mid w.part.new.resident was ready w.part.new.self is orderly asked root o.stacking o.applied asks over.0 over.1
-          (ending-tree c.args.client v mid w.part.new.resident was ready w.part.new.self asked root o.stacking o.applied asks c.prepare.ensures.is w.part.ensures.parts) width height)
+          (over-through laws c.args.client others base d r v mid w.part.new.resident was ready w.part.new.self is ordered asked placing surface root found o.stacking o.applied asks width height
+          over.0 over.1
+          w.part.ensures.parts)
       | else-has_ended-2 w ↦
           rw (w.self-is, w.resident-is)
-          (lives-through c.args.client others base d r v mid was ready w.follow.new.self is orderly asked root o.stacking o.applied asks
-          (lives-so mid.client.ended (sym c.has_ended-2.ensures ∙ w.if-has_ended-2.false)) c.root_of-root.result refl w.follow.ensures.follows width height)
+          (live-through laws c.args.client others base d r v mid was ready is ordered asked placing surface root found o.stacking o.applied asks width height
+          (lives-so mid.client.ended (sym c.has_ended-2.ensures ∙ w.if-has_ended-2.false)) w.follow.new.self w.follow.ensures.follows)
     ]
 
 -- ---- what is asked of the pointer

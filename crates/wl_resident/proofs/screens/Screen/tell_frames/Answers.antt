@@ -1,6 +1,5 @@
 use Rattle.std.proofs.Common.{◌≡◌, Bool, Option, None, ap, refl, subst, sym, ◌∙◌}
 use Rattle.std.specs.Prelude.{is_some}
-use Rattle.wl_invariants.proofs.OrderlyClients.Clients.{clients_are_orderly}
 use Rattle.wl_paint.specs.Damage.{Damaged}
 use Rattle.wl_peer.specs.declared.cause.Cause.{Cause}
 use Rattle.wl_plain.specs.Desktop.{become}
@@ -14,17 +13,17 @@ use Rattle.wl_resident.proofs.screens.Screen.tell_frames.Goals as goal
 use Rattle.wl_resident.proofs.screens.Screen.tell_frames.Goals.{then-has_ended-2, else-has_ended-2}
 
 pub returns-then-has_ended-clause-tells : goal.returns-then-has_ended-clause-tells
-returns-then-has_ended-clause-tells g c = λ others base d r is orderly.
+returns-then-has_ended-clause-tells g c = λ others base d r is ordered.
     (d, r, frames-untold c.args.time c.args.client r d (ap (λ (o : Option Cause). is_some o) (sym is.seat.peer.status) ∙ sym c.has_ended.ensures ∙ c.if-has_ended.true), is)
 
 pub returns-clause-tells : goal.returns-clause-tells
-returns-clause-tells g c = λ others base d r is orderly.
+returns-clause-tells g c = λ others base d r is ordered.
     let old = c.args.resident.now in
     let mid = c.answer_frames.new.self in
     let lives = lives-of old.client.ended (sym c.has_ended.ensures ∙ c.if-has_ended.false) in
     let alive : r.peer.status ≡ None = sym is.seat.peer.status ∙ lives in
     let told = c.answer_frames.ensures.tells lives r (record { lives = lives; peer = is.seat.peer; owns = is.seat.owns; frames = is.seat.frames; subsurfaces = is.seat.subsurfaces })
-    (clients_are_orderly d c.args.client r orderly is.based.there alive) in
+    (ordered.each c.args.client r is.based.there alive) in
     let same : pile_of c.if-has_ended-2.self ≡ pile_of c.args.self.now = elim c.if-has_ended-2.branch [
       | then-has_ended-2 w ↦ rw w.self-is (pile-same c.args.self.now w.mark_client.new.self w.mark_client.ensures.scene w.mark_client.ensures.stacked)
       | else-has_ended-2 w ↦ rw w.self-is refl

@@ -1,5 +1,4 @@
-use Rattle.std.proofs.Common.{ap, sym, ◌∙◌}
-use Rattle.wl_xdg_state.specs.Kept.{kept_of, kept_popup, popup_answer}
+use Rattle.wl_xdg_state.specs.Kept.{kept_popup}
 use Rattle.wl_shell.proofs.Books.{changed-if, stayed-err}
 use Rattle.wl_shell.proofs.shell.Shell.get_popup.Goals as goal
 

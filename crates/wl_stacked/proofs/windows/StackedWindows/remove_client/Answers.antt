@@ -3,7 +3,7 @@ use Rattle.std.specs.Prelude.{not}
 use Rattle.std.proofs.lemmas.Fn.{filter_same}
 use Rattle.wl_stacked.specs.declared.stacked.Stacked.{Stacked}
 use Rattle.wl_stacked.specs.Stacked.{AreTogether, WindowsKept, without_client}
-use Rattle.wl_stacked.proofs.Trees.{together-filter}
+use Rattle.wl_stacked.proofs.Kept.{together-filter}
 use Rattle.wl_stacked.proofs.windows.StackedWindows.remove_client.Goals as goal
 
 pub invariant_of-self : goal.invariant_of-self

@@ -1,0 +1,3 @@
+pub mod Popped
+mod Rising
+pub mod Rooted

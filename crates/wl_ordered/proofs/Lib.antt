@@ -1,0 +1,9 @@
+pub mod Each
+pub mod Elders
+pub mod Heard
+pub mod Shells
+pub mod Surfaces
+pub mod Younger
+pub mod Moved
+pub mod Owning
+pub mod Laws

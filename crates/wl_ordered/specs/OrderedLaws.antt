@@ -1,0 +1,83 @@
+-- What each client owns is in order by what is served now: each step keeps it.
+use Rattle.std.specs.Prelude.{ℕ, ◌≡◌, ◌≤◌, Ok, Some, None, List}
+use Rattle.wl_peer.specs.declared.cause.Cause.{Cause}
+use Rattle.wl_peer.specs.Peer.{Peer, counted, ended, with_rest}
+use Rattle.wl_peer.specs.Told.{Output}
+use Rattle.wl_shell.specs.InOrder.{HasOrder}
+use Rattle.wl_stacking.specs.Stacking.{moved_to, raised}
+use Rattle.wl_stacking.specs.Windows.{Place}
+use Rattle.wl_plain.specs.declared.answers.Done.{Done}
+use Rattle.wl_plain.specs.Act.{Act}
+use Rattle.wl_plain.specs.Changing.{changed_for, grab_holder}
+use Rattle.wl_plain.specs.Demand.{Demand}
+use Rattle.wl_plain.specs.Demanding.{judge_all}
+use Rattle.wl_plain.specs.Desktop.{Desktop, Resident, client_at, empty, with_client}
+use Rattle.wl_plain.specs.Framing.{FramesToldAt}
+use Rattle.wl_plain.specs.Happens.{Happens, Serves}
+use Rattle.wl_plain.specs.LeftOut.{served_now}
+use Rattle.wl_plain.specs.Settling.{EndsAndSettles, becomes, unstruck}
+use Rattle.wl_plain.specs.Step.{with_peer}
+use Rattle.wl_invariants.specs.Acts.{LeavesPointer}
+use Rattle.wl_ordered.specs.Ordered.{Ordered, OwnsOrdered}
+
+-- ---- what is known of them
+
+-- The popups of a client have the order that the shell asks for.
+abbrev pub OrderedHasOrder : Type 0
+OrderedHasOrder = (r : Resident) → OwnsOrdered r → HasOrder r.owned.shell
+
+-- No client holds a grab.
+abbrev pub OrderedHoldsNone : Type 0
+OrderedHoldsNone = (d : Desktop) → Ordered d → grab_holder d ≡ None
+
+-- ---- what keeps a desktop so
+
+-- A desktop without clients is so.
+abbrev pub EmptyIsOrdered : Type 0
+EmptyIsOrdered = (output : Output) → Ordered (empty output)
+
+-- Whatever happens that leaves the pointer alone.
+abbrev pub OrderedStays : Type 0
+OrderedStays = (act : Act) (done : Done) (d e : Desktop) → LeavesPointer act → Ordered d → Happens served_now act done d e → Ordered e
+
+-- One message of a client.
+abbrev pub MessagesKeepOrdered : Type 0
+MessagesKeepOrdered = (c : ℕ) (d e : Desktop) → Ordered d → Serves served_now c d e → Ordered e
+
+-- What is kept of the stream of a client that is there, before its messages are taken.
+abbrev pub PiecesKeepOrdered : Type 0
+PiecesKeepOrdered =
+    (c : ℕ) (r : Resident) (bytes : List ℕ) (d : Desktop) → Ordered d → client_at c d ≡ Some r
+    → Ordered (with_client c (Some (with_peer (with_rest bytes r.peer) r)) d)
+
+-- The end of a client.
+abbrev pub EndsKeepOrdered : Type 0
+EndsKeepOrdered =
+    (c : ℕ) (r : Resident) (cause : Cause) (d e : Desktop) → Ordered d → client_at c d ≡ Some r
+    → EndsAndSettles (unstruck (becomes c r (ended cause r.peer) d)) e → Ordered e
+
+-- One client is told of a frame.
+abbrev pub FramesKeepOrdered : Type 0
+FramesKeepOrdered = (time c : ℕ) (d e : Desktop) → Ordered d → FramesToldAt time c (client_at c d) d e → Ordered e
+
+-- A toplevel that is raised or moved.
+abbrev pub MovesKeepOrdered : Type 0
+MovesKeepOrdered =
+    (c surface : ℕ) (place : Place) (d : Desktop) → Ordered d
+    → Ordered (record d { standing = raised c surface d.standing })
+    × Ordered (record d { standing = moved_to c surface place d.standing })
+
+-- ---- what keeps a client so
+
+-- Another peer with the same objects and buffers, and no fewer requests.
+abbrev pub PeersKeepOrdered : Type 0
+PeersKeepOrdered =
+    (r : Resident) (p : Peer) → p.objects ≡ r.peer.objects → p.buffers ≡ r.peer.buffers → r.peer.requests ≤ p.requests → OwnsOrdered r
+    → OwnsOrdered (with_peer p r)
+
+-- What an accepted message demands, done once its request is counted and its bytes are taken.
+abbrev pub DemandsKeepOrdered : Type 0
+DemandsKeepOrdered =
+    (c : ℕ) (r : Resident) (rest : List ℕ) (object opcode : ℕ) (body : List ℕ) (demand : Demand) (d : Desktop) → OwnsOrdered r
+    → judge_all served_now r object opcode body ≡ Ok demand
+    → OwnsOrdered (changed_for c demand (with_peer (counted (with_rest rest r.peer)) r) d)

@@ -1,0 +1,75 @@
+//! Popups that are dismissed (xdg-shell.xml, xdg_popup.popup_done).
+
+ghost use Rattle.std.specs.Prelude.{ℕ, ◌≡◌, ◌∷◌, [], None, Some, is_some, true};
+ghost use Rattle.wl_client.specs.Agreement.{IsPeer};
+ghost use Rattle.wl_client.specs.Said.{said_of};
+ghost use Rattle.wl_interface.specs.declared.interface.Interface.TheVariants.{XdgPopup};
+ghost use Rattle.wl_peer.specs.Peer.{Peer, Queues};
+ghost use Rattle.wl_peer.specs.Told.{said};
+ghost use Rattle.wl_proto.specs.Messages.{says};
+ghost use Rattle.wl_xdg_state.specs.Kept.{kept_of};
+ghost use Rattle.wl_requests.specs.Dismissing.{DismissesWith, role_id};
+ghost use Rattle.wl_requests.specs.Residents.{Leaves};
+
+use crate::residents::Resident;
+use std::alloc::Allocator;
+use wl_proto::{Event, EventBody, XdgPopupEvent};
+use wl_surface::SurfaceNo;
+
+/// More popups than a client has: it has at most 256 surfaces.
+const PAST_POPUPS: u32 = 257;
+
+/// xdg_popup.popup_done.
+fn popup_done_event(popup: u32) -> Event<'static>
+    ensures { said_of result ≡ said popup (says XdgPopup 1 []) }
+{
+    Event {
+        object: popup,
+        body: EventBody::XdgPopup(XdgPopupEvent::PopupDone),
+    }
+}
+
+impl<A: Allocator + Copy> Resident<A> {
+    /// The id of the popup of a surface, or of its other role object, if it has one.
+    fn popup_object_of(&self, surface: SurfaceNo) -> Option<u32>
+        ensures { result ≡ role_id (kept_of self.now.owned.shell surface) }
+    {
+        self.owned.shell.get(surface)?.role_id()
+    }
+
+    /// Tells that the popup of a surface is done.
+    fn tell_done(&mut self, surface: SurfaceNo)
+        ensures told { (popup : ℕ) → role_id (kept_of self.old.owned.shell surface) ≡ Some popup → (p : Peer) → IsPeer self.old.client p
+            → (q : Peer) × Queues (said popup (says XdgPopup 1 []) ∷ []) p q × IsPeer self.new.client q }
+        ensures table { self.new.client.ended ≡ None → self.new.client.objects ≡ self.old.client.objects }
+        ensures owned { self.new.owned ≡ self.old.owned }
+        ensures subsurfaces { self.new.subsurfaces ≡ self.old.subsurfaces }
+        ensures rest { Leaves self.old self.new }
+    {
+        if let Some(popup) = self.popup_object_of(surface) {
+            self.client.queue_all(&[popup_done_event(popup)]);
+        }
+    }
+
+    /// The popup of the xdg_surface of a surface is dismissed, or those on it where it has none, and whatever descends from them: one after
+    /// another, the newest first. Each that wasn't dismissed before is told that it is done, until an event isn't queued.
+    pub(crate) fn dismiss_popups(&mut self, surface: SurfaceNo)
+        ensures dismisses { DismissesWith surface self.old self.new }
+        ensures table { self.new.client.ended ≡ None → self.new.client.objects ≡ self.old.client.objects }
+        ensures ended { is_some self.old.client.ended ≡ true → self.new.client ≡ self.old.client }
+        ensures linked { self.new.owned.linked ≡ self.old.owned.linked }
+        ensures subsurfaces { self.new.subsurfaces ≡ self.old.subsurfaces }
+        ensures rest { Leaves self.old self.new }
+    {
+        for _ in 0..PAST_POPUPS {
+            if self.client.has_ended() {
+                return;
+            }
+            self.owned.shell.are_found();
+            let Some(gone) = self.owned.shell.dismiss(surface) else {
+                return;
+            };
+            self.tell_done(gone);
+        }
+    }
+}

@@ -1,0 +1,19 @@
+-- The laws by which a message is served: on which ways it leads, what is marked there, and how what its client owns stays in order.
+use Rattle.wl_named_popups.specs.Popups.{RisingNamed}
+use Rattle.wl_ordered.specs.OrderedLaws.{DemandsKeepOrdered, MessagesKeepOrdered, OrderedHasOrder}
+use Rattle.wl_toplevels.specs.Marked.{MarksByTreesBetween}
+use Rattle.wl_ways.specs.WaysLaws.{EndedIsGone, GoneMarksLeast, GoneMarksMost, GoneWindows, MessagesLeadSo, StruckMarks, TwiceMarks}
+
+pub record MessageLaws : Type 0 where
+  pub lead : MessagesLeadSo
+  pub ended : EndedIsGone
+  pub windows : GoneWindows
+  pub least : GoneMarksLeast
+  pub most : GoneMarksMost
+  pub twice : TwiceMarks
+  pub struck : StruckMarks
+  pub between : MarksByTreesBetween
+  pub order : OrderedHasOrder
+  pub demands : DemandsKeepOrdered
+  pub messages : MessagesKeepOrdered
+  pub rising : RisingNamed

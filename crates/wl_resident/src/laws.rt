@@ -1,0 +1,29 @@
+//! The laws by which a message is served.
+
+ghost use Rattle.wl_resident.specs.Laws.{MessageLaws};
+
+use wl_named_popups::rising_named;
+use wl_ordered::{demands_keep_ordered, messages_keep_ordered, ordered_has_order};
+use wl_toplevels::marks_by_trees_between;
+use wl_ways::{
+    ended_is_gone, gone_marks_least, gone_marks_most, gone_windows, messages_lead_so, struck_marks,
+    twice_marks,
+};
+
+/// They hold. Nothing runs for them.
+pub(crate) fn message_laws()
+    ensures { MessageLaws }
+{
+    messages_lead_so();
+    ended_is_gone();
+    gone_windows();
+    gone_marks_least();
+    gone_marks_most();
+    twice_marks();
+    struck_marks();
+    marks_by_trees_between();
+    ordered_has_order();
+    demands_keep_ordered();
+    messages_keep_ordered();
+    rising_named();
+}

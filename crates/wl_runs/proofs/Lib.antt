@@ -1,0 +1,9 @@
+pub mod Demanded
+pub mod Found
+pub mod Gone
+pub mod Marked
+pub mod Numbered
+pub mod Renamed
+pub mod Shifted
+pub mod Told
+pub mod Turned

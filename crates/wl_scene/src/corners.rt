@@ -1,0 +1,260 @@
+//! Where the window geometries of popups and of their parents stand (xdg-shell.xml, xdg_popup).
+
+ghost use Rattle.std.specs.Prelude.{ℕ, ◌≡◌, ◌+ℤ◌, ◌-ℤ◌, Some, None, find};
+ghost use Rattle.std.specs.Option.{option_and_then, option_map};
+ghost use Rattle.wl_linked.specs.Linked.{Stand};
+ghost use Rattle.wl_scene.specs.Focus.{place_of};
+ghost use Rattle.wl_scene.specs.Roots.{IsHeld, corner_or, kept_geometry};
+ghost use Rattle.wl_stacking.specs.Popups.{corner_at_parent, corner_of_xdg, geometry_corner_at, origin, parent_corner, placement_of, standing_place};
+ghost use Rattle.wl_stacking.specs.Stacking.{Owned as Owns, is_of};
+ghost use Rattle.wl_stacking.specs.Windows.{Place, StackedPopup, geometry_corner, moved, popup_place, start_of};
+ghost use Rattle.wl_state.specs.State.{within_bounds};
+ghost use Rattle.wl_surface.specs.Surfaces.{Surfaces as Asked, history_in};
+ghost use Rattle.wl_xdg_state.specs.Kept.{Kept, kept_of};
+ghost use Rattle.wl_xdg_state.specs.Popups.{popup_in};
+ghost use Rattle.wl_xdg_state.specs.Shell.{XdgSurface as Xdg, xdg_of};
+
+use crate::focus::Point;
+use crate::{Owned, Scene, Surface};
+use std::alloc::Allocator;
+use wl_geom::Rect;
+use wl_linked::Linked;
+use wl_shell::{Placed, Shell, XdgSurface};
+use wl_surface::SurfaceNo;
+
+/// The coordinates of a surface are held within -16,777,216 to 16,777,216 pixels.
+const BOUND: i64 = 16_777_216;
+
+/// How many of a chain of parents are looked at: a client has no more surfaces.
+const MOST_SURFACES: u32 = 256;
+
+/// A coordinate in pixels, held within the bounds.
+fn held(exact: i64) -> i32
+    ensures { result ≡ within_bounds exact }
+{
+    if exact < -BOUND {
+        return -16_777_216;
+    }
+    if exact > BOUND {
+        return 16_777_216;
+    }
+    exact as i32
+}
+
+/// A coordinate and a distance from it in pixels, held within the bounds.
+fn held_sum(place: i32, by: i32) -> i32
+    ensures { result ≡ within_bounds (place +ℤ by) }
+{
+    held(i64::from(place) + i64::from(by))
+}
+
+/// So far from a coordinate, and back by another distance, in pixels, held within the bounds.
+fn held_difference(place: i32, by: i32, back: i32) -> i32
+    ensures { result ≡ within_bounds ((place +ℤ by) -ℤ back) }
+{
+    held(i64::from(place) + i64::from(by) - i64::from(back))
+}
+
+/// The upper left corner of the output.
+fn origin() -> Point
+    ensures { place_of result ≡ origin }
+{
+    Point { x: 0, y: 0 }
+}
+
+/// A point so many pixels to the right and down.
+fn moved(from: Point, right: i32, down: i32) -> Point
+    ensures { place_of result ≡ moved (place_of from) right down }
+{
+    let x = held_sum(from.x, right);
+    let y = held_sum(from.y, down);
+    Point { x, y }
+}
+
+/// The corner of a window geometry of a surface with its corner there: that of the surface where none is set.
+fn geometry_corner(corner: Point, geometry: Option<Rect>) -> Point
+    ensures { place_of result ≡ geometry_corner (place_of corner) geometry }
+{
+    match geometry {
+        None => corner,
+        Some(geometry) => moved(corner, geometry.x, geometry.y),
+    }
+}
+
+/// Where a window geometry begins on its surface.
+fn start_of(geometry: Option<Rect>) -> Point
+    ensures { place_of result ≡ start_of geometry }
+{
+    match geometry {
+        None => origin(),
+        Some(geometry) => Point {
+            x: geometry.x,
+            y: geometry.y,
+        },
+    }
+}
+
+/// Where a popup is placed on its parent.
+fn placement_of(placement: Option<Placed>) -> Point
+    ensures { place_of result ≡ placement_of placement }
+{
+    match placement {
+        None => origin(),
+        Some(placed) => Point {
+            x: placed.x,
+            y: placed.y,
+        },
+    }
+}
+
+/// The place of a popup in the output, whose parent's window geometry stands there (xdg-shell.xml, xdg_popup).
+pub(crate) fn popup_place(at: Point, placement: Option<Placed>, geometry: Option<Rect>) -> Point
+    ensures { (p : StackedPopup) → p.placement ≡ placement_of placement → p.geometry ≡ geometry
+        → place_of result ≡ popup_place (place_of at) p }
+{
+    let by = placement_of(placement);
+    let start = start_of(geometry);
+    let x = held_difference(at.x, by.x, start.x);
+    let y = held_difference(at.y, by.y, start.y);
+    Point { x, y }
+}
+
+/// The corner of a surface that is placed there: its place plus its offset.
+fn corner_of<A: Allocator + Copy>(linked: &Linked<A>, surface: SurfaceNo, place: Point) -> Point
+    ensures { (all : Asked) → Stand linked.now.surfaces linked.now.family all
+        → place_of result ≡ corner_or (place_of place) (history_in surface all) }
+{
+    match linked.surfaces.current(surface) {
+        None => place,
+        Some(current) => moved(place, current.offset.x, current.offset.y),
+    }
+}
+
+/// The corner of this window geometry of a surface that is placed there.
+pub(crate) fn geometry_at<A: Allocator + Copy>(
+    linked: &Linked<A>,
+    surface: SurfaceNo,
+    place: Point,
+    geometry: Option<Rect>,
+) -> Point
+    ensures { (all : Asked) → Stand linked.now.surfaces linked.now.family all
+        → place_of result ≡ geometry_corner (corner_or (place_of place) (history_in surface all)) geometry }
+{
+    let corner = corner_of(linked, surface, place);
+    geometry_corner(corner, geometry)
+}
+
+/// The window geometry of the xdg_surface of a surface that counts, if there is one.
+pub(crate) fn geometry_of<A: Allocator>(shell: &Shell<A>, surface: SurfaceNo) -> Option<Rect>
+    ensures { result ≡ kept_geometry shell.now surface }
+{
+    shell.get(surface)?.window_geometry()
+}
+
+/// The place of the toplevel of a surface, which is the upper left corner of the output where it isn't mapped.
+fn toplevel_place<A: Allocator>(scene: &Scene<A>, surface: Surface) -> Point
+    ensures { place_of result ≡ standing_place scene.now.standing surface.client surface.surface }
+{
+    match scene.place(surface) {
+        None => origin(),
+        Some(place) => place,
+    }
+}
+
+/// The corner of the window geometry of an xdg_surface that has no popup.
+fn toplevel_corner<A: Allocator + Copy>(
+    scene: &Scene<A>,
+    client: u32,
+    owned: &Owned<A>,
+    surface: SurfaceNo,
+    xdg_surface: &XdgSurface,
+) -> Point
+    ensures { (o : Owns) (x : Xdg) (next : ℕ → Place) → IsHeld owned.now.linked.surfaces owned.now.linked.family owned.now.shell o
+        → kept_of owned.now.shell surface ≡ Some xdg_surface.now → popup_in xdg_surface.now.role ≡ None → xdg_of surface o.shell ≡ Some x
+        → place_of result ≡ corner_of_xdg next (standing_place scene.now.standing client) o (Some x) }
+{
+    if xdg_surface.has_role() {
+        let place = toplevel_place(scene, Surface { client, surface });
+        return geometry_at(&owned.linked, surface, place, xdg_surface.window_geometry());
+    }
+    origin()
+}
+
+/// The corner of the window geometry of the xdg_surface of a surface, with so many parents of it that are looked at.
+#[cycle(chain)]
+fn surface_corner<A: Allocator + Copy>(
+    scene: &Scene<A>,
+    client: u32,
+    owned: &Owned<A>,
+    levels: u32,
+    surface: SurfaceNo,
+) -> Point
+    ensures { (o : Owns) (x : Xdg) → IsHeld owned.now.linked.surfaces owned.now.linked.family owned.now.shell o → xdg_of surface o.shell ≡ Some x
+        → place_of result ≡ corner_of_xdg (λ parent. geometry_corner_at levels (standing_place scene.now.standing client) o parent)
+        (standing_place scene.now.standing client) o (Some x) }
+{
+    let Some(xdg_surface) = owned.shell.get(surface) else {
+        return origin();
+    };
+    let Some(popup) = xdg_surface.popup() else {
+        return toplevel_corner(scene, client, owned, surface, xdg_surface);
+    };
+    let at = corner_at_parent(scene, client, owned, levels, popup.parent());
+    let place = popup_place(at, popup.placement(), xdg_surface.window_geometry());
+    geometry_at(&owned.linked, surface, place, xdg_surface.window_geometry())
+}
+
+/// The corner of the window geometry of the xdg_surface of this id, down a chain of so many.
+#[cycle(chain)]
+fn xdg_corner<A: Allocator + Copy>(
+    scene: &Scene<A>,
+    client: u32,
+    owned: &Owned<A>,
+    levels: u32,
+    xdg_surface: u32,
+) -> Point
+    ensures { (o : Owns) → IsHeld owned.now.linked.surfaces owned.now.linked.family owned.now.shell o
+        → place_of result ≡ geometry_corner_at levels (standing_place scene.now.standing client) o xdg_surface }
+{
+    if levels == 0 {
+        return origin();
+    }
+    let Some(surface) = owned.shell.surface_at(xdg_surface) else {
+        return origin();
+    };
+    surface_corner(scene, client, owned, levels - 1, surface)
+}
+
+/// The corner of the window geometry of a popup's parent, down a chain of so many.
+#[cycle(chain)]
+fn corner_at_parent<A: Allocator + Copy>(
+    scene: &Scene<A>,
+    client: u32,
+    owned: &Owned<A>,
+    levels: u32,
+    parent: Option<u32>,
+) -> Point
+    ensures { (o : Owns) → IsHeld owned.now.linked.surfaces owned.now.linked.family owned.now.shell o
+        → place_of result ≡ corner_at_parent (geometry_corner_at levels (standing_place scene.now.standing client) o) parent }
+{
+    match parent {
+        None => origin(),
+        Some(parent) => xdg_corner(scene, client, owned, levels, parent),
+    }
+}
+
+/// Where the window geometry of the parent of a client's popup stands in the output in pixels, by the id of the parent's xdg_surface: that of
+/// a toplevel at its place, which is (0, 0) where it isn't mapped, and that of a popup where it was placed last on its own parent. It is
+/// (0, 0) where there is no parent, and where that has no role object (xdg-shell.xml, xdg_popup and xdg_positioner).
+pub fn parent_corner<A: Allocator + Copy>(
+    scene: &Scene<A>,
+    client: u32,
+    owned: &Owned<A>,
+    parent: Option<u32>,
+) -> (i32, i32)
+    ensures { (o : Owns) → IsHeld owned.now.linked.surfaces owned.now.linked.family owned.now.shell o
+        → record { x = result.0; y = result.1 } ≡ parent_corner scene.now.standing client o parent }
+{
+    let corner = corner_at_parent(scene, client, owned, MOST_SURFACES, parent);
+    (corner.x, corner.y)
+}

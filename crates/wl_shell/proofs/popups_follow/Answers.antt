@@ -1,0 +1,5 @@
+use Rattle.wl_shell.proofs.Following.{popups_follow}
+use Rattle.wl_shell.proofs.popups_follow.Goals as goal
+
+pub returns : goal.returns
+returns c = popups_follow
