@@ -1,5 +1,4 @@
 pub mod ToldDamage
 pub mod RenamedWindows
 pub mod OneTree
-pub mod MessageWays
 pub mod TurnedWindows

@@ -1,10 +1,5 @@
-pub mod Changes
-pub mod OneTreeLaws
 pub mod RenamedMarks
 pub mod RenamedWindows
 pub mod Telling
 pub mod ToldLaws
 pub mod ToldWindows
-pub mod Trees
-pub mod Ways
-pub mod WaysLaws

@@ -2,13 +2,12 @@
 use Rattle.std.specs.Prelude.{ℕ, ℤ, ◌≡◌, pos, ◌==◌, ◌&&◌, ◌||◌, true, if◌then◌else◌, Option, List, map}
 use Rattle.std.specs.List.{All, list_any}
 use Rattle.wl_plain.specs.Marks.{Applied, at_least, at_most, in_output, same_records}
-use Rattle.wl_repaint.specs.Laws.{AreOfTree, ChangesOneTree, IsAppliedBy}
+use Rattle.wl_repaint.specs.Laws.{AreOfTree, ChangesOneTree}
 use Rattle.wl_repaint.specs.Repaint.{marks, same_windows}
 use Rattle.wl_stacking.specs.Windows.{Window}
 use Rattle.wl_state.specs.State.{is_damaged}
 use Rattle.wl_surface.specs.declared.applied.Change.{Change}
 use Rattle.wl_invariants.specs.TreeMarksLaws.{among, is_in_any, is_struck_at}
-use Rattle.wl_windows.specs.Windows.{told_of}
 use Rattle.wl_changes.specs.RenamedWindows.{has_window, told_by}
 
 -- A surface with a window before and one with a window after have the same name only where they are the same.
@@ -35,14 +34,6 @@ MarksAppliedByName A =
     → (changes : List (Change A)) (applied : Applied) → All (IsAppliedByName f changes applied) is → (x y : ℤ)
     → marks (map (told_by f) was) (map (told_by f) is) changes x y
     ≡ (if same_records was is then list_any (is_struck_at applied x y) is else (is_in_any x y was || is_in_any x y is))
-
--- So the same points are marked by the names as by the ids, where the changes tell by the names what the others tell by the ids.
-abbrev pub MarksHeedNoNames : Type 0 → Type 0
-MarksHeedNoNames A =
-    (f : ℕ → ℕ) (client root : ℕ) (was is : List Window) → AreOfTree client root was is → AreNamedApart f was is
-    → (changes named : List (Change A)) (applied : Applied) → All (IsAppliedBy changes applied) is
-    → All (IsAppliedByName f named applied) is → (x y : ℤ)
-    → marks (map (told_by f) was) (map (told_by f) is) named x y ≡ marks (map told_of was) (map told_of is) changes x y
 
 -- What is marked of the one tree that a step changes, with its windows told by name, is all that the step has to mark, and in the output
 -- nothing that it may not mark.

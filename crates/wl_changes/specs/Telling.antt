@@ -9,14 +9,11 @@ use Rattle.wl_surface.specs.Trees.{committed_in, desynchronised_in, destroyed_in
 use Rattle.wl_tree_laws.specs.Hanging.{AreNumbered}
 use Rattle.wl_tree_laws.specs.Laws.{AreOnceLinked}
 use Rattle.wl_stacking.specs.Windows.{Owner, Place, tree}
-use Rattle.wl_plain.specs.Desktop.{Desktop, owned_in}
 use Rattle.wl_plain.specs.Marks.{Applied}
-use Rattle.wl_plain.specs.Moments.{applied_between}
 use Rattle.wl_laws.specs.Soundness.{AreTrees}
 use Rattle.wl_named.specs.Renaming.{IsRenaming, has_surface, renamed}
 use Rattle.wl_changes.specs.ToldWindows.{IsAppliedTo}
 use Rattle.wl_changes.specs.RenamedMarks.{IsAppliedByName}
-use Rattle.wl_changes.specs.Changes.{ChangesTree}
 
 -- The changes tell by name the damage that is applied to the windows of each tree of a client's surfaces as the old ones become the new
 -- ones.
@@ -55,10 +52,3 @@ EndToldByName A =
 -- Where the surfaces stay as they are, there is nothing to tell, as when a toplevel goes (xdg-shell.xml, xdg_toplevel.destroy).
 abbrev pub NothingToldByName : Type 0 → Type 0
 NothingToldByName A = (f : ℕ → ℕ) (all : Surfaces) (changes : List (Change A)) → changes ≡ [] → TellsTrees f changes all all
-
--- Where the changes tell so of the surfaces of the client whose tree changes, they tell it of the windows that the tree has afterwards.
-abbrev pub TreeIsTold : Type 0 → Type 0
-TreeIsTold A =
-    (c root : ℕ) (d e : Desktop) (tree : ChangesTree c root d e) (f : ℕ → ℕ) (changes : List (Change A))
-    → TellsTrees f changes (owned_in d c).surfaces (owned_in e c).surfaces
-    → All (IsAppliedByName f changes (applied_between d e)) tree.is

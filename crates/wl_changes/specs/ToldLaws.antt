@@ -3,13 +3,11 @@
 use Rattle.std.specs.Prelude.{ℕ, ◌≡◌, ◌≤◌, ◌<◌, ◌==◌, ◌&&◌, Bool, false, take, Option, Some, None, List}
 use Rattle.std.specs.List.{list_any}
 use Rattle.wl_geom.specs.declared.rect.Rect.{Rect}
-use Rattle.wl_family.specs.Family.{HangTogether, Tied}
-use Rattle.wl_linked.specs.Linked.{IsLink, Stand}
+use Rattle.wl_linked.specs.Linked.{IsLink}
 use Rattle.wl_linked.specs.Tree.{IsCommitTold, IsDesyncTold, IsEndTold, IsTold}
 use Rattle.wl_plain.specs.Moments.{is_applied_by}
 use Rattle.wl_state.specs.State.{History, applied, height_of, is_damaged, width_of}
 use Rattle.wl_surface.specs.declared.applied.Change.{Change}
-use Rattle.wl_surface.specs.Slots.{Slots}
 use Rattle.wl_surface.specs.Surfaces.{Link, Surfaces, history_in}
 use Rattle.wl_surface.specs.Trees.{committed_in, depth, desynchronised_in, destroyed_in, ended_in, ending, levels, unlinked, with_link}
 use Rattle.wl_tree_laws.specs.Hanging.{AreNumbered}
@@ -66,10 +64,6 @@ UnlinkTellsApplied A =
 -- No surface stands deeper than 16 below its root (wayland.xml, wl_subcompositor.get_subsurface: more levels are refused).
 abbrev pub AreShallow : Surfaces → Type 0
 AreShallow all = (surface : ℕ) → depth levels all surface ≤ 16
-
--- What is kept stands for such surfaces.
-abbrev pub KeptAreShallow : Type 0
-KeptAreShallow = (slots : Slots) (tied : Tied) (all : Surfaces) → HangTogether tied → Stand slots tied all → AreShallow all
 
 -- wl_surface.destroy: what descended from the surface is applied. The surface itself is gone, and none of its damage counts.
 abbrev pub EndTellsApplied : Type 0 → Type 0

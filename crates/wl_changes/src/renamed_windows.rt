@@ -5,5 +5,5 @@
 mod marks;
 mod windows;
 
-pub use marks::{marks_applied_by_name, marks_between_by_name, marks_heed_no_names, same_by_name};
+pub use marks::{marks_applied_by_name, marks_between_by_name, same_by_name};
 pub use windows::{shows_those_there, tells_trees_by_name, trees_heed_no_names};

@@ -1,7 +1,7 @@
 //! The laws of what is told of surfaces: the damage that a call tells of is exactly the damage that it applies (wayland.xml, wl_surface.damage
 //! and wl_subsurface). Each law is a function that promises it.
 
-ghost use Rattle.wl_changes.specs.ToldLaws.{CommitTellsApplied, DesyncTellsApplied, EndTellsApplied, FirstSayAll, KeptAreShallow, LinkEndTellsApplied, UnlinkTellsApplied};
+ghost use Rattle.wl_changes.specs.ToldLaws.{CommitTellsApplied, DesyncTellsApplied, EndTellsApplied, FirstSayAll, LinkEndTellsApplied, UnlinkTellsApplied};
 ghost use Rattle.wl_changes.specs.ToldWindows.{BetweenIsApplied, TellsWindows};
 
 use std::alloc::Allocator;
@@ -29,11 +29,6 @@ pub fn link_end_tells_applied<A: Allocator>()
 /// So it is where the link is ended by its number, which no other link has (wl_subsurface.destroy).
 pub fn unlink_tells_applied<A: Allocator>()
     ensures { UnlinkTellsApplied A }
-{}
-
-/// What is kept stands for surfaces of which none is deeper than 16 below its root.
-pub fn kept_are_shallow()
-    ensures { KeptAreShallow }
 {}
 
 /// What is told as a surface goes is the damage that this applies to the others, where none stands deeper than 16 (wl_surface.destroy).

@@ -12,7 +12,7 @@ use Rattle.wl_plain.specs.declared.answers.Stored.TheVariants as stored
 use Rattle.wl_plain.specs.Act.{Act, Connect, Feed, Store, Leave, Tick, Send, Close, Motion, Button, IsClosed, IsLeft, IsSent, IsStored, closed_by, lowest}
 use Rattle.wl_plain.specs.Desktop.{Desktop, Resident, become, become_by, client_at, resident_of, toplevels_of, with_client, with_number}
 use Rattle.wl_plain.specs.Happens.{Happens}
-use Rattle.wl_plain.specs.LeftOut.{served_now}
+use Rattle.wl_plain.specs.LeftOut.{nothing_left_out}
 use Rattle.wl_plain.specs.Settling.{becomes}
 use Rattle.wl_plain.specs.Step.{with_peer}
 use Rattle.wl_laws.proofs.Lists.Keys.{none-some, some-same}
@@ -159,7 +159,7 @@ leaves-whole c (Some r) d new done still is owns h = left-so r.peer.status c r d
 -- ---- a call
 
 -- It happens to a desktop on which what each client owns is in order.
-pub alters-whole : (act : Act) (d e : Desktop) (done : Done) → Ordered d → Alters act done d e → Happens served_now act done d e
+pub alters-whole : (act : Act) (d e : Desktop) (done : Done) → Ordered d → Alters act done d e → Happens nothing_left_out act done d e
 alters-whole Connect d e done ordered h = h
 alters-whole (Feed c piece) d e done ordered h = absurd h
 alters-whole (Store c store at bytes) d e done ordered h =

@@ -18,7 +18,7 @@ use Rattle.wl_stacking.specs.Windows.{Window}
 use Rattle.wl_lending.specs.Stacked.{AreStacked}
 use Rattle.wl_plain.specs.Act.{fed_of, peer_at, status_of}
 use Rattle.wl_plain.specs.Desktop.{Desktop, Resident, become, client_at, with_client, with_number}
-use Rattle.wl_plain.specs.LeftOut.{served_now}
+use Rattle.wl_plain.specs.LeftOut.{nothing_left_out}
 use Rattle.wl_plain.specs.Stacked.{all_windows}
 use Rattle.wl_plain.specs.Step.{with_peer}
 use Rattle.wl_plain.specs.Through.{ServesThrough}
@@ -155,9 +155,9 @@ module _ {A : Type 0} (output : Output) (rs : List (Option (Kept A))) (pile : Pi
   -- it leads through desktops along which what is marked is what may be marked
   pub serves-through : (new : Kept A) (now : Pile) (before after : Damaged) → Ordered d
       → ((r : Resident) → before.width ≡ d.output.width → before.height ≡ d.output.height → IsSeated c (numbers_in us) d v pile d r → Ordered d
-      → (e : Desktop) × (q : Resident) × (path : List Desktop) × ServesThrough served_now c d path e × IsSeated c (numbers_in us) d new now e q × MarksThrough d path before after)
+      → (e : Desktop) × (q : Resident) × (path : List Desktop) × ServesThrough nothing_left_out c d path e × IsSeated c (numbers_in us) d new now e q × MarksThrough d path before after)
       → (before.width ≡ output.width) × (before.height ≡ output.height)
-      → (e : Desktop) × (path : List Desktop) × ServesThrough served_now c d path e × Matches (put-back new now) e × MarksThrough d path before after
+      → (e : Desktop) × (path : List Desktop) × ServesThrough nothing_left_out c d path e × Matches (put-back new now) e × MarksThrough d path before after
   serves-through new now before after ordered through sides =
       let n = through here.0 (sides.0 ∙ ap (λ (o : Shown). o.width) a.output) (sides.1 ∙ ap (λ (o : Shown). o.height) a.output) here.2 ordered in
       (n.0, n.2, n.3, put new now n.0 n.1 n.4, n.5)

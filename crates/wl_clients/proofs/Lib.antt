@@ -4,6 +4,7 @@ pub mod Away
 pub mod Calls
 pub mod Desktops
 pub mod Framing
+pub mod Holders
 pub mod Kept
 pub mod Lending
 pub mod Lends
@@ -14,6 +15,7 @@ pub mod Steps
 pub mod Still
 pub mod Telling
 pub mod Asks
+pub mod Grabbing
 pub mod Opened
 pub mod Strikes
 pub mod Told
@@ -24,4 +26,6 @@ pub mod EachEnd
 pub mod Most
 pub mod Leading
 pub mod Rests
+pub mod Released
 pub mod Restacked
+pub use Rattle.wl_resident.proofs.Pressed

@@ -17,7 +17,6 @@ use Rattle.wl_plain.specs.Replies.{focus_window}
 use Rattle.wl_plain.specs.Settling.{Midstep, Strike, is_struck}
 use Rattle.wl_plain.specs.Stacked.{all_windows}
 use Rattle.wl_laws.proofs.Lists.Keys.{differ}
-use Rattle.wl_ordered.proofs.Laws.{ordered_holds_none}
 use Rattle.wl_scene.specs.Kept.{standing_of}
 use Rattle.wl_scene.specs.declared.scene.Toplevel.{Toplevel}
 use Rattle.wl_stacking.specs.Pointer.{is_stacked}
@@ -29,7 +28,7 @@ use Rattle.wl_lending.specs.Stacked.{AreStacked}
 use Rattle.wl_requests.specs.declared.residents.Resident.{Resident as Kept}
 use Rattle.wl_resident.specs.Agreement.{IsStack, numbers_in}
 use Rattle.wl_resident.specs.View.{DeskView, MarkedDesk, Pile}
-use Rattle.wl_clients.specs.Midway.{IsMid, NobodyGrabs, first_struck, is_refused, strike_for, strikes_from}
+use Rattle.wl_clients.specs.Midway.{IsMid, first_struck, is_refused, strike_for, strikes_from}
 use Rattle.wl_clients.specs.Pointing.{is_in_tree, windows_numbered}
 use Rattle.wl_clients.specs.Residents.{client_views, resident_at}
 use Rattle.wl_clients.proofs.Desktops.{at, at-map, at-within}
@@ -195,8 +194,3 @@ serial-read {A} output rs pile damage ws w c v m same is view mid =
     let here = here-of rs c v (is ∙ ap (λ (xs : List (Option (Kept A))). resident_at xs c) same) in
     let s = seat output rs pile c here.0 v here.1 m (subst (λ (x : MarkedDesk). IsMid x.desk m) (sym view) mid) in
     ap Some s.2.seat.peer.serial ∙ sym (ap (λ (o : Option Resident). option_map (λ (r : Resident). r.peer.serial) o) s.1)
-
--- ---- nobody holds a grab
-
-pub nobody_grabs : NobodyGrabs
-nobody_grabs v m mid = ordered_holds_none m.desktop mid.agrees.ordered

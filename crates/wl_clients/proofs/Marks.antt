@@ -10,7 +10,7 @@ use Rattle.wl_plain.specs.declared.answers.Done.{Done}
 use Rattle.wl_plain.specs.Act.{Act, Leave}
 use Rattle.wl_plain.specs.Desktop.{Desktop, Resident, client_at, status_of}
 use Rattle.wl_plain.specs.Happens.{Happens}
-use Rattle.wl_plain.specs.LeftOut.{served_now}
+use Rattle.wl_plain.specs.LeftOut.{nothing_left_out}
 use Rattle.wl_plain.specs.Moments.{marks_at_least, marks_at_most}
 use Rattle.wl_laws.proofs.Marks.Stacks.{differ, or-left, or-right, unless}
 use Rattle.wl_invariants.specs.Shown.{ShownStand}
@@ -44,8 +44,8 @@ or-none false = refl
 pub still-marks : (v : DeskView) (d e : Desktop) (damage : Damaged) → Agrees v d → IsStill d e → MarksAtLeast d e damage damage
 still-marks v d e damage a still = λ x y wide high clean. (clean, still-unmarked d e a.ordered still (pos x) (pos y))
 
-pub steps-still : (v : DeskView) (before after : Damaged) → after ≡ before → (act : Act) (done : Done) → ((d e : Desktop) → Ordered d → Happens served_now act done d e → IsStill d e)
-    → (d e : Desktop) → Agrees v d → Happens served_now act done d e → MarksAtLeast d e before after
+pub steps-still : (v : DeskView) (before after : Damaged) → after ≡ before → (act : Act) (done : Done) → ((d e : Desktop) → Ordered d → Happens nothing_left_out act done d e → IsStill d e)
+    → (d e : Desktop) → Agrees v d → Happens nothing_left_out act done d e → MarksAtLeast d e before after
 steps-still v before after same act done still d e a step =
     subst (λ (damage : Damaged). MarksAtLeast d e before damage) (sym same) (still-marks v d e before a (still d e a.ordered step))
 
@@ -81,9 +81,9 @@ away-adds c d old new ordered away same x y wide high =
 
 -- a client leaves
 pub leaves-marked : (c : ℕ) (done : Done) (v : DeskView) (before after : Damaged) → ((d : Desktop) → Agrees v d → AddsOwn c d before after)
-    → (d e : Desktop) → Agrees v d → Happens served_now (Leave c) done d e → MarksAtLeast d e before after
+    → (d e : Desktop) → Agrees v d → Happens nothing_left_out (Leave c) done d e → MarksAtLeast d e before after
 leaves-marked c done v before after adds d e a step =
-    gone-marks c d e before after a.ordered a.matches.mapped (left_is_gone served_now c done d e a.ordered.in_order step) (adds d a)
+    gone-marks c d e before after a.ordered a.matches.mapped (left_is_gone nothing_left_out c done d e a.ordered.in_order step) (adds d a)
 
 -- one ends
 pub ends-marked : (c : ℕ) (cause : Cause) (v : DeskView) (before after : Damaged) → ((d : Desktop) → Agrees v d → AddsOwn c d before after)

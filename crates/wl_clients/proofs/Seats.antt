@@ -12,6 +12,7 @@ use Rattle.wl_resident.specs.View.{DeskView, MarkedDesk, OwnedView, Pile, owned_
 use Rattle.wl_requests.specs.declared.residents.Resident.{Resident as Kept}
 use Rattle.wl_plain.specs.Act.{lowest, next_of}
 use Rattle.wl_plain.specs.Desktop.{Desktop, Resident, client_at}
+use Rattle.wl_laws.proofs.Lists.Keys.{some-same}
 use Rattle.wl_clients.specs.Agreeing.{MarksNothing}
 use Rattle.wl_clients.specs.Residents.{client_views, owned_views, resident_at}
 use Rattle.wl_clients.proofs.Desktops.{IsPut, at, at-map, at-past, at-within, map-length, place-at, put-map, put-set}
@@ -42,6 +43,10 @@ found rs ws c k slot v same place look is =
 pub here-of : {A : Type 0} (rs : List (Option (Kept A))) (c : ℕ) (v : Kept A) → Some v ≡ resident_at rs c → (k : ℕ) × IsHere rs c k v
 here-of rs zero v e = absurd (cc)
 here-of rs (suc k) v e = (k, record { number = refl; within = at-some rs k v (sym e); here = sym e })
+
+-- it is the one with its number
+pub here-is : {A : Type 0} (rs : List (Option (Kept A))) (c k : ℕ) (v w : Kept A) → IsHere rs c k v → Some w ≡ resident_at rs c → w ≡ v
+here-is rs c k v w is e = some-same w v (e ∙ ap (λ (n : ℕ). resident_at rs n) is.number ∙ is.here)
 
 -- a client put at a place is here
 pub put-here : {A : Type 0} (rs : List (Option (Kept A))) (c k : ℕ) (v new : Kept A) → IsHere rs c k v → IsHere (set rs k (Some new)) c k new

@@ -10,7 +10,7 @@ use Rattle.wl_plain.specs.declared.answers.Done.{Done}
 use Rattle.wl_plain.specs.Act.{Close, IsClosed, IsSent, IsStored, Send, Store, lowest}
 use Rattle.wl_plain.specs.Desktop.{Desktop, Resident, arrival, client_at, client_in, owned_in, owned_of, place, with_client, with_number, with_place}
 use Rattle.wl_plain.specs.Happens.{Happens}
-use Rattle.wl_plain.specs.LeftOut.{served_now}
+use Rattle.wl_plain.specs.LeftOut.{nothing_left_out}
 use Rattle.wl_plain.specs.Marks.{at_least}
 use Rattle.wl_plain.specs.Moments.{applied_between, marks_at_least}
 use Rattle.wl_stacking.specs.Popups.{stacked_popups}
@@ -125,14 +125,14 @@ changes-still R goes absent done c d e ordered changes = by (client_at c d) refl
         let k = changed-held R absent done c r d e h in
         subst (λ (x : Desktop). IsStill d x) (sym k.2) (left r k.0 is k.1)
 
-pub stored-still : (c store at : ℕ) (bytes : List ℕ) (done : Done) (d e : Desktop) → Ordered d → Happens served_now (Store c store at bytes) done d e → IsStill d e
+pub stored-still : (c store at : ℕ) (bytes : List ℕ) (done : Done) (d e : Desktop) → Ordered d → Happens nothing_left_out (Store c store at bytes) done d e → IsStill d e
 stored-still c store at bytes done d e ordered h =
     changes-still (IsStored store at bytes) (leaves-over (IsStored store at bytes) (stored-leaves store at bytes)) _ done c d e ordered h
 
-pub sent-still : (c n : ℕ) (done : Done) (d e : Desktop) → Ordered d → Happens served_now (Send c n) done d e → IsStill d e
+pub sent-still : (c n : ℕ) (done : Done) (d e : Desktop) → Ordered d → Happens nothing_left_out (Send c n) done d e → IsStill d e
 sent-still c n done d e ordered h = changes-still (IsSent n) (leaves-over (IsSent n) (sent-leaves n)) _ done c d e ordered h
 
-pub closed-still : (c : ℕ) (done : Done) (d e : Desktop) → Ordered d → Happens served_now (Close c) done d e → IsStill d e
+pub closed-still : (c : ℕ) (done : Done) (d e : Desktop) → Ordered d → Happens nothing_left_out (Close c) done d e → IsStill d e
 closed-still c done d e ordered h = changes-still IsClosed (leaves-over IsClosed closed-leaves) _ done c d e ordered h
 
 -- ---- a piece is kept of a client

@@ -96,7 +96,7 @@ noting-ordered : (press release : Option ℕ) (r : Resident) → OwnsOrdered r �
 noting-ordered press release r o = record {
   order = noting-order press release r o.order;
   younger = o.younger;
-  ungrabbed = o.ungrabbed;
+  released = o.released;
   few = o.few;
   parents = o.parents;
   placed = o.placed;

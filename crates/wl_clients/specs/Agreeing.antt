@@ -3,7 +3,7 @@ use Rattle.std.specs.Prelude.{ℕ, ◌≡◌, ◌<◌}
 use Rattle.wl_paint.specs.Damage.{has}
 use Rattle.wl_plain.specs.declared.answers.Done.{Done}
 use Rattle.wl_plain.specs.Desktop.{Desktop}
-use Rattle.wl_plain.specs.LeftOut.{served_now}
+use Rattle.wl_plain.specs.LeftOut.{nothing_left_out}
 use Rattle.wl_ordered.specs.Ordered.{Ordered}
 use Rattle.wl_plain.specs.Act.{Act}
 use Rattle.wl_plain.specs.Happens.{Happens}
@@ -18,11 +18,11 @@ pub record Agrees (v : DeskView) (d : Desktop) : Type 0 where
 
 -- One step leads from old to new: whatever desktop agrees before, one to which the step leads agrees after.
 abbrev pub TakesStep : Act → Done → DeskView → DeskView → Type 0
-TakesStep act done old new = (d : Desktop) → Agrees old d → (e : Desktop) × Happens served_now act done d e × Agrees new e
+TakesStep act done old new = (d : Desktop) → Agrees old d → (e : Desktop) × Happens nothing_left_out act done d e × Agrees new e
 
 -- A step marks what it has to.
 abbrev pub MarksStep : Act → Done → MarkedDesk → MarkedDesk → Type 0
-MarksStep act done old new = (d e : Desktop) → Agrees old.desk d → Happens served_now act done d e → MarksAtLeast d e old.damage new.damage
+MarksStep act done old new = (d e : Desktop) → Agrees old.desk d → Happens nothing_left_out act done d e → MarksAtLeast d e old.damage new.damage
 
 -- A call marks nothing: the same points are to be painted again.
 abbrev pub MarksNothing : MarkedDesk → MarkedDesk → Type 0

@@ -3,7 +3,7 @@ use Rattle.std.specs.Prelude.{ℕ, List, Option, None}
 use Rattle.wl_paint.specs.Damage.{Damaged}
 use Rattle.wl_plain.specs.Desktop.{Desktop}
 use Rattle.wl_plain.specs.Happenings.{Happening, Leads, Single}
-use Rattle.wl_plain.specs.LeftOut.{served_now}
+use Rattle.wl_plain.specs.LeftOut.{nothing_left_out}
 use Rattle.wl_plain.specs.Through.{raised_in}
 use Rattle.wl_resident.specs.Marking.{MarksThroughBy}
 use Rattle.wl_resident.specs.View.{MarkedDesk}
@@ -20,7 +20,7 @@ raised_by happening d = None
 pub record Led (AgreesAfter : Desktop → Type 0) (h : Happening) (old new : Damaged) (d : Desktop) : Type 0 where
   pub path : List Desktop
   pub desktop : Desktop
-  pub leads : Leads served_now h d path desktop
+  pub leads : Leads nothing_left_out h d path desktop
   pub agrees : AgreesAfter desktop
   pub marks : MarksThroughBy (raised_by h d) d path old new
 

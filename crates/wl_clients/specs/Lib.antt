@@ -1,6 +1,8 @@
 pub mod Agreeing
 pub mod Feeding
 pub mod Framing
+pub mod Grabbing
+pub mod Holders
 pub mod Leading
 pub mod Lent
 pub mod Midway
@@ -11,5 +13,6 @@ pub use Rattle.wl_resident.specs.Agreement
 pub use Rattle.wl_resident.specs.Marking
 pub use Rattle.wl_resident.specs.Moving
 pub use Rattle.wl_resident.specs.Raising
+pub use Rattle.wl_resident.specs.Releasing
 pub use Rattle.wl_resident.specs.Seats
 pub use Rattle.wl_resident.specs.View

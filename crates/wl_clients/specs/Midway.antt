@@ -3,7 +3,6 @@ use Rattle.std.specs.Prelude.{ℕ, suc, Bool, false, is_some, slice_index_or, �
 use Rattle.std.specs.Option.{option_map}
 use Rattle.wl_client.specs.View.{ClientView, opened}
 use Rattle.wl_peer.specs.declared.cause.Cause.{Cause}
-use Rattle.wl_plain.specs.Changing.{grab_holder}
 use Rattle.wl_plain.specs.Desktop.{Desktop, Resident, client_at}
 use Rattle.wl_requests.specs.declared.residents.Resident.{Resident as Kept}
 use Rattle.wl_surface.specs.Surfaces.{history_in}
@@ -62,10 +61,6 @@ abbrev pub MidNamesSurfaces : Type 0
 MidNamesSurfaces =
     (v : DeskView) (m : Midstep) (c id : ℕ) (r : Resident) → IsMid v m → client_at c m.desktop ≡ Some r → r.peer.status ≡ None
     → is_some (numbers_in v.clients c id) ≡ is_some (history_in id r.owned.surfaces)
-
--- No client holds a grab.
-abbrev pub NobodyGrabs : Type 0
-NobodyGrabs = (v : DeskView) (m : Midstep) → IsMid v m → grab_holder m.desktop ≡ None
 
 -- an event for the client at a place wasn't queued
 abbrev pub is_refused : {A : Type 0} → Option (Kept A) → Bool

@@ -17,6 +17,7 @@ use Rattle.wl_plain.specs.Stacked.{all_windows}
 use Rattle.wl_requests.specs.declared.pointer_asked.PointerAsked.{PointerAsked}
 use Rattle.wl_requests.specs.PointerAsks.{AsksPointer}
 use Rattle.wl_resident.specs.View.{DeskView}
+use Rattle.wl_clients.specs.declared.grabs.Latest.{Latest}
 
 -- a message that asks this of the desktop asks that of the pointer, if it isn't refused
 abbrev pub AsksOfPointer : ById ℕ → Option Demand → PointerAsked → Type 0
@@ -30,6 +31,11 @@ windows_numbered v d = by_numbers v.pile.windows (all_windows d)
 -- a window that is kept is that of the surface of this number of a client, in the tree of this toplevel
 abbrev pub is_in_tree : ℕ → ℕ → ℕ → Stacked → Bool
 is_in_tree client toplevel surface s = (s.client == client) && ((s.window.surface == surface) && (s.window.root == toplevel))
+
+-- these are the serials of the latest press and release that the client was told of, if it is there
+abbrev pub IsLatest : Latest → Option Resident → Type 0
+IsLatest latest None = Unit {0}
+IsLatest latest (Some r) = (latest.press ≡ r.press) × (latest.release ≡ r.release)
 
 -- The wl_pointers of a client are told an event: it draws the serial that the event has, and may keep it as that of its latest press or
 -- release.

@@ -5,7 +5,7 @@ ghost use Rattle.std.specs.Option.{option_copied};
 ghost use Rattle.wl_client.specs.Agreement.{output_of};
 ghost use Rattle.wl_paint.specs.Damage.{has};
 ghost use Rattle.wl_paint.specs.Frame.{color_at, is_side};
-ghost use Rattle.wl_plain.specs.Desktop.{Desktop, empty, status_in};
+ghost use Rattle.wl_plain.specs.Desktop.{Desktop, client_at, empty, status_in};
 ghost use Rattle.wl_plain.specs.Act.{Connect, Store, Leave, Tick, Send, Close, lowest, peer_at, unsent_of, status_of, store_size_of};
 ghost use Rattle.wl_clients.specs.NextStore.{next_store_of};
 ghost use Rattle.wl_clients.specs.Agreeing.{Agrees, MarksNothing, MarksStep, TakesStep};
@@ -14,17 +14,18 @@ ghost use Rattle.wl_clients.specs.Feeding.{Ends, IsIdleIn, kept_at, kept_while, 
 ghost use Rattle.wl_marking.specs.Marking.{IsAsLarge};
 ghost use Rattle.wl_clients.specs.Framing.{MarksIfEnds, WasTold};
 ghost use Rattle.wl_clients.specs.Leading.{LeadsBy, LeadsQuietly, Led};
-ghost use Rattle.wl_clients.specs.Pointing.{AsksOfPointer};
+ghost use Rattle.wl_clients.specs.Pointing.{AsksOfPointer, IsLatest};
 ghost use Rattle.wl_clients.specs.Residents.{resident_at};
 ghost use Rattle.wl_pointed.specs.Pointed.{asked};
 ghost use Rattle.wl_resident.specs.Agreement.{numbers_in};
 ghost use Rattle.wl_lending.specs.Painting.{IsOpaqueAsSaid};
 ghost use Rattle.wl_plain.specs.Scratch.{scratch};
-ghost use Rattle.wl_plain.specs.LeftOut.{served_now};
+ghost use Rattle.wl_plain.specs.LeftOut.{nothing_left_out};
 ghost use Rattle.wl_plain.specs.Happenings.{Message, Single, Starve};
 ghost use Rattle.wl_plain.specs.Happens.{Happens};
 ghost use Rattle.wl_invariants.specs.Touching.{has_window_at};
 
+use crate::grabs::Latest;
 use crate::windows::{Lent, resident_of};
 use std::alloc::{AllocError, Allocator};
 use std::marker::Model;
@@ -55,6 +56,18 @@ pub struct Clients<A: Allocator> {
 pub struct Taken {
     pub served: Served,
     pub pointer: PointerAsked,
+}
+
+impl Taken {
+    /// No whole message was there.
+    fn none() -> Self
+        ensures { result ≡ record { served = Served.More; pointer = PointerAsked.Nothing } }
+    {
+        Taken {
+            served: Served::More,
+            pointer: PointerAsked::Nothing,
+        }
+    }
 }
 
 impl<A: Allocator> Model for Clients<A> {
@@ -157,12 +170,13 @@ impl<A: Allocator + Copy> Clients<A> {
 
     /// Takes the first whole message of what came from a client that lives. `More` where there is none; then nothing is changed, and nothing is
     /// asked of the pointer. What the message changes is marked, and the windows of a client that ends by it. Where there is no seat for a
-    /// new wl_pointer, a client that asks for one ends for want of memory.
-    pub fn take(&mut self, client: ClientNo, has_seat: bool) -> Taken
-        ensures leads { result.served ≢ Served.More → LeadsBy (Message client) self.old self.new }
+    /// new wl_pointer, a client that asks for one ends for want of memory. The serials are those that a client which asks for a grab was told.
+    pub fn take(&mut self, client: ClientNo, has_seat: bool, latest: Latest) -> Taken
+        ensures leads { result.served ≢ Served.More → (d : Desktop) → Agrees self.old.desk d → IsLatest latest (client_at client d)
+            → Led (Agrees self.new.desk) (Message client) self.old.damage self.new.damage d }
         ensures told { result.served ≢ Served.More → (d : Desktop) → Agrees self.new.desk d → result.served ≡ served_of (status_of (peer_at client d)) }
         ensures asks { result.served ≢ Served.More → (d : Desktop) → Agrees self.old.desk d
-            → AsksOfPointer (numbers_in self.old.desk.clients client) (asked served_now client d) result.pointer }
+            → AsksOfPointer (numbers_in self.old.desk.clients client) (asked nothing_left_out client d) result.pointer }
         ensures seat { (id : ℕ) → result.pointer ≡ PointerAsked.NewPointer id → has_seat ≡ false → (e : Desktop) → Agrees self.new.desk e
             → is_some (status_in client e) ≡ true }
         ensures more { result.served ≡ Served.More → (d : Desktop) → Agrees self.old.desk d → Agrees self.new.desk d × IsIdleIn client d }
@@ -171,20 +185,20 @@ impl<A: Allocator + Copy> Clients<A> {
         ensures less { result.served ≢ Served.More → length (rest_in client self.new.desk) < length (rest_in client self.old.desk) }
         ensures output { self.new.desk.output ≡ self.old.desk.output }
     {
-        let alloc = *self.residents.allocator();
+        let Some(resident) = resident_of(&self.residents, client) else {
+            return Taken::none();
+        };
+        let asked = resident.asked();
+        let grabbing = self.grabbing(client, &asked, latest);
         let Some(k) = place_of(&self.residents, client) else {
-            return Taken {
-                served: Served::More,
-                pointer: PointerAsked::Nothing,
-            };
+            return Taken::none();
         };
         let Some(resident) = &mut self.residents[k] else {
-            return Taken {
-                served: Served::More,
-                pointer: PointerAsked::Nothing,
-            };
+            return Taken::none();
         };
-        let taken = self.screen.serve(resident, client, has_seat, alloc);
+        let taken = self
+            .screen
+            .serve(resident, client, asked, has_seat, grabbing);
         Taken {
             served: served_of(taken.is_some(), resident.client.ended()),
             pointer: taken.unwrap_or(PointerAsked::Nothing),
@@ -225,7 +239,7 @@ impl<A: Allocator + Copy> Clients<A> {
     /// (wayland.xml, wl_surface.frame). One to which an event isn't queued ends, and its windows are marked. Where none ends, nothing more is to
     /// be painted.
     pub fn frames(&mut self, time: u32)
-        ensures shows { (d : Desktop) → Agrees self.old.desk d → (e : Desktop) × Happens served_now (Tick time) Done.Tick d e × Agrees self.new.desk e
+        ensures shows { (d : Desktop) → Agrees self.old.desk d → (e : Desktop) × Happens nothing_left_out (Tick time) Done.Tick d e × Agrees self.new.desk e
             × MarksAtLeast d e self.old.damage self.new.damage × MarksMost d e self.old.damage self.new.damage
             × MarksIfEnds d e self.old.damage self.new.damage }
         ensures leads { LeadsQuietly (Single (Tick time) Done.Tick) self.old self.new }
@@ -299,7 +313,7 @@ impl<A: Allocator + Copy> Clients<A> {
         ensures leads { LeadsBy (Single (Leave client) (Done.Gone result)) self.old self.new }
         ensures within { (d : Desktop) → Agrees self.old.desk d → (x y : ℕ) → x < self.old.damage.width → y < self.old.damage.height
             → has self.new.damage x y ≡ true → (has self.old.damage x y || has_window_at client (pos x) (pos y) d) ≡ true }
-        ensures most { (d e : Desktop) → Agrees self.old.desk d → Happens served_now (Leave client) (Done.Gone result) d e → Agrees self.new.desk e
+        ensures most { (d e : Desktop) → Agrees self.old.desk d → Happens nothing_left_out (Leave client) (Done.Gone result) d e → Agrees self.new.desk e
             → MarksMost d e self.old.damage self.new.damage }
         ensures sides { IsAsLarge self.old.damage self.new.damage }
         ensures output { self.new.desk.output ≡ self.old.desk.output }

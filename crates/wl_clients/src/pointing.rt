@@ -26,7 +26,7 @@ ghost use Rattle.wl_resident.specs.Marking.{MarksAtLeast, MarksMost, MarksOwnIf}
 ghost use Rattle.wl_resident.specs.Seats.{IsSeated, opened_kept};
 ghost use Rattle.wl_resident.specs.View.{pile_of};
 ghost use Rattle.wl_clients.specs.Feeding.{rest_in};
-ghost use Rattle.wl_clients.specs.Midway.{IsMid, MidBeginsAndEnds, MidIsNumberedOnce, MidNamesSurfaces, NobodyGrabs, first_struck, is_refused};
+ghost use Rattle.wl_clients.specs.Midway.{IsMid, MidBeginsAndEnds, MidIsNumberedOnce, MidNamesSurfaces, first_struck, is_refused};
 ghost use Rattle.wl_clients.specs.Pointing.{IsToldAt, IsToldBy, is_in_tree, windows_numbered};
 
 use crate::clients::{Clients, place_of};
@@ -300,11 +300,6 @@ pub fn mid_begins_and_ends()
 /// In the middle of a step too a client's surface has a number as long as it is there.
 pub fn mid_names_surfaces()
     ensures { MidNamesSurfaces }
-{}
-
-/// No client holds a grab.
-pub fn nobody_grabs()
-    ensures { NobodyGrabs }
 {}
 
 /// In the middle of a step too no number is that of two surfaces of a client.

@@ -74,7 +74,7 @@ applies-there at ws (Button time button pressed t) m n of h =
     (there-still h.0 n h.2)
 applies-there at ws (Raise t) m n of h = there-still m n h
 applies-there at ws (MoveWindow t x y) m n of h = there-still m n h
-applies-there at ws (Dismiss c) m n of h = absurd of
+applies-there at ws (Dismiss c) m n of h = there-still m n h
 
 -- what one leads to is done
 pub one-applied : (ws : List Window) (action : PointerAction) (new : DeskView) (m : Midstep) → is_told action ≡ true → ((n : Midstep) × Applies ws action m n × IsTelling new n)
@@ -85,7 +85,7 @@ one-applied ws (Motion time t) new m e h = (h.0, (h.0, h.1, refl), h.2)
 one-applied ws (Button time button pressed t) new m e h = (h.0, (h.0, h.1, refl), h.2)
 one-applied ws (Raise t) new m e h = absurd (cc)
 one-applied ws (MoveWindow t x y) new m e h = absurd (cc)
-one-applied ws (Dismiss c) new m e h = (h.0, (h.0, h.1, refl), h.2)
+one-applied ws (Dismiss c) new m e h = absurd (cc)
 
 -- one, and then the others
 then-applied : (ws : List Window) (action : PointerAction) (later : List PointerAction) (m x q : Midstep) → AppliesAll ws (filter is_told (action ∷ [])) m x
@@ -96,7 +96,7 @@ then-applied ws (Motion time t) later m x q h rest = (h.0, h.1, subst (λ (y : M
 then-applied ws (Button time button pressed t) later m x q h rest = (h.0, h.1, subst (λ (y : Midstep). AppliesAll ws (filter is_told later) y q) h.2 rest)
 then-applied ws (Raise t) later m x q h rest = subst (λ (y : Midstep). AppliesAll ws (filter is_told later) y q) h rest
 then-applied ws (MoveWindow t i j) later m x q h rest = subst (λ (y : Midstep). AppliesAll ws (filter is_told later) y q) h rest
-then-applied ws (Dismiss c) later m x q h rest = (h.0, h.1, subst (λ (y : Midstep). AppliesAll ws (filter is_told later) y q) h.2 rest)
+then-applied ws (Dismiss c) later m x q h rest = subst (λ (y : Midstep). AppliesAll ws (filter is_told later) y q) h rest
 
 -- ---- actions, one after another
 

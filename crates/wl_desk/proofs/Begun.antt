@@ -9,7 +9,7 @@ use Rattle.wl_plain.specs.Changing.{is_focus_in, is_serial, kept_move}
 use Rattle.wl_plain.specs.Demand.{Demand, Asks, EndSurface, AskFrame, CommitTree, GetSubsurface, EndSubsurface, SetMode, GetPointer, MakeCursor}
 use Rattle.wl_plain.specs.Demand.{GetPopup, Grab, EndPopup, EndToplevel, Move}
 use Rattle.wl_plain.specs.Desktop.{Desktop, status_in, unpointed}
-use Rattle.wl_plain.specs.LeftOut.{LeftOut, served_now}
+use Rattle.wl_plain.specs.LeftOut.{LeftOut, nothing_left_out}
 use Rattle.wl_plain.specs.Settling.{pointer_without, unless_of}
 use Rattle.wl_plain.specs.Stacked.{all_windows}
 use Rattle.wl_plain.specs.Through.{ServesThrough}
@@ -97,13 +97,13 @@ to-move-is : (o : Option Demand) (c : ℕ) (d : Desktop) (t : Option Target) →
 to-move-is None c d t some is = absurd (some refl)
 to-move-is (Some demand) c d t some is = is
 
-pub after-life : (c : ℕ) (d : Desktop) (path : List Desktop) (e : Desktop) (t : Option Target) → ServesThrough served_now c (unpointed d) path e → status_in c e ≡ None
-    → IsToMove (asked served_now c d) c d t → pointer_after served_now c d e ≡ keeping e.standing (begun t d.pointer)
+pub after-life : (c : ℕ) (d : Desktop) (path : List Desktop) (e : Desktop) (t : Option Target) → ServesThrough nothing_left_out c (unpointed d) path e → status_in c e ≡ None
+    → IsToMove (asked nothing_left_out c d) c d t → pointer_after nothing_left_out c d e ≡ keeping e.standing (begun t d.pointer)
 after-life c d path e t leads alive is =
-    let same : t ≡ to_move (asked served_now c d) c d =
-    to-move-is (asked served_now c d) c d t
-    (λ none. absurd (differ (sym (refused-ends served_now c d path e none leads) ∙ ap (λ (s : Option Cause). is_some s) alive))) is in
-    after-begun served_now c d e
+    let same : t ≡ to_move (asked nothing_left_out c d) c d =
+    to-move-is (asked nothing_left_out c d) c d t
+    (λ none. absurd (differ (sym (refused-ends nothing_left_out c d path e none leads) ∙ ap (λ (s : Option Cause). is_some s) alive))) is in
+    after-begun nothing_left_out c d e
     ∙ ap₂ (λ (s : Option Cause) (m : Option Target). keeping e.standing (pointer_if s c (begun m d.pointer))) alive (sym same)
 
 -- a new wl_pointer leaves the pointer as it is

@@ -1,5 +1,5 @@
 -- What the calls of a desk come to, by what is kept of the clients, of the wl_pointers, and of the pointer.
-use Rattle.std.proofs.Common.{◌≡◌, ◌≢◌, ℕ, List, [], true, refl, ap, ap₂, subst, sym, ◌∙◌, inl, inr}
+use Rattle.std.proofs.Common.{◌≡◌, ◌≢◌, ℕ, List, true, refl, ap, ap₂, subst, sym, ◌∙◌, inl, inr}
 use Rattle.wl_paint.specs.Damage.{Damaged}
 use Rattle.std.specs.Prelude.{Result, Ok, Err}
 use Rattle.wl_marking.specs.Marking.{IsAsLarge}
@@ -16,17 +16,19 @@ use Rattle.wl_pointed.specs.Happenings.{is_quiet, pointer_left}
 use Rattle.wl_clients.specs.Agreeing.{Agrees as KeptAgrees, MarksNothing as KeptMarksNothing}
 use Rattle.wl_clients.specs.Leading.{LeadsBy as KeptLeadsBy, LeadsQuietly as KeptLeadsQuietly, Led}
 use Rattle.wl_clients.specs.View.{MarkedDesk as KeptDesk}
+use Rattle.wl_clients.specs.declared.grabs.Latest.{Latest}
 use Rattle.wl_desk.specs.Agreeing.{Agrees, LeadsBy, LeadsQuietly, MarksNothing}
 use Rattle.wl_desk.specs.Midway.{IsMidway, SettlesDown}
-use Rattle.wl_desk.specs.View.{DeskView, MarkedDesk, seat_of}
-use Rattle.wl_desk.proofs.Coming.{connects-lead}
+use Rattle.wl_desk.specs.View.{DeskView, MarkedDesk}
+use Rattle.wl_desk.proofs.Coming.{HasCome, connects-lead}
 use Rattle.wl_desk.proofs.Ending.{ends-lead}
 use Rattle.wl_desk.proofs.Frames.{frames-lead}
+use Rattle.wl_desk.proofs.LatestStay.{latest-stay, quiet-keeps}
 use Rattle.wl_desk.proofs.Quiet.{quiet-leads}
 use Rattle.wl_desk.proofs.SeatsStay.{KeepsSeats, seats-stay}
 
-abbrev pub desk_with : KeptDesk → List (List ℕ) → Pointer → MarkedDesk
-desk_with k seats p = record { desk = record { kept = k.desk; seats = seats; pointer = p }; damage = k.damage }
+abbrev pub desk_with : KeptDesk → List (List ℕ) → List Latest → Pointer → MarkedDesk
+desk_with k seats latest p = record { desk = record { kept = k.desk; seats = seats; latest = latest; pointer = p }; damage = k.damage }
 
 abbrev pub Settles : MarkedDesk → MarkedDesk → Type 0
 Settles mid new = (m : Midstep) → IsMidway mid.desk m → SettlesDown mid new m
@@ -46,33 +48,35 @@ single-keeps act done differ k = (λ e. message e, λ e. differ (acts e))
     acts : Single act done ≡ Single Connect (gave.Connect (Ok k)) → act ≡ Connect
     acts e = cc
 
-pub quiet-step : (act : Act) (done : Done) (old new : KeptDesk) (seats : List (List ℕ)) (p : Pointer) → is_quiet (Single act done) ≡ true → act ≢ Connect → KeptLeadsBy (Single act done) old new
-    → LeadsBy (Single act done) (desk_with old seats p) (desk_with new seats p)
-quiet-step act done old new seats p quiet differ leads d a =
+pub quiet-step : (act : Act) (done : Done) (old new : KeptDesk) (seats : List (List ℕ)) (latest : List Latest) (p : Pointer) → is_quiet (Single act done) ≡ true → act ≢ Connect → KeptLeadsBy (Single act done) old new
+    → LeadsBy (Single act done) (desk_with old seats latest p) (desk_with new seats latest p)
+quiet-step act done old new seats latest p quiet differ leads d a =
     let led = leads (unpointed d) a.kept in
-    quiet-leads (Single act done) d (desk_with old seats p) (desk_with new seats p) quiet a led refl
+    quiet-leads (Single act done) d (desk_with old seats latest p) (desk_with new seats latest p) quiet a led refl
     (seats-stay seats (Single act done) d led.path led.desktop (single-keeps act done differ) a.seats led.leads)
+    (latest-stay latest (Single act done) d led.path led.desktop (quiet-keeps act done quiet differ) a.latest led.leads)
 
-pub marks-nothing : (old new : KeptDesk) (seats now : List (List ℕ)) (p q : Pointer) → KeptMarksNothing old new → MarksNothing (desk_with old seats p) (desk_with new now q)
-marks-nothing old new seats now p q nothing d a = nothing (unpointed d) a.kept
+pub marks-nothing : (old new : KeptDesk) (seats now : List (List ℕ)) (latest then : List Latest) (p q : Pointer) → KeptMarksNothing old new
+    → MarksNothing (desk_with old seats latest p) (desk_with new now then q)
+marks-nothing old new seats now latest then p q nothing d a = nothing (unpointed d) a.kept
 
 abbrev came : ℕ → Result ℕ ConnectError
 came c = Ok c
 
 -- a client connects, and has no wl_pointers yet
-pub connects : (c : ℕ) (old after : KeptDesk) (seats : List (List ℕ)) (p : Pointer) (new : MarkedDesk) → KeptLeadsBy (Single Connect (gave.Connect (Ok c))) old after
+pub connects : (c : ℕ) (old after : KeptDesk) (seats : List (List ℕ)) (latest : List Latest) (p : Pointer) (new : MarkedDesk) → KeptLeadsBy (Single Connect (gave.Connect (Ok c))) old after
     → new.desk.kept ≡ after.desk → new.damage ≡ after.damage → new.desk.pointer ≡ p
-    → seat_of new.desk.seats c ≡ [] → ((k : ℕ) → k ≢ c → seat_of new.desk.seats k ≡ seat_of seats k) → LeadsBy (Single Connect (gave.Connect (Ok c))) (desk_with old seats p) new
-connects c old after seats p new leads kept damage pointer cleared others =
-    subst (λ (m : MarkedDesk). LeadsBy (Single Connect (gave.Connect (Ok c))) (desk_with old seats p) m) (sym same)
-    (λ d a. connects-lead (Ok c) d (desk_with old seats p) (desk_with after new.desk.seats p) a (leads (unpointed d) a.kept) refl
-    (λ k e. subst (λ (n : ℕ). (seat_of new.desk.seats n ≡ []) × ((j : ℕ) → j ≢ n → seat_of new.desk.seats j ≡ seat_of seats j)) (number c k e) (cleared, others))
+    → HasCome c seats new.desk.seats latest new.desk.latest → LeadsBy (Single Connect (gave.Connect (Ok c))) (desk_with old seats latest p) new
+connects c old after seats latest p new leads kept damage pointer comes =
+    subst (λ (m : MarkedDesk). LeadsBy (Single Connect (gave.Connect (Ok c))) (desk_with old seats latest p) m) (sym same)
+    (λ d a. connects-lead (Ok c) d (desk_with old seats latest p) (desk_with after new.desk.seats new.desk.latest p) a (leads (unpointed d) a.kept) refl
+    (λ k e. subst (λ (n : ℕ). HasCome n seats new.desk.seats latest new.desk.latest) (number c k e) comes)
     (λ why e. absurd (never c why e)))
   where
-    same : new ≡ desk_with after new.desk.seats p
+    same : new ≡ desk_with after new.desk.seats new.desk.latest p
     same =
-        ap (λ (k : KeptDesk). desk_with k new.desk.seats new.desk.pointer) (ap₂ (λ v w. record { desk = v; damage = w }) kept damage)
-        ∙ ap (λ (q : Pointer). desk_with after new.desk.seats q) pointer
+        ap (λ (k : KeptDesk). desk_with k new.desk.seats new.desk.latest new.desk.pointer) (ap₂ (λ v w. record { desk = v; damage = w }) kept damage)
+        ∙ ap (λ (q : Pointer). desk_with after new.desk.seats new.desk.latest q) pointer
 
     number : (i j : ℕ) → came i ≡ came j → i ≡ j
     number i j e = cc
@@ -80,40 +84,41 @@ connects c old after seats p new leads kept damage pointer cleared others =
     never : (i : ℕ) (why : ConnectError) → came i ≡ Err why → ⊥
     never i why e = absurd (cc)
 
-pub connects-not : (why : ConnectError) (old after : KeptDesk) (seats : List (List ℕ)) (p : Pointer) → KeptLeadsBy (Single Connect (gave.Connect (Err why))) old after
-    → LeadsBy (Single Connect (gave.Connect (Err why))) (desk_with old seats p) (desk_with after seats p)
-connects-not why old after seats p leads d a =
-    connects-lead (Err why) d (desk_with old seats p) (desk_with after seats p) a (leads (unpointed d) a.kept) refl
-    (λ c e. absurd (never why c e)) (λ other e. refl)
+pub connects-not : (why : ConnectError) (old after : KeptDesk) (seats : List (List ℕ)) (latest : List Latest) (p : Pointer) → KeptLeadsBy (Single Connect (gave.Connect (Err why))) old after
+    → LeadsBy (Single Connect (gave.Connect (Err why))) (desk_with old seats latest p) (desk_with after seats latest p)
+connects-not why old after seats latest p leads d a =
+    connects-lead (Err why) d (desk_with old seats latest p) (desk_with after seats latest p) a (leads (unpointed d) a.kept) refl
+    (λ c e. absurd (never why c e)) (λ other e. (refl, refl))
   where
     never : (why : ConnectError) (c : ℕ) → Err why ≡ came c → ⊥
     never why c e = absurd (cc)
 
 -- ---- a client ends
 
-pub starves : (c : ℕ) (old after : KeptDesk) (seats : List (List ℕ)) (p q : Pointer) (new : MarkedDesk)
+pub starves : (c : ℕ) (old after : KeptDesk) (seats : List (List ℕ)) (latest : List Latest) (p q : Pointer) (new : MarkedDesk)
     → ((d : Desktop) → KeptAgrees old.desk d → status_of (peer_at c d) ≡ Alive → Led (KeptAgrees after.desk) (Starve c) old.damage after.damage d)
-    → IsAsLarge old.damage after.damage → q ≡ pointer_without c p → Settles (desk_with after seats q) new
-    → (d : Desktop) → Agrees (desk_with old seats p).desk d → status_of (peer_at c d) ≡ Alive → Led (Agrees new.desk) (Starve c) old.damage new.damage d
-starves c old after seats p q new leads large left settles d a alive =
-    ends-lead c (Starve c) d (desk_with old seats p) (desk_with after seats q) new (inl refl) a (leads (unpointed d) a.kept alive) large refl left settles
+    → IsAsLarge old.damage after.damage → q ≡ pointer_without c p → Settles (desk_with after seats latest q) new
+    → (d : Desktop) → Agrees (desk_with old seats latest p).desk d → status_of (peer_at c d) ≡ Alive → Led (Agrees new.desk) (Starve c) old.damage new.damage d
+starves c old after seats latest p q new leads large left settles d a alive =
+    ends-lead c (Starve c) d (desk_with old seats latest p) (desk_with after seats latest q) new (inl refl) a (leads (unpointed d) a.kept alive) large refl refl left settles
 
-pub goes : (c : ℕ) (old after : KeptDesk) (seats : List (List ℕ)) (p q : Pointer) (new : MarkedDesk) → KeptLeadsBy (Single (Leave c) (gave.Gone true)) old after
-    → IsAsLarge old.damage after.damage → q ≡ pointer_without c p → Settles (desk_with after seats q) new
-    → LeadsBy (Single (Leave c) (gave.Gone true)) (desk_with old seats p) new
-goes c old after seats p q new leads large left settles d a =
-    ends-lead c (Single (Leave c) (gave.Gone true)) d (desk_with old seats p) (desk_with after seats q) new (inr refl) a (leads (unpointed d) a.kept) large refl left settles
+pub goes : (c : ℕ) (old after : KeptDesk) (seats : List (List ℕ)) (latest : List Latest) (p q : Pointer) (new : MarkedDesk) → KeptLeadsBy (Single (Leave c) (gave.Gone true)) old after
+    → IsAsLarge old.damage after.damage → q ≡ pointer_without c p → Settles (desk_with after seats latest q) new
+    → LeadsBy (Single (Leave c) (gave.Gone true)) (desk_with old seats latest p) new
+goes c old after seats latest p q new leads large left settles d a =
+    ends-lead c (Single (Leave c) (gave.Gone true)) d (desk_with old seats latest p) (desk_with after seats latest q) new (inr refl) a (leads (unpointed d) a.kept) large refl refl left settles
 
 -- ---- a frame
 
-pub frames : (time : ℕ) (old after : KeptDesk) (seats : List (List ℕ)) (p : Pointer) (mid new : MarkedDesk) → KeptLeadsQuietly (Single (Tick time) gave.Tick) old after
-    → IsAsLarge old.damage after.damage → mid.desk.kept ≡ after.desk → mid.desk.seats ≡ seats → mid.damage ≡ after.damage
+pub frames : (time : ℕ) (old after : KeptDesk) (seats : List (List ℕ)) (latest : List Latest) (p : Pointer) (mid new : MarkedDesk) → KeptLeadsQuietly (Single (Tick time) gave.Tick) old after
+    → IsAsLarge old.damage after.damage → mid.desk.kept ≡ after.desk → mid.desk.seats ≡ seats → mid.desk.latest ≡ latest → mid.damage ≡ after.damage
     → ((was : DeskView) (d e : Desktop) → Agrees was d → p ≡ d.pointer → KeptAgrees after.desk e → mid.desk.pointer ≡ pointer_left d e)
-    → Settles mid new → LeadsQuietly (Single (Tick time) gave.Tick) (desk_with old seats p) new
-frames time old after seats p mid new leads large kept same damage left settles d a =
+    → Settles mid new → LeadsQuietly (Single (Tick time) gave.Tick) (desk_with old seats latest p) new
+frames time old after seats latest p mid new leads large kept same keeps damage left settles d a =
     let led = leads (unpointed d) a.kept in
-    let parts : mid ≡ desk_with after seats mid.desk.pointer =
-    ap₂ (λ (k : KeptDesk) (s : List (List ℕ)). desk_with k s mid.desk.pointer) (ap₂ (λ v w. record { desk = v; damage = w }) kept damage) same in
-    frames-lead time d (desk_with old seats p) (desk_with after seats mid.desk.pointer) new a led.0 led.1 large refl
-    (left (desk_with old seats p).desk d led.0.desktop a a.pointer led.0.agrees)
+    let parts : mid ≡ desk_with after seats latest mid.desk.pointer =
+    ap₂ (λ (k : KeptDesk) (s : List (List ℕ)). desk_with k s mid.desk.latest mid.desk.pointer) (ap₂ (λ v w. record { desk = v; damage = w }) kept damage) same
+    ∙ ap (λ (l : List Latest). desk_with after seats l mid.desk.pointer) keeps in
+    frames-lead time d (desk_with old seats latest p) (desk_with after seats latest mid.desk.pointer) new a led.0 led.1 large refl refl
+    (left (desk_with old seats latest p).desk d led.0.desktop a a.pointer led.0.agrees)
     (subst (λ (m : MarkedDesk). Settles m new) parts settles)

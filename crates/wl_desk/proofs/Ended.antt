@@ -17,13 +17,15 @@ use Rattle.wl_laws.proofs.Runs.Places.{number-other, number-same}
 use Rattle.wl_pointed.specs.Rounds.{AreToEnd, Lives}
 use Rattle.wl_clients.specs.Agreement.{IsPlace}
 use Rattle.wl_clients.specs.Marking.{MarksAtLeast, MarksMost, MarksThrough}
+use Rattle.wl_clients.specs.declared.grabs.Latest.{Latest}
 use Rattle.wl_clients.specs.View.{DeskView as KeptView, OwnedView}
 use Rattle.wl_clients.specs.Midway.{IsMid, RefusedLives, first_struck, opened_desk, strike_for, strikes_from}
 use Rattle.wl_clients.proofs.Desktops.{at, at-map, map-length, place-at}
 use Rattle.wl_clients.proofs.Strikes.{none-struck, refused_in}
-use Rattle.wl_desk.specs.Agreeing.{AreSeats}
+use Rattle.wl_desk.specs.Agreeing.{AreLatest, AreSeats}
 use Rattle.wl_desk.specs.Midway.{IsMidway, unpointed_mid}
 use Rattle.wl_desk.specs.View.{DeskView, seat_of}
+use Rattle.wl_desk.proofs.LatestStay.{ended-latest}
 use Rattle.wl_desk.proofs.Placed.{ended-placed}
 use Rattle.wl_desk.proofs.Telling.{seen}
 use Rattle.wl_desk.proofs.Tells.{Have}
@@ -134,9 +136,10 @@ module _ (s : Strike) (d : Desktop) (r : Resident) (there : client_at s.client d
 
 -- what is kept agrees with the step where it ended
 pub ended-midway : (old new : DeskView) (s : Strike) (ss : List Strike) (m : Midstep) → m.struck ≡ s ∷ ss → IsMidway old m
-    → IsMid new.kept (record { desktop = ended_by s (unpointed m.desktop); struck = ss }) → new.seats ≡ old.seats → new.pointer ≡ left_by s.client old.pointer
+    → IsMid new.kept (record { desktop = ended_by s (unpointed m.desktop); struck = ss }) → new.seats ≡ old.seats → new.latest ≡ old.latest
+    → new.pointer ≡ left_by s.client old.pointer
     → IsMidway new (record { desktop = ended_by s m.desktop; struck = ss })
-ended-midway old new s ss m struck midway kept seats pointer =
+ended-midway old new s ss m struck midway kept seats latest pointer =
     let ends : AreToEnd (s ∷ ss) m.desktop = subst (λ (ts : List Strike). AreToEnd ts m.desktop) struck (midway-to-end old m midway) in
     let r : Resident = ends.0.0 in
     let there : client_at s.client m.desktop ≡ Some r = ends.0.1 in
@@ -147,14 +150,12 @@ ended-midway old new s ss m struck midway kept seats pointer =
         kept = subst (λ (d : Desktop). IsMid new.kept (record { desktop = d; struck = ss })) (ended-apart s m.desktop) kept;
         place = ap (λ (p : Pointer). p.place) so;
         seats = subst (λ (qs : List (List ℕ)). AreSeats qs (ended_by s m.desktop)) (sym seats) (ended-seats s m.desktop r there (seat_of old.seats) midway.telling.seats);
+        latest = subst (λ (l : List Latest). AreLatest l (record { desktop = ended_by s m.desktop; struck = ss })) (sym latest)
+            (ended-latest old.latest s ss m r struck there midway.telling.latest);
       };
       pointer = so;
       placed = ended-placed s m.desktop midway.placed;
-      nowhere = λ e. absurd (never s ss (sym struck ∙ midway.nowhere (sym (ap (λ (p : Pointer). p.place) after) ∙ e)));
     }
-  where
-    never : (t : Strike) (ts : List Strike) → t ∷ ts ≡ [] → ⊥
-    never t ts e = absurd (cc)
 
 -- ---- what it marks
 
@@ -181,13 +182,13 @@ module _ (kept then : KeptView) (client : ℕ) (old new : Damaged)
     → IsMid then (record { desktop = ended_by s d; struck = ss }))
     (least : (s : Strike) (ss : List Strike) (d : Desktop) → s.client ≡ client → IsMid kept (record { desktop = d; struck = s ∷ ss }) → MarksAtLeast d (ended_by s d) old new)
     (most : (s : Strike) (ss : List Strike) (d : Desktop) → s.client ≡ client → IsMid kept (record { desktop = d; struck = s ∷ ss }) → MarksMost d (ended_by s d) old new)
-    (seats : List (List ℕ)) (p : Pointer) (s : Strike) (ss : List Strike) (m : Midstep) (same : s.client ≡ client) (struck : m.struck ≡ s ∷ ss) (midway : IsMidway (seen kept seats p) m) where
+    (seats : List (List ℕ)) (latest : List Latest) (p : Pointer) (s : Strike) (ss : List Strike) (m : Midstep) (same : s.client ≡ client) (struck : m.struck ≡ s ∷ ss) (midway : IsMidway (seen kept seats latest p) m) where
   begun : IsMid kept (record { desktop = unpointed m.desktop; struck = s ∷ ss })
   begun = subst (λ (ts : List Strike). IsMid kept (record { desktop = unpointed m.desktop; struck = ts })) struck midway.telling.kept
 
-  pub ends-midway : (q : Pointer) → q ≡ left_by client p → IsMidway (seen then seats q) (record { desktop = ended_by s m.desktop; struck = ss })
+  pub ends-midway : (q : Pointer) → q ≡ left_by client p → IsMidway (seen then seats latest q) (record { desktop = ended_by s m.desktop; struck = ss })
   ends-midway q left =
-      ended-midway (seen kept seats p) (seen then seats q) s ss m struck midway (ends s ss (unpointed m.desktop) same begun) refl
+      ended-midway (seen kept seats latest p) (seen then seats latest q) s ss m struck midway (ends s ss (unpointed m.desktop) same begun) refl refl
       (left ∙ ap (λ (c : ℕ). left_by c p) (sym same))
 
   pub ends-marked : MarksThrough m.desktop (ended_by s m.desktop ∷ []) old new

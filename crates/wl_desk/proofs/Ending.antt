@@ -1,9 +1,9 @@
 -- The middle of a step where clients ended: the pointer leaves them, and the focus is settled.
-use Rattle.std.proofs.Common.{◌≡◌, ℕ, List, refl, ap, subst, sym, ◌∙◌}
+use Rattle.std.proofs.Common.{◌≡◌, ℕ, List, ap, subst, sym, ◌∙◌}
 use Rattle.wl_stacking.specs.Pointer.{Pointer}
 use Rattle.wl_plain.specs.Desktop.{Desktop, unpointed}
 use Rattle.wl_plain.specs.Happenings.{Happening}
-use Rattle.wl_plain.specs.LeftOut.{served_now}
+use Rattle.wl_plain.specs.LeftOut.{nothing_left_out}
 use Rattle.wl_plain.specs.Settling.{Midstep, pointer_without, unstruck}
 use Rattle.wl_marking.specs.Marking.{IsAsLarge}
 use Rattle.wl_pointed.specs.Happenings.{IsEndOf}
@@ -11,10 +11,12 @@ use Rattle.wl_pointed.specs.Pointed.{pointed}
 use Rattle.wl_pointed.proofs.Happenings.{ends-apart}
 use Rattle.wl_clients.specs.Agreeing.{Agrees as KeptAgrees}
 use Rattle.wl_clients.specs.Leading.{Led, raised_by}
+use Rattle.wl_clients.specs.declared.grabs.Latest.{Latest}
 use Rattle.wl_clients.proofs.Midway.{mid_begins_and_ends}
-use Rattle.wl_desk.specs.Agreeing.{Agrees, AreSeats, IsPlaced}
+use Rattle.wl_desk.specs.Agreeing.{Agrees, AreLatest, AreSeats, IsPlaced}
 use Rattle.wl_desk.specs.Midway.{IsMidway, SettlesDown}
 use Rattle.wl_desk.specs.View.{DeskView, MarkedDesk}
+use Rattle.wl_desk.proofs.LatestStay.{end-keeps, latest-stay}
 use Rattle.wl_desk.proofs.Leading.{kept-aside, leads-on}
 use Rattle.wl_desk.proofs.Placed.{end-placed}
 use Rattle.wl_desk.proofs.Unraised.{end-unraised, marks-unraised}
@@ -23,16 +25,17 @@ use Rattle.wl_desk.proofs.SeatsStay.{end-keeps-seats, seats-stay}
 -- ---- the middle of a step begins
 
 -- What is kept of the clients agrees where nobody points, and the pointer is put back.
-pub begins : (v : DeskView) (p : Pointer) (e : Desktop) → KeptAgrees v.kept e → v.pointer ≡ p → IsPlaced (pointed p e) → AreSeats v.seats e → IsMidway v (unstruck (pointed p e))
-begins v p e kept same placed seats = record {
+pub begins : (v : DeskView) (p : Pointer) (e : Desktop) → KeptAgrees v.kept e → v.pointer ≡ p → IsPlaced (pointed p e) → AreSeats v.seats e → AreLatest v.latest (unstruck e)
+    → IsMidway v (unstruck (pointed p e))
+begins v p e kept same placed seats latest = record {
   telling = record {
     kept = (mid_begins_and_ends v.kept (unpointed (pointed p e))).0 (kept-aside v.kept p e kept);
     place = ap (λ (q : Pointer). q.place) same;
     seats = seats;
+    latest = latest;
   };
   pointer = same;
   placed = placed;
-  nowhere = λ none. refl;
 }
 
 -- ---- one client ends
@@ -40,13 +43,14 @@ begins v p e kept same placed seats = record {
 -- Memory was wanting for a client, or it went; the pointer leaves it, and its focus is settled.
 pub ends-lead : (c : ℕ) (h : Happening) (d : Desktop) (old mid new : MarkedDesk) → IsEndOf c h → Agrees old.desk d
     → (led : Led (KeptAgrees mid.desk.kept) h old.damage mid.damage (unpointed d)) → IsAsLarge old.damage mid.damage
-    → mid.desk.seats ≡ old.desk.seats → mid.desk.pointer ≡ pointer_without c old.desk.pointer
+    → mid.desk.seats ≡ old.desk.seats → mid.desk.latest ≡ old.desk.latest → mid.desk.pointer ≡ pointer_without c old.desk.pointer
     → ((m : Midstep) → IsMidway mid.desk m → SettlesDown mid new m) → Led (Agrees new.desk) h old.damage new.damage d
-ends-lead c h d old mid new end a led large seats pointer settles =
+ends-lead c h d old mid new end a led large seats latest pointer settles =
     let p : Pointer = pointer_without c d.pointer in
     let start : Midstep = unstruck (pointed p led.desktop) in
     let midway : IsMidway mid.desk start =
     begins mid.desk p led.desktop led.agrees (pointer ∙ ap (pointer_without c) a.pointer) (end-placed c h d led.path led.desktop end led.leads a.placed)
-    (subst (λ (s : List (List ℕ)). AreSeats s led.desktop) (sym seats) (seats-stay old.desk.seats h d led.path led.desktop (end-keeps-seats c h end) a.seats led.leads)) in
-    leads-on h (λ e. p) d led.path led.desktop old.damage mid new (ends-apart served_now c h d led.path led.desktop end led.leads) large
+    (subst (λ (s : List (List ℕ)). AreSeats s led.desktop) (sym seats) (seats-stay old.desk.seats h d led.path led.desktop (end-keeps-seats c h end) a.seats led.leads))
+    (subst (λ (l : List Latest). AreLatest l (unstruck led.desktop)) (sym latest) (latest-stay old.desk.latest h d led.path led.desktop (end-keeps c h end) a.latest led.leads)) in
+    leads-on h (λ e. p) d led.path led.desktop old.damage mid new (ends-apart nothing_left_out c h d led.path led.desktop end led.leads) large
     (marks-unraised (raised_by h (unpointed d)) (unpointed d) led.path old.damage mid.damage (end-unraised c h (unpointed d) end) led.marks) midway (settles start midway) (end-unraised c h d end)

@@ -12,7 +12,7 @@ use Rattle.wl_plain.specs.Changing.{drawing, has_focus}
 use Rattle.wl_plain.specs.Demand.{GetPointer}
 use Rattle.wl_plain.specs.Desktop.{Desktop, Resident, status_in}
 use Rattle.wl_plain.specs.Happenings.{Message}
-use Rattle.wl_plain.specs.LeftOut.{served_now}
+use Rattle.wl_plain.specs.LeftOut.{nothing_left_out}
 use Rattle.wl_plain.specs.Replies.{entered_at, focus_window}
 use Rattle.wl_plain.specs.Settling.{Midstep, Strike, Tells, ended_by, pointer_without, unstruck}
 use Rattle.wl_plain.specs.Stacked.{all_windows}
@@ -24,6 +24,7 @@ use Rattle.wl_clients.specs.Agreeing.{Agrees as KeptAgrees}
 use Rattle.wl_clients.specs.Agreement.{numbers_in}
 use Rattle.wl_clients.specs.Leading.{Led}
 use Rattle.wl_clients.specs.Marking.{MarksThrough}
+use Rattle.wl_clients.specs.declared.grabs.Latest.{Latest}
 use Rattle.wl_clients.specs.View.{DeskView as ClientsView, MarkedDesk as KeptDesk}
 use Rattle.wl_desk.specs.Agreeing.{Agrees}
 use Rattle.wl_desk.specs.Beginning.{IsMovable, IsToMove, begun, chosen_by}
@@ -44,14 +45,15 @@ pub record LetsGo (old new : MarkedDesk) : Type 0 where
   pub pointer : (e : Desktop) → KeptAgrees old.desk.kept e → new.desk.pointer ≡ keeping e.standing old.desk.pointer
   pub kept : new.desk.kept ≡ old.desk.kept
   pub seats : new.desk.seats ≡ old.desk.seats
+  pub latest : new.desk.latest ≡ old.desk.latest
   pub damage : new.damage ≡ old.damage
 
-pub status-at : (c : ℕ) (k : KeptDesk) (seats : List (List ℕ)) (p : Pointer) (mid : MarkedDesk) (fed : Fed) → desk_with k seats p ≡ mid
+pub status-at : (c : ℕ) (k : KeptDesk) (seats : List (List ℕ)) (latest : List Latest) (p : Pointer) (mid : MarkedDesk) (fed : Fed) → desk_with k seats latest p ≡ mid
     → ((e : Desktop) → KeptAgrees k.desk e → fed ≡ status_of (peer_at c e)) → (e : Desktop) → KeptAgrees mid.desk.kept e → fed ≡ status_of (peer_at c e)
-status-at c k seats p mid fed view status e kept = status e (subst (λ (m : MarkedDesk). KeptAgrees m.desk.kept e) (sym view) kept)
+status-at c k seats latest p mid fed view status e kept = status e (subst (λ (m : MarkedDesk). KeptAgrees m.desk.kept e) (sym view) kept)
 
-pub focus-at : (k : KeptDesk) (seats : List (List ℕ)) (p : Pointer) (mid : MarkedDesk) (f : Option Target) → desk_with k seats p ≡ mid → f ≡ p.focus → mid.desk.pointer.focus ≡ f
-focus-at k seats p mid f view is = sym (is ∙ ap (λ (m : MarkedDesk). m.desk.pointer.focus) view)
+pub focus-at : (k : KeptDesk) (seats : List (List ℕ)) (latest : List Latest) (p : Pointer) (mid : MarkedDesk) (f : Option Target) → desk_with k seats latest p ≡ mid → f ≡ p.focus → mid.desk.pointer.focus ≡ f
+focus-at k seats latest p mid f view is = sym (is ∙ ap (λ (m : MarkedDesk). m.desk.pointer.focus) view)
 
 pub none-away : (c : ℕ) (f : Option Target) → f ≡ None → has_focus c f ≡ false
 none-away c f none = ap (has_focus c) none
@@ -60,38 +62,38 @@ pub other-away : (c : ℕ) (t : Target) (f : Option Target) → (t.client == c) 
 other-away c t f apart is = ap (has_focus c) is ∙ apart
 
 -- what the pointer has of a client, it leaves, and one that doesn't stand any more isn't moved any more
-pub left-whole : (c : ℕ) (request : PointerAsked) (k : KeptDesk) (seats : List (List ℕ)) (p q : Pointer) (mid new : MarkedDesk) → desk_with k seats p ≡ mid → (fed : Fed) (why : Cause)
+pub left-whole : (c : ℕ) (request : PointerAsked) (k : KeptDesk) (seats : List (List ℕ)) (latest : List Latest) (p q : Pointer) (mid new : MarkedDesk) → desk_with k seats latest p ≡ mid → (fed : Fed) (why : Cause)
     → ((e : Desktop) → KeptAgrees k.desk e → fed ≡ status_of (peer_at c e)) → fed ≡ Ended why → q ≡ record p { focus = unless_of c p.focus; move = unless_of c p.move }
-    → LetsGo (desk_with k seats q) new → (t : Option Target) (old : MarkedDesk) (d : Desktop) → Took c request old mid d → IsToMove (asked served_now c d) c d t → IsUnsettled (Message c) old new d
-left-whole c request k seats p q mid new view fed why status ended leaves go t old d took to = by (subst (λ (m : MarkedDesk). Took c request old m d) (sym view) took)
+    → LetsGo (desk_with k seats latest q) new → (t : Option Target) (old : MarkedDesk) (d : Desktop) → Took c request old mid d → IsToMove (asked nothing_left_out c d) c d t → IsUnsettled (Message c) old new d
+left-whole c request k seats latest p q mid new view fed why status ended leaves go t old d took to = by (subst (λ (m : MarkedDesk). Took c request old m d) (sym view) took)
   where
-    by : Took c request old (desk_with k seats p) d → IsUnsettled (Message c) old new d
+    by : Took c request old (desk_with k seats latest p) d → IsUnsettled (Message c) old new d
     by took =
         let e : Desktop = took.desktop in
         let is : status_in c e ≡ Some why = ended-status c e fed why (status e took.kept) ended in
         let left : q ≡ pointer_without c d.pointer = leaves ∙ forgets c p ∙ ap (pointer_without c) took.pointer in
-        followed c request old (desk_with k seats p) new d took
-        (on-ended served_now c d took.path e took.placed.moved took.leads (ap (λ (s : Option Cause). is_some s) is)) go.kept go.seats
-        (go.pointer e took.kept ∙ ap (keeping e.standing) left ∙ sym (after-end served_now c why d took.path e took.leads is)) go.damage
+        followed c request old (desk_with k seats latest p) new d took
+        (on-ended nothing_left_out c d took.path e took.placed.moved took.leads (ap (λ (s : Option Cause). is_some s) is)) go.kept go.seats go.latest
+        (go.pointer e took.kept ∙ ap (keeping e.standing) left ∙ sym (after-end nothing_left_out c why d took.path e took.leads is)) go.damage
 
 stays : (c id version : ℕ) (request : PointerAsked) (old mid : MarkedDesk) (d : Desktop) (took : Took c request old mid d) → status_in c took.desktop ≡ None
-    → asked served_now c d ≡ Some (GetPointer id version) → has_focus c d.pointer.focus ≡ false → IsUnsettled (Message c) old mid d
+    → asked nothing_left_out c d ≡ Some (GetPointer id version) → has_focus c d.pointer.focus ≡ false → IsUnsettled (Message c) old mid d
 stays c id version request old mid d took alive asks away =
-    followed c request old mid mid d took (on-away served_now c d took.path took.desktop took.placed.moved (inr away) took.leads) refl refl
-    (took.pointer ∙ sym (after-get served_now c id version d took.path took.desktop took.placed.moved asks took.leads alive)) refl
+    followed c request old mid mid d took (on-away nothing_left_out c d took.path took.desktop took.placed.moved (inr away) took.leads) refl refl refl
+    (took.pointer ∙ sym (after-get nothing_left_out c id version d took.path took.desktop took.placed.moved asks took.leads alive)) refl
 
 -- no wl_pointer was asked for: a toplevel may begin to be moved
 pub unasked-whole : (c : ℕ) (request : PointerAsked) (t : Option Target) (mid begins new : MarkedDesk) (fed : Fed) → ((e : Desktop) → KeptAgrees mid.desk.kept e → fed ≡ status_of (peer_at c e))
     → ((why : Cause) → fed ≢ Ended why) → ((id : ℕ) → request ≢ NewPointer id) → begins.desk.pointer ≡ begun t mid.desk.pointer → begins.desk.kept ≡ mid.desk.kept
-    → begins.desk.seats ≡ mid.desk.seats → begins.damage ≡ mid.damage → LetsGo begins new → (old : MarkedDesk) (d : Desktop) → Took c request old mid d → IsToMove (asked served_now c d) c d t
+    → begins.desk.seats ≡ mid.desk.seats → begins.desk.latest ≡ mid.desk.latest → begins.damage ≡ mid.damage → LetsGo begins new → (old : MarkedDesk) (d : Desktop) → Took c request old mid d → IsToMove (asked nothing_left_out c d) c d t
     → IsUnsettled (Message c) old new d
-unasked-whole c request t mid begins new fed status lives never begin kept seats damage go old d took to =
+unasked-whole c request t mid begins new fed status lives never begin kept seats latest damage go old d took to =
     let e : Desktop = took.desktop in
     let alive : status_in c e ≡ None = lives-status c e fed (status e took.kept) lives in
     followed c request old mid new d took
-    (on-away served_now c d took.path e took.placed.moved
-    (inl (λ id version asks. absurd (never id (asks-new-pointer (asked served_now c d) request (numbers_in old.desk.kept.clients c) id version took.asks asks)))) took.leads)
-    (go.kept ∙ kept) (go.seats ∙ seats)
+    (on-away nothing_left_out c d took.path e took.placed.moved
+    (inl (λ id version asks. absurd (never id (asks-new-pointer (asked nothing_left_out c d) request (numbers_in old.desk.kept.clients c) id version took.asks asks)))) took.leads)
+    (go.kept ∙ kept) (go.seats ∙ seats) (go.latest ∙ latest)
     (go.pointer e (subst (λ (k : ClientsView). KeptAgrees k e) (sym kept) took.kept)
     ∙ ap (keeping e.standing) (begin ∙ ap (begun t) took.pointer) ∙ sym (after-life c d took.path e t took.leads alive to)) (go.damage ∙ damage)
 
@@ -99,7 +101,7 @@ unasked-whole c request t mid begins new fed status lives never begin kept seats
 pub asked-whole : (c id : ℕ) (request : PointerAsked) (mid new : MarkedDesk) (fed : Fed) → ((e : Desktop) → KeptAgrees mid.desk.kept e → fed ≡ status_of (peer_at c e))
     → ((why : Cause) → fed ≢ Ended why) → request ≡ NewPointer id
     → ((old : MarkedDesk) (d : Desktop) (took : Took c (NewPointer id) old mid d) → status_in c took.desktop ≡ None → IsUnsettled (Message c) old new d)
-    → (t : Option Target) (old : MarkedDesk) (d : Desktop) → Took c request old mid d → IsToMove (asked served_now c d) c d t → IsUnsettled (Message c) old new d
+    → (t : Option Target) (old : MarkedDesk) (d : Desktop) → Took c request old mid d → IsToMove (asked nothing_left_out c d) c d t → IsUnsettled (Message c) old new d
 asked-whole c id request mid new fed status lives is tells t old d took to = by (subst (λ (r : PointerAsked). Took c r old mid d) is took)
   where
     by : Took c (NewPointer id) old mid d → IsUnsettled (Message c) old new d
@@ -109,11 +111,11 @@ asked-whole c id request mid new fed status lives is tells t old d took to = by 
 pub away-whole : (c id : ℕ) (mid : MarkedDesk) → has_focus c mid.desk.pointer.focus ≡ false → (old : MarkedDesk) (d : Desktop) (took : Took c (NewPointer id) old mid d)
     → status_in c took.desktop ≡ None → IsUnsettled (Message c) old mid d
 away-whole c id mid away old d took alive =
-    by (asks-by (asked served_now c d) (NewPointer id) (numbers_in old.desk.kept.clients c) id took.asks refl)
+    by (asks-by (asked nothing_left_out c d) (NewPointer id) (numbers_in old.desk.kept.clients c) id took.asks refl)
   where
-    by : ((asked served_now c d ≡ None) ⊎ ((version : ℕ) × (asked served_now c d ≡ Some (GetPointer id version)))) → IsUnsettled (Message c) old mid d
+    by : ((asked nothing_left_out c d ≡ None) ⊎ ((version : ℕ) × (asked nothing_left_out c d ≡ Some (GetPointer id version)))) → IsUnsettled (Message c) old mid d
     by (inl none) =
-        absurd (differ (sym (refused-ends served_now c d took.path took.desktop none took.leads) ∙ ap (λ (s : Option Cause). is_some s) alive))
+        absurd (differ (sym (refused-ends nothing_left_out c d took.path took.desktop none took.leads) ∙ ap (λ (s : Option Cause). is_some s) alive))
     by (inr get) = stays c id get.0 (NewPointer id) old mid d took alive get.1 (ap (λ (p : Pointer). has_focus c p.focus) (sym took.pointer) ∙ away)
 
 -- ---- it has
@@ -159,12 +161,12 @@ module _ (c id : ℕ) (mid : MarkedDesk) (t : Target) (own : t.client ≡ c) (ha
 pub served-whole : (c : ℕ) (request : PointerAsked) (movable : Option Movable) (t : Option Target) (old mid next new : MarkedDesk)
     → ((d : Desktop) → Agrees old.desk d → IsMovable (numbers_in old.desk.kept.clients c) c d movable) → t ≡ chosen_by movable request
     → ((d : Desktop) → Agrees old.desk d → Took c request old mid d)
-    → ((was : MarkedDesk) (d : Desktop) → Took c request was mid d → IsToMove (asked served_now c d) c d t → IsUnsettled (Message c) was next d)
+    → ((was : MarkedDesk) (d : Desktop) → Took c request was mid d → IsToMove (asked nothing_left_out c d) c d t → IsUnsettled (Message c) was next d)
     → ((m : Midstep) → IsMidway next.desk m → SettlesDown next new m) → (d : Desktop) → Agrees old.desk d → Led (Agrees new.desk) (Message c) old.damage new.damage d
 served-whole c request movable t old mid next new may is took follows settles d a =
     let it = took d a in
-    let to : IsToMove (asked served_now c d) c d t =
-    subst (λ (x : Option Target). IsToMove (asked served_now c d) c d x) (sym is)
-    (asks-move (numbers_in old.desk.kept.clients c) (asked served_now c d) c d request movable it.asks (may d a)) in
+    let to : IsToMove (asked nothing_left_out c d) c d t =
+    subst (λ (x : Option Target). IsToMove (asked nothing_left_out c d) c d x) (sym is)
+    (asks-move (numbers_in old.desk.kept.clients c) (asked nothing_left_out c d) c d request movable it.asks (may d a)) in
     let u = follows old d it to in
     settled-down c d old next new u (settles (unstruck u.start) u.midway)

@@ -10,7 +10,7 @@ use Rattle.wl_plain.specs.Changing.{drawing, has_focus}
 use Rattle.wl_plain.specs.Demand.{GetPointer}
 use Rattle.wl_plain.specs.Desktop.{Desktop, Resident, status_in, unpointed}
 use Rattle.wl_plain.specs.Happenings.{Happening, Leads, Message}
-use Rattle.wl_plain.specs.LeftOut.{served_now}
+use Rattle.wl_plain.specs.LeftOut.{nothing_left_out}
 use Rattle.wl_plain.specs.Marks.{AreDistinct}
 use Rattle.wl_plain.specs.Moments.{marks_at_least_through, marks_at_most_through}
 use Rattle.wl_plain.specs.Replies.{entered_at, focus_window}
@@ -30,10 +30,11 @@ use Rattle.wl_clients.specs.Agreeing.{Agrees as KeptAgrees}
 use Rattle.wl_clients.specs.Agreement.{numbers_in}
 use Rattle.wl_clients.specs.Leading.{Led}
 use Rattle.wl_clients.specs.Marking.{MarksThrough}
+use Rattle.wl_clients.specs.declared.grabs.Latest.{Latest}
 use Rattle.wl_clients.specs.View.{DeskView as ClientsView}
 use Rattle.wl_clients.proofs.Agreed.{agrees-apart}
 use Rattle.wl_clients.proofs.Midway.{mid_begins_and_ends}
-use Rattle.wl_desk.specs.Agreeing.{Agrees, AreSeats, IsPlaced}
+use Rattle.wl_desk.specs.Agreeing.{Agrees, AreLatest, AreSeats, IsPlaced}
 use Rattle.wl_desk.specs.Following.{IsUnsettled, Took}
 use Rattle.wl_desk.specs.Midway.{IsMidway, IsTelling, SettlesDown}
 use Rattle.wl_desk.specs.View.{DeskView, MarkedDesk}
@@ -67,22 +68,22 @@ settled-down c d old mid new u down =
 
 -- ---- the pointer is put back
 
-pub midway-at : (v : DeskView) (e : Desktop) (p : Pointer) → KeptAgrees v.kept e → AreSeats v.seats e → v.pointer ≡ p → IsPlaced (pointed p e)
-    → IsMidway v (unstruck (pointed p e))
-midway-at v e p kept seats is placed =
+pub midway-at : (v : DeskView) (e : Desktop) (p : Pointer) → KeptAgrees v.kept e → AreSeats v.seats e → AreLatest v.latest (unstruck e) → v.pointer ≡ p
+    → IsPlaced (pointed p e) → IsMidway v (unstruck (pointed p e))
+midway-at v e p kept seats latest is placed =
     record {
       telling = record {
         kept = (mid_begins_and_ends v.kept (unpointed (pointed p e))).0 (kept-aside v.kept p e kept);
         place = ap (λ (q : Pointer). q.place) is;
         seats = seats;
+        latest = latest;
       };
       pointer = is;
       placed = placed;
-      nowhere = λ none. refl;
     }
 
 pub from-aside : (h : Happening) (p : Desktop → Pointer) (d e : Desktop) (aside : List Desktop) (old new : MarkedDesk)
-    → SettlesOn (λ a. pointed (p a) a) (Leads served_now h d) aside e → AreDistinct (all_windows e) → MarksThrough (unpointed d) aside old.damage new.damage
+    → SettlesOn (λ a. pointed (p a) a) (Leads nothing_left_out h d) aside e → AreDistinct (all_windows e) → MarksThrough (unpointed d) aside old.damage new.damage
     → IsAsLarge old.damage new.damage → IsMidway new.desk (unstruck (pointed (p e) e)) → IsUnsettled h old new d
 from-aside h p d e aside old new on apart marks sides midway =
     let before : List Desktop = map (λ a. pointed (p a) a) on.0 in
@@ -92,7 +93,7 @@ from-aside h p d e aside old new on apart marks sides midway =
       start = start;
       last = last-at d start before;
       leads = λ later last settles.
-          subst (λ (way : List Desktop). Leads served_now h d way last) (sym (append_assoc before (start ∷ []) later)) (on.2 later last settles);
+          subst (λ (way : List Desktop). Leads nothing_left_out h d way last) (sym (append_assoc before (start ∷ []) later)) (on.2 later last settles);
       midway = midway;
       sides = sides;
       marks = marks-as d (unpointed d) (before ++ start ∷ []) aside old.damage new.damage
@@ -111,15 +112,16 @@ larger old mid new first next = record { width = next.width ∙ first.width; hei
 -- ---- nobody is told
 
 pub followed : (c : ℕ) (request : PointerAsked) (old mid new : MarkedDesk) (d : Desktop) (took : Took c request old mid d)
-    → SettlesOn (put_back served_now c d) (ServesThrough served_now c d) took.path took.desktop → new.desk.kept ≡ mid.desk.kept → new.desk.seats ≡ mid.desk.seats
-    → new.desk.pointer ≡ pointer_after served_now c d took.desktop → new.damage ≡ mid.damage → IsUnsettled (Message c) old new d
-followed c request old mid new d took on kept seats pointer damage =
+    → SettlesOn (put_back nothing_left_out c d) (ServesThrough nothing_left_out c d) took.path took.desktop → new.desk.kept ≡ mid.desk.kept → new.desk.seats ≡ mid.desk.seats
+    → new.desk.latest ≡ mid.desk.latest → new.desk.pointer ≡ pointer_after nothing_left_out c d took.desktop → new.damage ≡ mid.damage → IsUnsettled (Message c) old new d
+followed c request old mid new d took on kept seats latest pointer damage =
     let e : Desktop = took.desktop in
-    from-aside (Message c) (pointer_after served_now c d) d e took.path old new on (agrees-apart mid.desk.kept e took.kept)
+    from-aside (Message c) (pointer_after nothing_left_out c d) d e took.path old new on (agrees-apart mid.desk.kept e took.kept)
     (marks-to (unpointed d) took.path old.damage mid.damage new.damage damage took.marks)
     (subst (λ (v : Damaged). IsAsLarge old.damage v) (sym damage) took.sides)
-    (midway-at new.desk e (pointer_after served_now c d e) (subst (λ (k : ClientsView). KeptAgrees k e) (sym kept) took.kept)
-    (subst (λ (s : List (List ℕ)). AreSeats s e) (sym seats) took.seats) pointer (back-placed served_now c d e took.placed))
+    (midway-at new.desk e (pointer_after nothing_left_out c d e) (subst (λ (k : ClientsView). KeptAgrees k e) (sym kept) took.kept)
+    (subst (λ (s : List (List ℕ)). AreSeats s e) (sym seats) took.seats)
+    (subst (λ (l : List Latest). AreLatest l (unstruck e)) (sym latest) took.latest) pointer (back-placed nothing_left_out c d e took.placed))
 
 -- ---- a new wl_pointer is told
 
@@ -128,29 +130,29 @@ module _ (c id : ℕ) (old mid : MarkedDesk) (d : Desktop) (took : Took c (NewPo
   abbrev pub put : Desktop
   put = pointed d.pointer took.desktop
 
-  get : (version : ℕ) × (asked served_now c d ≡ Some (GetPointer id version))
-  get = by (asks-by (asked served_now c d) (NewPointer id) (numbers_in old.desk.kept.clients c) id took.asks refl)
+  get : (version : ℕ) × (asked nothing_left_out c d ≡ Some (GetPointer id version))
+  get = by (asks-by (asked nothing_left_out c d) (NewPointer id) (numbers_in old.desk.kept.clients c) id took.asks refl)
     where
-      by : ((asked served_now c d ≡ None) ⊎ ((version : ℕ) × (asked served_now c d ≡ Some (GetPointer id version)))) → (version : ℕ) × (asked served_now c d ≡ Some (GetPointer id version))
+      by : ((asked nothing_left_out c d ≡ None) ⊎ ((version : ℕ) × (asked nothing_left_out c d ≡ Some (GetPointer id version)))) → (version : ℕ) × (asked nothing_left_out c d ≡ Some (GetPointer id version))
       by (inl none) =
-          absurd (differ (sym (refused-ends served_now c d took.path took.desktop none took.leads) ∙ ap (λ (s : Option Cause). is_some s) alive))
+          absurd (differ (sym (refused-ends nothing_left_out c d took.path took.desktop none took.leads) ∙ ap (λ (s : Option Cause). is_some s) alive))
       by (inr is) = is
 
   has-focus : has_focus c d.pointer.focus ≡ true
   has-focus = ap (has_focus c) has ∙ eq-eqb t.client c own
 
-  put-is : put_back served_now c d took.desktop ≡ put
+  put-is : put_back nothing_left_out c d took.desktop ≡ put
   put-is =
-      ap (λ (p : Pointer). pointed p took.desktop) (after-get served_now c id get.0 d took.path took.desktop took.placed.moved get.1 took.leads alive)
+      ap (λ (p : Pointer). pointed p took.desktop) (after-get nothing_left_out c id get.0 d took.path took.desktop took.placed.moved get.1 took.leads alive)
 
   pub put-midway : IsMidway mid.desk (unstruck put)
   put-midway =
-      midway-at mid.desk took.desktop d.pointer took.kept took.seats took.pointer
-      (subst (λ (x : Desktop). IsPlaced x) put-is (back-placed served_now c d took.desktop took.placed))
+      midway-at mid.desk took.desktop d.pointer took.kept took.seats took.latest took.pointer
+      (subst (λ (x : Desktop). IsPlaced x) put-is (back-placed nothing_left_out c d took.desktop took.placed))
 
   pub put-stacked : is_stacked t (all_windows put) ≡ true
   put-stacked =
-      subst (λ (ws : List Window). is_stacked t ws ≡ true) (sym (new-pointer-shows-nothing served_now c id get.0 (unpointed d) took.path took.desktop refl get.1 took.leads alive))
+      subst (λ (ws : List Window). is_stacked t ws ≡ true) (sym (new-pointer-shows-nothing nothing_left_out c id get.0 (unpointed d) took.path took.desktop refl get.1 took.leads alive))
       (focus-stacked d.pointer (all_windows d) t took.settled has)
 
   pub put-placed : put.pointer.place ≢ None
@@ -159,7 +161,7 @@ module _ (c id : ℕ) (old mid : MarkedDesk) (d : Desktop) (took : Took c (NewPo
   module _ (n : Midstep)
       (tells : Tells (drawing true) (λ (r : Resident). entered_at id r.peer.serial put.pointer.place (focus_window (Some t) (all_windows put))) t.client (unstruck put) n)
       (told : MarkedDesk) (telling : IsTelling told.desk n) (pointer : told.desk.pointer ≡ mid.desk.pointer) (damage : told.damage ≡ mid.damage) where
-    tells-new : TellsNew id c (put_back served_now c d took.desktop) n
+    tells-new : TellsNew id c (put_back nothing_left_out c d took.desktop) n
     tells-new =
         subst (λ (x : Desktop). TellsNew id c x n) (sym put-is)
         (subst (λ (k : ℕ). Tells (drawing true) (new_entered id put) k (unstruck put) n) own
@@ -178,14 +180,13 @@ module _ (c id : ℕ) (old mid : MarkedDesk) (d : Desktop) (took : Took c (NewPo
       placed = placed-as put n.desktop still
           (tells-shows (drawing true) (λ (r : Resident). entered_at id r.peer.serial put.pointer.place (focus_window (Some t) (all_windows put))) (λ r. refl) t.client (unstruck put) n tells).standing
           put-midway.placed;
-      nowhere = λ none. absurd (put-placed (sym (ap (λ (p : Pointer). p.place) still) ∙ none));
     }
 
     first : MarksThrough d (n.desktop ∷ []) old.damage told.damage
     first =
         marks-to d (n.desktop ∷ []) old.damage mid.damage told.damage damage
         (marks-as d (unpointed d) (n.desktop ∷ []) took.path old.damage mid.damage
-        (told-marks served_now c id get.0 d took.path took.desktop n took.placed.moved get.1 has-focus took.leads tells-new (agrees-apart mid.desk.kept took.desktop took.kept)) took.marks)
+        (told-marks nothing_left_out c id get.0 d took.path took.desktop n took.placed.moved get.1 has-focus took.leads tells-new (agrees-apart mid.desk.kept took.desktop took.kept)) took.marks)
 
     sides : IsAsLarge old.damage told.damage
     sides = subst (λ (v : Damaged). IsAsLarge old.damage v) (sym damage) took.sides
@@ -196,7 +197,7 @@ module _ (c id : ℕ) (old mid : MarkedDesk) (d : Desktop) (took : Took c (NewPo
       start = n.desktop;
       last = refl;
       leads = λ later last settles.
-          on-queued served_now c id get.0 d took.path took.desktop n took.placed.moved get.1 has-focus took.leads tells-new none later last settles;
+          on-queued nothing_left_out c id get.0 d took.path took.desktop n took.placed.moved get.1 has-focus took.leads tells-new none later last settles;
       midway = subst (λ (ss : List Strike). IsMidway told.desk (record { desktop = n.desktop; struck = ss })) none told-midway;
       marks = first;
       sides = sides;
@@ -209,7 +210,7 @@ module _ (c id : ℕ) (old mid : MarkedDesk) (d : Desktop) (took : Took c (NewPo
       start = ended_by s n.desktop;
       last = refl;
       leads = λ later last settles.
-          on-refused served_now c id get.0 d took.path took.desktop n took.placed.moved get.1 has-focus took.leads tells-new s one later last settles;
+          on-refused nothing_left_out c id get.0 d took.path took.desktop n took.placed.moved get.1 has-focus took.leads tells-new s one later last settles;
       midway = midway;
       marks = marks-then d n.desktop (n.desktop ∷ []) (ended_by s n.desktop ∷ []) old.damage told.damage new.damage sides refl first marks;
       sides = larger old.damage told.damage new.damage sides large;

@@ -15,7 +15,7 @@ use Rattle.wl_plain.specs.Changing.{without_callbacks}
 use Rattle.wl_plain.specs.Desktop.{Desktop, Resident, client_at, status_in, status_of, unpointed, with_client}
 use Rattle.wl_plain.specs.Happenings.{Happening, Leads, Single}
 use Rattle.wl_plain.specs.Happens.{TellsFrames, callbacks_due, frames_told}
-use Rattle.wl_plain.specs.LeftOut.{served_now}
+use Rattle.wl_plain.specs.LeftOut.{nothing_left_out}
 use Rattle.wl_plain.specs.Settling.{Applies, AppliesAll, Midstep, Settles, Strike, Tells, TellsAt, TellsUnless, ended_all, ended_by, is_struck, unstruck}
 use Rattle.wl_plain.specs.Stacked.{all_windows}
 use Rattle.wl_plain.specs.Through.{EndsFirstThrough, HappensThrough, SettlesAllThrough}
@@ -34,10 +34,12 @@ use Rattle.wl_clients.specs.Agreeing.{Agrees as KeptAgrees}
 use Rattle.wl_clients.specs.Framing.{HasSame, MarksIfEnds}
 use Rattle.wl_clients.specs.Leading.{Led}
 use Rattle.wl_clients.specs.Marking.{MarksThrough}
-use Rattle.wl_desk.specs.Agreeing.{Agrees, AreSeats}
+use Rattle.wl_clients.specs.declared.grabs.Latest.{Latest}
+use Rattle.wl_desk.specs.Agreeing.{Agrees, AreLatest, AreSeats}
 use Rattle.wl_desk.specs.Midway.{IsMidway, SettlesDown}
 use Rattle.wl_desk.specs.View.{MarkedDesk}
 use Rattle.wl_desk.proofs.Ending.{begins}
+use Rattle.wl_desk.proofs.LatestStay.{latest-stay, tick-keeps}
 use Rattle.wl_desk.proofs.Leading.{leads-on, leads-to}
 use Rattle.wl_desk.proofs.Placed.{frame-placed}
 use Rattle.wl_desk.proofs.SeatsStay.{KeepsSeats, seats-stay}
@@ -116,7 +118,7 @@ all-end (s ∷ ss) d struck c why is =
     let after : Follows (s ∷ ss) d.clients ss (ended_by s d).clients = ended-after s ss d struck in
     all-end ss (ended_by s d) after.sound c why (after.keeps c why is)
 
-pub frame-ended : (time : ℕ) (done : Done) (d : Desktop) (path : List Desktop) (e : Desktop) → d.pointer ≡ first_pointer → HappensThrough served_now (Tick time) done d path e
+pub frame-ended : (time : ℕ) (done : Done) (d : Desktop) (path : List Desktop) (e : Desktop) → d.pointer ≡ first_pointer → HappensThrough nothing_left_out (Tick time) done d path e
     → (c : ℕ) (why : Cause) → status_in c d ≡ Some why → status_in c e ≡ Some why
 frame-ended time done d path e still h c why is =
     let told : Midstep = h.1.0 in
@@ -137,7 +139,7 @@ frame-keeps-seats : (time : ℕ) → KeepsSeats (Single (Tick time) gave.Tick)
 frame-keeps-seats time k = (λ e. absurd (cc), λ e. absurd (cc))
 
 -- where nobody ended in the whole step, nobody did by the frame
-module _ (time : ℕ) (d : Desktop) (aside : List Desktop) (e : Desktop) (leads : Leads served_now (Single (Tick time) gave.Tick) (unpointed d) aside e) (n : ℕ) (start mid last : Midstep)
+module _ (time : ℕ) (d : Desktop) (aside : List Desktop) (e : Desktop) (leads : Leads nothing_left_out (Single (Tick time) gave.Tick) (unpointed d) aside e) (n : ℕ) (start mid last : Midstep)
     (rounds : List Desktop) (each : AreRounds n start rounds mid) (settles : Settles mid last) (none : start.struck ≡ []) (first : StatusesStay e start.desktop)
     (same : StatusesStay d last.desktop) where
   mid-same : (c : ℕ) → status_in c mid.desktop ≡ status_in c d
@@ -180,19 +182,21 @@ module _ (time : ℕ) (d : Desktop) (aside : List Desktop) (e : Desktop) (leads 
 -- The clients are told of the frame; the pointer leaves those that ended, and its focus is settled.
 pub frames-lead : (time : ℕ) (d : Desktop) (old mid new : MarkedDesk) → Agrees old.desk d
     → (led : Led (KeptAgrees mid.desk.kept) (Single (Tick time) gave.Tick) old.damage mid.damage (unpointed d)) → MarksIfEnds (unpointed d) led.desktop old.damage mid.damage
-    → IsAsLarge old.damage mid.damage → mid.desk.seats ≡ old.desk.seats → mid.desk.pointer ≡ pointer_left d led.desktop
+    → IsAsLarge old.damage mid.damage → mid.desk.seats ≡ old.desk.seats → mid.desk.latest ≡ old.desk.latest → mid.desk.pointer ≡ pointer_left d led.desktop
     → ((m : Midstep) → IsMidway mid.desk m → SettlesDown mid new m)
     → (led : Led (Agrees new.desk) (Single (Tick time) gave.Tick) old.damage new.damage d) × MarksIfEnds d led.desktop old.damage new.damage
-frames-lead time d old mid new a led quiet large seats pointer settles =
+frames-lead time d old mid new a led quiet large seats latest pointer settles =
     let p : Pointer = pointer_left d led.desktop in
     let start : Midstep = unstruck (pointed p led.desktop) in
     let midway : IsMidway mid.desk start =
     begins mid.desk p led.desktop led.agrees pointer (frame-placed time gave.Tick d led.path led.desktop led.leads a.placed)
     (subst (λ (s : List (List ℕ)). AreSeats s led.desktop) (sym seats)
-    (seats-stay old.desk.seats (Single (Tick time) gave.Tick) d led.path led.desktop (frame-keeps-seats time) a.seats led.leads)) in
+    (seats-stay old.desk.seats (Single (Tick time) gave.Tick) d led.path led.desktop (frame-keeps-seats time) a.seats led.leads))
+    (subst (λ (l : List Latest). AreLatest l (unstruck led.desktop)) (sym latest)
+    (latest-stay old.desk.latest (Single (Tick time) gave.Tick) d led.path led.desktop (tick-keeps time) a.latest led.leads)) in
     let down = settles start midway in
     let tick : Happening = Single (Tick time) gave.Tick in
-    let on = frames-apart served_now time gave.Tick d led.path led.desktop led.leads in (
+    let on = frames-apart nothing_left_out time gave.Tick d led.path led.desktop led.leads in (
       leads-on tick (λ e. pointer_left d e) d led.path led.desktop old.damage mid new on large led.marks midway down refl,
       λ same x y wide high.
           let last = leads-to tick (λ e. pointer_left d e) d led.path led.desktop old.damage mid new on large led.marks midway down refl in

@@ -6,7 +6,7 @@ use Rattle.wl_marking.specs.Marking.{IsAsLarge}
 use Rattle.wl_stacking.specs.Pointer.{Pointer}
 use Rattle.wl_plain.specs.Desktop.{Desktop, unpointed}
 use Rattle.wl_plain.specs.Happenings.{Happening, Leads}
-use Rattle.wl_plain.specs.LeftOut.{served_now}
+use Rattle.wl_plain.specs.LeftOut.{nothing_left_out}
 use Rattle.wl_plain.specs.Marks.{AreDistinct}
 use Rattle.wl_plain.specs.Moments.{marks_at_least_through, marks_at_most_through}
 use Rattle.wl_plain.specs.Settling.{Midstep, Strike, unstruck}
@@ -23,7 +23,7 @@ use Rattle.wl_clients.specs.Midway.{IsMid, opened_desk}
 use Rattle.wl_clients.specs.View.{DeskView as ClientsView}
 use Rattle.wl_clients.proofs.Agreed.{agrees-apart}
 use Rattle.wl_clients.proofs.Midway.{mid_begins_and_ends}
-use Rattle.wl_desk.specs.Agreeing.{Agrees}
+use Rattle.wl_desk.specs.Agreeing.{Agrees, AreLatest}
 use Rattle.wl_desk.specs.Midway.{IsMidway, SettlesDown}
 use Rattle.wl_desk.specs.View.{DeskView, MarkedDesk}
 use Rattle.wl_desk.proofs.Unraised.{marks-raised}
@@ -42,6 +42,7 @@ midway-agrees v m midway over settled = record {
   pointer = midway.pointer;
   placed = midway.placed;
   seats = midway.telling.seats;
+  latest = subst (λ (ss : List Strike). AreLatest v.latest (record { desktop = m.desktop; struck = ss })) over midway.telling.latest;
   settled = settled;
 }
 
@@ -88,11 +89,11 @@ marks-both d aside start rounds path old mid new large first second both x y wid
 
 -- What is led to with the pointer put aside, and then with the pointer put back through these rounds, is led to.
 pub leads-on : (h : Happening) (p : Desktop → Pointer) (d : Desktop) (aside : List Desktop) (e : Desktop) (old : Damaged) (mid new : MarkedDesk)
-    → SettlesOn (λ a. pointed (p a) a) (Leads served_now h d) aside e → IsAsLarge old mid.damage → MarksThrough (unpointed d) aside old mid.damage
+    → SettlesOn (λ a. pointed (p a) a) (Leads nothing_left_out h d) aside e → IsAsLarge old mid.damage → MarksThrough (unpointed d) aside old mid.damage
     → IsMidway mid.desk (unstruck (pointed (p e) e)) → SettlesDown mid new (unstruck (pointed (p e) e)) → raised_by h d ≡ None
     → Led (Agrees new.desk) h old new.damage d
 leads-on h p d aside e old mid new on large marks midway down none =
-    let step = steps-by-rounds served_now h p d aside e down.rounds down.mid down.last on
+    let step = steps-by-rounds nothing_left_out h p d aside e down.rounds down.mid down.last on
     (record { count = down.count; few = down.few; each = down.each; settles = down.settles; over = down.over }) in
     record {
       path = step.0;
@@ -106,7 +107,7 @@ leads-on h p d aside e old mid new on large marks midway down none =
 
 -- It is led to the last of them.
 pub leads-to : (h : Happening) (p : Desktop → Pointer) (d : Desktop) (aside : List Desktop) (e : Desktop) (old : Damaged) (mid new : MarkedDesk)
-    (on : SettlesOn (λ a. pointed (p a) a) (Leads served_now h d) aside e) (large : IsAsLarge old mid.damage) (marks : MarksThrough (unpointed d) aside old mid.damage)
+    (on : SettlesOn (λ a. pointed (p a) a) (Leads nothing_left_out h d) aside e) (large : IsAsLarge old mid.damage) (marks : MarksThrough (unpointed d) aside old mid.damage)
     (midway : IsMidway mid.desk (unstruck (pointed (p e) e))) (down : SettlesDown mid new (unstruck (pointed (p e) e))) (none : raised_by h d ≡ None)
     → (leads-on h p d aside e old mid new on large marks midway down none).desktop ≡ down.last.desktop
 unfolding leads-on

@@ -17,9 +17,11 @@ pub mod Frames
 pub mod Holding
 pub mod Keeping
 pub mod Leading
+pub mod LatestStay
 pub mod LetGo
 pub mod Movables
 pub mod Moving
+pub mod Noting
 pub mod Numbers
 pub mod Onward
 pub mod OwnChange
@@ -27,6 +29,8 @@ pub mod Placed
 pub mod Points
 pub mod Presses
 pub mod Quiet
+pub mod Released
+pub mod Releasing
 pub mod Restacking
 pub mod Rests
 pub mod Rising

@@ -35,6 +35,7 @@ telling-at v d a = record {
   kept = (mid_begins_and_ends v.kept (unpointed d)).0 a.kept;
   place = ap (λ p. p.place) a.pointer;
   seats = a.seats;
+  latest = a.latest;
 }
 
 -- ---- the windows of a surface

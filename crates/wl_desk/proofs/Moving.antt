@@ -27,10 +27,12 @@ use Rattle.wl_pointed.specs.Pointed.{MovedStands}
 use Rattle.wl_pointed.proofs.Rounds.{motions-end}
 use Rattle.wl_clients.specs.Agreeing.{Agrees as KeptAgrees}
 use Rattle.wl_clients.specs.Leading.{Led}
+use Rattle.wl_clients.specs.declared.grabs.Latest.{Latest}
 use Rattle.wl_clients.specs.View.{MarkedDesk as KeptDesk}
 use Rattle.wl_desk.specs.Agreeing.{Agrees, LeadsBy}
 use Rattle.wl_desk.specs.Midway.{IsMidway, IsOfFocus, IsTelling, SettlesDown}
-use Rattle.wl_desk.specs.Restacking.{HasNumber, MarksChange, first_dragged, first_moved}
+use Rattle.wl_clients.specs.Raising.{MarksChange}
+use Rattle.wl_desk.specs.Restacking.{HasNumber, first_dragged, first_moved}
 use Rattle.wl_desk.specs.View.{DeskView, MarkedDesk}
 use Rattle.wl_desk.proofs.Calls.{Settles, desk_with}
 use Rattle.wl_desk.proofs.OwnChange.{all, own-leads, path}
@@ -151,7 +153,6 @@ module _ (time : ℕ) (x y : ℤ) (d : Desktop) (v : DeskView) (a : Agrees v d) 
     telling = telling;
     pointer = is;
     placed = record { nowhere = λ none. absurd (none-some there (sym none)); moved = acts-stand (GoTo there) (unstruck d) gone goes a.placed.moved };
-    nowhere = λ none. absurd (none-some there (sym none));
   }
 
   -- and when somebody has
@@ -163,7 +164,6 @@ module _ (time : ℕ) (x y : ℤ) (d : Desktop) (v : DeskView) (a : Agrees v d) 
         telling = telling;
         pointer = is ∙ sym has.pointer;
         placed = record { nowhere = λ none. absurd (none-some there (sym none ∙ place)); moved = acts-stand (Went time) moved n acts stands };
-        nowhere = λ none. absurd (none-some there (sym none ∙ place));
       }
 
   module _ (old : Damaged) (mid new : MarkedDesk) (n : Midstep) (acts : PointerActs (Went time) moved n) (midway : IsMidway mid.desk n) (large : IsAsLarge old mid.damage)
@@ -191,12 +191,12 @@ point-held k o x y i j same wide high d a =
     let output : output_of o ≡ d.output = ap (λ (s : Sides). output_of s) same ∙ a.matches.output in
     ap₂ place_at (wide ∙ ap (λ (b : Output). within b.width x) output) (high ∙ ap (λ (b : Output). within b.height y) output)
 
-pub moves : (time : ℕ) (x y : ℤ) (k : KeptDesk) (seats : List (List ℕ)) (p p1 p2 : Pointer) (at : Place) (drags : List PointerAction) (hit : Option Target) (stacked : Bool)
+pub moves : (time : ℕ) (x y : ℤ) (k : KeptDesk) (seats : List (List ℕ)) (latest : List Latest) (p p1 p2 : Pointer) (at : Place) (drags : List PointerAction) (hit : Option Target) (stacked : Bool)
     (does : List PointerAction) (gone-along told new : MarkedDesk)
     → ((d : Desktop) → KeptAgrees k.desk d → at ≡ point_in d.output x y) → p1 ≡ record p { place = Some at } → drags ≡ move_of p.place at p.move
-    → ((m : Midstep) → IsTelling (desk_with k seats p1).desk m → HasNumber (desk_with k seats p1).desk (first_moved drags)
+    → ((m : Midstep) → IsTelling (desk_with k seats latest p1).desk m → HasNumber (desk_with k seats latest p1).desk (first_moved drags)
     → IsTelling gone-along.desk (with_standing (first_dragged drags m.desktop.standing) m))
-    → ((m : Midstep) → IsTelling (desk_with k seats p1).desk m → HasNumber (desk_with k seats p1).desk (first_moved drags)
+    → ((m : Midstep) → IsTelling (desk_with k seats latest p1).desk m → HasNumber (desk_with k seats latest p1).desk (first_moved drags)
     → MarksChange None m.desktop (with_standing (first_dragged drags m.desktop.standing) m).desktop k.damage gone-along.damage)
     → IsAsLarge k.damage gone-along.damage → gone-along.desk.pointer ≡ p1
     → ((m : Midstep) → IsMidway gone-along.desk m → IsSeen hit stacked m.desktop.pointer (all_windows m.desktop))
@@ -205,21 +205,21 @@ pub moves : (time : ℕ) (x y : ℤ) (k : KeptDesk) (seats : List (List ℕ)) (p
     → ((m : Midstep) → IsTelling (record gone-along.desk { pointer = p2 }) m → m.desktop.pointer.place ≢ None → Each (IsOfFocus (all_windows m.desktop)) does
     → (n : Midstep) × AppliesAll (all_windows m.desktop) does m n × IsTelling told.desk n)
     → told.desk.pointer ≡ p2 → told.damage ≡ gone-along.damage → Settles told new
-    → LeadsBy (Single (Motion time x y) gave.Motion) (desk_with k seats p) new
-moves time x y k seats p p1 p2 at drags hit stacked does gone-along told new place goes drag along marks large same seen acts keeps tells stays damage settles d a =
-    let v : DeskView = (desk_with k seats p).desk in
+    → LeadsBy (Single (Motion time x y) gave.Motion) (desk_with k seats latest p) new
+moves time x y k seats latest p p1 p2 at drags hit stacked does gone-along told new place goes drag along marks large same seen acts keeps tells stays damage settles d a =
+    let v : DeskView = (desk_with k seats latest p).desk in
     let to : Pointer = pointer time x y d v a in
     let windows : List Window = ws time x y d v a in
     let start : Midstep = begun time x y d v a in
     let mid : Midstep = moved time x y d v a in
     let here : at ≡ there time x y d v a = place (unpointed d) a.kept in
     let first : p1 ≡ to = goes ∙ ap₂ (λ (q : Pointer) (b : Place). record q { place = Some b }) a.pointer here in
-    let telling : IsTelling (desk_with k seats p1).desk start = begins-telling k seats p p1 to d a (ap (λ (q : Pointer). q.place) first) in
+    let telling : IsTelling (desk_with k seats latest p1).desk start = begins-telling k seats latest p p1 to d a (ap (λ (q : Pointer). q.place) first) in
     let target : Place = there time x y d v a in
     let so : drags ≡ move_of d.pointer.place target d.pointer.move = drag ∙ ap₂ (λ (q : Pointer) (b : Place). move_of q.place b q.move) a.pointer here in
-    let number : HasNumber (desk_with k seats p1).desk (first_moved drags) =
-    subst (λ (xs : List PointerAction). HasNumber (desk_with k seats p1).desk (first_moved xs)) (sym so)
-    (dragged-number (desk_with k seats p1).desk d.pointer.place target d.pointer.move (number-on v (desk_with k seats p1).desk d.pointer.move refl (moved-number v d a))) in
+    let number : HasNumber (desk_with k seats latest p1).desk (first_moved drags) =
+    subst (λ (xs : List PointerAction). HasNumber (desk_with k seats latest p1).desk (first_moved xs)) (sym so)
+    (dragged-number (desk_with k seats latest p1).desk d.pointer.place target d.pointer.move (number-on v (desk_with k seats latest p1).desk d.pointer.move refl (moved-number v d a))) in
     let went : IsTelling gone-along.desk mid =
     subst (λ (xs : List PointerAction). IsTelling gone-along.desk (with_standing (first_dragged xs d.standing) start)) so (along start telling number) in
     let midway : IsMidway gone-along.desk mid = moved-midway time x y d v a gone-along.desk went (same ∙ first) in
@@ -227,7 +227,7 @@ moves time x y k seats p p1 p2 at drags hit stacked does gone-along told new pla
     let is-seen : IsSeen hit stacked gone-along.desk.pointer windows = subst (λ (q : Pointer). IsSeen hit stacked q windows) (sym second) (seen mid midway) in
     let done : does ≡ actions (Went time) to windows = acts windows is-seen ∙ ap (λ (q : Pointer). actions (Went time) q windows) second in
     let after : p2 ≡ record to { focus = settled to windows } = keeps windows is-seen ∙ ap (λ (q : Pointer). record q { focus = settled q windows }) second in
-    let t = tells mid (telling-same gone-along.desk (record gone-along.desk { pointer = p2 }) mid refl (ap (λ (q : Pointer). q.place) after ∙ sym (ap (λ (q : Pointer). q.place) second)) refl went)
+    let t = tells mid (telling-same gone-along.desk (record gone-along.desk { pointer = p2 }) mid refl (ap (λ (q : Pointer). q.place) after ∙ sym (ap (λ (q : Pointer). q.place) second)) refl refl went)
     (λ none. none-some (there time x y d v a) (sym none)) (subst (λ (xs : List PointerAction). Each (IsOfFocus windows) xs) (sym done) (is-each time x y d v a)) in
     let told-so : PointerActs (Went time) mid t.0 = subst (λ (xs : List PointerAction). AppliesAll windows xs mid t.0) done t.1 in
     let midway-told : IsMidway told.desk t.0 = is-midway time x y d v a told.desk t.0 midway.placed.moved told-so t.2 (stays ∙ after) in

@@ -10,7 +10,7 @@ use Rattle.wl_stacking.specs.Stacking.{Owned, Standing, root_of}
 use Rattle.wl_stacking.specs.Windows.{Window, windows}
 use Rattle.wl_plain.specs.Desktop.{Desktop}
 use Rattle.wl_plain.specs.Happenings.{Happening, Leads}
-use Rattle.wl_plain.specs.LeftOut.{served_now}
+use Rattle.wl_plain.specs.LeftOut.{nothing_left_out}
 use Rattle.wl_plain.specs.Marks.{Applied, at_least, at_most}
 use Rattle.wl_plain.specs.Moments.{history_of, is_applied_by, marks_at_least_of, marks_at_least_through, marks_at_most_of, marks_at_most_through}
 use Rattle.wl_plain.specs.Settling.{Midstep}
@@ -25,7 +25,7 @@ use Rattle.wl_clients.specs.Leading.{Led, raised_by}
 use Rattle.wl_clients.specs.Marking.{MarksThroughBy}
 use Rattle.wl_desk.specs.Agreeing.{Agrees}
 use Rattle.wl_desk.specs.Midway.{IsMidway, SettlesDown}
-use Rattle.wl_desk.specs.Restacking.{MarksChange}
+use Rattle.wl_clients.specs.Raising.{MarksChange}
 use Rattle.wl_desk.specs.View.{MarkedDesk}
 use Rattle.wl_desk.proofs.Leading.{midway-agrees}
 use Rattle.wl_desk.proofs.Restacking.{telling-apart}
@@ -105,7 +105,7 @@ module _ (raised : Option (ℕ × ℕ)) (d own : Desktop) (told : Midstep) (show
       )
 
   -- so it leads to the last of them
-  pub own-leads : (h : Happening) → raised ≡ raised_by h d → Leads served_now h d path down.last.desktop → Led (Agrees new.desk) h old new.damage d
+  pub own-leads : (h : Happening) → raised ≡ raised_by h d → Leads nothing_left_out h d path down.last.desktop → Led (Agrees new.desk) h old new.damage d
   own-leads h up leads = record {
     path = path;
     desktop = down.last.desktop;

@@ -1,8 +1,8 @@
 -- What is moved stands, and a pointer that isn't anywhere has no focus: where clients end, and where the focus is settled.
-use Rattle.std.proofs.Common.{◌≡◌, ◌≢◌, ℕ, List, [], ◌∷◌, ◌++◌, map, Bool, true, false, Option, Some, None, if◌then◌else◌, refl, ap, ap₂, subst, sym, ◌∙◌}
+use Rattle.std.proofs.Common.{◌≡◌, ℕ, List, [], ◌∷◌, ◌++◌, map, Bool, true, false, Option, Some, None, if◌then◌else◌, refl, ap, ap₂, subst, sym, ◌∙◌}
 use Rattle.std.specs.List.{list_any}
 use Rattle.wl_peer.specs.declared.cause.Cause.{Cause}
-use Rattle.wl_stacking.specs.Pointer.{Pointer, Target}
+use Rattle.wl_stacking.specs.Pointer.{Pointer, Target, settled}
 use Rattle.wl_stacking.specs.PointerActions.{PointerInput, Settle}
 use Rattle.wl_stacking.specs.Stacking.{Standing, is_of}
 use Rattle.wl_plain.specs.Changing.{kept_move}
@@ -10,10 +10,11 @@ use Rattle.wl_plain.specs.declared.answers.Done.{Done}
 use Rattle.wl_plain.specs.Act.{Tick}
 use Rattle.wl_plain.specs.Desktop.{Desktop, Resident, client_at, unpointed}
 use Rattle.wl_plain.specs.Happenings.{Happening, Leads, Single}
-use Rattle.wl_plain.specs.LeftOut.{served_now}
+use Rattle.wl_plain.specs.LeftOut.{nothing_left_out}
 use Rattle.wl_plain.specs.Settling.{Midstep, PointerActs, Settles, Strike, ended_at, ended_by, pointer_without, unless_of}
+use Rattle.wl_plain.specs.Stacked.{all_windows}
 use Rattle.wl_laws.specs.Focus.{IsSettled}
-use Rattle.wl_laws.proofs.Runs.Settled.{has-settled}
+use Rattle.wl_laws.proofs.Runs.Settled.{HasFocus, has-settled}
 use Rattle.wl_pointed.specs.Apart.{SettlesOn}
 use Rattle.wl_pointed.specs.Happenings.{IsEndOf, pointer_left, unless_ended}
 use Rattle.wl_pointed.specs.Pointed.{MovedStands, keeping, pointed, pointer_if}
@@ -24,6 +25,7 @@ use Rattle.wl_pointed.proofs.Pointers.{kept-without}
 use Rattle.wl_pointed.proofs.Rounds.{settled-at-once}
 use Rattle.wl_desk.specs.Agreeing.{IsPlaced}
 use Rattle.wl_desk.specs.Beginning.{begun}
+use Rattle.wl_desk.proofs.Points.{settled-nowhere}
 
 -- ---- what the pointer does
 
@@ -35,12 +37,16 @@ stands-on d e keeps stands =
 pub acts-stand : (input : PointerInput) (old new : Midstep) → PointerActs input old new → MovedStands old.desktop → MovedStands new.desktop
 acts-stand input old new acts stands = stands-on old.desktop new.desktop (acts-keep input old new acts) stands
 
--- where it is somewhere, and the focus is settled
-pub settled-placed : (m n : Midstep) → m.desktop.pointer.place ≢ None → Settles m n → IsPlaced m.desktop → IsPlaced n.desktop
-settled-placed m n some settles placed = record {
-  nowhere = λ none. absurd (some (sym (ap (λ (p : Pointer). p.place) (has-settled m n settles).pointer) ∙ none));
-  moved = acts-stand Settle m n settles placed.moved;
-}
+-- where the focus is settled
+pub settled-placed : (m n : Midstep) → Settles m n → IsPlaced m.desktop → IsPlaced n.desktop
+settled-placed m n settles placed =
+    let has : HasFocus (settled m.desktop.pointer (all_windows m.desktop)) m n = has-settled m n settles in
+    record {
+      nowhere = λ none.
+          let there : m.desktop.pointer.place ≡ None = sym (ap (λ (p : Pointer). p.place) has.pointer) ∙ none in
+          ap (λ (p : Pointer). p.focus) has.pointer ∙ settled-nowhere m.desktop.pointer (all_windows m.desktop) there (placed.nowhere there);
+      moved = acts-stand Settle m n settles placed.moved;
+    }
 
 -- with the same pointer, where the same toplevels stand
 pub placed-as : (d e : Desktop) → e.pointer ≡ d.pointer → e.standing ≡ d.standing → IsPlaced d → IsPlaced e
@@ -69,25 +75,25 @@ nowhere d = pointed (record { place = None; buttons = []; hold = None; focus = N
 
 -- A step with the pointer put aside, and then put back: nothing is settled where the pointer is nowhere, and what is moved stands.
 stands-back : (h : Happening) (d : Desktop) (put : Desktop → Desktop) (path : List Desktop) (e : Desktop) → MovedStands (nowhere d) → IsSettled (put e)
-    → SettlesOn put (Leads served_now h (nowhere d)) path e → MovedStands (put e)
+    → SettlesOn put (Leads nothing_left_out h (nowhere d)) path e → MovedStands (put e)
 stands-back h d put path e stands still on =
-    moved-stands-on.1 served_now h (nowhere d) (map put on.0 ++ put e ∷ put e ∷ []) (put e) stands (on.2 (put e ∷ []) (put e) (settled-at-once (put e) still))
+    moved-stands-on.1 nothing_left_out h (nowhere d) (map put on.0 ++ put e ∷ put e ∷ []) (put e) stands (on.2 (put e ∷ []) (put e) (settled-at-once (put e) still))
 
 -- the pointer leaves a client that ends
-pub end-placed : (c : ℕ) (h : Happening) (d : Desktop) (path : List Desktop) (e : Desktop) → IsEndOf c h → Leads served_now h (unpointed d) path e → IsPlaced d
+pub end-placed : (c : ℕ) (h : Happening) (d : Desktop) (path : List Desktop) (e : Desktop) → IsEndOf c h → Leads nothing_left_out h (unpointed d) path e → IsPlaced d
     → IsPlaced (pointed (pointer_without c d.pointer) e)
 end-placed c h d path e end leads placed = record {
   nowhere = λ none. ap (unless_of c) (placed.nowhere none);
-  moved = stands-back h d (pointed (pointer_without c (nowhere d).pointer)) path e placed.moved refl (ends-apart served_now c h (nowhere d) path e end leads);
+  moved = stands-back h d (pointed (pointer_without c (nowhere d).pointer)) path e placed.moved refl (ends-apart nothing_left_out c h (nowhere d) path e end leads);
 }
 
 -- or those that end where a frame is shown
-pub frame-placed : (time : ℕ) (done : Done) (d : Desktop) (path : List Desktop) (e : Desktop) → Leads served_now (Single (Tick time) done) (unpointed d) path e → IsPlaced d
+pub frame-placed : (time : ℕ) (done : Done) (d : Desktop) (path : List Desktop) (e : Desktop) → Leads nothing_left_out (Single (Tick time) done) (unpointed d) path e → IsPlaced d
     → IsPlaced (pointed (pointer_left d e) e)
 frame-placed time done d path e leads placed = record {
   nowhere = λ none. ap (unless_ended d e) (placed.nowhere none);
   moved = stands-back (Single (Tick time) done) d (λ x. pointed (pointer_left (nowhere d) x) x) path e placed.moved refl
-      (frames-apart served_now time done (nowhere d) path e leads);
+      (frames-apart nothing_left_out time done (nowhere d) path e leads);
 }
 
 -- ---- after a message

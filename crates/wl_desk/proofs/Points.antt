@@ -1,16 +1,14 @@
 -- Where the pointer is in a surface, and what it hits.
-use Rattle.std.proofs.Common.{◌≡◌, ◌≢◌, ℕ, List, [], ◌∷◌, ◌++◌, Bool, true, false, Option, Some, None, refl, ap, subst, sym, inl, inr}
-use Rattle.std.specs.Prelude.{ℤ, ◌==◌, ◌&&◌, ◌||◌, ◌⊎◌, cond, fold, if◌then◌else◌, is_none}
-use Rattle.std.specs.Option.{option_map}
+use Rattle.std.proofs.Common.{◌≡◌, ◌≢◌, ℕ, List, [], ◌∷◌, ◌++◌, Bool, true, false, Option, Some, None, refl, ap, ap₂, subst, sym, ◌∙◌, inl, inr}
+use Rattle.std.specs.Prelude.{ℤ, ◌==◌, ◌&&◌, ◌||◌, ◌⊎◌, cond, fold, if◌then◌else◌}
 use Rattle.std.proofs.lemmas.Bool.{eqb-true}
 use Rattle.wl_stacking.specs.Pointer.{Pointer, Target, fixed_from, hit_by, is_same, is_stacked, kept_focus, settled, settled_focus, target_of}
 use Rattle.wl_stacking.specs.PointerActions.{PointerAction, Settle, actions, enter_of, leave_of}
 use Rattle.wl_stacking.specs.Windows.{Place, Window, hit, hit_after, is_hit}
-use Rattle.wl_scene.specs.Focus.{place_of}
-use Rattle.wl_scene.specs.declared.focus.Point.{Point}
 use Rattle.wl_plain.specs.Replies.{focus_window}
-use Rattle.wl_laws.proofs.Lists.Keys.{found-passes, some-same}
+use Rattle.wl_laws.proofs.Lists.Keys.{found-passes, none-some, some-same}
 use Rattle.wl_laws.proofs.Marks.Stacks.{Each, and-both, and-right, same-number}
+use Rattle.wl_desk.specs.Doing.{IsTellable}
 use Rattle.wl_desk.specs.Points.{point_told}
 
 -- a window is that of this surface
@@ -160,12 +158,13 @@ settles-each P p ws left entered =
     each-unless P (is_same p.focus (settled p ws)) (leave_of p.focus ++ enter_of (settled p ws))
     (each-turn P p.focus (settled p ws) (λ u e. left u) (λ u e. entered u (settled-stacked p ws u e)))
 
--- ---- the place
-
-pub no-place : (o : Option Point) → is_none o ≡ true → None ≡ option_map place_of o
-no-place None e = refl
-no-place (Some p) e = absurd (cc)
-
-pub some-place : (o : Option Point) → is_none o ≡ false → option_map place_of o ≢ None
-some-place None e none = absurd (cc)
-some-place (Some p) e none = absurd (cc)
+-- Each of that can be told: where the pointer isn't anywhere and nothing has the focus, none of it is done.
+pub settles-tellable : (p : Pointer) (ws : List Window) → (p.place ≡ None → p.focus ≡ None) → Each (IsTellable p.place ws) (actions Settle p ws)
+settles-tellable p ws known = at p.place refl
+  where
+    at : (place : Option Place) → p.place ≡ place → Each (IsTellable p.place ws) (actions Settle p ws)
+    at None nowhere =
+        subst (λ (xs : List PointerAction). Each (IsTellable p.place ws) xs)
+        (sym (ap₂ (λ (s t : Option Target). if is_same s t then [] else leave_of s ++ enter_of t) (known nowhere) (settled-nowhere p ws nowhere (known nowhere)))) tt
+    at (Some there) somewhere =
+        settles-each (IsTellable p.place ws) p ws (λ t. (tt, tt)) (λ t stacked. ((λ none. none-some there (sym none ∙ somewhere), stacked), tt))

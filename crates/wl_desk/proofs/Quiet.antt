@@ -11,7 +11,7 @@ use Rattle.wl_plain.specs.Act.{Connect, Feed, Store, Leave, Tick, Send, Close, M
 use Rattle.wl_plain.specs.Desktop.{Desktop, Resident, arrival, client_at, toplevels_of, unpointed, with_client}
 use Rattle.wl_plain.specs.Happenings.{Happening, Leads, Message, Receive, ReceivesAt, Single, Starve}
 use Rattle.wl_plain.specs.Happens.{ChangesThen, ConnectsThen, LeavesThen}
-use Rattle.wl_plain.specs.LeftOut.{LeftOut, served_now}
+use Rattle.wl_plain.specs.LeftOut.{LeftOut, nothing_left_out}
 use Rattle.wl_plain.specs.Settling.{Midstep, unstruck}
 use Rattle.wl_plain.specs.Step.{with_peer}
 use Rattle.wl_plain.specs.Through.{ending_through, settling_through}
@@ -27,7 +27,7 @@ use Rattle.wl_pointed.proofs.Moved.{moved-stands-on}
 use Rattle.wl_clients.specs.Agreeing.{Agrees as KeptAgrees}
 use Rattle.wl_clients.specs.Leading.{Led, raised_by}
 use Rattle.wl_clients.specs.Marking.{MarksThrough}
-use Rattle.wl_desk.specs.Agreeing.{Agrees, AreSeats}
+use Rattle.wl_desk.specs.Agreeing.{Agrees, AreLatest, AreSeats}
 use Rattle.wl_desk.specs.View.{MarkedDesk}
 use Rattle.wl_desk.proofs.Leading.{kept-aside}
 use Rattle.wl_desk.proofs.Unraised.{marks-raised, marks-unraised, quiet-unraised}
@@ -115,12 +115,13 @@ same-settled d e same is = is ∙ ap (settled d.pointer) (sym (same-windows d e 
 
 -- What is kept of the clients is led on to, and the pointer stays.
 pub quiet-leads : (h : Happening) (d : Desktop) (old new : MarkedDesk) → is_quiet h ≡ true → Agrees old.desk d → (led : Led (KeptAgrees new.desk.kept) h old.damage new.damage (unpointed d))
-    → new.desk.pointer ≡ old.desk.pointer → AreSeats new.desk.seats led.desktop → Led (Agrees new.desk) h old.damage new.damage d
-quiet-leads h d old new quiet a led stays seats =
+    → new.desk.pointer ≡ old.desk.pointer → AreSeats new.desk.seats led.desktop → AreLatest new.desk.latest (unstruck led.desktop)
+    → Led (Agrees new.desk) h old.damage new.damage d
+quiet-leads h d old new quiet a led stays seats latest =
     let e : Desktop = led.desktop in
-    let shows = quiet-shows served_now h (unpointed d) led.path e quiet (ended-bare (unpointed d) a.kept.ordered) led.leads in
+    let shows = quiet-shows nothing_left_out h (unpointed d) led.path e quiet (ended-bare (unpointed d) a.kept.ordered) led.leads in
     let same : ShowsSame d e = record { standing = shows.1.standing; owned = shows.1.owned } in
-    let on : Leads served_now h d (pointed d.pointer e ∷ []) (pointed d.pointer e) = quiet-apart served_now h d led.path e quiet led.leads in
+    let on : Leads nothing_left_out h d (pointed d.pointer e ∷ []) (pointed d.pointer e) = quiet-apart nothing_left_out h d led.path e quiet led.leads in
     record {
       path = pointed d.pointer e ∷ [];
       desktop = pointed d.pointer e;
@@ -128,8 +129,9 @@ quiet-leads h d old new quiet a led stays seats =
       agrees = record {
         kept = kept-aside new.desk.kept d.pointer e led.agrees;
         pointer = stays ∙ a.pointer;
-        placed = record { nowhere = a.placed.nowhere; moved = moved-stands-on.1 served_now h d (pointed d.pointer e ∷ []) (pointed d.pointer e) a.placed.moved on };
+        placed = record { nowhere = a.placed.nowhere; moved = moved-stands-on.1 nothing_left_out h d (pointed d.pointer e ∷ []) (pointed d.pointer e) a.placed.moved on };
         seats = seats;
+        latest = latest;
         settled = same-settled d e same a.settled;
       };
       marks = marks-raised (raised_by h d) d (pointed d.pointer e ∷ []) old.damage new.damage (quiet-unraised h d quiet)

@@ -32,9 +32,11 @@ use Rattle.wl_clients.specs.Midway.{IsMid, opened_desk}
 use Rattle.wl_clients.specs.View.{DeskView as ClientsView}
 use Rattle.wl_clients.proofs.Agreed.{agrees-apart}
 use Rattle.wl_clients.proofs.Midway.{mid_is_numbered_once}
-use Rattle.wl_desk.specs.Agreeing.{Agrees, AreSeats}
+use Rattle.wl_clients.specs.declared.grabs.Latest.{Latest}
+use Rattle.wl_desk.specs.Agreeing.{Agrees, AreLatest, AreSeats}
 use Rattle.wl_desk.specs.Midway.{IsTelling, unpointed_mid}
-use Rattle.wl_desk.specs.Restacking.{HasNumber, MarksChange, dragged, first_dragged, first_moved, moved_of}
+use Rattle.wl_clients.specs.Raising.{MarksChange}
+use Rattle.wl_desk.specs.Restacking.{HasNumber, dragged, first_dragged, first_moved, moved_of}
 use Rattle.wl_desk.specs.View.{DeskView}
 
 -- ---- the toplevel that is hit
@@ -113,13 +115,14 @@ moved-number v d a = at d.pointer.move a.placed.moved
 -- ---- what is kept
 
 -- where other toplevels stand
-pub telling-stack : (v w : DeskView) (standing : List Standing) (m : Midstep) → w.seats ≡ v.seats → w.pointer.place ≡ v.pointer.place → IsTelling v m
+pub telling-stack : (v w : DeskView) (standing : List Standing) (m : Midstep) → w.seats ≡ v.seats → w.latest ≡ v.latest → w.pointer.place ≡ v.pointer.place → IsTelling v m
     → IsMid w.kept (with_standing standing (unpointed_mid m)) → IsTelling w (with_standing standing m)
-telling-stack v w standing m seats place telling kept =
+telling-stack v w standing m seats latest place telling kept =
     record {
       kept = kept;
       place = place ∙ telling.place;
       seats = subst (λ (ss : List (List ℕ)). AreSeats ss m.desktop) (sym seats) telling.seats;
+      latest = subst (λ (l : List Latest). AreLatest l m) (sym latest) telling.latest;
     }
 
 -- no surface has two windows
@@ -144,12 +147,12 @@ change-none raised d old apart = (
 -- ---- a toplevel is moved
 
 module _ (t : Target) (x y i j : ℤ) (across : i ≡ x) (down : j ≡ y) where
-  pub moved-telling : (v w : DeskView) (m : Midstep) → w.seats ≡ v.seats → w.pointer.place ≡ v.pointer.place → IsTelling v m
+  pub moved-telling : (v w : DeskView) (m : Midstep) → w.seats ≡ v.seats → w.latest ≡ v.latest → w.pointer.place ≡ v.pointer.place → IsTelling v m
       → IsMid w.kept (with_standing (moved_standing t i j m.desktop.standing) (unpointed_mid m)) → IsTelling w (with_standing (moved_standing t x y m.desktop.standing) m)
-  moved-telling v w m seats place telling kept =
+  moved-telling v w m seats latest place telling kept =
       subst (λ (z : ℤ). IsTelling w (with_standing (moved_standing t x z m.desktop.standing) m)) down
       (subst (λ (z : ℤ). IsTelling w (with_standing (moved_standing t z j m.desktop.standing) m)) across
-      (telling-stack v w (moved_standing t i j m.desktop.standing) m seats place telling kept))
+      (telling-stack v w (moved_standing t i j m.desktop.standing) m seats latest place telling kept))
 
   pub moved-change : (d : Desktop) (old new : Damaged) → MarksChange None d (record d { standing = moved_standing t i j d.standing }) old new
       → MarksChange None d (record d { standing = moved_standing t x y d.standing }) old new

@@ -1,7 +1,7 @@
 -- The focus is settled, and clients end, round by round.
-use Rattle.std.proofs.Common.{◌≡◌, ◌≢◌, ℕ, zero, suc, ◌<◌, ◌≤◌, List, [], ◌∷◌, ◌++◌, Bool, true, false, Option, Some, None, refl, ap, subst, sym, ◌∙◌}
+use Rattle.std.proofs.Common.{◌≡◌, ℕ, zero, suc, ◌<◌, ◌≤◌, List, [], ◌∷◌, ◌++◌, Bool, true, false, Option, Some, None, refl, ap, subst, sym, ◌∙◌}
 use Rattle.std.proofs.Common.{length, arith, inl, inr}
-use Rattle.std.specs.Prelude.{◌⊎◌, ◌||◌, pos}
+use Rattle.std.specs.Prelude.{◌⊎◌, ◌||◌, filter, pos}
 use Rattle.wl_paint.specs.Damage.{Damaged, has}
 use Rattle.wl_marking.specs.Marking.{IsAsLarge}
 use Rattle.wl_peer.specs.Told.{Said}
@@ -13,25 +13,27 @@ use Rattle.wl_plain.specs.Marks.{AreDistinct}
 use Rattle.wl_plain.specs.Moments.{marks_at_least_of, marks_at_least_through, marks_at_most_of, marks_at_most_through}
 use Rattle.wl_plain.specs.Settling.{Applies, AppliesAll, Midstep, Settles, Strike, Tells, TellsAt, TellsUnless, ended_at, ended_by}
 use Rattle.wl_plain.specs.Stacked.{all_windows}
-use Rattle.wl_laws.specs.Focus.{IsSettled}
 use Rattle.wl_laws.proofs.Marks.Stacks.{Each}
 use Rattle.wl_laws.proofs.Runs.Fates.{number-long}
 use Rattle.wl_laws.proofs.Runs.Focus.{settles-keeps}
 use Rattle.wl_laws.proofs.Runs.Settled.{HasFocus, has-settled}
 use Rattle.wl_pointed.specs.Rounds.{AreRounds, IsRound}
-use Rattle.wl_pointed.proofs.Rounds.{rounds-are-few, settles-idly}
+use Rattle.wl_pointed.proofs.Rounds.{rounds-are-few}
 use Rattle.wl_pointed.proofs.Marking.{rounds-mark-in-turn}
 use Rattle.wl_clients.specs.Marking.{MarksThrough}
 use Rattle.wl_clients.proofs.Agreed.{agrees-apart}
 use Rattle.wl_clients.specs.Midway.{first_struck, opened_desk}
+use Rattle.wl_clients.specs.declared.grabs.Latest.{Latest}
 use Rattle.wl_clients.specs.View.{DeskView as KeptView}
+use Rattle.wl_desk.specs.Doing.{IsTellable, is_told}
 use Rattle.wl_desk.specs.Midway.{IsMidway, IsOfFocus, IsTelling, SettlesDown, unpointed_mid}
 use Rattle.wl_desk.specs.View.{DeskView, MarkedDesk}
 use Rattle.wl_scene.specs.Focus.{IsSeen}
+use Rattle.wl_desk.proofs.Applying.{focus-told}
 use Rattle.wl_desk.proofs.Telling.{seen}
 use Rattle.wl_desk.proofs.Ended.{first-of, mid-long, midway-to-end, none-first}
 use Rattle.wl_desk.proofs.Placed.{settled-placed}
-use Rattle.wl_desk.proofs.Points.{settled-nowhere, settles-each}
+use Rattle.wl_desk.proofs.Points.{settles-each, settles-tellable}
 use Rattle.wl_desk.proofs.Rests.{IsLeft, left-all}
 
 -- ---- the focus is settled once
@@ -40,25 +42,24 @@ use Rattle.wl_desk.proofs.Rests.{IsLeft, left-all}
 pub settles-of : (p : Pointer) (ws : List Window) → Each (IsOfFocus ws) (actions Settle p ws)
 settles-of p ws = settles-each (IsOfFocus ws) p ws (λ t. (tt, tt)) (λ t stacked. (stacked, tt))
 
-pub settled-midway : (old new : DeskView) (m n : Midstep) → IsMidway old m → m.desktop.pointer.place ≢ None → Settles m n → IsTelling new n
+pub settled-midway : (old new : DeskView) (m n : Midstep) → IsMidway old m → Settles m n → IsTelling new n
     → new.pointer ≡ record old.pointer { focus = settled old.pointer (all_windows m.desktop) } → IsMidway new n
-settled-midway old new m n midway some settles telling pointer =
+settled-midway old new m n midway settles telling pointer =
     let has : HasFocus (settled m.desktop.pointer (all_windows m.desktop)) m n = has-settled m n settles in
     record {
       telling = telling;
       pointer = pointer ∙ ap (λ (p : Pointer). record p { focus = settled p (all_windows m.desktop) }) midway.pointer ∙ sym has.pointer;
-      placed = settled-placed m n some settles midway.placed;
-      nowhere = λ e. absurd (some (sym (ap (λ (p : Pointer). p.place) has.pointer) ∙ e));
+      placed = settled-placed m n settles midway.placed;
     }
 
 -- by what the pointer does, and what is promised of that
-module _ (kept : KeptView) (seats : List (List ℕ)) (p q : Pointer) (hit : Option Target) (stacked : Bool) (acts : List PointerAction) (new : DeskView)
-    (sees : (m : Midstep) → IsMidway (seen kept seats p) m → IsSeen hit stacked m.desktop.pointer (all_windows m.desktop))
+module _ (kept : KeptView) (seats : List (List ℕ)) (latest : List Latest) (p q : Pointer) (hit : Option Target) (stacked : Bool) (acts : List PointerAction) (new : DeskView)
+    (sees : (m : Midstep) → IsMidway (seen kept seats latest p) m → IsSeen hit stacked m.desktop.pointer (all_windows m.desktop))
     (does : (ws : List Window) → IsSeen hit stacked p ws → acts ≡ actions Settle p ws)
     (keeps : (ws : List Window) → IsSeen hit stacked p ws → q ≡ record p { focus = settled p ws })
-    (tells : (m : Midstep) → IsTelling (seen kept seats q) m → m.desktop.pointer.place ≢ None → Each (IsOfFocus (all_windows m.desktop)) acts
-    → (n : Midstep) × AppliesAll (all_windows m.desktop) acts m n × IsTelling new n)
-    (pointer : new.pointer ≡ q) (m : Midstep) (midway : IsMidway (seen kept seats p) m) (some : m.desktop.pointer.place ≢ None) where
+    (tells : (m : Midstep) → IsTelling (seen kept seats latest q) m → Each (IsTellable m.desktop.pointer.place (all_windows m.desktop)) acts
+    → (n : Midstep) × AppliesAll (all_windows m.desktop) (filter is_told acts) m n × IsTelling new n)
+    (pointer : new.pointer ≡ q) (m : Midstep) (midway : IsMidway (seen kept seats latest p) m) where
   abbrev shown : List Window
   shown = all_windows m.desktop
 
@@ -68,18 +69,24 @@ module _ (kept : KeptView) (seats : List (List ℕ)) (p q : Pointer) (hit : Opti
   acts-so : acts ≡ actions Settle m.desktop.pointer shown
   acts-so = does shown is-seen ∙ ap (λ (r : Pointer). actions Settle r shown) midway.pointer
 
-  telling-on : IsTelling (seen kept seats q) m
-  telling-on = record { kept = midway.telling.kept; place = ap (λ (r : Pointer). r.place) (keeps shown is-seen) ∙ midway.telling.place; seats = midway.telling.seats }
+  telling-on : IsTelling (seen kept seats latest q) m
+  telling-on = record { kept = midway.telling.kept; place = ap (λ (r : Pointer). r.place) (keeps shown is-seen) ∙ midway.telling.place; seats = midway.telling.seats; latest = midway.telling.latest }
 
-  turned : (n : Midstep) × AppliesAll shown acts m n × IsTelling new n
-  turned = tells m telling-on some (subst (λ (xs : List PointerAction). Each (IsOfFocus shown) xs) (sym acts-so) (settles-of m.desktop.pointer shown))
+  turned : (n : Midstep) × AppliesAll shown (filter is_told acts) m n × IsTelling new n
+  turned =
+      tells m telling-on
+      (subst (λ (xs : List PointerAction). Each (IsTellable m.desktop.pointer.place shown) xs) (sym acts-so) (settles-tellable m.desktop.pointer shown midway.placed.nowhere))
+
+  -- all that it does is told
+  told-so : filter is_told acts ≡ actions Settle m.desktop.pointer shown
+  told-so = ap (filter is_told) acts-so ∙ focus-told shown (actions Settle m.desktop.pointer shown) (settles-of m.desktop.pointer shown)
 
   pub settled-once : (n : Midstep) × Settles m n × IsMidway new n
   settled-once =
-      let settles : Settles m turned.0 = subst (λ (xs : List PointerAction). AppliesAll shown xs m turned.0) acts-so turned.1 in (
+      let settles : Settles m turned.0 = subst (λ (xs : List PointerAction). AppliesAll shown xs m turned.0) told-so turned.1 in (
         turned.0,
         settles,
-        settled-midway (seen kept seats p) new m turned.0 midway some settles turned.2 (pointer ∙ keeps shown is-seen),
+        settled-midway (seen kept seats latest p) new m turned.0 midway settles turned.2 (pointer ∙ keeps shown is-seen),
       )
 
 -- ---- as many clients
@@ -165,13 +172,6 @@ marks-more m mid new path later k old now then apart rounds round large before l
 pub midway-apart : (v : DeskView) (m : Midstep) → IsMidway v m → AreDistinct (all_windows m.desktop)
 midway-apart v m midway = agrees-apart (opened_desk v.kept) (unpointed_mid m).desktop midway.telling.kept.agrees
 
-ended-there : (s : Strike) (d : Desktop) → (ended_by s d).pointer.place ≡ d.pointer.place
-ended-there s d = at (client_at s.client d)
-  where
-    at : (o : Option Resident) → (ended_at s.client s.cause o d).pointer.place ≡ d.pointer.place
-    at None = refl
-    at (Some r) = refl
-
 -- ---- so many rounds
 
 -- So many rounds were done.
@@ -180,14 +180,13 @@ pub record AreDone (k : ℕ) (old now : MarkedDesk) (m : Midstep) : Type 0 where
   pub mid : Midstep
   pub each : AreRounds k m rounds mid
   pub midway : IsMidway now.desk mid
-  pub there : mid.desktop.pointer.place ≡ m.desktop.pointer.place
   pub marks : MarksThrough m.desktop rounds old.damage now.damage
 
 marks-none : (d : Desktop) (old : Damaged) → MarksThrough d [] old old
 marks-none d old = λ x y left above. (λ none. (none, refl), λ some. ap (λ (b : Bool). b || false) some)
 
 pub none-done : (old : MarkedDesk) (m : Midstep) → IsMidway old.desk m → AreDone 0 old old m
-none-done old m midway = record { rounds = []; mid = m; each = (refl, refl); midway = midway; there = refl; marks = marks-none m.desktop old.damage }
+none-done old m midway = record { rounds = []; mid = m; each = (refl, refl); midway = midway; marks = marks-none m.desktop old.damage }
 
 -- one more
 pub more-done : (k n : ℕ) (old now then : MarkedDesk) (m settled : Midstep) (s : Strike) (ss : List Strike) (done : AreDone k old now m) → n ≡ suc k
@@ -204,7 +203,6 @@ more-done k n old now then m settled s ss done next large settles struck midway 
       mid = new;
       each = subst (λ (j : ℕ). AreRounds j m (done.rounds ++ later) new) (sym next) each;
       midway = midway;
-      there = ended-there s settled.desktop ∙ ap (λ (p : Pointer). p.place) (has-settled done.mid settled settles).pointer ∙ done.there;
       marks = marks-more m done.mid new done.rounds later k old.damage now.damage then.damage (midway-apart now.desk done.mid done.midway) done.each round large done.marks marks;
     }
 
@@ -238,35 +236,20 @@ settles-down k old now new m last done few settles over midway same =
       distinct = midway-apart now.desk done.mid done.midway;
     }
 
--- where the pointer isn't anywhere nothing is done
-pub idle-down : (old : MarkedDesk) (m : Midstep) → IsMidway old.desk m → None ≡ old.desk.pointer.place → SettlesDown old old m
-unfolding none-done
-idle-down old m midway none =
-    let p : Pointer = m.desktop.pointer in
-    let ws : List Window = all_windows m.desktop in
-    let nowhere : p.place ≡ None = sym (none ∙ midway.telling.place) in
-    let none-focused : p.focus ≡ None = midway.placed.nowhere nowhere in
-    let is : IsSettled m.desktop = none-focused ∙ sym (settled-nowhere p ws nowhere none-focused) in
-    settles-down 0 old old old m m (none-done old m midway) (omega arith) (settles-idly m is).0 (midway.nowhere nowhere) midway refl
-
 -- ---- the loop
 
 -- So many rounds were done, whatever the middle of the step; where there was one, there are 32 clients.
 pub record AreSettled (k : ℕ) (old now : MarkedDesk) : Type 0 where
   pub done : (m : Midstep) → IsMidway old.desk m → AreDone k old now m × ((k ≡ 0) ⊎ (length m.desktop.clients ≡ 32))
-  pub there : old.desk.pointer.place ≢ None
   pub sides : IsAsLarge old.damage now.damage
   pub rests : IsLeft old.desk.kept now.desk.kept
   pub output : now.desk.kept.output ≡ old.desk.kept.output
 
-pub none-settled : (old : MarkedDesk) → old.desk.pointer.place ≢ None → AreSettled 0 old old
-none-settled old there =
-    record { done = λ m midway. (none-done old m midway, inl refl); there = there; sides = record { width = refl; height = refl }; rests = left-all old.desk.kept; output = refl }
+pub none-settled : (old : MarkedDesk) → AreSettled 0 old old
+none-settled old =
+    record { done = λ m midway. (none-done old m midway, inl refl); sides = record { width = refl; height = refl }; rests = left-all old.desk.kept; output = refl }
 
 module _ (k : ℕ) (old now : MarkedDesk) (settled : AreSettled k old now) where
-  somewhere : (m : Midstep) (midway : IsMidway old.desk m) (done : AreDone k old now m) → done.mid.desktop.pointer.place ≢ None
-  somewhere m midway done none = settled.there (midway.telling.place ∙ sym done.there ∙ none)
-
   -- the loop never comes to its end
   pub settled-over : 32 < k → (new : MarkedDesk) (m : Midstep) → IsMidway old.desk m → SettlesDown old new m
   settled-over past new m midway = by (settled.done m midway)
@@ -275,13 +258,13 @@ module _ (k : ℕ) (old now : MarkedDesk) (settled : AreSettled k old now) where
       by (done, inl none) = absurd (omega (arith, none, past))
       by (done, inr long) = let few = few-done k old now m midway long done in absurd (omega (arith, few, past))
 
-  module _ (once : MarkedDesk) (settles : (m : Midstep) → IsMidway now.desk m → m.desktop.pointer.place ≢ None → (n : Midstep) × Settles m n × IsMidway once.desk n)
+  module _ (once : MarkedDesk) (settles : (m : Midstep) → IsMidway now.desk m → (n : Midstep) × Settles m n × IsMidway once.desk n)
       (damage : once.damage ≡ now.damage) where
     -- nobody is to end
     pub settled-last : k < 33 → ((m : Midstep) → IsTelling once.desk m → None ≡ first_struck m.struck) → (m : Midstep) → IsMidway old.desk m → SettlesDown old once m
     settled-last few none m midway =
         let done = (settled.done m midway).0 in
-        let turn = settles done.mid done.midway (somewhere m midway done) in
+        let turn = settles done.mid done.midway in
         settles-down k old now once m turn.0 done few turn.1 (none-first turn.0.struck (none turn.0 turn.2.telling)) turn.2 damage
 
     -- or the first does
@@ -293,7 +276,7 @@ module _ (k : ℕ) (old now : MarkedDesk) (settled : AreSettled k old now) where
       pub settled-next : (n : ℕ) → n ≡ suc k → (m : Midstep) → IsMidway old.desk m → AreDone n old new m × ((n ≡ 0) ⊎ (length m.desktop.clients ≡ 32))
       settled-next n next m midway =
           let done = (settled.done m midway).0 in
-          let turn = settles done.mid done.midway (somewhere m midway done) in
+          let turn = settles done.mid done.midway in
           let it = first-of turn.0.struck client (first turn.0 turn.2.telling) in (
             more-done k n old now new m turn.0 it.0 it.1 done next settled.sides turn.1 it.2 (ends it.0 it.1 turn.0 it.3 it.2 turn.2)
                 (subst (λ (dmg : Damaged). MarksThrough turn.0.desktop (ended_by it.0 turn.0.desktop ∷ []) dmg new.damage) damage (marks it.0 it.1 turn.0 it.3 it.2 turn.2)),

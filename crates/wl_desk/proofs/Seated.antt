@@ -8,7 +8,7 @@ use Rattle.wl_plain.specs.Demand.{Demand, GetPointer}
 use Rattle.wl_plain.specs.Demand.{Move as MoveToplevel}
 use Rattle.wl_plain.specs.Desktop.{Desktop, Resident, client_at, status_in, status_of, unpointed}
 use Rattle.wl_plain.specs.Happenings.{Message}
-use Rattle.wl_plain.specs.LeftOut.{served_now}
+use Rattle.wl_plain.specs.LeftOut.{nothing_left_out}
 use Rattle.wl_plain.specs.Through.{ServesThrough}
 use Rattle.wl_laws.proofs.Lists.Keys.{differ}
 use Rattle.wl_pointed.specs.Pointed.{asked}
@@ -137,29 +137,29 @@ asks-new-pointer o request numbers id version asks is = subst (λ (o : Option De
 -- ---- after a message
 
 module _ (c : ℕ) (request : PointerAsked) (room : Bool) (numbers : ById ℕ) (seats : List (List ℕ)) (d e : Desktop) (path : List Desktop) (are : AreSeats seats d)
-    (leads : ServesThrough served_now c (unpointed d) path e) (asks : AsksOfPointer numbers (asked served_now c d) request)
+    (leads : ServesThrough nothing_left_out c (unpointed d) path e) (asks : AsksOfPointer numbers (asked nothing_left_out c d) request)
     (no_room : (id : ℕ) → request ≡ NewPointer id → room ≡ false → is_some (status_in c e) ≡ true) (placed : room ≡ true → IsPlaced c seats) where
   never-both : (q : Resident) → client_at c e ≡ Some q → q.peer.status ≡ None → is_some (status_in c e) ≡ true → ⊥
   never-both q here alive ended =
       differ (sym ended ∙ ap (λ (o : Option Resident). is_some (status_of o)) here ∙ ap (λ (s : Option Cause). is_some s) alive)
 
   -- its client asked for none
-  had : (other : ℕ) (q : Resident) → client_at other e ≡ Some q → q.peer.status ≡ None → HadPointers served_now (Message c) (unpointed d) other q
+  had : (other : ℕ) (q : Resident) → client_at other e ≡ Some q → q.peer.status ≡ None → HadPointers nothing_left_out (Message c) (unpointed d) other q
       → seat_of (seats_after room request c seats) other ≡ q.pointers
   had other q here alive h =
-      seats-same room request c other seats (λ id is same. at id same (asks-by (asked served_now c d) request numbers id asks is)) ∙ are other h.0 h.1 h.2 ∙ sym h.3
+      seats-same room request c other seats (λ id is same. at id same (asks-by (asked nothing_left_out c d) request numbers id asks is)) ∙ are other h.0 h.1 h.2 ∙ sym h.3
     where
-      at : (id : ℕ) → c ≡ other → (asked served_now c d ≡ None) ⊎ ((version : ℕ) × (asked served_now c d ≡ Some (GetPointer id version))) → ⊥
+      at : (id : ℕ) → c ≡ other → (asked nothing_left_out c d ≡ None) ⊎ ((version : ℕ) × (asked nothing_left_out c d ≡ Some (GetPointer id version))) → ⊥
       at id same (inl none) =
-          never-both q (subst (λ (n : ℕ). client_at n e ≡ Some q) (sym same) here) alive (refused-ends served_now c d path e none leads)
-      at id same (inr get) = h.4 id get.0 (ap Message same) (subst (λ (n : ℕ). asked served_now n d ≡ Some (GetPointer id get.0)) same get.1)
+          never-both q (subst (λ (n : ℕ). client_at n e ≡ Some q) (sym same) here) alive (refused-ends nothing_left_out c d path e none leads)
+      at id same (inr get) = h.4 id get.0 (ap Message same) (subst (λ (n : ℕ). asked nothing_left_out n d ≡ Some (GetPointer id get.0)) same get.1)
 
-  asked_for : (other : ℕ) (q : Resident) → client_at other e ≡ Some q → q.peer.status ≡ None → AskedForPointer served_now (Message c) (unpointed d) other q
+  asked_for : (other : ℕ) (q : Resident) → client_at other e ≡ Some q → q.peer.status ≡ None → AskedForPointer nothing_left_out (Message c) (unpointed d) other q
       → seat_of (seats_after room request c seats) other ≡ q.pointers
   asked_for other q here alive h =
       let same : c ≡ other = message-same c other h.5 in
       let is : request ≡ NewPointer h.1 =
-      asks-new-pointer (asked served_now c d) request numbers h.1 h.2 asks (subst (λ (n : ℕ). asked served_now n d ≡ Some (GetPointer h.1 h.2)) (sym same) h.6) in
+      asks-new-pointer (asked nothing_left_out c d) request numbers h.1 h.2 asks (subst (λ (n : ℕ). asked nothing_left_out n d ≡ Some (GetPointer h.1 h.2)) (sym same) h.6) in
       subst (λ (n : ℕ). seat_of (seats_after room request c seats) n ≡ q.pointers) same
       (by room refl is (subst (λ (n : ℕ). client_at n e ≡ Some q) (sym same) here)
       ∙ ap (in_rising_order h.1) (are c h.0 (subst (λ (n : ℕ). client_at n d ≡ Some h.0) (sym same) h.3) h.4) ∙ sym h.7)
@@ -170,9 +170,9 @@ module _ (c : ℕ) (request : PointerAsked) (room : Bool) (numbers : ById ℕ) (
           ap (λ (r : PointerAsked). seat_of (seats_after true r c seats) c) is ∙ added-here h.1 c seats (placed so)
 
   pub seats-keep : AreSeats (seats_after room request c seats) e
-  seats-keep other q here alive = at (pointers-stay served_now (Message c) (unpointed d) path e other q leads here alive)
+  seats-keep other q here alive = at (pointers-stay nothing_left_out (Message c) (unpointed d) path e other q leads here alive)
     where
-      at : HasPointersAfter served_now (Message c) (unpointed d) other q → seat_of (seats_after room request c seats) other ≡ q.pointers
+      at : HasPointersAfter nothing_left_out (Message c) (unpointed d) other q → seat_of (seats_after room request c seats) other ≡ q.pointers
       at (inl h) = had other q here alive h
       at (inr (inl h)) = asked_for other q here alive h
       at (inr (inr h)) = let never = h.0 in absurd (cc)

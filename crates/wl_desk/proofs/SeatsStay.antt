@@ -5,7 +5,7 @@ use Rattle.wl_plain.specs.declared.answers.Done.TheVariants as gave
 use Rattle.wl_plain.specs.Act.{Connect, Leave}
 use Rattle.wl_plain.specs.Desktop.{Desktop, unpointed}
 use Rattle.wl_plain.specs.Happenings.{Happening, Leads, Message, Single, Starve}
-use Rattle.wl_plain.specs.LeftOut.{served_now}
+use Rattle.wl_plain.specs.LeftOut.{nothing_left_out}
 use Rattle.wl_pointed.specs.Happenings.{IsEndOf}
 use Rattle.wl_pointed.specs.Seats.{HasPointersAfter}
 use Rattle.wl_pointed.proofs.Pointing.{pointers-stay}
@@ -16,10 +16,10 @@ use Rattle.wl_desk.specs.View.{seat_of}
 abbrev pub KeepsSeats : Happening → Type 0
 KeepsSeats h = (c : ℕ) → (h ≢ Message c) × (h ≢ Single Connect (gave.Connect (Ok c)))
 
-pub seats-stay : (seats : List (List ℕ)) (h : Happening) (d : Desktop) (path : List Desktop) (e : Desktop) → KeepsSeats h → AreSeats seats d → Leads served_now h (unpointed d) path e → AreSeats seats e
-seats-stay seats h d path e keeps are leads c q there lives = at (pointers-stay served_now h (unpointed d) path e c q leads there lives)
+pub seats-stay : (seats : List (List ℕ)) (h : Happening) (d : Desktop) (path : List Desktop) (e : Desktop) → KeepsSeats h → AreSeats seats d → Leads nothing_left_out h (unpointed d) path e → AreSeats seats e
+seats-stay seats h d path e keeps are leads c q there lives = at (pointers-stay nothing_left_out h (unpointed d) path e c q leads there lives)
   where
-    at : HasPointersAfter served_now h (unpointed d) c q → seat_of seats c ≡ q.pointers
+    at : HasPointersAfter nothing_left_out h (unpointed d) c q → seat_of seats c ≡ q.pointers
     at (inl had) = are c had.0 had.1 had.2 ∙ sym had.3
     at (inr (inl asked)) = absurd ((keeps c).0 asked.5)
     at (inr (inr came)) = absurd ((keeps c).1 came.0)

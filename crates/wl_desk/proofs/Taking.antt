@@ -11,28 +11,31 @@ use Rattle.wl_plain.specs.declared.answers.Fed.TheVariants.{Ended}
 use Rattle.wl_plain.specs.Act.{fed_of, peer_at, peer_of, status_of as status_fed}
 use Rattle.wl_plain.specs.Desktop.{Desktop, Resident, client_at, status_in, status_of, unpointed}
 use Rattle.wl_plain.specs.Happenings.{Message}
-use Rattle.wl_plain.specs.LeftOut.{served_now}
+use Rattle.wl_plain.specs.LeftOut.{nothing_left_out}
+use Rattle.wl_plain.specs.Settling.{unstruck}
 use Rattle.wl_pointed.specs.Pointed.{asked}
 use Rattle.wl_requests.specs.declared.pointer_asked.PointerAsked.{PointerAsked}
 use Rattle.wl_requests.specs.declared.pointer_asked.PointerAsked.TheVariants.{NewPointer}
 use Rattle.wl_clients.specs.Agreeing.{Agrees as KeptAgrees}
 use Rattle.wl_clients.specs.Agreement.{numbers_in}
 use Rattle.wl_clients.specs.Feeding.{IsIdleIn}
-use Rattle.wl_clients.specs.Leading.{LeadsBy as KeptLeadsBy, Led}
-use Rattle.wl_clients.specs.Pointing.{AsksOfPointer}
+use Rattle.wl_clients.specs.Leading.{Led}
+use Rattle.wl_clients.specs.Pointing.{AsksOfPointer, IsLatest}
+use Rattle.wl_clients.specs.declared.grabs.Latest.{Latest}
 use Rattle.wl_clients.specs.View.{MarkedDesk as KeptDesk}
-use Rattle.wl_desk.specs.Agreeing.{Agrees, AreSeats}
+use Rattle.wl_desk.specs.Agreeing.{Agrees, AreLatest, AreSeats}
 use Rattle.wl_desk.specs.Following.{Took}
 use Rattle.wl_desk.specs.Seating.{seats_after}
 use Rattle.wl_desk.specs.View.{MarkedDesk}
+use Rattle.wl_desk.proofs.LatestStay.{latest-stay, message-keeps}
 use Rattle.wl_desk.proofs.Seated.{IsPlaced, seats-keep}
 
 pub taken : (c : ℕ) (request : PointerAsked) (room : Bool) (old new : MarkedDesk) (d : Desktop) → Agrees old.desk d
-    → Led (KeptAgrees new.desk.kept) (Message c) old.damage new.damage (unpointed d) → AsksOfPointer (numbers_in old.desk.kept.clients c) (asked served_now c d) request
+    → Led (KeptAgrees new.desk.kept) (Message c) old.damage new.damage (unpointed d) → AsksOfPointer (numbers_in old.desk.kept.clients c) (asked nothing_left_out c d) request
     → ((id : ℕ) → request ≡ NewPointer id → room ≡ false → (e : Desktop) → KeptAgrees new.desk.kept e → is_some (status_in c e) ≡ true)
     → IsAsLarge old.damage new.damage → (room ≡ true → IsPlaced c old.desk.seats) → new.desk.seats ≡ seats_after room request c old.desk.seats
-    → new.desk.pointer ≡ old.desk.pointer → Took c request old new d
-taken c request room old new d a led asks no_room large placed seats pointer = record {
+    → new.desk.latest ≡ old.desk.latest → new.desk.pointer ≡ old.desk.pointer → Took c request old new d
+taken c request room old new d a led asks no_room large placed seats latest pointer = record {
   path = led.path;
   desktop = led.desktop;
   leads = led.leads;
@@ -42,43 +45,48 @@ taken c request room old new d a led asks no_room large placed seats pointer = r
   asks = asks;
   seats = subst (λ (s : List (List ℕ)). AreSeats s led.desktop) (sym seats)
       (seats-keep c request room (numbers_in old.desk.kept.clients c) old.desk.seats d led.desktop led.path a.seats led.leads asks (λ id is none. no_room id is none led.desktop led.agrees) placed);
+  latest = subst (λ (l : List Latest). AreLatest l (unstruck led.desktop)) (sym latest)
+      (latest-stay old.desk.latest (Message c) d led.path led.desktop (message-keeps c) a.latest led.leads);
   pointer = pointer ∙ a.pointer;
   placed = a.placed;
   settled = a.settled;
 }
 
 -- where there was no message
-pub rested : (old new : MarkedDesk) (d : Desktop) → Agrees old.desk d → KeptAgrees new.desk.kept (unpointed d) → new.desk.seats ≡ old.desk.seats → new.desk.pointer ≡ old.desk.pointer
-    → Agrees new.desk d
-rested old new d a kept seats pointer = record {
+pub rested : (old new : MarkedDesk) (d : Desktop) → Agrees old.desk d → KeptAgrees new.desk.kept (unpointed d) → new.desk.seats ≡ old.desk.seats → new.desk.latest ≡ old.desk.latest
+    → new.desk.pointer ≡ old.desk.pointer → Agrees new.desk d
+rested old new d a kept seats latest pointer = record {
   kept = kept;
   pointer = pointer ∙ a.pointer;
   placed = a.placed;
   seats = subst (λ (s : List (List ℕ)). AreSeats s d) (sym seats) a.seats;
+  latest = subst (λ (l : List Latest). AreLatest l (unstruck d)) (sym latest) a.latest;
   settled = a.settled;
 }
 
 -- ---- of a whole desk
 
-abbrev pub desk_with : KeptDesk → List (List ℕ) → Pointer → MarkedDesk
-desk_with k seats p = record { desk = record { kept = k.desk; seats = seats; pointer = p }; damage = k.damage }
+abbrev pub desk_with : KeptDesk → List (List ℕ) → List Latest → Pointer → MarkedDesk
+desk_with k seats latest p = record { desk = record { kept = k.desk; seats = seats; latest = latest; pointer = p }; damage = k.damage }
 
-pub rested-whole : (c : ℕ) (k now : KeptDesk) (seats is : List (List ℕ)) (p : Pointer) (old : MarkedDesk) → desk_with k seats p ≡ old → is ≡ seats
-    → ((d : Desktop) → KeptAgrees k.desk d → KeptAgrees now.desk d × IsIdleIn c d) → (d : Desktop) → Agrees old.desk d → Agrees (desk_with now is p).desk d × IsIdleIn c d
-rested-whole c k now seats is p old view same idle d a =
-    let was : Agrees (desk_with k seats p).desk d = subst (λ (m : MarkedDesk). Agrees m.desk d) (sym view) a in
+pub rested-whole : (c : ℕ) (k now : KeptDesk) (seats is : List (List ℕ)) (latest : List Latest) (p : Pointer) (old : MarkedDesk) → desk_with k seats latest p ≡ old → is ≡ seats
+    → ((d : Desktop) → KeptAgrees k.desk d → KeptAgrees now.desk d × IsIdleIn c d) → (d : Desktop) → Agrees old.desk d → Agrees (desk_with now is latest p).desk d × IsIdleIn c d
+rested-whole c k now seats is latest p old view same idle d a =
+    let was : Agrees (desk_with k seats latest p).desk d = subst (λ (m : MarkedDesk). Agrees m.desk d) (sym view) a in
     let h = idle (unpointed d) was.kept in
-    (rested (desk_with k seats p) (desk_with now is p) d was h.0 same refl, h.1)
+    (rested (desk_with k seats latest p) (desk_with now is latest p) d was h.0 same refl refl, h.1)
 
-pub took-whole : (c : ℕ) (request : PointerAsked) (room : Bool) (k now : KeptDesk) (seats is : List (List ℕ)) (p : Pointer) (old : MarkedDesk) → desk_with k seats p ≡ old
-    → is ≡ seats_after room request c seats → (room ≡ true → IsPlaced c seats) → KeptLeadsBy (Message c) k now
-    → ((d : Desktop) → KeptAgrees k.desk d → AsksOfPointer (numbers_in k.desk.clients c) (asked served_now c d) request)
+pub took-whole : (c : ℕ) (request : PointerAsked) (room : Bool) (k now : KeptDesk) (seats is : List (List ℕ)) (latest : List Latest) (p : Pointer) (old : MarkedDesk) → desk_with k seats latest p ≡ old
+    → is ≡ seats_after room request c seats → (room ≡ true → IsPlaced c seats) → (told : Latest)
+    → ((d : Desktop) → Agrees (desk_with k seats latest p).desk d → IsLatest told (client_at c d))
+    → ((d : Desktop) → KeptAgrees k.desk d → IsLatest told (client_at c d) → Led (KeptAgrees now.desk) (Message c) k.damage now.damage d)
+    → ((d : Desktop) → KeptAgrees k.desk d → AsksOfPointer (numbers_in k.desk.clients c) (asked nothing_left_out c d) request)
     → ((id : ℕ) → request ≡ NewPointer id → room ≡ false → (e : Desktop) → KeptAgrees now.desk e → is_some (status_in c e) ≡ true) → IsAsLarge k.damage now.damage
-    → (d : Desktop) → Agrees old.desk d → Took c request old (desk_with now is p) d
-took-whole c request room k now seats is p old view same placed leads asks no_room large d a =
-    let was : Agrees (desk_with k seats p).desk d = subst (λ (m : MarkedDesk). Agrees m.desk d) (sym view) a in
-    subst (λ (m : MarkedDesk). Took c request m (desk_with now is p) d) view
-    (taken c request room (desk_with k seats p) (desk_with now is p) d was (leads (unpointed d) was.kept) (asks (unpointed d) was.kept) no_room large placed same refl)
+    → (d : Desktop) → Agrees old.desk d → Took c request old (desk_with now is latest p) d
+took-whole c request room k now seats is latest p old view same placed told serials leads asks no_room large d a =
+    let was : Agrees (desk_with k seats latest p).desk d = subst (λ (m : MarkedDesk). Agrees m.desk d) (sym view) a in
+    subst (λ (m : MarkedDesk). Took c request m (desk_with now is latest p) d) view
+    (taken c request room (desk_with k seats latest p) (desk_with now is latest p) d was (leads (unpointed d) was.kept (serials d was)) (asks (unpointed d) was.kept) no_room large placed same refl refl)
 
 -- what was written to the wl_pointers of all is there
 pub written : {V Z : Type 0} (v : Vec V Z) (xs now : List V) → length xs ≡ length now → now ≡ v.items → (with_items v xs).items ≡ xs

@@ -20,31 +20,36 @@ use Rattle.wl_clients.specs.Agreement.{numbers_in}
 use Rattle.wl_clients.specs.View.{DeskView as KeptView}
 use Rattle.wl_clients.specs.Midway.{IsMid}
 use Rattle.wl_clients.specs.Pointing.{IsTold, IsToldAt}
-use Rattle.wl_desk.specs.Agreeing.{AreSeats}
+use Rattle.wl_clients.specs.declared.grabs.Latest.{Latest}
+use Rattle.wl_desk.specs.Agreeing.{AreLatest, AreSeats}
 use Rattle.wl_desk.specs.Midway.{IsTelling, IsToldOf, unpointed_mid}
+use Rattle.wl_desk.specs.Serials.{AreNoted}
 use Rattle.wl_desk.specs.View.{DeskView, seat_of}
 use Rattle.wl_desk.proofs.Events.{enters-new, entered-draws, entered-says, gone-draws, gone-says, left-draws, left-says, motion-draws, motion-says, new-draws, with_serial}
 use Rattle.wl_desk.specs.Points.{point_told}
 use Rattle.wl_desk.proofs.Points.{IsAt, point-at}
+use Rattle.wl_desk.proofs.LatestStay.{tells-latest}
 use Rattle.wl_desk.proofs.Windows.{mid-names}
 use Rattle.wl_desk.proofs.Tells.{put, put-back, tells-apart, tells-nothing, tells-other, tells-pointer, tells-seats}
 
 -- the focus is another, or the pointer
 pub telling-focus : (v : DeskView) (t : Option Target) (m : Midstep) → IsTelling v m → IsTelling v (with_focus t m)
-telling-focus v t m is = record { kept = is.kept; place = is.place; seats = is.seats }
+telling-focus v t m is = record { kept = is.kept; place = is.place; seats = is.seats; latest = is.latest }
 
 -- what is kept is the same but for the focus
-pub telling-same : (v w : DeskView) (m : Midstep) → w.kept ≡ v.kept → w.pointer.place ≡ v.pointer.place → w.seats ≡ v.seats → IsTelling v m → IsTelling w m
-telling-same v w m kept place seats is =
+pub telling-same : (v w : DeskView) (m : Midstep) → w.kept ≡ v.kept → w.pointer.place ≡ v.pointer.place → w.seats ≡ v.seats → w.latest ≡ v.latest → IsTelling v m
+    → IsTelling w m
+telling-same v w m kept place seats latest is =
     record {
       kept = subst (λ k. IsMid k (unpointed_mid m)) (sym kept) is.kept;
       place = place ∙ is.place;
       seats = subst (λ (ss : List (List ℕ)). AreSeats ss m.desktop) (sym seats) is.seats;
+      latest = subst (λ (l : List Latest). AreLatest l m) (sym latest) is.latest;
     }
 
 -- what a desk keeps
-abbrev pub seen : KeptView → List (List ℕ) → Pointer → DeskView
-seen kept seats pointer = record { kept = kept; seats = seats; pointer = pointer }
+abbrev pub seen : KeptView → List (List ℕ) → List Latest → Pointer → DeskView
+seen kept seats latest pointer = record { kept = kept; seats = seats; latest = latest; pointer = pointer }
 
 -- ---- one client is told
 
@@ -56,6 +61,7 @@ TellsThese event ps c old new =
 
 module _ (event : PointerEvent) (ps : List ℕ) (c : ℕ) (old new : DeskView) (told : TellsThese event ps c old new) (seats : new.seats ≡ old.seats) (pointer : new.pointer ≡ old.pointer)
     (change : Resident → Resident) (events : Resident → List Said) (m : Midstep) (telling : IsTelling old m)
+    (noted : AreNoted old.latest new.latest c change (client_at c m.desktop))
     (so : (r : Resident) → client_at c m.desktop ≡ Some r → r.peer.status ≡ None → IsTold event ps r (change r) (events r)) where
   abbrev Found : Type 0
   Found = (n : Midstep) × Tells change events c (unpointed_mid m) n × IsMid new.kept n
@@ -91,6 +97,7 @@ module _ (event : PointerEvent) (ps : List ℕ) (c : ℕ) (old new : DeskView) (
           place = ap (λ (p : Pointer). p.place) pointer ∙ telling.place;
           seats = subst (λ (ss : List (List ℕ)). AreSeats ss n.desktop) (sym seats)
               (tells-seats (seat_of old.seats) change events c m n (λ r there lives. ap (λ (x : Resident). x.pointers) (so r there lives).changes) telling.seats tells);
+          latest = tells-latest old.latest new.latest change events c m n noted telling.latest tells;
         },
       )
 

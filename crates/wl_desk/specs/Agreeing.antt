@@ -1,18 +1,21 @@
 -- A desk agrees with a desktop, and what its calls make of both.
-use Rattle.std.specs.Prelude.{ℕ, ◌≡◌, ◌<◌, List, None, Some}
+use Rattle.std.specs.Prelude.{ℕ, ◌≡◌, ◌<◌, false, List, None, Some}
 use Rattle.wl_paint.specs.Damage.{has}
 use Rattle.wl_plain.specs.declared.answers.Done.{Done}
 use Rattle.wl_plain.specs.Act.{Act}
 use Rattle.wl_plain.specs.Desktop.{Desktop, Resident, client_at, unpointed}
 use Rattle.wl_plain.specs.Happenings.{Happening}
 use Rattle.wl_plain.specs.Happens.{Happens}
-use Rattle.wl_plain.specs.LeftOut.{served_now}
+use Rattle.wl_plain.specs.LeftOut.{nothing_left_out}
+use Rattle.wl_plain.specs.Settling.{Midstep, is_struck, unstruck}
 use Rattle.wl_laws.specs.Focus.{IsSettled}
 use Rattle.wl_pointed.specs.Pointed.{MovedStands}
 use Rattle.wl_clients.specs.Agreeing.{Agrees as KeptAgrees}
 use Rattle.wl_clients.specs.Framing.{MarksIfEnds}
 use Rattle.wl_clients.specs.Leading.{Led}
-use Rattle.wl_desk.specs.View.{DeskView, MarkedDesk, seat_of}
+use Rattle.wl_clients.specs.Pointing.{IsLatest}
+use Rattle.wl_clients.specs.declared.grabs.Latest.{Latest}
+use Rattle.wl_desk.specs.View.{DeskView, MarkedDesk, latest_of, seat_of}
 
 -- Where the pointer isn't anywhere, it has no focus; and a toplevel that is moved with it stands.
 pub record IsPlaced (d : Desktop) : Type 0 where
@@ -23,18 +26,25 @@ pub record IsPlaced (d : Desktop) : Type 0 where
 abbrev pub AreSeats : List (List ℕ) → Desktop → Type 0
 AreSeats seats d = (c : ℕ) (r : Resident) → client_at c d ≡ Some r → r.peer.status ≡ None → seat_of seats c ≡ r.pointers
 
--- What is kept of the clients is what the desktop has but for the pointer; and so are the pointer, whose focus is settled, and the
--- wl_pointers.
+-- The serials are those of the latest press and of the latest release that each client was told of that lives and isn't to end.
+abbrev pub AreLatest : List Latest → Midstep → Type 0
+AreLatest latest m =
+    (c : ℕ) (r : Resident) → client_at c m.desktop ≡ Some r → r.peer.status ≡ None → is_struck c m.struck ≡ false
+    → IsLatest (latest_of latest c) (Some r)
+
+-- What is kept of the clients is what the desktop has but for the pointer; and so are the pointer, whose focus is settled, the wl_pointers,
+-- and the serials.
 pub record Agrees (v : DeskView) (d : Desktop) : Type 0 where
   pub kept : KeptAgrees v.kept (unpointed d)
   pub pointer : v.pointer ≡ d.pointer
   pub placed : IsPlaced d
   pub seats : AreSeats v.seats d
+  pub latest : AreLatest v.latest (unstruck d)
   pub settled : IsSettled d
 
 -- One step leads from old to new: whatever desktop agrees before, one to which the step leads agrees after.
 abbrev pub TakesStep : Act → Done → DeskView → DeskView → Type 0
-TakesStep act done old new = (d : Desktop) → Agrees old d → (e : Desktop) × Happens served_now act done d e × Agrees new e
+TakesStep act done old new = (d : Desktop) → Agrees old d → (e : Desktop) × Happens nothing_left_out act done d e × Agrees new e
 
 -- One thing that happens leads from whatever desktop agrees before to one that agrees after, and marks what it has to on the way.
 abbrev pub LeadsBy : Happening → MarkedDesk → MarkedDesk → Type 0

@@ -4,7 +4,7 @@ use Rattle.wl_marking.specs.Marking.{IsAsLarge}
 use Rattle.wl_stacking.specs.Pointer.{Pointer, Target}
 use Rattle.wl_plain.specs.Desktop.{Desktop, status_in, unpointed}
 use Rattle.wl_plain.specs.Happenings.{Happening, Leads, Message}
-use Rattle.wl_plain.specs.LeftOut.{served_now}
+use Rattle.wl_plain.specs.LeftOut.{nothing_left_out}
 use Rattle.wl_plain.specs.Settling.{unstruck}
 use Rattle.wl_plain.specs.Through.{SettlesAllThrough}
 use Rattle.wl_laws.specs.Focus.{IsSettled}
@@ -15,21 +15,22 @@ use Rattle.wl_clients.specs.Agreeing.{Agrees as KeptAgrees}
 use Rattle.wl_clients.specs.Agreement.{numbers_in}
 use Rattle.wl_clients.specs.Marking.{MarksThrough}
 use Rattle.wl_clients.specs.Pointing.{AsksOfPointer}
-use Rattle.wl_desk.specs.Agreeing.{AreSeats, IsPlaced}
+use Rattle.wl_desk.specs.Agreeing.{AreLatest, AreSeats, IsPlaced}
 use Rattle.wl_desk.specs.Midway.{IsMidway}
 use Rattle.wl_desk.specs.View.{MarkedDesk}
 
 -- The first message of a client was taken with the pointer put aside, and asked this of the pointer, which is still as it was. What is kept
--- of the clients is what it led to, and so are the wl_pointers.
+-- of the clients is what it led to, and so are the wl_pointers and the serials.
 pub record Took (c : ℕ) (request : PointerAsked) (old new : MarkedDesk) (d : Desktop) : Type 0 where
   pub path : List Desktop
   pub desktop : Desktop
-  pub leads : Leads served_now (Message c) (unpointed d) path desktop
+  pub leads : Leads nothing_left_out (Message c) (unpointed d) path desktop
   pub kept : KeptAgrees new.desk.kept desktop
   pub marks : MarksThrough (unpointed d) path old.damage new.damage
   pub sides : IsAsLarge old.damage new.damage
-  pub asks : AsksOfPointer (numbers_in old.desk.kept.clients c) (asked served_now c d) request
+  pub asks : AsksOfPointer (numbers_in old.desk.kept.clients c) (asked nothing_left_out c d) request
   pub seats : AreSeats new.desk.seats desktop
+  pub latest : AreLatest new.desk.latest (unstruck desktop)
   pub pointer : new.desk.pointer ≡ d.pointer
   pub placed : IsPlaced d
   pub settled : IsSettled d
@@ -40,7 +41,7 @@ pub record IsUnsettled (h : Happening) (old new : MarkedDesk) (d : Desktop) : Ty
   pub path : List Desktop
   pub start : Desktop
   pub last : last_of d path ≡ start
-  pub leads : (later : List Desktop) (e : Desktop) → SettlesAllThrough 33 (unstruck start) later e → Leads served_now h d (path ++ later) e
+  pub leads : (later : List Desktop) (e : Desktop) → SettlesAllThrough 33 (unstruck start) later e → Leads nothing_left_out h d (path ++ later) e
   pub midway : IsMidway new.desk (unstruck start)
   pub marks : MarksThrough d path old.damage new.damage
   pub sides : IsAsLarge old.damage new.damage

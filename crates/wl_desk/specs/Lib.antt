@@ -4,8 +4,10 @@ pub mod Doing
 pub mod Following
 pub mod Midway
 pub mod Points
+pub mod Releasing
 pub mod Restacking
 pub mod Seating
+pub mod Serials
 pub mod View
 pub use Rattle.wl_clients.specs.Agreement
 pub use Rattle.wl_clients.specs.Feeding

@@ -13,26 +13,25 @@ use Rattle.wl_pointed.specs.Rounds.{AreRounds}
 use Rattle.wl_clients.specs.Marking.{MarksThrough}
 use Rattle.wl_clients.specs.Midway.{IsMid}
 use Rattle.wl_clients.specs.Pointing.{IsTold}
-use Rattle.wl_desk.specs.Agreeing.{AreSeats, IsPlaced}
+use Rattle.wl_desk.specs.Agreeing.{AreLatest, AreSeats, IsPlaced}
 use Rattle.wl_desk.specs.View.{DeskView, MarkedDesk}
 
 -- the middle of a step, where nobody has pointed yet
 abbrev pub unpointed_mid : Midstep → Midstep
 unpointed_mid m = record m { desktop = unpointed m.desktop }
 
--- What is kept of the clients agrees with it but for the pointer, and so do the wl_pointers, and where the pointer is.
+-- What is kept of the clients agrees with it but for the pointer, and so do the wl_pointers, the serials, and where the pointer is.
 pub record IsTelling (v : DeskView) (m : Midstep) : Type 0 where
   pub kept : IsMid v.kept (unpointed_mid m)
   pub place : v.pointer.place ≡ m.desktop.pointer.place
   pub seats : AreSeats v.seats m.desktop
+  pub latest : AreLatest v.latest m
 
 -- So does the pointer.
 pub record IsMidway (v : DeskView) (m : Midstep) : Type 0 where
   pub telling : IsTelling v m
   pub pointer : v.pointer ≡ m.desktop.pointer
   pub placed : IsPlaced m.desktop
-  -- where it isn't anywhere, nobody is to end
-  pub nowhere : m.desktop.pointer.place ≡ None → m.struck ≡ []
 
 -- this is what each wl_pointer of a client that lives is told by an event, and what it makes of the client
 abbrev pub IsToldOf : PointerEvent → (Resident → Resident) → (Resident → List Said) → Option Resident → Type 0

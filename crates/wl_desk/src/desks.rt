@@ -9,27 +9,29 @@ ghost use Rattle.wl_marking.specs.Marking.{IsAsLarge};
 ghost use Rattle.wl_scene.specs.Focus.{target_or_none};
 ghost use Rattle.wl_lending.specs.Painting.{IsOpaqueAsSaid};
 ghost use Rattle.wl_plain.specs.Act.{Connect, Store, Leave, Tick, Send, Close, peer_at, unsent_of, status_of, store_size_of};
-ghost use Rattle.wl_plain.specs.Desktop.{Desktop, empty, status_in};
+ghost use Rattle.wl_plain.specs.Desktop.{Desktop, client_at, empty, status_in};
 ghost use Rattle.wl_plain.specs.Happenings.{Message, Single, Starve};
 ghost use Rattle.wl_plain.specs.Scratch.{scratch};
-ghost use Rattle.wl_plain.specs.LeftOut.{served_now};
+ghost use Rattle.wl_plain.specs.LeftOut.{nothing_left_out};
 ghost use Rattle.wl_pointed.specs.Happenings.{pointer_left};
 ghost use Rattle.wl_pointed.specs.Pointed.{asked};
 ghost use Rattle.wl_clients.specs.Agreeing.{Agrees as KeptAgrees};
 ghost use Rattle.wl_clients.specs.Feeding.{IsIdleIn, kept_at, rest_in, served_of};
 ghost use Rattle.wl_clients.specs.Leading.{Led};
 ghost use Rattle.wl_clients.specs.NextStore.{next_store_of};
+ghost use Rattle.wl_clients.specs.Pointing.{IsLatest};
 ghost use Rattle.wl_desk.specs.Agreeing.{Agrees, LeadsBy, LeadsQuietly, MarksNothing};
 ghost use Rattle.wl_desk.specs.Beginning.{IsToMove};
 ghost use Rattle.wl_desk.specs.Following.{IsUnsettled, Took, left_of};
-ghost use Rattle.wl_desk.specs.View.{DeskView, MarkedDesk, seat_of};
+ghost use Rattle.wl_desk.specs.View.{DeskView, MarkedDesk, latest_of, no_latest, seat_of};
 
+use crate::latest::{forget, latest_of, none};
 use crate::moves::to_move;
 use crate::seating::{keep_asked, make_room};
 use std::alloc::{AllocError, Allocator};
 use std::marker::Model;
 use wl_client::{Cause, Output, Served, StoreNo};
-use wl_clients::{ClientNo, Clients, ConnectError, Fed, PointerAsked, Stored, Taken};
+use wl_clients::{ClientNo, Clients, ConnectError, Fed, Latest, PointerAsked, Stored, Taken};
 use wl_paint::{Damage, FrameError, Framebuffer};
 use wl_plain::Done;
 use wl_scene::{Focus, Target};
@@ -37,12 +39,14 @@ use wl_scene::{Focus, Target};
 /// How many clients there may be at once.
 const CLIENT_LIMIT: usize = 32;
 
-/// All clients with the windows that they show, the wl_pointers of each, and the pointer. It is seen as what is kept of the clients, the
-/// wl_pointers of each client by number from 1, and the pointer; and which points of the output are to be painted again.
+/// All clients with the windows that they show, the wl_pointers of each, the serials of its latest press and release, and the pointer. It is
+/// seen as what is kept of the clients, the wl_pointers and the serials of each client by number from 1, and the pointer; and which points of
+/// the output are to be painted again.
 #[derive(Drop)]
 pub struct Desk<A: Allocator> {
     pub(crate) clients: Clients<A>,
     pub(crate) seats: Vec<Vec<u32, A>, A>,
+    pub(crate) latest: Vec<Latest, A>,
     pub(crate) pointer: Focus,
 }
 
@@ -53,11 +57,11 @@ impl<A: Allocator> Model for Desk<A> {
     ghost Value = { MarkedDesk };
 
     ghost view = { λ d. record {
-      desk = record { kept = d.clients.desk; seats = map (λ s. s.items) d.seats.items; pointer = d.pointer };
+      desk = record { kept = d.clients.desk; seats = map (λ s. s.items) d.seats.items; latest = d.latest.items; pointer = d.pointer };
       damage = d.clients.damage;
     } };
 
-    ghost invariant = { λ d. length d.seats.items ≡ 32 };
+    ghost invariant = { λ d. (length d.seats.items ≡ 32) × (length d.latest.items ≡ 32) };
 }
 
 impl<A: Allocator + Copy> Desk<A> {
@@ -73,9 +77,13 @@ impl<A: Allocator + Copy> Desk<A> {
         let Ok(seats) = seats_of(alloc) else {
             return Err(FrameError::Memory);
         };
+        let Ok(latest) = no_serials(alloc) else {
+            return Err(FrameError::Memory);
+        };
         Ok(Desk {
             clients,
             seats,
+            latest,
             pointer: Focus::new(),
         })
     }
@@ -90,6 +98,7 @@ impl<A: Allocator + Copy> Desk<A> {
     {
         let client = self.clients.connect()?;
         self.clear_seat(client);
+        self.clear_serials(client);
         Ok(client)
     }
 
@@ -98,6 +107,7 @@ impl<A: Allocator + Copy> Desk<A> {
         ensures cleared { seat_of self.new.desk.seats client ≡ [] }
         ensures others { (c : ℕ) → c ≢ client → seat_of self.new.desk.seats c ≡ seat_of self.old.desk.seats c }
         ensures kept { self.new.desk.kept ≡ self.old.desk.kept }
+        ensures latest { self.new.desk.latest ≡ self.old.desk.latest }
         ensures pointer { self.new.desk.pointer ≡ self.old.desk.pointer }
         ensures damage { self.new.damage ≡ self.old.damage }
     {
@@ -105,6 +115,18 @@ impl<A: Allocator + Copy> Desk<A> {
             return;
         };
         self.seats[k].clear();
+    }
+
+    /// A client was told of no button.
+    fn clear_serials(&mut self, client: ClientNo)
+        ensures none { latest_of self.new.desk.latest client ≡ no_latest }
+        ensures others { (c : ℕ) → c ≢ client → latest_of self.new.desk.latest c ≡ latest_of self.old.desk.latest c }
+        ensures kept { self.new.desk.kept ≡ self.old.desk.kept }
+        ensures seats { self.new.desk.seats ≡ self.old.desk.seats }
+        ensures pointer { self.new.desk.pointer ≡ self.old.desk.pointer }
+        ensures damage { self.new.damage ≡ self.old.damage }
+    {
+        forget(&mut self.latest, client);
     }
 
     /// A piece of a client's stream comes. It is kept behind what came before, and no message is taken. Nothing is kept for a client that
@@ -148,8 +170,9 @@ impl<A: Allocator + Copy> Desk<A> {
         ensures less { result.served ≢ Served.More → length (rest_in client self.new.desk.kept) < length (rest_in client self.old.desk.kept) }
         ensures output { self.new.desk.kept.output ≡ self.old.desk.kept.output }
     {
+        let latest = self.serials(client);
         let has_room = make_room(&mut self.seats, client);
-        let taken = self.clients.take(client, has_room);
+        let taken = self.clients.take(client, has_room, latest);
         if taken.served == Served::More {
             return taken;
         }
@@ -157,11 +180,21 @@ impl<A: Allocator + Copy> Desk<A> {
         taken
     }
 
+    /// The serials of the latest press and release that a client which lives was told of; of another client there are none.
+    fn serials(&self, client: ClientNo) -> Latest
+        ensures { (d : Desktop) → Agrees self.now.desk d → IsLatest result (client_at client d) }
+    {
+        let Fed::Alive = self.clients.status(client) else {
+            return none();
+        };
+        latest_of(&self.latest, client)
+    }
+
     /// The pointer leaves a client that ended by a message. Where the message asked for a wl_pointer, that one is told of the focus where its
     /// client has it (wayland.xml, wl_pointer.enter). Where it begins to move a toplevel, motions move that one from now on; and one that
     /// doesn't stand any more isn't moved any more.
     fn follow(&mut self, client: ClientNo, request: PointerAsked, toplevel: Option<Target>)
-        ensures follows { (old : MarkedDesk) (d : Desktop) → Took client request old self.old d → IsToMove (asked served_now client d) client d (target_or_none toplevel)
+        ensures follows { (old : MarkedDesk) (d : Desktop) → Took client request old self.old d → IsToMove (asked nothing_left_out client d) client d (target_or_none toplevel)
             → IsUnsettled (Message client) old self.new d }
         ensures sides { IsAsLarge self.old.damage self.new.damage }
         ensures rests { (c : ℕ) → length (rest_in c self.new.desk.kept) ≤ length (rest_in c self.old.desk.kept) }
@@ -232,6 +265,7 @@ impl<A: Allocator + Copy> Desk<A> {
             → self.new.desk.pointer ≡ pointer_left d e }
         ensures kept { self.new.desk.kept ≡ self.old.desk.kept }
         ensures seats { self.new.desk.seats ≡ self.old.desk.seats }
+        ensures latest { self.new.desk.latest ≡ self.old.desk.latest }
         ensures damage { self.new.damage ≡ self.old.damage }
     {
         let focus = self.pointer.focus();
@@ -245,6 +279,7 @@ impl<A: Allocator + Copy> Desk<A> {
         ensures left { (e : Desktop) → KeptAgrees self.old.desk.kept e → self.new.desk.pointer ≡ left_of (target_or_none surface) e self.old.desk.pointer }
         ensures kept { self.new.desk.kept ≡ self.old.desk.kept }
         ensures seats { self.new.desk.seats ≡ self.old.desk.seats }
+        ensures latest { self.new.desk.latest ≡ self.old.desk.latest }
         ensures damage { self.new.damage ≡ self.old.damage }
     {
         let Some(surface) = surface else {
@@ -392,6 +427,17 @@ fn seats_of<A: Allocator + Copy>(alloc: A) -> Result<Vec<Vec<u32, A>, A>, AllocE
         seats.push(Vec::new(alloc))?;
     }
     Ok(seats)
+}
+
+/// As many clients as there may be were told of no button.
+fn no_serials<A: Allocator + Copy>(alloc: A) -> Result<Vec<Latest, A>, AllocError>
+    ensures { IfOk result (λ latest. vec_len latest ≡ 32) }
+{
+    let mut latest = Vec::with_capacity(alloc, CLIENT_LIMIT)?;
+    for _ in 0..CLIENT_LIMIT {
+        latest.push(none())?;
+    }
+    Ok(latest)
 }
 
 /// What became of a client's message, by how the client is then. That it lacked memory it is told as an error of wl_display; one that was too

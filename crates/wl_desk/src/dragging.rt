@@ -10,7 +10,8 @@ ghost use Rattle.wl_plain.specs.Pointing.{moved_standing};
 ghost use Rattle.wl_plain.specs.Settling.{Midstep, with_standing};
 ghost use Rattle.wl_desk.specs.Agreeing.{LeadsBy};
 ghost use Rattle.wl_desk.specs.Midway.{IsTelling};
-ghost use Rattle.wl_desk.specs.Restacking.{HasNumber, MarksChange, dragged, first_dragged, first_moved, moved_of};
+ghost use Rattle.wl_clients.specs.Raising.{MarksChange};
+ghost use Rattle.wl_desk.specs.Restacking.{HasNumber, dragged, first_dragged, first_moved, moved_of};
 
 use crate::desks::Desk;
 use std::alloc::Allocator;

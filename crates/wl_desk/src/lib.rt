@@ -3,6 +3,7 @@
 
 mod desks;
 mod dragging;
+mod latest;
 mod moves;
 mod pointing;
 mod pressing;

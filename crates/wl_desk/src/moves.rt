@@ -64,6 +64,7 @@ impl<A: Allocator + Copy> Desk<A> {
         ensures pointer { self.new.desk.pointer ≡ begun (target_or_none toplevel) self.old.desk.pointer }
         ensures kept { self.new.desk.kept ≡ self.old.desk.kept }
         ensures seats { self.new.desk.seats ≡ self.old.desk.seats }
+        ensures latest { self.new.desk.latest ≡ self.old.desk.latest }
         ensures damage { self.new.damage ≡ self.old.damage }
     {
         if let Some(toplevel) = toplevel {
@@ -89,6 +90,7 @@ impl<A: Allocator + Copy> Desk<A> {
         ensures pointer { (e : Desktop) → KeptAgrees self.old.desk.kept e → self.new.desk.pointer ≡ keeping e.standing self.old.desk.pointer }
         ensures kept { self.new.desk.kept ≡ self.old.desk.kept }
         ensures seats { self.new.desk.seats ≡ self.old.desk.seats }
+        ensures latest { self.new.desk.latest ≡ self.old.desk.latest }
         ensures damage { self.new.damage ≡ self.old.damage }
     {
         let Some(toplevel) = self.pointer.moved() else {

@@ -1,6 +1,7 @@
 //! What the pointer does at the desk: what it hits, what clients are told of it, and how its focus is settled.
 
 ghost use Rattle.std.specs.Prelude.{ℕ, ◌≡◌, ◌≢◌, ◌≤◌, ◌∷◌, [], List, Some, None, true, false, filter, length, map};
+ghost use Rattle.wl_client.specs.Pointers.{has_any};
 ghost use Rattle.wl_peer.specs.Told.{Said};
 ghost use Rattle.wl_stacking.specs.Pointer.{hit_by, is_stacked};
 ghost use Rattle.wl_stacking.specs.Windows.{Window};
@@ -21,8 +22,12 @@ ghost use Rattle.wl_clients.specs.Midway.{first_struck};
 ghost use Rattle.wl_desk.specs.Doing.{IsTellable, is_told};
 ghost use Rattle.wl_desk.specs.Midway.{IsMidway, IsOfFocus, IsTelling, IsToldOf, SettlesDown};
 ghost use Rattle.wl_desk.specs.Points.{point_told};
+ghost use Rattle.wl_desk.specs.Serials.{AreNoted, KeepsSerials, noted_by};
+ghost use Rattle.wl_desk.specs.View.{latest_of, seat_of};
+ghost use Rattle.wl_clients.specs.declared.grabs.Latest.{Latest};
 
 use crate::desks::Desk;
+use crate::latest::note;
 use crate::seats::seat_of;
 use std::alloc::Allocator;
 use wl_clients::{ClientNo, PointerEvent};
@@ -105,6 +110,7 @@ impl<A: Allocator + Copy> Desk<A> {
             × IsTelling self.new.desk n }
         ensures pointer { self.new.desk.pointer ≡ self.old.desk.pointer }
         ensures seats { self.new.desk.seats ≡ self.old.desk.seats }
+        ensures latest { self.new.desk.latest ≡ self.old.desk.latest }
         ensures damage { self.new.damage ≡ self.old.damage }
         ensures rests { (c : ℕ) → length (rest_in c self.new.desk.kept) ≤ length (rest_in c self.old.desk.kept) }
         ensures output { self.new.desk.kept.output ≡ self.old.desk.kept.output }
@@ -127,6 +133,7 @@ impl<A: Allocator + Copy> Desk<A> {
         ensures refused { result ≡ false → (n : Midstep) → IsTelling self.new.desk n → n.struck ≢ [] }
         ensures pointer { self.new.desk.pointer ≡ self.old.desk.pointer }
         ensures seats { self.new.desk.seats ≡ self.old.desk.seats }
+        ensures latest { self.new.desk.latest ≡ self.old.desk.latest }
         ensures damage { self.new.damage ≡ self.old.damage }
         ensures rests { (c : ℕ) → length (rest_in c self.new.desk.kept) ≤ length (rest_in c self.old.desk.kept) }
         ensures output { self.new.desk.kept.output ≡ self.old.desk.kept.output }
@@ -143,6 +150,7 @@ impl<A: Allocator + Copy> Desk<A> {
             (focus_window (Some (target_of target)) (all_windows m.desktop))) target.client m n × IsTelling self.new.desk n }
         ensures pointer { self.new.desk.pointer ≡ self.old.desk.pointer }
         ensures seats { self.new.desk.seats ≡ self.old.desk.seats }
+        ensures latest { self.new.desk.latest ≡ self.old.desk.latest }
         ensures damage { self.new.damage ≡ self.old.damage }
         ensures rests { (c : ℕ) → length (rest_in c self.new.desk.kept) ≤ length (rest_in c self.old.desk.kept) }
         ensures output { self.new.desk.kept.output ≡ self.old.desk.kept.output }
@@ -161,6 +169,7 @@ impl<A: Allocator + Copy> Desk<A> {
             → (n : Midstep) × Tells (leave_drawn target.surface) (left_surface target.surface) target.client m n × IsTelling self.new.desk n }
         ensures pointer { self.new.desk.pointer ≡ self.old.desk.pointer }
         ensures seats { self.new.desk.seats ≡ self.old.desk.seats }
+        ensures latest { self.new.desk.latest ≡ self.old.desk.latest }
         ensures damage { self.new.damage ≡ self.old.damage }
         ensures rests { (c : ℕ) → length (rest_in c self.new.desk.kept) ≤ length (rest_in c self.old.desk.kept) }
         ensures output { self.new.desk.kept.output ≡ self.old.desk.kept.output }
@@ -183,6 +192,7 @@ impl<A: Allocator + Copy> Desk<A> {
             × IsTelling self.new.desk n }
         ensures pointer { self.new.desk.pointer ≡ self.old.desk.pointer }
         ensures seats { self.new.desk.seats ≡ self.old.desk.seats }
+        ensures latest { self.new.desk.latest ≡ self.old.desk.latest }
         ensures damage { self.new.damage ≡ self.old.damage }
         ensures rests { (c : ℕ) → length (rest_in c self.new.desk.kept) ≤ length (rest_in c self.old.desk.kept) }
         ensures output { self.new.desk.kept.output ≡ self.old.desk.kept.output }
@@ -209,16 +219,44 @@ impl<A: Allocator + Copy> Desk<A> {
             button,
             pressed,
         };
+        let serial = self.clients.serial(target.client);
         self.tell(target.client, event);
+        self.note(target.client, serial, pressed);
     }
 
-    /// The wl_pointers of a client are told an event.
+    /// The serial with which the wl_pointers of a client, if it has any, were told of a press, or of a release, is kept as that of its latest.
+    fn note(&mut self, client: ClientNo, serial: Option<u32>, pressed: bool)
+        ensures noted { has_any (seat_of self.old.desk.seats client) ≡ true → (n : ℕ) → serial ≡ Some n
+            → latest_of self.new.desk.latest client ≡ noted_by pressed n (latest_of self.old.desk.latest client) }
+        ensures same { has_any (seat_of self.old.desk.seats client) ≡ false → self.new.desk.latest ≡ self.old.desk.latest }
+        ensures others { (c : ℕ) → c ≢ client → latest_of self.new.desk.latest c ≡ latest_of self.old.desk.latest c }
+        ensures kept { self.new.desk.kept ≡ self.old.desk.kept }
+        ensures seats { self.new.desk.seats ≡ self.old.desk.seats }
+        ensures pointer { self.new.desk.pointer ≡ self.old.desk.pointer }
+        ensures damage { self.new.damage ≡ self.old.damage }
+    {
+        if seat_of(&self.seats, client).is_empty() {
+            return;
+        }
+        let Some(serial) = serial else {
+            return;
+        };
+        note(&mut self.latest, client, serial, pressed);
+    }
+
+    /// The wl_pointers of a client are told an event. Where the change leaves the serials of its latest press and release, what is kept of those
+    /// agrees; else it does with what comes of it.
     fn tell(&mut self, client: ClientNo, event: PointerEvent)
         ensures tells { (change : Resident → Resident) (events : Resident → List Said) (m : Midstep) → IsTelling self.old.desk m
-            → IsToldOf event change events (client_at client m.desktop)
+            → IsToldOf event change events (client_at client m.desktop) → KeepsSerials change
             → (n : Midstep) × Tells change events client m n × IsTelling self.new.desk n }
+        ensures notes { (latest : List Latest) (change : Resident → Resident) (events : Resident → List Said) (m : Midstep) → IsTelling self.old.desk m
+            → IsToldOf event change events (client_at client m.desktop)
+            → AreNoted self.old.desk.latest latest client change (client_at client m.desktop)
+            → (n : Midstep) × Tells change events client m n × IsTelling (record self.new.desk { latest = latest }) n }
         ensures pointer { self.new.desk.pointer ≡ self.old.desk.pointer }
         ensures seats { self.new.desk.seats ≡ self.old.desk.seats }
+        ensures latest { self.new.desk.latest ≡ self.old.desk.latest }
         ensures damage { self.new.damage ≡ self.old.damage }
         ensures rests { (c : ℕ) → length (rest_in c self.new.desk.kept) ≤ length (rest_in c self.old.desk.kept) }
         ensures output { self.new.desk.kept.output ≡ self.old.desk.kept.output }
@@ -228,7 +266,7 @@ impl<A: Allocator + Copy> Desk<A> {
     }
 
     /// What is told of one thing that the pointer does is told: surfaces are left, entered, and told of a motion or of a button. That a toplevel
-    /// comes to the top or is moved is done apart.
+    /// comes to the top or is moved, and that popups are dismissed, is done apart.
     fn apply(&mut self, action: Action)
         ensures tells { (ws : List Window) (m : Midstep) → IsTelling self.old.desk m → ws ≡ all_windows m.desktop
             → IsTellable m.desktop.pointer.place ws (action_of action)
@@ -286,8 +324,7 @@ impl<A: Allocator + Copy> Desk<A> {
 
     /// The focus is settled once: where it moves, the surface that had it is left, and the one that the pointer hits is entered.
     fn settle_once(&mut self)
-        ensures settles { (m : Midstep) → IsMidway self.old.desk m → m.desktop.pointer.place ≢ None
-            → (n : Midstep) × Settles m n × IsMidway self.new.desk n }
+        ensures settles { (m : Midstep) → IsMidway self.old.desk m → (n : Midstep) × Settles m n × IsMidway self.new.desk n }
         ensures damage { self.new.damage ≡ self.old.damage }
         ensures rests { (c : ℕ) → length (rest_in c self.new.desk.kept) ≤ length (rest_in c self.old.desk.kept) }
         ensures output { self.new.desk.kept.output ≡ self.old.desk.kept.output }
@@ -305,9 +342,6 @@ impl<A: Allocator + Copy> Desk<A> {
         ensures rests { (c : ℕ) → length (rest_in c self.new.desk.kept) ≤ length (rest_in c self.old.desk.kept) }
         ensures output { self.new.desk.kept.output ≡ self.old.desk.kept.output }
     {
-        if self.pointer.place().is_none() {
-            return;
-        }
         for _ in 0..SETTLINGS {
             self.settle_once();
             let Some(client) = self.first_refused() else {

@@ -12,19 +12,34 @@ ghost use Rattle.wl_plain.specs.Settling.{Midstep, with_standing};
 ghost use Rattle.wl_plain.specs.Stacked.{all_windows};
 ghost use Rattle.wl_desk.specs.Agreeing.{Agrees, LeadsBy};
 ghost use Rattle.wl_desk.specs.Midway.{IsTelling};
-ghost use Rattle.wl_desk.specs.Restacking.{HasNumber, MarksChange, moved_up, raised_to};
+ghost use Rattle.wl_clients.specs.Releasing.{MarksJust};
+ghost use Rattle.wl_desk.specs.Releasing.{Releases, released_by};
+ghost use Rattle.wl_clients.specs.Raising.{MarksChange, moved_up, raised_to};
+ghost use Rattle.wl_desk.specs.Restacking.{HasNumber};
 
 use crate::desks::Desk;
 use crate::seats::seat_of;
 use std::alloc::Allocator;
-use wl_clients::Done;
+use wl_clients::{ClientNo, Done};
 use wl_scene::Target;
+
+/// The client whose popups with a grab a press dismisses, where this one holds a grab, if one does, and the press hits this toplevel.
+fn released_by(holder: Option<ClientNo>, toplevel: Option<Target>) -> Option<ClientNo>
+    ensures { result ≡ released_by holder (target_or_none toplevel) }
+{
+    let holder = holder?;
+    match toplevel {
+        Some(toplevel) if toplevel.client == holder => None,
+        _ => Some(holder),
+    }
+}
 
 impl<A: Allocator + Copy> Desk<A> {
     /// A button, named by its code, is pressed or released at a time in milliseconds. The surface that has the focus is told of it
-    /// (wayland.xml, wl_pointer.button). A press brings the toplevel that it hits to the top. A press of a button that is down, or of one
-    /// past 16, and a release of one that isn't down do nothing. The windows of each client that can't be told, and so ends, are marked, and
-    /// those of a toplevel that came to the top.
+    /// (wayland.xml, wl_pointer.button). A press brings the toplevel that it hits to the top, and dismisses the popups with a grab of a client
+    /// of which it hits no surface (xdg-shell.xml, xdg_popup.grab). A press of a button that is down, or of one past 16, and a release of one
+    /// that isn't down do nothing. The windows of each client that can't be told, and so ends, are marked, with those of a toplevel that came to
+    /// the top and of popups that were dismissed.
     pub fn button(&mut self, time: u32, button: u32, pressed: bool)
         ensures leads { LeadsBy (Single (Button time button pressed) Done.Button) self.old self.new }
         ensures sides { IsAsLarge self.old.damage self.new.damage }
@@ -48,10 +63,11 @@ impl<A: Allocator + Copy> Desk<A> {
         }
         let toplevel = self.toplevel_hit();
         let serial = self.hold_serial();
-        // No client holds a grab.
-        let actions = self.pointer.press(time, button, toplevel, None);
+        let holder = self.clients.grab_holder();
+        let actions = self.pointer.press(time, button, toplevel, holder);
         self.pointer.begin_hold(serial);
         self.raise(toplevel);
+        self.release_grabs(released_by(holder, toplevel));
         self.apply_all(&actions);
         self.settle();
     }
@@ -102,6 +118,19 @@ impl<A: Allocator + Copy> Desk<A> {
             return None;
         }
         self.clients.serial(focus.client)
+    }
+
+    /// The popups with a grab of this client, if one is given, are dismissed, and it is told so. Their windows are marked, and no more.
+    fn release_grabs(&mut self, holder: Option<ClientNo>)
+        ensures releases { (m : Midstep) → IsTelling self.old.desk m
+            → (n : Midstep) × Releases holder m n × IsTelling self.new.desk n × MarksJust m.desktop n.desktop self.old.damage self.new.damage }
+        ensures pointer { self.new.desk.pointer ≡ self.old.desk.pointer }
+        ensures sides { IsAsLarge self.old.damage self.new.damage }
+        ensures output { self.new.desk.kept.output ≡ self.old.desk.kept.output }
+    {
+        if let Some(client) = holder {
+            self.clients.release_grabs(client);
+        }
     }
 
     /// A toplevel, if one is given, comes to the top of the others. That is marked, and no more.

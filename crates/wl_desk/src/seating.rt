@@ -9,7 +9,7 @@ use std::alloc::Allocator;
 use wl_clients::{ClientNo, PointerAsked};
 
 /// Where what is kept of the client of this number stands, among so many.
-fn place_in(client: ClientNo, count: usize) -> Option<usize>
+pub(crate) fn place_in(client: ClientNo, count: usize) -> Option<usize>
     ensures some { IfSome result (λ k. (client ≡ k + 1) × (k < count)) }
     ensures none { IfNone result ((client ≡ 0) ⊎ (count < client)) }
 {

@@ -1,6 +1,7 @@
 -- What each client owns is in order wherever nobody points, with popups and whatever is left out.
-pub mod Clients
 pub mod Dismissed
+pub mod Held
+pub mod Ids
 pub mod Kept
 pub mod Known
 pub mod Laws

@@ -1,12 +1,9 @@
 pub mod TreeMarks
 pub mod TreeSteps
 pub mod KeptRecords
-pub mod WithoutPopups
 pub mod OneBuffer
 pub mod XdgRoots
 pub mod TreeBuffers
-pub mod OrderlyClients
-pub mod MappedToplevels
 pub mod EachClient
 pub mod EachPopup
 pub mod InOrder

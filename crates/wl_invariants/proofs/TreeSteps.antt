@@ -2,7 +2,6 @@ pub mod Coming
 pub mod Commits
 pub mod Damage
 pub mod Descents
-pub mod Distinct
 pub mod Ends
 pub mod Fewer
 pub mod Modes
@@ -10,5 +9,4 @@ pub mod Others
 pub mod Owners
 pub mod Reading
 pub mod Rows
-pub mod Standing
 pub mod Staying

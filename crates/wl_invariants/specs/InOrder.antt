@@ -16,15 +16,14 @@ use Rattle.wl_xdg_state.specs.Shell.{IsPopup, Kind, RoleObject, Toplevel, xdg_of
 use Rattle.wl_stacking.specs.Pointer.{first_pointer}
 use Rattle.wl_stacking.specs.Stacking.{Standing}
 use Rattle.wl_plain.specs.Demand.{Demand, EndToplevel, Grab}
-use Rattle.wl_plain.specs.Desktop.{Desktop, Resident, client_at, owned_in, resident_of, toplevels_of}
+use Rattle.wl_plain.specs.Desktop.{Desktop, Resident, client_at, resident_of, toplevels_of}
 use Rattle.wl_plain.specs.WlSubsurface.{has_subsurface, is_of_child}
 use Rattle.wl_plain.specs.XdgShell.{role_of}
 use Rattle.wl_laws.specs.Apart.{AreApartBy, AreObjects}
 use Rattle.wl_laws.specs.Soundness.{AreTrees, IsLive, IsNoChild}
 use Rattle.wl_invariants.specs.OneBuffer.{HasOneBuffer}
-use Rattle.wl_invariants.specs.Orderly.{AreMappedOnce}
+use Rattle.wl_invariants.specs.Standing.{AreMappedOnce}
 use Rattle.wl_invariants.specs.Roots.{AreOwnSubsurfaces, HasSubsurface}
-use Rattle.wl_invariants.specs.Toplevels.{AreToplevels}
 
 -- ---- role objects
 
@@ -129,7 +128,3 @@ InOrderAt (Some r) tops = InOrderBy r.peer.status r tops
 pub record InOrder (d : Desktop) : Type 0 where
   pub pointer : d.pointer ≡ first_pointer
   pub each : (c : ℕ) → InOrderAt (client_at c d) (toplevels_of c d)
-
--- No client has a popup.
-abbrev pub HaveNoPopups : Desktop → Type 0
-HaveNoPopups d = (c : ℕ) → AreToplevels (owned_in d c).shell

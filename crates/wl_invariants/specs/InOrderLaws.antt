@@ -1,6 +1,5 @@
--- What each client owns is in order wherever nobody points, with popups and whatever is left out: each step keeps it. Where no client has
--- a popup that comes to what is known of clients without popups.
-use Rattle.std.specs.Prelude.{ℕ, ◌≡◌, ◌≤◌, ◌↔◌, ◌==◌, true, false, Ok, Some, None, List, []}
+-- What each client owns is in order wherever nobody points, with popups and whatever is left out: each step keeps it.
+use Rattle.std.specs.Prelude.{ℕ, ◌≡◌, ◌≤◌, ◌==◌, true, false, Ok, Some, None, List, []}
 use Rattle.std.specs.List.{list_any}
 use Rattle.wl_peer.specs.declared.cause.Cause.{Cause}
 use Rattle.wl_peer.specs.Peer.{Peer, counted, ended, with_rest}
@@ -21,9 +20,7 @@ use Rattle.wl_plain.specs.Step.{with_peer}
 use Rattle.wl_laws.specs.Apart.{AreApartBy}
 use Rattle.wl_laws.specs.Soundness.{IsSound}
 use Rattle.wl_invariants.specs.Acts.{LeavesPointer}
-use Rattle.wl_invariants.specs.InOrder.{AreRising, HaveNoPopups, InOrder, OwnsInOrder, may_dismiss}
-use Rattle.wl_invariants.specs.Orderly.{Orderly, OwnsOrderly}
-use Rattle.wl_invariants.specs.Toplevels.{AreToplevels}
+use Rattle.wl_invariants.specs.InOrder.{AreRising, InOrder, OwnsInOrder, may_dismiss}
 
 -- ---- what a desktop in order has
 
@@ -98,11 +95,3 @@ DemandsKeepInOrder =
 abbrev pub OthersDismissNone : Type 0
 OthersDismissNone =
     (c : ℕ) (demand : Demand) (r : Resident) (d : Desktop) → may_dismiss demand ≡ false → popups_done r (changed_for c demand r d) ≡ []
-
--- ---- where no client has a popup
-
-abbrev pub OwnsOrderlyIsInOrder : Type 0
-OwnsOrderlyIsInOrder = (r : Resident) → OwnsOrderly r ↔ (OwnsInOrder r × AreToplevels r.owned.shell)
-
-abbrev pub OrderlyIsInOrder : Type 0
-OrderlyIsInOrder = (d : Desktop) → Orderly d ↔ (InOrder d × HaveNoPopups d)

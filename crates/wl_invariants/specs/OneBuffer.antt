@@ -4,9 +4,8 @@ use Rattle.wl_peer.specs.Buffers.{Buffer as Made}
 use Rattle.wl_peer.specs.Objects.{ById}
 use Rattle.wl_peer.specs.Told.{Output}
 use Rattle.wl_state.specs.Request.{Buffer, Request, Attach}
-use Rattle.wl_state.specs.State.{History}
-use Rattle.wl_state.specs.Surface.{Surface, buffers_of}
-use Rattle.wl_surface.specs.Surfaces.{Surfaces, history_in}
+use Rattle.wl_state.specs.Surface.{Surface}
+use Rattle.wl_surface.specs.Surfaces.{Surfaces}
 use Rattle.wl_plain.specs.declared.answers.Done.{Done}
 use Rattle.wl_plain.specs.Act.{Act}
 use Rattle.wl_plain.specs.Desktop.{Desktop, Resident, arrival, client_at, empty}
@@ -57,10 +56,6 @@ HaveOneBuffer d = (c : ℕ) (r : Resident) → client_at c d ≡ Some r → HasO
 abbrev pub ArrivalHasOneBuffer : Type 0
 ArrivalHasOneBuffer = (output : Output) → HasOneBuffer (arrival output)
 
--- So do the clients of a desktop without any.
-abbrev pub EmptyHasOneBuffer : Type 0
-EmptyHasOneBuffer = (output : Output) → HaveOneBuffer (empty output)
-
 -- Whatever happens leaves each client one buffer of each number.
 abbrev pub HappensKeepsOneBuffer : Type 0
 HappensKeepsOneBuffer =
@@ -77,8 +72,3 @@ RunHasOneBuffer =
 abbrev pub IsAmong : Buffer → List Buffer → Type 0
 IsAmong b [] = ⊥
 IsAmong b (other ∷ others) = (b ≡ other) ⊎ IsAmong b others
-
--- The buffers that a surface has, its pending, held and applied ones, were attached.
-abbrev pub HadAreAttached : Type 0
-HadAreAttached =
-    (id : ℕ) (h : History) (b : Buffer) (all : Surfaces) → history_in id all ≡ Some h → IsAmong b (buffers_of h) → IsAttached b all

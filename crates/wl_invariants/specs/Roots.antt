@@ -5,7 +5,7 @@ use Rattle.std.specs.List.{list_any}
 use Rattle.wl_interface.specs.declared.interface.Interface.TheVariants.{WlSubsurface}
 use Rattle.wl_peer.specs.Objects.{is_of}
 use Rattle.wl_peer.specs.Told.{Output}
-use Rattle.wl_surface.specs.Surfaces.{Link, link_at, surface_at}
+use Rattle.wl_surface.specs.Surfaces.{Link, surface_at}
 use Rattle.wl_xdg_state.specs.Shell.{xdg_of}
 use Rattle.wl_tree_laws.specs.Hanging.{AreNumbered, AreTied}
 use Rattle.wl_tree_laws.specs.Laws.{AreOnceLinked}
@@ -45,13 +45,6 @@ LinksAreApart =
     (left : LeftOut) (output : Output) (acts : List Act) (dones : List Done) (d : Desktop) → Lasts left acts dones (empty output) d
     → (c : ℕ) → AreNumbered (owned_in d c).surfaces.links × AreOnceLinked (owned_in d c).surfaces.links
 
--- No link of a client has a number past that of its last request.
-abbrev pub LinksAreOfRequests : Type 0
-LinksAreOfRequests =
-    (left : LeftOut) (output : Output) (acts : List Act) (dones : List Done) (d : Desktop) → Lasts left acts dones (empty output) d
-    → (c : ℕ) (r : Resident) → client_at c d ≡ Some r
-    → (number : ℕ) (link : Link) → link_at number r.owned.surfaces ≡ Some link → number ≤ r.peer.requests
-
 -- no two of a client's wl_subsurfaces have the same id, the same link or the same surface; no link has a number past that of the last
 -- request; and each surface is there
 pub record AreOwnSubsurfaces (r : Resident) : Type 0 where
@@ -60,12 +53,6 @@ pub record AreOwnSubsurfaces (r : Resident) : Type 0 where
   pub surfaces : AreApartBy (λ surface s. is_of_child surface s.surface) r.subsurfaces
   pub early : (number : ℕ) → list_any (λ s. s.link == number) r.subsurfaces ≡ true → number ≤ r.peer.requests
   pub there : (surface : ℕ) → has_subsurface surface r ≡ true → is_some (surface_at surface r.owned.surfaces) ≡ true
-
--- The wl_subsurfaces of a client are told apart by their ids, by their links, and by their surfaces, which are there.
-abbrev pub SubsurfacesAreApart : Type 0
-SubsurfacesAreApart =
-    (left : LeftOut) (output : Output) (acts : List Act) (dones : List Done) (d : Desktop) → Lasts left acts dones (empty output) d
-    → (c : ℕ) (r : Resident) → client_at c d ≡ Some r → AreOwnSubsurfaces r
 
 -- The links and the surfaces of a client hang together: of the links that live a surface's requests name those to its own children alone,
 -- and each is named by those of its parent, which is there; and no more counts than was committed (wayland.xml, wl_subsurface).

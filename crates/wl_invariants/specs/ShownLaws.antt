@@ -1,6 +1,6 @@
 -- Which toplevels stand wherever nobody points, with popups and whatever is left out: just those that are mapped. A mapped surface shows a
 -- buffer, be it a toplevel's or a popup's. Each step keeps it, and each message by itself.
-use Rattle.std.specs.Prelude.{ℕ, ◌≡◌, ◌↔◌, Some, List}
+use Rattle.std.specs.Prelude.{ℕ, ◌≡◌, Some, List}
 use Rattle.wl_peer.specs.declared.cause.Cause.{Cause}
 use Rattle.wl_peer.specs.Peer.{ended, with_rest}
 use Rattle.wl_peer.specs.Told.{Output}
@@ -13,9 +13,8 @@ use Rattle.wl_plain.specs.LeftOut.{LeftOut}
 use Rattle.wl_plain.specs.Settling.{EndsAndSettles, becomes, unstruck}
 use Rattle.wl_plain.specs.Step.{with_peer}
 use Rattle.wl_invariants.specs.Acts.{LeavesPointer}
-use Rattle.wl_invariants.specs.InOrder.{HaveNoPopups, InOrder}
+use Rattle.wl_invariants.specs.InOrder.{InOrder}
 use Rattle.wl_invariants.specs.Shown.{ShownStand}
-use Rattle.wl_invariants.specs.Standing.{MappedStand}
 
 -- On a desktop without clients none stands, and none is mapped.
 abbrev pub EmptyIsShown : Type 0
@@ -47,7 +46,3 @@ EndsKeepShown =
 abbrev pub FramesKeepShown : Type 0
 FramesKeepShown =
     (time c : ℕ) (d e : Desktop) → InOrder d → ShownStand d → FramesToldAt time c (client_at c d) d e → ShownStand e
-
--- Where no client has a popup it comes to this, that just the mapped toplevels stand.
-abbrev pub MappedIsShown : Type 0
-MappedIsShown = (d : Desktop) → HaveNoPopups d → MappedStand d ↔ ShownStand d

@@ -2,7 +2,7 @@
 -- wl_subsurface): whose stores go, and which are released.
 use Rattle.std.specs.Prelude.{ℕ, ◌≡◌, ◌==◌, ◌&&◌, Bool, true, false, List, [], ◌++◌, filter, flat_map, fold, map}
 use Rattle.std.specs.List.{Contains, list_any}
-use Rattle.std.specs.List.Sorted.{IsPermutation, IsStrictlyIncreasing}
+use Rattle.std.specs.List.Sorted.{IsStrictlyIncreasing}
 use Rattle.wl_interface.specs.declared.interface.Interface.TheVariants.{WlBuffer}
 use Rattle.wl_proto.specs.Messages.{says}
 use Rattle.wl_store.specs.Stores.{Stock}
@@ -27,11 +27,6 @@ ReleasesCommute = (a b : ℕ) (stores : Stock) → released a (released b stores
 -- the stores of these buffers have one use less for each of them
 abbrev pub gone_with : List Buffer → Stock → Stock
 gone_with buffers stores = fold (λ stores b. released b.store stores) stores buffers
-
--- They go in any order.
-abbrev pub GoInAnyOrder : Type 0
-GoInAnyOrder =
-    (buffers others : List Buffer) (stores : Stock) → IsPermutation buffers others → gone_with buffers stores ≡ gone_with others stores
 
 -- ---- buffers by their numbers
 

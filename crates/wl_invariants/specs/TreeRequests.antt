@@ -1,20 +1,16 @@
 -- Laws of what each request of the surfaces of a client keeps of the other surfaces, or of all (wayland.xml, wl_surface and wl_subsurface).
-use Rattle.std.specs.Prelude.{ℕ, ◌≡◌, Bool, true, Some, None}
+use Rattle.std.specs.Prelude.{ℕ, ◌≡◌, Bool, Some, None}
 use Rattle.wl_state.specs.Request.{Request}
 use Rattle.wl_state.specs.Surface.{asking, with_role}
 use Rattle.wl_state.specs.declared.role.Role.{Role}
-use Rattle.wl_surface.specs.Surfaces.{Link, Surfaces, history_in, link_at, with_change, with_new}
-use Rattle.wl_surface.specs.Trees.{behaves_synchronised, committed_in, desynchronised_in, destroyed_in, ended_in, in_mode, levels}
+use Rattle.wl_surface.specs.Surfaces.{Link, Surfaces, history_in, link_at, with_change}
+use Rattle.wl_surface.specs.Trees.{committed_in, desynchronised_in, destroyed_in, ended_in, in_mode}
 use Rattle.wl_surface.specs.Trees.{linked, unlinked, with_link}
 use Rattle.wl_tree_laws.specs.Laws.{AreOnceLinked}
 use Rattle.wl_tree_laws.specs.Hanging.{AreNumbered, AreTied}
 use Rattle.wl_invariants.specs.TreeStepsLaws.{KeepsAll, KeepsOthers}
 
 -- ---- one surface
-
--- A request of a surface changes nothing of the others.
-abbrev pub RequestKeepsOthers : Type 0
-RequestKeepsOthers = (all : Surfaces) (id : ℕ) (r : Request) → KeepsOthers id all (with_change id (asking r) all)
 
 -- Until it is applied it changes nothing that counts of any, whichever it is (wayland.xml, wl_surface.commit).
 abbrev pub RequestKeepsAll : Type 0
@@ -27,20 +23,11 @@ RoleKeepsAll =
     → ((surface : ℕ) → history_in surface (with_change id (with_role role) all) ≡ history_in surface all)
     × KeepsAll all (with_change id (with_role role) all)
 
--- wl_compositor.create_surface keeps all other surfaces.
-abbrev pub CreationKeepsOthers : Type 0
-CreationKeepsOthers = (all : Surfaces) (id : ℕ) → KeepsOthers id all (with_new id all)
-
 -- ---- commits
 
 -- wl_surface.commit keeps the surfaces that don't descend from the one that is committed.
 abbrev pub CommitKeepsOthers : Type 0
 CommitKeepsOthers = (all : Surfaces) → AreOnceLinked all.links → (id : ℕ) → KeepsOthers id all (committed_in id all)
-
--- That of a surface that behaves synchronised changes nothing that counts.
-abbrev pub HeldCommitKeepsAll : Type 0
-HeldCommitKeepsAll =
-    (all : Surfaces) → AreTied all → (id : ℕ) → behaves_synchronised levels all id ≡ true → KeepsAll all (committed_in id all)
 
 -- ---- links
 

@@ -9,6 +9,7 @@ use Rattle.wl_tree_laws.specs.Laws.{AreOnceLinked}
 use Rattle.wl_tree_laws.specs.Hanging.{AreNumbered, kids_of}
 use Rattle.wl_tree_laws.specs.Stacks.{has_child}
 use Rattle.wl_stacking.specs.Windows.{Owner, Place, tree}
+use Rattle.wl_plain.specs.Moments.{is_applied_by}
 use Rattle.wl_laws.specs.Soundness.{AreTrees, IsNoChild}
 
 -- what counts of what was asked of a surface (wayland.xml, wl_surface.commit)
@@ -90,3 +91,9 @@ abbrev pub AllTreesStay : Type 0
 AllTreesStay =
     (all new : Surfaces) → AreTrees all → AreOnceLinked all.links → KeepsAll all new
     → (owner : Owner) (root : ℕ) (place : Place) → tree 17 owner new root place ≡ tree 17 owner all root place
+
+-- To a surface of which no more counts than before, no damage is applied (wayland.xml, wl_surface.damage and wl_surface.commit).
+abbrev pub AppliesNothing : Type 0
+AppliesNothing =
+    (old new : Option History) → option_map (λ h. h.cut) new ≡ option_map (λ h. h.cut) old → (x y : ℕ)
+    → is_applied_by old new x y ≡ false

@@ -3,7 +3,7 @@
 
 ghost use Rattle.wl_invariants.specs.InOrderLaws.{ClientsAreInOrder, DemandsKeepInOrder, EmptyIsInOrder, EndsKeepInOrder};
 ghost use Rattle.wl_invariants.specs.InOrderLaws.{FramesKeepInOrder, InOrderIsSound, InOrderStays, MessagesKeepInOrder};
-ghost use Rattle.wl_invariants.specs.InOrderLaws.{OrderlyIsInOrder, OthersDismissNone, OwnsOrderlyIsInOrder, PeersKeepInOrder};
+ghost use Rattle.wl_invariants.specs.InOrderLaws.{OthersDismissNone, PeersKeepInOrder};
 ghost use Rattle.wl_invariants.specs.InOrderLaws.{PiecesKeepInOrder, PopupsAreNumbered, PopupsRise};
 
 /// A desktop without clients is in order.
@@ -69,14 +69,4 @@ pub fn demands_keep_in_order()
 /// A client is told of a popup that is done by a grab and by the end of a toplevel, and by nothing else that is demanded.
 pub fn others_dismiss_none()
     ensures { OthersDismissNone }
-{}
-
-/// A client owns what it owns in order without a popup where it owns it in order and its role objects are toplevels.
-pub fn owns_orderly_is_in_order()
-    ensures { OwnsOrderlyIsInOrder }
-{}
-
-/// A desktop is orderly without popups where it is in order and no client has a popup.
-pub fn orderly_is_in_order()
-    ensures { OrderlyIsInOrder }
 {}

@@ -1,126 +1,43 @@
 //! The laws of the desktop where nobody points: what holds of every desktop that comes about, with subsurfaces and with popups
-//! and whatever is left out; what that comes to where no client has a popup, as none has by what is served now; and what a step
-//! marks and leaves that changes one tree of surfaces. Each law is a function that promises it.
+//! and whatever is left out; and what a step marks and leaves that changes one tree of surfaces. Each law is a function that
+//! promises it.
 #![tactic(auto)]
 
 mod in_order;
-mod mapped;
 mod nobody_points;
 mod one_buffer;
-mod orderly;
 mod records;
 mod shown;
 mod tree_buffers;
 mod tree_marks;
 mod tree_steps;
-mod without_popups;
 mod xdg_roots;
 
-pub use in_order::clients_are_in_order;
-pub use in_order::demands_keep_in_order;
-pub use in_order::empty_is_in_order;
-pub use in_order::ends_keep_in_order;
-pub use in_order::frames_keep_in_order;
-pub use in_order::in_order_is_sound;
-pub use in_order::in_order_stays;
-pub use in_order::messages_keep_in_order;
-pub use in_order::orderly_is_in_order;
-pub use in_order::others_dismiss_none;
-pub use in_order::owns_orderly_is_in_order;
-pub use in_order::peers_keep_in_order;
-pub use in_order::pieces_keep_in_order;
-pub use in_order::popups_are_numbered;
-pub use in_order::popups_rise;
-pub use mapped::empty_is_mapped;
-pub use mapped::ends_keep_mapped;
-pub use mapped::frames_keep_mapped;
-pub use mapped::mapped_stays;
-pub use mapped::messages_keep_mapped;
-pub use mapped::pieces_keep_mapped;
-pub use nobody_points::empty_is_unpointed;
-pub use nobody_points::ends_keep_unpointed;
-pub use nobody_points::frames_keep_unpointed;
-pub use nobody_points::grabs_are_refused;
-pub use nobody_points::grabs_dismiss;
-pub use nobody_points::messages_keep_unpointed;
-pub use nobody_points::pieces_keep_unpointed;
-pub use nobody_points::unpointed_stays;
-pub use one_buffer::arrival_has_one_buffer;
-pub use one_buffer::empty_has_one_buffer;
-pub use one_buffer::had_are_attached;
-pub use one_buffer::happens_keeps_one_buffer;
-pub use one_buffer::run_has_one_buffer;
-pub use orderly::children_are_subsurfaces;
-pub use orderly::clients_are_orderly;
-pub use orderly::demands_keep_order;
-pub use orderly::empty_is_orderly;
-pub use orderly::ended_own_nothing;
-pub use orderly::ends_keep_order;
-pub use orderly::frames_keep_order;
-pub use orderly::messages_keep_order;
-pub use orderly::messages_keep_order_where;
-pub use orderly::only_peer_changes;
-pub use orderly::orderly_has_no_popups;
-pub use orderly::orderly_stays;
-pub use orderly::orderly_stays_where;
-pub use orderly::pieces_keep_order;
-pub use orderly::subsurfaces_name_children;
-pub use orderly::surfaces_hang_orderly;
-pub use orderly::toplevels_are_apart;
-pub use orderly::toplevels_are_roots;
+pub use in_order::{
+    clients_are_in_order, demands_keep_in_order, empty_is_in_order, ends_keep_in_order,
+    frames_keep_in_order, in_order_is_sound, in_order_stays, messages_keep_in_order,
+    others_dismiss_none, peers_keep_in_order, pieces_keep_in_order, popups_are_numbered,
+    popups_rise,
+};
+pub use nobody_points::{
+    empty_is_unpointed, ends_keep_unpointed, frames_keep_unpointed, grabs_are_refused,
+    grabs_dismiss, messages_keep_unpointed, pieces_keep_unpointed, unpointed_stays,
+};
+pub use one_buffer::{arrival_has_one_buffer, happens_keeps_one_buffer, run_has_one_buffer};
 pub use records::served_alone;
-pub use shown::empty_is_shown;
-pub use shown::ends_keep_shown;
-pub use shown::frames_keep_shown;
-pub use shown::mapped_is_shown;
-pub use shown::messages_keep_shown;
-pub use shown::pieces_keep_shown;
-pub use shown::shown_stays;
-pub use tree_buffers::after_all_is_after_these;
-pub use tree_buffers::go_in_any_order;
-pub use tree_buffers::lets_go_alike;
-pub use tree_buffers::releases_commute;
-pub use tree_buffers::releases_rise;
-pub use tree_marks::is_tree_of_root;
-pub use tree_marks::marks_damage_alone;
-pub use tree_marks::marks_nothing_more;
-pub use tree_marks::marks_tree_alone;
-pub use tree_marks::may_mark_whole_tree;
-pub use tree_steps::all_trees_stay;
-pub use tree_steps::applies_nothing;
-pub use tree_steps::commit_keeps_others;
-pub use tree_steps::creation_keeps_others;
-pub use tree_steps::destruction_keeps_others;
-pub use tree_steps::end_keeps_others;
-pub use tree_steps::has_root;
-pub use tree_steps::held_commit_keeps_all;
-pub use tree_steps::link_keeps_all;
-pub use tree_steps::mode_keeps_all;
-pub use tree_steps::mode_keeps_others;
-pub use tree_steps::no_child_is_top;
-pub use tree_steps::no_standing_changes;
-pub use tree_steps::no_window_changes;
-pub use tree_steps::one_standing_changes;
-pub use tree_steps::other_trees_stay;
-pub use tree_steps::request_keeps_all;
-pub use tree_steps::request_keeps_others;
-pub use tree_steps::role_keeps_all;
-pub use tree_steps::roots_apart;
-pub use tree_steps::standing_is_distinct;
-pub use tree_steps::tree_stays;
-pub use without_popups::changes_simply;
-pub use without_popups::demands_are_served;
-pub use without_popups::does_no_more;
-pub use without_popups::empty_has_no_popups;
-pub use without_popups::messages_are_simple;
-pub use without_popups::no_popups_stay;
-pub use without_popups::others_stay;
-pub use without_popups::replies_simply;
-pub use without_popups::stacks_simply;
-pub use without_popups::windows_are_toplevels;
-pub use xdg_roots::links_are_apart;
-pub use xdg_roots::links_are_of_requests;
-pub use xdg_roots::links_have_subsurfaces;
-pub use xdg_roots::subsurfaces_are_apart;
-pub use xdg_roots::surfaces_are_tied;
-pub use xdg_roots::xdg_surfaces_are_roots;
+pub use shown::{
+    empty_is_shown, ends_keep_shown, frames_keep_shown, messages_keep_shown, pieces_keep_shown,
+    shown_stays,
+};
+pub use tree_buffers::{after_all_is_after_these, lets_go_alike, releases_commute, releases_rise};
+pub use tree_marks::{
+    is_tree_of_root, marks_damage_alone, marks_nothing_more, marks_tree_alone, may_mark_whole_tree,
+};
+pub use tree_steps::{
+    all_trees_stay, applies_nothing, commit_keeps_others, destruction_keeps_others,
+    end_keeps_others, has_root, link_keeps_all, mode_keeps_all, mode_keeps_others, no_child_is_top,
+    other_trees_stay, request_keeps_all, role_keeps_all, roots_apart, tree_stays,
+};
+pub use xdg_roots::{
+    links_are_apart, links_have_subsurfaces, surfaces_are_tied, xdg_surfaces_are_roots,
+};

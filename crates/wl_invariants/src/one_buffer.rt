@@ -2,22 +2,12 @@
 //! so is a wl_buffer that it still has, whatever happened (wayland.xml, wl_buffer and wl_surface.attach). Each law is a function that
 //! promises it.
 
-ghost use Rattle.wl_invariants.specs.OneBuffer.{ArrivalHasOneBuffer, EmptyHasOneBuffer, HadAreAttached};
+ghost use Rattle.wl_invariants.specs.OneBuffer.{ArrivalHasOneBuffer};
 ghost use Rattle.wl_invariants.specs.OneBuffer.{HappensKeepsOneBuffer, RunHasOneBuffer};
 
 /// A client that has just connected has one buffer of each number, since it attached none.
 pub fn arrival_has_one_buffer()
     ensures { ArrivalHasOneBuffer }
-{}
-
-/// So has each client of a desktop without any.
-pub fn empty_has_one_buffer()
-    ensures { EmptyHasOneBuffer }
-{}
-
-/// The buffers that a surface has were attached to it (wayland.xml, wl_surface.attach and commit).
-pub fn had_are_attached()
-    ensures { HadAreAttached }
 {}
 
 /// Whatever happens leaves each client one buffer of each number.

@@ -2,7 +2,7 @@
 //! is mapped shows a buffer, be it a toplevel's or a popup's. Each step keeps it, and each message by itself, whatever is left
 //! out. Each law is a function that does nothing and promises it.
 
-ghost use Rattle.wl_invariants.specs.ShownLaws.{EmptyIsShown, EndsKeepShown, FramesKeepShown, MappedIsShown, MessagesKeepShown};
+ghost use Rattle.wl_invariants.specs.ShownLaws.{EmptyIsShown, EndsKeepShown, FramesKeepShown, MessagesKeepShown};
 ghost use Rattle.wl_invariants.specs.ShownLaws.{PiecesKeepShown, ShownStays};
 
 /// On a desktop without clients no toplevel stands, and none is mapped.
@@ -33,9 +33,4 @@ pub fn ends_keep_shown()
 /// So does the frame that a client is told of.
 pub fn frames_keep_shown()
     ensures { FramesKeepShown }
-{}
-
-/// Where no client has a popup it is the same as that just the mapped toplevels stand.
-pub fn mapped_is_shown()
-    ensures { MappedIsShown }
 {}

@@ -1,16 +1,11 @@
 //! The laws of the buffers of a client whose surfaces change several at once, as where a tree of them is applied (wayland.xml, wl_subsurface):
 //! whose stores go, and which wl_buffers are released. Each law is a function that promises it.
 
-ghost use Rattle.wl_invariants.specs.TreeBuffersLaws.{AfterAllIsAfterThese, GoInAnyOrder, LetsGoAlike, ReleasesCommute, ReleasesRise};
+ghost use Rattle.wl_invariants.specs.TreeBuffersLaws.{AfterAllIsAfterThese, LetsGoAlike, ReleasesCommute, ReleasesRise};
 
 /// Two stores have one use less each, whichever comes first.
 pub fn releases_commute()
     ensures { ReleasesCommute }
-{}
-
-/// The stores of buffers go in any order.
-pub fn go_in_any_order()
-    ensures { GoInAnyOrder }
 {}
 
 /// Of two lists of buffers the same stores go where those that pass a test have the same numbers.

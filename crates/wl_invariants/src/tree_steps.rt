@@ -1,11 +1,9 @@
 //! The laws of what a request of one tree of surfaces leaves as it was in the other trees: what was asked of their surfaces, and their
 //! windows (wayland.xml, wl_subcompositor and wl_subsurface). Each law is a function that promises it.
 
-ghost use Rattle.wl_invariants.specs.TreeStepsLaws.{AllTreesStay, HasRoot, NoChildIsTop, OtherTreesStay, RootsApart, TreeStays};
-ghost use Rattle.wl_invariants.specs.TreeRequests.{CommitKeepsOthers, CreationKeepsOthers, DestructionKeepsOthers, EndKeepsOthers};
-ghost use Rattle.wl_invariants.specs.TreeRequests.{HeldCommitKeepsAll, LinkKeepsAll, ModeKeepsAll, ModeKeepsOthers, RequestKeepsAll};
-ghost use Rattle.wl_invariants.specs.TreeRequests.{RequestKeepsOthers, RoleKeepsAll};
-ghost use Rattle.wl_invariants.specs.TreeStanding.{AppliesNothing, NoStandingChanges, NoWindowChanges, OneStandingChanges, StandingIsDistinct};
+ghost use Rattle.wl_invariants.specs.TreeStepsLaws.{AllTreesStay, AppliesNothing, HasRoot, NoChildIsTop, OtherTreesStay, RootsApart, TreeStays};
+ghost use Rattle.wl_invariants.specs.TreeRequests.{CommitKeepsOthers, DestructionKeepsOthers, EndKeepsOthers};
+ghost use Rattle.wl_invariants.specs.TreeRequests.{LinkKeepsAll, ModeKeepsAll, ModeKeepsOthers, RequestKeepsAll, RoleKeepsAll};
 
 /// A tree of which what counts of each surface stays, and the child of each link that lives, shows the same windows.
 pub fn tree_stays()
@@ -37,29 +35,14 @@ pub fn other_trees_stay()
     ensures { OtherTreesStay }
 {}
 
-/// A new surface changes no other surface.
-pub fn creation_keeps_others()
-    ensures { CreationKeepsOthers }
-{}
-
 /// A commit keeps the surfaces that don't descend from the one that is committed.
 pub fn commit_keeps_others()
     ensures { CommitKeepsOthers }
 {}
 
-/// A commit of a surface that behaves synchronised changes nothing that counts.
-pub fn held_commit_keeps_all()
-    ensures { HeldCommitKeepsAll }
-{}
-
 /// A new link changes nothing that counts.
 pub fn link_keeps_all()
     ensures { LinkKeepsAll }
-{}
-
-/// A request of a surface keeps all other surfaces.
-pub fn request_keeps_others()
-    ensures { RequestKeepsOthers }
 {}
 
 /// A request that is not applied changes nothing that counts.
@@ -95,24 +78,4 @@ pub fn destruction_keeps_others()
 /// To a surface of which no more counts than before, no damage is applied.
 pub fn applies_nothing()
     ensures { AppliesNothing }
-{}
-
-/// Where the surface that changes descends from a toplevel that stands, the windows of this toplevel change alone, among the same others.
-pub fn one_standing_changes()
-    ensures { OneStandingChanges }
-{}
-
-/// Where it descends from no toplevel that stands, no window changes.
-pub fn no_standing_changes()
-    ensures { NoStandingChanges }
-{}
-
-/// Where nothing that counts changes, no window does, and no damage is applied.
-pub fn no_window_changes()
-    ensures { NoWindowChanges }
-{}
-
-/// Where no toplevel stands twice, and none has a parent, no surface has two windows.
-pub fn standing_is_distinct()
-    ensures { StandingIsDistinct }
 {}

@@ -1,8 +1,8 @@
 //! The laws of which surfaces are subsurfaces, whatever happens (wayland.xml, wl_subcompositor and wl_subsurface; xdg-shell.xml,
 //! xdg_wm_base.get_xdg_surface). Each law is a function that promises it.
 
-ghost use Rattle.wl_invariants.specs.Roots.{LinksAreApart, LinksAreOfRequests, LinksHaveSubsurfaces};
-ghost use Rattle.wl_invariants.specs.Roots.{SubsurfacesAreApart, SurfacesAreTied, XdgSurfacesAreRoots};
+ghost use Rattle.wl_invariants.specs.Roots.{LinksAreApart, LinksHaveSubsurfaces};
+ghost use Rattle.wl_invariants.specs.Roots.{SurfacesAreTied, XdgSurfacesAreRoots};
 
 /// A surface that has an xdg_surface is no subsurface.
 pub fn xdg_surfaces_are_roots()
@@ -17,16 +17,6 @@ pub fn links_have_subsurfaces()
 /// No two links of a client have the same number, and no two that live the same child.
 pub fn links_are_apart()
     ensures { LinksAreApart }
-{}
-
-/// No link of a client has a number past that of its last request.
-pub fn links_are_of_requests()
-    ensures { LinksAreOfRequests }
-{}
-
-/// No two wl_subsurfaces of a client have the same id, the same link or the same surface, and the surface of each is there.
-pub fn subsurfaces_are_apart()
-    ensures { SubsurfacesAreApart }
 {}
 
 /// Each link that lives is named by what was asked of its parent, which is there, and by nothing that was asked of another surface.

@@ -1,14 +1,15 @@
 -- What is said of each xdg_surface of a client, as they change, come and go.
-use Rattle.std.proofs.Common.{◌≡◌, ◌≤◌, ℕ, ◌+◌, List, [], ◌∷◌, ◌++◌, Bool, true, false, Option, Some, None, cond, length, refl, ap, sym, subst, ◌∙◌, map, arith}
+use Rattle.std.proofs.Common.{◌≡◌, ◌≤◌, ℕ, ◌+◌, List, [], ◌∷◌, ◌++◌, Bool, true, false, Option, Some, None, cond, length, refl, ap, ap₂, sym, subst, ◌∙◌, map, arith}
 use Rattle.std.specs.Prelude.{◌==◌, not, is_some, IfSome, find, filter}
 use Rattle.std.proofs.lemmas.Bool.{eqb-true}
 use Rattle.wl_xdg_state.specs.Popups.{popup_in}
 use Rattle.wl_xdg_state.specs.Shell.{Popup, Shell, XdgSurface as Xdg}
+use Rattle.wl_shell.specs.InOrder.{AreReleased}
 use Rattle.wl_laws.specs.Apart.{AreApartBy}
 use Rattle.wl_laws.proofs.Lists.Keys.{differ, none-first, none-later}
 use Rattle.wl_laws.proofs.Marks.Stacks.{equal-numbers}
 use Rattle.wl_laws.proofs.Soundness.ObjectsThere.{found-left}
-use Rattle.wl_ordered.specs.Ordered.{AreUngrabbed, OfEach}
+use Rattle.wl_ordered.specs.Ordered.{OfEach}
 
 -- `P` is said of the popup of an xdg_surface, if it has one
 abbrev pub OfPopup : (Popup → Type 0) → Xdg → Type 0
@@ -69,18 +70,42 @@ each-found P q x (y ∷ ys) found all = at (q y) found (λ e. each-found P q x y
     at true e rest = subst P (same e) all.0
     at false e rest = rest e
 
+-- where they are told apart by their ids, what is said of the one with this id is said of each that has it
+pub each-only : (P : Xdg → Type 0) (id : ℕ) (x : Xdg) (xs : Shell) → AreApartBy (λ key y. y.id == key) xs → find (λ y. y.id == id) xs ≡ Some x → P x
+    → OfEach (λ y. (y.id == id) ≡ true → P y) xs
+each-only P id x [] apart found is = tt
+each-only P id x (y ∷ ys) apart found is = at (y.id == id) refl found (λ e. each-only P id x ys apart.1 e is)
+  where
+    same : Some y ≡ Some x → y ≡ x
+    same e = cc
+
+    at : (b : Bool) → (y.id == id) ≡ b → cond b (Some y) (find (λ z. z.id == id) ys) ≡ Some x
+        → (find (λ z. z.id == id) ys ≡ Some x → OfEach (λ z. (z.id == id) ≡ true → P z) ys) → OfEach (λ z. (z.id == id) ≡ true → P z) (y ∷ ys)
+    at true here e later = (
+      λ has. subst P (sym (same e)) is,
+      each-so (λ z. (z.id == id) ≡ false) (λ z. (z.id == id) ≡ true → P z) (λ z away has. absurd (differ (sym has ∙ away))) ys
+          (each-unfound (λ z. z.id == id) ys (apart.0 id here)),
+    )
+    at false away e later = (λ has. absurd (differ (sym has ∙ away)), later e)
+
+-- two changes that come to the same for each
+pub each-alike : (f g : Xdg → Xdg) (xs : Shell) → OfEach (λ x. f x ≡ g x) xs → map f xs ≡ map g xs
+each-alike f g [] all = refl
+each-alike f g (x ∷ xs) all = ap₂ (λ (y : Xdg) (ys : Shell). y ∷ ys) all.0 (each-alike f g xs all.1)
+
 -- ---- grabs
 
-abbrev pub IsUngrabbed : Popup → Type 0
-IsUngrabbed popup = popup.has_grab ≡ false
+-- one that was dismissed has none
+abbrev pub IsReleased : Popup → Type 0
+IsReleased popup = popup.is_dismissed ≡ true → popup.has_grab ≡ false
 
-pub ungrabbed-each : (xs : Shell) → AreUngrabbed xs → OfEach (OfPopup IsUngrabbed) xs
-ungrabbed-each [] all = tt
-ungrabbed-each (x ∷ xs) all = (all.0, ungrabbed-each xs all.1)
+pub released-each : (xs : Shell) → AreReleased xs → OfEach (OfPopup IsReleased) xs
+released-each [] all = tt
+released-each (x ∷ xs) all = (all.0, released-each xs all.1)
 
-pub each-ungrabbed : (xs : Shell) → OfEach (OfPopup IsUngrabbed) xs → AreUngrabbed xs
-each-ungrabbed [] all = tt
-each-ungrabbed (x ∷ xs) all = (all.0, each-ungrabbed xs all.1)
+pub each-released : (xs : Shell) → OfEach (OfPopup IsReleased) xs → AreReleased xs
+each-released [] all = tt
+each-released (x ∷ xs) all = (all.0, each-released xs all.1)
 
 -- ---- no more than those that have their keys
 

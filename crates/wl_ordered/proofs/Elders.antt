@@ -1,29 +1,30 @@
 -- The parent of each popup goes on having a role object that is older, as xdg_surfaces change, come and go.
 use Rattle.std.proofs.Common.{◌≡◌, ◌≤◌, ℕ, List, [], ◌∷◌, Bool, true, false, Option, Some, None, cond, refl, ap, sym, subst, ◌∙◌, map, ◌+◌, ◌++◌, arith}
-use Rattle.std.specs.Prelude.{◌==◌, not, is_some, IfSome, nat_lt, if◌then◌else◌}
+use Rattle.std.specs.Prelude.{◌==◌, not, is_some, IfSome, IsSomeAnd, nat_lt, if◌then◌else◌}
 use Rattle.std.specs.Option.{option_and_then, option_map}
 use Rattle.std.proofs.lemmas.Bool.{eqb-true}
 use Rattle.std.proofs.lemmas.Bool.Decides.{nat_tests}
 use Rattle.wl_xdg_state.specs.Popups.{dismiss, dismissed_among, dismissed_with, first_popup, kind_popup, is_among, is_parent_of, new_popup, orphan, orphaning, placing, popup_changed, popup_in}
-use Rattle.wl_xdg_state.specs.Popups.{with_effect, Popped, with_popup, with_popup_role, without_grab}
+use Rattle.wl_xdg_state.specs.Popups.{first_of, popped_kind, popped_of, popped_role, popup_at, with_effect, Popped, with_grab, with_popup, with_popup_role, without_grab}
 use Rattle.wl_xdg_state.specs.Positioner.{Placed, Positioner}
 use Rattle.wl_xdg_state.specs.declared.stage.Stage.{Stage}
 use Rattle.wl_xdg_state.specs.Shell.{Effect, Stays, Unconfigured, Configures, Maps, Unmaps, Fresh, Waiting, Mapped, Kind, Toplevel, IsPopup, Popup, RoleObject, Shell, XdgSurface as Xdg}
 use Rattle.wl_xdg_state.specs.Shell.{acknowledging, at_stage, configuring, in_stage, new_toplevel, role_acknowledged, unmapping, with_change, with_new, without_role, without_xdg, xdg_at}
 use Rattle.wl_plain.specs.XdgPopup.{may_be_parent}
+use Rattle.wl_laws.specs.Apart.{AreApartBy}
 use Rattle.wl_laws.proofs.Lists.Keys.{differ, found-map, found-passes}
 use Rattle.wl_laws.proofs.Soundness.ObjectsThere.{found-left}
 use Rattle.wl_laws.proofs.Soundness.Orderly.{HasNoRole}
 use Rattle.wl_ordered.specs.Ordered.{HasElder, HaveElders, OfEach, age_at, age_in, age_of, is_older}
-use Rattle.wl_ordered.proofs.Each.{IsUngrabbed, OfPopup, each-both, each-found, each-left, each-map, each-more, each-of, each-so, some-both, some-so}
+use Rattle.wl_ordered.proofs.Each.{IsReleased, OfPopup, each-alike, each-both, each-found, each-left, each-map, each-more, each-of, each-only, each-so, some-both, some-so}
 
--- ---- changes that keep ids, surfaces and ages, and bring no parent and no grab
+-- ---- changes that keep ids, surfaces and ages, and bring no parent, and no grab to what was dismissed
 
 -- of a popup
 pub record IsGentleOf (change : Popup → Popup) : Type 0 where
   pub number : (p : Popup) → (change p).number ≡ p.number
   pub parent : (xdg : ℕ) (p : Popup) → is_parent_of xdg (change p) ≡ true → is_parent_of xdg p ≡ true
-  pub grab : (p : Popup) → p.has_grab ≡ false → (change p).has_grab ≡ false
+  pub grab : (p : Popup) → IsReleased p → IsReleased (change p)
 
 -- of an xdg_surface
 pub record IsGentle (f : Xdg → Xdg) : Type 0 where
@@ -31,10 +32,10 @@ pub record IsGentle (f : Xdg → Xdg) : Type 0 where
   pub surface : (x : Xdg) → (f x).surface ≡ x.surface
   pub age : (x : Xdg) → age_in (f x).role ≡ age_in x.role
   pub elder : (shell : Shell) (x : Xdg) → OfPopup (HasElder shell) x → OfPopup (HasElder shell) (f x)
-  pub ungrabbed : (x : Xdg) → OfPopup IsUngrabbed x → OfPopup IsUngrabbed (f x)
+  pub released : (x : Xdg) → OfPopup IsReleased x → OfPopup IsReleased (f x)
 
 same-gentle : IsGentle (λ x. x)
-same-gentle = record { id = λ x. refl; surface = λ x. refl; age = λ x. refl; elder = λ shell x is. is; ungrabbed = λ x is. is }
+same-gentle = record { id = λ x. refl; surface = λ x. refl; age = λ x. refl; elder = λ shell x is. is; released = λ x is. is }
 
 pub then-gentle : (f g : Xdg → Xdg) → IsGentle f → IsGentle g → IsGentle (λ x. g (f x))
 then-gentle f g a b = record {
@@ -42,7 +43,7 @@ then-gentle f g a b = record {
   surface = λ x. b.surface (f x) ∙ a.surface x;
   age = λ x. b.age (f x) ∙ a.age x;
   elder = λ shell x is. b.elder shell (f x) (a.elder shell x is);
-  ungrabbed = λ x is. b.ungrabbed (f x) (a.ungrabbed x is);
+  released = λ x is. b.released (f x) (a.released x is);
 }
 
 if-gentle : (test : Xdg → Bool) (f : Xdg → Xdg) → IsGentle f → IsGentle (λ x. cond (test x) (f x) x)
@@ -51,7 +52,7 @@ if-gentle test f a = record {
   surface = λ x. surface x (test x);
   age = λ x. age x (test x);
   elder = λ shell x. elder shell x (test x);
-  ungrabbed = λ x. ungrabbed x (test x);
+  released = λ x. released x (test x);
 }
   where
     id : (x : Xdg) (b : Bool) → (cond b (f x) x).id ≡ x.id
@@ -70,9 +71,9 @@ if-gentle test f a = record {
     elder shell x true is = a.elder shell x is
     elder shell x false is = is
 
-    ungrabbed : (x : Xdg) (b : Bool) → OfPopup IsUngrabbed x → OfPopup IsUngrabbed (cond b (f x) x)
-    ungrabbed x true is = a.ungrabbed x is
-    ungrabbed x false is = is
+    released : (x : Xdg) (b : Bool) → OfPopup IsReleased x → OfPopup IsReleased (cond b (f x) x)
+    released x true is = a.released x is
+    released x false is = is
 
 -- ---- each of them
 
@@ -85,7 +86,7 @@ popup-gentle change a = record {
   surface = λ x. refl;
   age = λ x. age x.role;
   elder = λ shell x. each (HasElder shell) (λ p has. kept-elder change a shell p has) x.role;
-  ungrabbed = λ x. each IsUngrabbed a.grab x.role;
+  released = λ x. each IsReleased a.grab x.role;
 }
   where
     age : (o : Option RoleObject) → age_in (option_map (with_popup_role change) o) ≡ age_in o
@@ -111,7 +112,7 @@ role-gentle f change ids surfaces roles kinds = record {
   surface = surfaces;
   age = λ x. ap age_in (roles x) ∙ age x.role;
   elder = λ shell x is. each (HasElder shell) x is;
-  ungrabbed = λ x is. each IsUngrabbed x is;
+  released = λ x is. each IsReleased x is;
 }
   where
     age : (o : Option RoleObject) → age_in (option_map change o) ≡ age_in o
@@ -133,19 +134,19 @@ acknowledged-gentle serial = role-gentle (acknowledging serial) role_acknowledge
 
 pub configured-gentle : (serial : ℕ) → IsGentle (configuring serial)
 configured-gentle serial =
-    record { id = λ x. refl; surface = λ x. refl; age = λ x. refl; elder = λ shell x is. is; ungrabbed = λ x is. is }
+    record { id = λ x. refl; surface = λ x. refl; age = λ x. refl; elder = λ shell x is. is; released = λ x is. is }
 
 unmapped-gentle : (since : ℕ) → IsGentle (unmapping since)
 unmapped-gentle since = role-gentle (unmapping since) (at_stage Fresh) (λ x. refl) (λ x. refl) (λ x. refl) (λ object. refl)
 
 placed-gentle : (where_to : Popup → Option Placed) → IsGentleOf (placing where_to)
-placed-gentle where_to = record { number = λ p. refl; parent = λ xdg p is. is; grab = λ p none. none }
+placed-gentle where_to = record { number = λ p. refl; parent = λ xdg p is. is; grab = λ p so. so }
 
 ungrabbed-gentle : IsGentleOf without_grab
-ungrabbed-gentle = record { number = λ p. refl; parent = λ xdg p is. is; grab = λ p none. refl }
+ungrabbed-gentle = record { number = λ p. refl; parent = λ xdg p is. is; grab = λ p so gone. refl }
 
 dismissed-gentle : IsGentleOf dismiss
-dismissed-gentle = record { number = λ p. refl; parent = λ xdg p is. is; grab = λ p none. refl }
+dismissed-gentle = record { number = λ p. refl; parent = λ xdg p is. is; grab = λ p so gone. refl }
 
 orphaned-gentle : (xdg : ℕ) → IsGentleOf (orphan xdg)
 orphaned-gentle xdg = record {
@@ -162,9 +163,80 @@ orphaned-gentle xdg = record {
     parent key p true is = absurd (differ (sym is))
     parent key p false is = is
 
-    grab : (p : Popup) (b : Bool) → p.has_grab ≡ false → (if b then record p { parent = None } else p).has_grab ≡ false
-    grab p true none = none
-    grab p false none = none
+    grab : (p : Popup) (b : Bool) → IsReleased p → IsReleased (if b then record p { parent = None } else p)
+    grab p true so = so
+    grab p false so = so
+
+-- ---- a grab that is taken
+
+-- it is, where the popup isn't dismissed
+abbrev pub taking : Popup → Popup
+taking p = if p.is_dismissed then p else with_grab p
+
+pub taking-gentle : IsGentleOf taking
+taking-gentle = record {
+  number = λ p. number p p.is_dismissed;
+  parent = λ key p. parent key p p.is_dismissed;
+  grab = λ p. grab p p.is_dismissed refl;
+}
+  where
+    number : (p : Popup) (b : Bool) → (if b then p else with_grab p).number ≡ p.number
+    number p true = refl
+    number p false = refl
+
+    parent : (key : ℕ) (p : Popup) (b : Bool) → is_parent_of key (if b then p else with_grab p) ≡ true → is_parent_of key p ≡ true
+    parent key p true is = is
+    parent key p false is = is
+
+    grab : (p : Popup) (b : Bool) → p.is_dismissed ≡ b → IsReleased p → IsReleased (if b then p else with_grab p)
+    grab p true e so gone = so gone
+    grab p false e so gone = absurd (differ (sym gone ∙ e))
+
+abbrev pub IsLiving : Popup → Type 0
+IsLiving popup = popup.is_dismissed ≡ false
+
+-- the popup of this xdg_surface, which there is, isn't dismissed
+abbrev pub HasLiving : ℕ → Shell → Type 0
+HasLiving xdg shell = IsSomeAnd (popup_at xdg shell) (λ p. IsLiving p.popup)
+
+living-of : (x : Xdg) → IsSomeAnd (first_of (popped_of x)) (λ p. IsLiving p.popup) → OfPopup IsLiving x
+living-of x is = role x.role is
+  where
+    kind : (object : RoleObject) (k : Kind) → IsSomeAnd (first_of (popped_kind x object k)) (λ p. IsLiving p.popup) → IfSome (kind_popup k) IsLiving
+    kind object Toplevel is = tt
+    kind object (IsPopup p) is = is
+
+    role : (o : Option RoleObject) → IsSomeAnd (first_of (popped_role x o)) (λ p. IsLiving p.popup) → IfSome (popup_in o) IsLiving
+    role None is = tt
+    role (Some object) is = kind object object.kind is
+
+-- so it is taken
+taken-by : (x : Xdg) → OfPopup IsLiving x → popup_changed with_grab x ≡ popup_changed taking x
+taken-by x is = ap (λ (o : Option RoleObject). record x { role = o }) (role x.role is)
+  where
+    kind : (k : Kind) → IfSome (kind_popup k) IsLiving → with_popup with_grab k ≡ with_popup taking k
+    kind Toplevel is = refl
+    kind (IsPopup p) is = ap (λ (b : Bool). IsPopup (if b then p else with_grab p)) (sym is)
+
+    role : (o : Option RoleObject) → IfSome (popup_in o) IsLiving → option_map (with_popup_role with_grab) o ≡ option_map (with_popup_role taking) o
+    role None is = refl
+    role (Some object) is = ap (λ (k : Kind). Some (record object { kind = k })) (kind object.kind is)
+
+pub taken : (xdg : ℕ) (shell : Shell) → AreApartBy (λ key x. x.id == key) shell → HasLiving xdg shell
+    → with_change xdg (popup_changed with_grab) shell ≡ with_change xdg (popup_changed taking) shell
+taken xdg shell apart living = at (xdg_at xdg shell) refl living
+  where
+    one : (x : Xdg) (b : Bool) → (b ≡ true → OfPopup IsLiving x) → cond b (popup_changed with_grab x) x ≡ cond b (popup_changed taking x) x
+    one x true so = taken-by x (so refl)
+    one x false so = refl
+
+    at : (o : Option Xdg) → xdg_at xdg shell ≡ o → IsSomeAnd (option_and_then (λ (x : Xdg). first_of (popped_of x)) o) (λ p. IsLiving p.popup)
+        → with_change xdg (popup_changed with_grab) shell ≡ with_change xdg (popup_changed taking) shell
+    at None found is = absurd is
+    at (Some x) found is =
+        each-alike (λ y. cond (y.id == xdg) (popup_changed with_grab y) y) (λ y. cond (y.id == xdg) (popup_changed taking y) y) shell
+        (each-so (λ y. (y.id == xdg) ≡ true → OfPopup IsLiving y) (λ y. cond (y.id == xdg) (popup_changed with_grab y) y ≡ cond (y.id == xdg) (popup_changed taking y) y)
+        (λ y so. one y (y.id == xdg) so) shell (each-only (OfPopup IsLiving) xdg x shell apart found (living-of x is)))
 
 pub effect-gentle : (serial since : ℕ) (where_to : Popup → Option Placed) (effect : Effect) → IsGentle (with_effect serial since where_to effect)
 effect-gentle serial since where_to Stays = same-gentle

@@ -1,6 +1,6 @@
--- What is known of an accepted message where grabs are left out.
-use Rattle.std.proofs.Common.{◌≡◌, ℕ, zero, suc, List, [], Bool, true, false, Option, Some, None, Result, refl, subst}
-use Rattle.std.specs.Prelude.{pos, int_le, int_lt, Ok, Err, ◌==◌, ◌&&◌, ◌||◌, if◌then◌else◌, is_some, length, nat_le}
+-- What is known of an accepted message where nothing is left out.
+use Rattle.std.proofs.Common.{◌≡◌, ℕ, zero, suc, List, [], Bool, true, false, Option, Some, None, Result, refl, sym, subst}
+use Rattle.std.specs.Prelude.{pos, int_le, int_lt, Ok, Err, ◌==◌, ◌&&◌, ◌||◌, if◌then◌else◌, is_some, IsSomeAnd, length, nat_le}
 use Rattle.std.specs.List.{list_any}
 use Rattle.std.specs.Option.{option_map_or}
 use Rattle.wl_wire.specs.Wire.{Field}
@@ -34,7 +34,7 @@ use Rattle.wl_peer.specs.ToplevelRequest as toplevel
 use Rattle.wl_state.specs.Request.{Request as Asked, Member, PlaceAbove, PlaceBelow}
 use Rattle.wl_surface.specs.Surfaces.{Link}
 use Rattle.wl_surface.specs.Trees.{is_bad_parent, is_too_deep}
-use Rattle.wl_xdg_state.specs.Popups.{is_parent}
+use Rattle.wl_xdg_state.specs.Popups.{Popped, is_parent, is_popup_mapped, popup_at}
 use Rattle.wl_xdg_state.specs.Positioner.{is_complete}
 use Rattle.wl_xdg_state.specs.Shell.{Effect, Stays, Unconfigured, Configures, Maps, Unmaps, XdgSurface as Xdg, answers_states, is_full, is_waiting, stage_of, xdg_at, xdg_of, xdg_with}
 use Rattle.wl_plain.specs.Ask.{Ask, Ignore, CreateSurface, GetXdgSurface, owns}
@@ -43,14 +43,14 @@ use Rattle.wl_plain.specs.Demand.{GetPopup, Grab, EndPopup}
 use Rattle.wl_plain.specs.Demanding.{base_demand, committed_by, demand_by, demand_of, demands, effect_of_commit, judge_all, moved_by_pointer, own_demand, surface_demand, toplevel_asked}
 use Rattle.wl_plain.specs.Demanding.{toplevel_destroyed, xdg_asked}
 use Rattle.wl_plain.specs.Desktop.{Resident}
-use Rattle.wl_plain.specs.LeftOut.{served_now}
-use Rattle.wl_plain.specs.Served.{unserved_now}
+use Rattle.wl_plain.specs.LeftOut.{nothing_left_out}
 use Rattle.wl_plain.specs.WlPointer.{cursor_set, is_no_cursor}
 use Rattle.wl_plain.specs.WlSubsurface.{beside, demand_by_link, has_subsurface, is_no_subsurface, link_of_subsurface, placed_beside, subsurface_made}
-use Rattle.wl_plain.specs.XdgPopup.{is_no_popup, may_be_parent, popup_asked, popup_made, positioner_of}
+use Rattle.wl_plain.specs.XdgPopup.{grab_of, is_no_popup, may_be_parent, popup_asked, popup_made, positioner_of}
 use Rattle.wl_plain.specs.XdgShell.{geometry_set, has_any, is_foreign, is_no_toplevel, role_of, state_asked}
 use Rattle.wl_laws.proofs.Soundness.AllowedHeard.{judged-hears, named-second}
 use Rattle.wl_laws.proofs.Soundness.AllowedOwn.{IsHeardBy}
+use Rattle.wl_ordered.proofs.Elders.{HasLiving, IsLiving}
 
 -- ---- what is known
 
@@ -60,11 +60,11 @@ IsFitAsk r (GetXdgSurface id version base surface) = is_of WlSurface (r.peer.obj
 IsFitAsk r ask = Unit {0}
 
 -- There is room for one more surface; the surface of a new xdg_surface is there; the parent of a new popup has a role object; a popup that
--- goes is no parent; and nothing asks for a grab.
+-- goes is no parent; and one that asks for a grab isn't dismissed.
 abbrev pub IsFit : Resident → Demand → Type 0
 IsFit r (Asks ask) = IsFitAsk r ask
 IsFit r (GetPopup id version xdg parent p) = may_be_parent (xdg_at parent r.owned.shell) ≡ true
-IsFit r (Grab xdg serial) = ⊥
+IsFit r (Grab xdg serial) = HasLiving xdg r.owned.shell
 IsFit r (EndPopup id xdg) = is_parent xdg r.owned.shell ≡ false
 IsFit r demand = Unit {0}
 
@@ -193,10 +193,16 @@ toplevel-fits r object o toplevel.UnsetFullscreen = state-fits r o
 toplevel-fits r object None request = tt
 toplevel-fits r object (Some x) request = tt
 
-popup-fits : (r : Resident) (object : ℕ) (o : Option Xdg) (request : XdgPopupRequest) → unserved_now (ToPopup request) ≡ false → Fits r (popup_asked r object o request)
-popup-fits r object None request served = tt
-popup-fits r object (Some x) popup.Destroy served = either r (is_parent x.id r.owned.shell) _ _ (λ e. tt) (λ none. none)
-popup-fits r object (Some x) (popup.Grab by serial) served = absurd (cc)
+grab-fits : (r : Resident) (object serial : ℕ) (x : Xdg) (o : Option Popped) → popup_at x.id r.owned.shell ≡ o → Fits r (grab_of object serial x o)
+grab-fits r object serial x None found = tt
+grab-fits r object serial x (Some p) found =
+    either r p.popup.is_dismissed _ _ (λ gone. tt)
+    (λ living. either r (is_popup_mapped p) _ _ (λ mapped. tt) (λ e. subst (λ (o : Option Popped). IsSomeAnd o (λ q. IsLiving q.popup)) (sym found) living))
+
+popup-fits : (r : Resident) (object : ℕ) (o : Option Xdg) (request : XdgPopupRequest) → Fits r (popup_asked r object o request)
+popup-fits r object None request = tt
+popup-fits r object (Some x) popup.Destroy = either r (is_parent x.id r.owned.shell) _ _ (λ e. tt) (λ none. none)
+popup-fits r object (Some x) (popup.Grab by serial) = grab-fits r object serial x (popup_at x.id r.owned.shell) refl
 
 -- ---- every interface
 
@@ -204,22 +210,22 @@ abbrev Names : Resident → Request → Type 0
 Names r (ToBase request) = NamesSurface r request
 Names r request = Unit {0}
 
-interface-fits : (request : Request) (r : Resident) (object version : ℕ) → unserved_now request ≡ false → Names r request → Fits r (demand_by request r object version)
-interface-fits (ToCompositor (compositor.CreateSurface id)) r object version served names = ask-either r (nat_le 256 (length r.owned.surfaces.surfaces)) _ _ (λ full. tt) (λ room. room)
-interface-fits (ToCompositor (compositor.CreateRegion id)) r object version served names = own-demand-fits r object version (ToCompositor (compositor.CreateRegion id))
-interface-fits (ToSurface request) r object version served names = surface-fits r object version request
-interface-fits (ToSeat (seat.GetPointer id)) r object version served names = tt
-interface-fits (ToSeat (seat.GetKeyboard id)) r object version served names = tt
-interface-fits (ToSeat (seat.GetTouch id)) r object version served names = tt
-interface-fits (ToBase request) r object version served names = base-fits r object version request names
-interface-fits (ToXdgSurface request) r object version served names = xdg-fits r (xdg_at object r.owned.shell) version request
-interface-fits (ToToplevel request) r object version served names = toplevel-fits r object (xdg_with object r.owned.shell) request
-interface-fits (ToSubcompositor subcompositor.Destroy) r object version served names = tt
-interface-fits (ToSubcompositor (subcompositor.GetSubsurface id child parent)) r object version served names = made-fits r object version id child parent
-interface-fits (ToSubsurface request) r object version served names = link-fits r object (link_of_subsurface object r) request
-interface-fits (ToPointer (pointer.SetCursor serial surface x y)) r object version served names = cursor-fits r object surface
-interface-fits (ToPopup request) r object version served names = popup-fits r object (xdg_with object r.owned.shell) request served
-interface-fits request r object version served names = own-demand-fits r object version request
+interface-fits : (request : Request) (r : Resident) (object version : ℕ) → Names r request → Fits r (demand_by request r object version)
+interface-fits (ToCompositor (compositor.CreateSurface id)) r object version names = ask-either r (nat_le 256 (length r.owned.surfaces.surfaces)) _ _ (λ full. tt) (λ room. room)
+interface-fits (ToCompositor (compositor.CreateRegion id)) r object version names = own-demand-fits r object version (ToCompositor (compositor.CreateRegion id))
+interface-fits (ToSurface request) r object version names = surface-fits r object version request
+interface-fits (ToSeat (seat.GetPointer id)) r object version names = tt
+interface-fits (ToSeat (seat.GetKeyboard id)) r object version names = tt
+interface-fits (ToSeat (seat.GetTouch id)) r object version names = tt
+interface-fits (ToBase request) r object version names = base-fits r object version request names
+interface-fits (ToXdgSurface request) r object version names = xdg-fits r (xdg_at object r.owned.shell) version request
+interface-fits (ToToplevel request) r object version names = toplevel-fits r object (xdg_with object r.owned.shell) request
+interface-fits (ToSubcompositor subcompositor.Destroy) r object version names = tt
+interface-fits (ToSubcompositor (subcompositor.GetSubsurface id child parent)) r object version names = made-fits r object version id child parent
+interface-fits (ToSubsurface request) r object version names = link-fits r object (link_of_subsurface object r) request
+interface-fits (ToPointer (pointer.SetCursor serial surface x y)) r object version names = cursor-fits r object surface
+interface-fits (ToPopup request) r object version names = popup-fits r object (xdg_with object r.owned.shell) request
+interface-fits request r object version names = own-demand-fits r object version request
 
 base-names : (r : Resident) (object opcode : ℕ) (fields : List Field) → IsHeardBy XdgWmBase r object opcode fields → NamesSurface r (base_request opcode fields)
 base-names r object zero fields heard = tt
@@ -250,10 +256,10 @@ heard-names WlBuffer r object opcode fields heard = tt
 heard-names WlOutput r object opcode fields heard = tt
 
 -- what is known of an accepted message
-pub fits : (r : Resident) (object opcode : ℕ) (body : List ℕ) (demand : Demand) → judge_all served_now r object opcode body ≡ Ok demand → IsFit r demand
+pub fits : (r : Resident) (object opcode : ℕ) (body : List ℕ) (demand : Demand) → judge_all nothing_left_out r object opcode body ≡ Ok demand → IsFit r demand
 fits r object opcode body demand e =
-    let heard = judged-hears r.peer.objects r.peer.held object opcode (λ version m. demand_of served_now r object version m) body demand e in
+    let heard = judged-hears r.peer.objects r.peer.held object opcode (λ version m. demand_of nothing_left_out r object version m) body demand e in
     let interface = heard.0.interface in
     let request = request_in interface opcode heard.1 in
     subst (λ (o : Result Demand Refusal). Fits r o) heard.3
-    (either r (unserved_now request) _ _ (λ f. tt) (λ served. interface-fits request r object heard.0.version served (heard-names interface r object opcode heard.1 heard.2)))
+    (interface-fits request r object heard.0.version (heard-names interface r object opcode heard.1 heard.2))

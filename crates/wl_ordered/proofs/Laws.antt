@@ -1,44 +1,35 @@
 -- What each client owns stays in order by what is served.
-use Rattle.std.proofs.Common.{◌≡◌, ℕ, List, [], ◌∷◌, true, false, Option, Some, None, refl, ap, sym, subst, arith}
-use Rattle.std.specs.Prelude.{IfSome}
+use Rattle.std.proofs.Common.{◌≡◌, ◌≤◌, ℕ, List, [], ◌++◌, Bool, true, false, Option, Some, None, refl, ap, sym, subst, ◌∙◌, arith}
+use Rattle.std.specs.Prelude.{◌||◌, is_some}
 use Rattle.wl_peer.specs.declared.cause.Cause.{Cause}
 use Rattle.wl_peer.specs.Peer.{Peer}
-use Rattle.wl_peer.specs.Told.{Output}
-use Rattle.wl_xdg_state.specs.Popups.{kind_popup, popup_in}
-use Rattle.wl_xdg_state.specs.Shell.{IsPopup, Kind, RoleObject, Shell, Toplevel}
-use Rattle.wl_shell.specs.InOrder.{AreReleased}
+use Rattle.wl_peer.specs.Told.{Output, Said}
 use Rattle.wl_stacking.specs.Stacking.{Standing}
-use Rattle.wl_plain.specs.Changing.{holds_grab}
-use Rattle.wl_plain.specs.Desktop.{Desktop, Resident, arrival, client_at, toplevels_of}
+use Rattle.wl_plain.specs.Desktop.{Desktop, Resident, arrival, client_at, toplevels_of, unpointed}
 use Rattle.wl_plain.specs.Framing.{done_due}
-use Rattle.wl_plain.specs.LeftOut.{served_now}
+use Rattle.wl_plain.specs.LeftOut.{nothing_left_out}
+use Rattle.wl_plain.specs.Replies.{popups_done}
+use Rattle.wl_plain.specs.Settling.{Midstep, TellsAt, TellsResident, TellsUnless, is_struck, without_grabs}
 use Rattle.wl_plain.specs.Step.{with_peer}
+use Rattle.wl_laws.proofs.Isolation.Kept.{has-more}
+use Rattle.wl_laws.proofs.Marks.Stacks.{differ, or-left}
+use Rattle.wl_laws.proofs.Runs.Places.{number-same}
 use Rattle.wl_invariants.specs.InOrder.{InOrderAt, InOrderBy, OwnsInOrder}
-use Rattle.wl_invariants.proofs.EachClient.Clients.{AllAre, At, IsKept, IsPeerOf, empty-all, lives-there, settled-all}
+use Rattle.wl_invariants.proofs.EachClient.Clients.{AllAre, At, IsKept, IsPeerOf, empty-all, lives-there, settled-all, with-all}
 use Rattle.wl_invariants.proofs.EachClient.Steps.{DemandsKeep, frame-keeps, happens-keeps, piece-keeps, serves-keeps}
-use Rattle.wl_invariants.proofs.EachPopup.{OfEach as OfEachPopup, OfKind, OfRole}
 use Rattle.wl_invariants.proofs.InOrder.Kept.{arrival-lives, demand-stands, framed-lives, peer-lives}
-use Rattle.wl_invariants.proofs.NobodyPoints.Grabs.{HasNone, nobody-holds, none-holds}
 use Rattle.wl_owning.proofs.Popups.Knowing.{roles-known}
-use Rattle.wl_ordered.specs.Ordered.{AreUngrabbed, Ordered, OwnsOrdered}
-use Rattle.wl_ordered.specs.OrderedLaws.{DemandsKeepOrdered, EmptyIsOrdered, EndsKeepOrdered, FramesKeepOrdered, MessagesKeepOrdered, MovesKeepOrdered, OrderedHasOrder, OrderedHoldsNone}
-use Rattle.wl_ordered.specs.OrderedLaws.{OrderedStays, PeersKeepOrdered, PiecesKeepOrdered}
-use Rattle.wl_ordered.proofs.Each.{IsUngrabbed, some-so}
+use Rattle.wl_ordered.specs.Ordered.{Ordered, OwnsOrdered}
+use Rattle.wl_ordered.specs.OrderedLaws.{DemandsKeepOrdered, DismissalsKeepOrdered, EmptyIsOrdered, EndsKeepOrdered, FramesKeepOrdered, MessagesKeepOrdered, MovesKeepOrdered, OrderedHasOrder}
+use Rattle.wl_ordered.specs.OrderedLaws.{OrderedStays, PeersKeepOrdered, PiecesKeepOrdered, PressesKeepOrdered}
+use Rattle.wl_ordered.proofs.Dismissed.{dismissed-order, dismissed-ordered, dismissed-stands}
 use Rattle.wl_ordered.proofs.Moved.{moved-in-order, raised-in-order}
 use Rattle.wl_ordered.proofs.Owning.{demand-ordered, peer-ordered}
 
 -- ---- a client by itself
 
--- none was dismissed with a grab
-released : (shell : Shell) → AreUngrabbed shell → AreReleased shell
-released [] all = tt
-released (x ∷ xs) all = (
-  some-so IsUngrabbed (λ p. p.is_dismissed ≡ true → p.has_grab ≡ false) (λ p none gone. none) (popup_in x.role) all.0,
-  released xs all.1,
-)
-
 pub ordered_has_order : OrderedHasOrder
-ordered_has_order r owns = roles-known.order r owns.order owns.younger (released r.owned.shell owns.ungrabbed) owns.few
+ordered_has_order r owns = roles-known.order r owns.order owns.younger owns.released owns.few
 
 pub peers_keep_ordered : PeersKeepOrdered
 peers_keep_ordered r p objects buffers requests owns = peer-ordered r p (record { objects = objects; buffers = buffers; requests = requests }) owns
@@ -66,7 +57,7 @@ keeps-order (Some cause) r p tops same over = ((ap (λ (q : Resident). with_peer
 
 owns-arrival : (output : Output) → OwnsInOrder (arrival output) → OwnsOrdered (arrival output)
 owns-arrival output order =
-    record { order = order; younger = tt; ungrabbed = tt; few = omega arith; parents = tt; placed = tt; surfaces = omega arith }
+    record { order = order; younger = tt; released = tt; few = omega arith; parents = tt; placed = tt; surfaces = omega arith }
 
 arrives-order : (output : Output) (tops : List Standing) → tops ≡ [] → By None (arrival output) tops
 arrives-order output tops none =
@@ -80,7 +71,7 @@ framed-order r tops lives =
       record {
         order = framed.0;
         younger = lives.1.younger;
-        ungrabbed = lives.1.ungrabbed;
+        released = lives.1.released;
         few = lives.1.few;
         parents = lives.1.parents;
         placed = lives.1.placed;
@@ -98,10 +89,10 @@ order-kept = record {
   framed = framed-order;
 }
 
-demands-order : DemandsKeep served_now By
+demands-order : DemandsKeep nothing_left_out By
 demands-order c r rest object opcode body demand d judged still lives =
     let made = demand-ordered c r rest object opcode body demand d lives.1 judged in
-    ((made.order, demand-stands served_now c r rest object opcode body demand d judged lives.0.0 lives.0.1), made)
+    ((made.order, demand-stands nothing_left_out c r rest object opcode body demand d judged lives.0.0 lives.0.1), made)
 
 -- ---- as the definition says it
 
@@ -132,10 +123,10 @@ pub empty_is_ordered : EmptyIsOrdered
 empty_is_ordered output = of-all _ (empty-all NoneStands By order-kept output)
 
 pub ordered_stays : OrderedStays
-ordered_stays act done d e leaves ordered h = of-all e (happens-keeps NoneStands By order-kept served_now demands-order act done d e leaves (to-all d ordered) h)
+ordered_stays act done d e leaves ordered h = of-all e (happens-keeps NoneStands By order-kept nothing_left_out demands-order act done d e leaves (to-all d ordered) h)
 
 pub messages_keep_ordered : MessagesKeepOrdered
-messages_keep_ordered c d e ordered h = of-all e (serves-keeps NoneStands By order-kept served_now demands-order c d e (to-all d ordered) h)
+messages_keep_ordered c d e ordered h = of-all e (serves-keeps NoneStands By order-kept nothing_left_out demands-order c d e (to-all d ordered) h)
 
 pub pieces_keep_ordered : PiecesKeepOrdered
 pieces_keep_ordered c r bytes d ordered is = of-all _ (piece-keeps NoneStands By order-kept c r bytes d (to-all d ordered) is)
@@ -154,27 +145,65 @@ moves_keep_ordered c surface place d ordered = (
   record { in_order = moved-in-order c surface place d ordered.in_order; each = ordered.each },
 )
 
--- ---- no client holds a grab
+-- ---- popups are dismissed
 
-role-none : (o : Option RoleObject) → IfSome (popup_in o) IsUngrabbed → OfRole HasNone o
-role-none None none = tt
-role-none (Some object) none = kind object.kind none
-  where
-    kind : (k : Kind) → IfSome (kind_popup k) IsUngrabbed → OfKind HasNone object.id k
-    kind Toplevel none = tt
-    kind (IsPopup popup) none = none
+pub dismissals_keep_ordered : DismissalsKeepOrdered
+dismissals_keep_ordered is r owns = dismissed-ordered is r owns
 
-each-none : (shell : Shell) → AreUngrabbed shell → OfEachPopup HasNone shell
-each-none [] all = tt
-each-none (x ∷ xs) all = (role-none x.role all.0, each-none xs all.1)
+-- a client's popups with a grab are dismissed, and it is told so
+press-order : (r : Resident) (q : Peer) (tops : List Standing) → IsPeerOf r q → By None r tops → By None (with_peer q (without_grabs r)) tops
+press-order r q tops same lives =
+    keeps-order None (without_grabs r) q tops (record { objects = same.objects; buffers = same.buffers; requests = same.requests })
+    ((dismissed-order (λ p. p.popup.has_grab) r lives.0.0, dismissed-stands (λ p. p.popup.has_grab) r tops lives.0.1), dismissed-ordered (λ p. p.popup.has_grab) r lives.1)
 
-pub ordered_holds_none : OrderedHoldsNone
-ordered_holds_none d ordered = nobody-holds d (λ c. at (client_at c d) (toplevels_of c d) ((to-all d ordered).each c))
-  where
-    by : (s : Option Cause) (r : Resident) (tops : List Standing) → By s r tops → holds_grab (Some r) ≡ false
-    by None r tops lives = none-holds r (each-none r.owned.shell lives.1.ungrabbed)
-    by (Some cause) r tops over = ap (λ (q : Resident). holds_grab (Some q)) over.0.0
+module _ (c : ℕ) (old new : Midstep) (ordered : Ordered (unpointed old.desktop)) where
+  untouched : new ≡ old → Ordered (unpointed new.desktop)
+  untouched e = subst (λ (m : Midstep). Ordered (unpointed m.desktop)) (sym e) ordered
 
-    at : (o : Option Resident) (tops : List Standing) → At NoneStands By o tops → holds_grab o ≡ false
-    at None tops none = refl
-    at (Some r) tops is = by r.peer.status r tops is
+  dismissed : (r : Resident) → client_at c old.desktop ≡ Some r → r.peer.status ≡ None → (events : Resident → List Said)
+      → TellsResident without_grabs events c r old new → Ordered (unpointed new.desktop)
+  dismissed r is alive events (q, why, told, e) =
+      subst (λ (m : Midstep). Ordered (unpointed m.desktop)) (sym e)
+      (of-all _ (with-all NoneStands By c (Some made) (unpointed old.desktop) all (number-same old.desktop.clients c (Some made) r is) owns))
+    where
+      made : Resident
+      made = with_peer q (without_grabs r)
+
+      all : AllAre NoneStands By (unpointed old.desktop)
+      all = to-all (unpointed old.desktop) ordered
+
+      only : q ≡ record r.peer { unsent = r.peer.unsent ++ (has-more (events r) r.peer q why told).0 }
+      only = (has-more (events r) r.peer q why told).1
+
+      same : IsPeerOf r q
+      same = record {
+        objects = ap (λ (p : Peer). p.objects) only;
+        buffers = ap (λ (p : Peer). p.buffers) only;
+        requests = subst (λ (p : Peer). r.peer.requests ≤ p.requests) (sym only) (as-many r.peer.requests);
+      }
+        where
+          as-many : (n : ℕ) → n ≤ n
+          as-many n = omega arith
+
+      owns : At NoneStands By (Some made) (toplevels_of c old.desktop)
+      owns =
+          subst (λ (s : Option Cause). By s made (toplevels_of c old.desktop)) (sym (ap (λ (p : Peer). p.status) only ∙ alive))
+          (press-order r q (toplevels_of c old.desktop) same (lives-there NoneStands By c r (unpointed old.desktop) all is alive))
+
+  unless-over : (b : Bool) (r : Resident) → client_at c old.desktop ≡ Some r → (is_some r.peer.status || is_struck c old.struck) ≡ b → (events : Resident → List Said)
+      → TellsUnless b without_grabs events c r old new → Ordered (unpointed new.desktop)
+  unless-over true r is over events told = untouched told
+  unless-over false r is over events told = dismissed r is (alive r.peer.status (or-left (is_some r.peer.status) (is_struck c old.struck) over)) events told
+    where
+      alive : (s : Option Cause) → is_some s ≡ false → s ≡ None
+      alive None e = refl
+      alive (Some cause) e = absurd (differ (sym e))
+
+  told-order : (o : Option Resident) → client_at c old.desktop ≡ o → (events : Resident → List Said) → TellsAt without_grabs events c o old new
+      → Ordered (unpointed new.desktop)
+  told-order None is events told = untouched told
+  told-order (Some r) is events told = unless-over (is_some r.peer.status || is_struck c old.struck) r is refl events told
+
+pub presses_keep_ordered : PressesKeepOrdered
+presses_keep_ordered windows c old new ordered told =
+    told-order c old new ordered (client_at c old.desktop) refl (λ r. popups_done r (without_grabs r)) told

@@ -6,4 +6,5 @@ pub mod Surfaces
 pub mod Younger
 pub mod Moved
 pub mod Owning
+pub mod Dismissed
 pub mod Laws

@@ -12,7 +12,7 @@ use Rattle.wl_laws.proofs.Isolation.Own.{any-kept, any-moved, none-stand, of, st
 use Rattle.wl_laws.proofs.Soundness.Orderly.{IsOrderly, IsOrderlyBy}
 use Rattle.wl_laws.proofs.Soundness.RunTops.{orderly-shifting}
 use Rattle.wl_invariants.specs.InOrder.{InOrder, InOrderAt, InOrderBy, OwnsInOrder}
-use Rattle.wl_invariants.specs.Orderly.{AreMappedOnce}
+use Rattle.wl_invariants.specs.Standing.{AreMappedOnce}
 use Rattle.wl_invariants.proofs.InOrder.Whole.{bare-orderly, to-stands, to-whole}
 
 -- ---- raised

@@ -15,7 +15,7 @@ use Rattle.wl_plain.specs.Changing.{changed_for}
 use Rattle.wl_plain.specs.Demand.{Demand, Asks, EndPopup, EndSurface, GetPopup, Grab}
 use Rattle.wl_plain.specs.Demanding.{judge_all}
 use Rattle.wl_plain.specs.Desktop.{Desktop, Resident}
-use Rattle.wl_plain.specs.LeftOut.{served_now}
+use Rattle.wl_plain.specs.LeftOut.{nothing_left_out}
 use Rattle.wl_plain.specs.Step.{with_peer}
 use Rattle.wl_laws.specs.Apart.{AreApartBy}
 use Rattle.wl_laws.proofs.Lists.Keys.{differ, gone, length-new}
@@ -29,7 +29,7 @@ use Rattle.wl_invariants.proofs.EachClient.Clients.{IsPeerOf}
 use Rattle.wl_invariants.proofs.EachClient.Steps.{counted_of}
 use Rattle.wl_invariants.proofs.InOrder.Kept.{demand-owns, peer-owns}
 use Rattle.wl_ordered.specs.Ordered.{OfEach, OwnsOrdered}
-use Rattle.wl_ordered.proofs.Each.{AreKeyed, OfPopup, count-keyed, each-both, each-so, each-unfound, each-ungrabbed, found-keyed, ungrabbed-each}
+use Rattle.wl_ordered.proofs.Each.{AreKeyed, OfPopup, count-keyed, each-both, each-so, each-released, each-unfound, found-keyed, released-each}
 use Rattle.wl_ordered.proofs.Elders.{IsUpTo}
 use Rattle.wl_ordered.proofs.Heard.{IsFit, fits}
 use Rattle.wl_ordered.proofs.Shells.{AreFine, Meets, OfSurfaces, demanded-fine}
@@ -63,7 +63,7 @@ up-to n (x ∷ xs) early = (
 
 -- ---- surfaces
 
-abbrev IsThere : Surfaces → ℕ → Type 0
+abbrev pub IsThere : Surfaces → ℕ → Type 0
 IsThere all surface = is_some (surface_at surface all) ≡ true
 
 -- the surfaces of xdg_surfaces stay
@@ -118,7 +118,7 @@ keyed : (all : Surfaces) (xs : Shell) → OfSurfaces (IsThere all) xs → AreKey
 keyed all [] placed = tt
 keyed all (x ∷ xs) placed = (placed.0, keyed all xs placed.1)
 
-few-of : (r : Resident) → OwnsInOrder r → OfSurfaces (IsThere r.owned.surfaces) r.owned.shell → length r.owned.surfaces.surfaces ≤ 256 → length r.owned.shell ≤ 256
+pub few-of : (r : Resident) → OwnsInOrder r → OfSurfaces (IsThere r.owned.surfaces) r.owned.shell → length r.owned.surfaces.surfaces ≤ 256 → length r.owned.shell ≤ 256
 few-of r order placed few =
     le-trans (length r.owned.shell) (length r.owned.surfaces.surfaces) 256
     (count-keyed (λ (x : Xdg). x.surface) (λ (s : Surface). s.id) r.owned.shell r.owned.surfaces.surfaces order.xdg_apart (keyed r.owned.surfaces r.owned.shell placed)) few
@@ -129,7 +129,7 @@ pub peer-ordered : (r : Resident) (p : Peer) → IsPeerOf r p → OwnsOrdered r 
 peer-ordered r p same owns = record {
   order = peer-owns r p same owns.order;
   younger = owns.younger;
-  ungrabbed = owns.ungrabbed;
+  released = owns.released;
   few = owns.few;
   parents = owns.parents;
   placed = owns.placed;
@@ -152,11 +152,11 @@ meets r (Asks (GetXdgSurface id version base surface)) order fit = order.surface
 meets r demand order fit = tt
 
 pub demand-ordered : (c : ℕ) (r : Resident) (rest : List ℕ) (object opcode : ℕ) (body : List ℕ) (demand : Demand) (d : Desktop) → OwnsOrdered r
-    → judge_all served_now r object opcode body ≡ Ok demand → OwnsOrdered (changed_for c demand (counted_of r rest) d)
+    → judge_all nothing_left_out r object opcode body ≡ Ok demand → OwnsOrdered (changed_for c demand (counted_of r rest) d)
 demand-ordered c r rest object opcode body demand d owns judged = record {
   order = order;
   younger = are-younger made order fine.elders;
-  ungrabbed = each-ungrabbed made.owned.shell fine.ungrabbed;
+  released = each-released made.owned.shell fine.released;
   few = few-of made order placed surfaces;
   parents = fine.elders;
   placed = placed;
@@ -170,20 +170,20 @@ demand-ordered c r rest object opcode body demand d owns judged = record {
     made = changed_for c demand now d
 
     order : OwnsInOrder made
-    order = demand-owns served_now c r rest object opcode body demand d judged owns.order
+    order = demand-owns nothing_left_out c r rest object opcode body demand d judged owns.order
 
     ok : IsAllowed now demand
-    ok = allowed-counted r rest demand (allowed served_now r object opcode body demand judged)
+    ok = allowed-counted r rest demand (allowed nothing_left_out r object opcode body demand judged)
 
     fit : IsFit now demand
     fit = fit-counted r rest demand (fits r object opcode body demand judged)
 
     start : AreFine (IsThere r.owned.surfaces) r.owned.shell
-    start = record { elders = owns.parents; ungrabbed = ungrabbed-each r.owned.shell owns.ungrabbed; surfaces = owns.placed }
+    start = record { elders = owns.parents; released = released-each r.owned.shell owns.released; surfaces = owns.placed }
 
     fine : AreFine (IsThere r.owned.surfaces) made.owned.shell
     fine =
-        demanded-fine (IsThere r.owned.surfaces) c r.peer.requests demand now d ok fit (meets r demand owns.order (fits r object opcode body demand judged)) refl
+        demanded-fine (IsThere r.owned.surfaces) c r.peer.requests demand now d owns.order.xdg_surfaces.0 ok fit (meets r demand owns.order (fits r object opcode body demand judged)) refl
         (up-to r.peer.requests r.owned.shell owns.order.popups_early) start
 
     placed : OfSurfaces (IsThere made.owned.surfaces) made.owned.shell

@@ -3,24 +3,25 @@ use Rattle.std.proofs.Common.{◌≡◌, ℕ, ◌+◌, [], ◌∷◌, Bool, true
 use Rattle.std.specs.Prelude.{◌==◌, not, IfSome}
 use Rattle.std.specs.Option.{option_map_or}
 use Rattle.std.specs.List.{list_any}
-use Rattle.wl_xdg_state.specs.Popups.{dismissed_among, dismissed_with, dismissing, is_parent, is_parent_of, new_popup, orphan, orphaning, popup_changed, popup_in, with_effect}
+use Rattle.wl_xdg_state.specs.Popups.{Popped, dismissed_among, dismissed_with, dismissing, is_parent, is_parent_of, new_popup, orphan, orphaning, popup_changed, popup_in, with_effect}
 use Rattle.wl_xdg_state.specs.Positioner.{Positioner}
 use Rattle.wl_xdg_state.specs.Shell.{Effect, Popup, Shell, XdgSurface as Xdg, acknowledging, configuring, new_toplevel, with_change, with_new, without_role, without_xdg, xdg_at, xdg_of}
 use Rattle.wl_shell.proofs.Reading.{any-popup}
 use Rattle.wl_plain.specs.Ask.{Ask, Own, CreateSurface, AskSurface, EndObject, GetXdgSurface, DestroyXdgSurface, GetToplevel, Acknowledge, ConfigureAgain, Ignore}
-use Rattle.wl_plain.specs.Changing.{Placing, changed_for, drawing, effect_placing, has_focus, in_rising_order, is_configure, mode_set, placement_now, popup_given_to, tree_committed}
+use Rattle.wl_plain.specs.Changing.{Placing, changed_for, drawing, effect_placing, grab_allowed, grabbed, has_focus, in_rising_order, is_configure, mode_set, placement_now, popup_given_to, tree_committed}
 use Rattle.wl_plain.specs.Demand.{Demand, Asks, EndSurface, AskFrame, CommitTree, GetSubsurface, EndSubsurface, SetMode, GetPointer, MakeCursor}
 use Rattle.wl_plain.specs.Demand.{GetPopup, Grab, EndPopup, EndToplevel, Move}
 use Rattle.wl_plain.specs.Demanding.{effect_of_commit}
 use Rattle.wl_plain.specs.Desktop.{Desktop, Resident}
 use Rattle.wl_plain.specs.Step.{asked_so_far, changed_by, toplevel_given, xdg_changed}
 use Rattle.wl_plain.specs.XdgPopup.{may_be_parent}
+use Rattle.wl_laws.specs.Apart.{AreApartBy}
 use Rattle.wl_laws.proofs.Marks.Stacks.{or-left, or-right}
 use Rattle.wl_laws.proofs.Soundness.Orderly.{HasNoRole, IsAllowed, IsAsked}
 use Rattle.wl_ordered.specs.Ordered.{HaveElders, OfEach}
-use Rattle.wl_ordered.proofs.Each.{IsUngrabbed, OfPopup, each-left, each-map, each-more}
-use Rattle.wl_ordered.proofs.Elders.{IsGentle, IsNoParent, IsUpTo, acknowledged-gentle, configured-gentle, dismissing-gentle, effect-gentle, elders-bare, elders-left, elders-map, elders-more}
-use Rattle.wl_ordered.proofs.Elders.{elders-popup, elders-toplevel, bare-age, bare-no-parent, one-gentle, orphaned-no-parent, orphaning-gentle}
+use Rattle.wl_ordered.proofs.Each.{IsReleased, OfPopup, each-left, each-map, each-more}
+use Rattle.wl_ordered.proofs.Elders.{HasLiving, IsGentle, IsNoParent, IsUpTo, acknowledged-gentle, configured-gentle, dismissing-gentle, effect-gentle, elders-bare, elders-left, elders-map, elders-more}
+use Rattle.wl_ordered.proofs.Elders.{elders-popup, elders-toplevel, bare-age, bare-no-parent, one-gentle, orphaned-no-parent, orphaning-gentle, popup-gentle, taken, taking, taking-gentle}
 use Rattle.wl_ordered.proofs.Heard.{IsFit}
 
 -- `P` is said of the surface of each xdg_surface
@@ -30,7 +31,7 @@ OfSurfaces P shell = OfEach (λ x. P x.surface) shell
 -- the parents of popups, the grabs, and what is said of surfaces
 pub record AreFine (P : ℕ → Type 0) (shell : Shell) : Type 0 where
   pub elders : HaveElders shell
-  pub ungrabbed : OfEach (OfPopup IsUngrabbed) shell
+  pub released : OfEach (OfPopup IsReleased) shell
   pub surfaces : OfSurfaces P shell
 
 -- the surface of a new xdg_surface is of those
@@ -66,7 +67,7 @@ module _ (P : ℕ → Type 0) where
   fine-map : (f : Xdg → Xdg) → IsGentle f → (shell : Shell) → Fine shell → Fine (map f shell)
   fine-map f a shell fine = record {
     elders = elders-map f a shell fine.elders;
-    ungrabbed = each-map (OfPopup IsUngrabbed) (OfPopup IsUngrabbed) f (λ x is. a.ungrabbed x is) shell fine.ungrabbed;
+    released = each-map (OfPopup IsReleased) (OfPopup IsReleased) f (λ x is. a.released x is) shell fine.released;
     surfaces = each-map (λ x. P x.surface) (λ x. P x.surface) f (λ x is. subst P (sym (a.surface x)) is) shell fine.surfaces;
   }
 
@@ -74,15 +75,15 @@ module _ (P : ℕ → Type 0) where
   fine-change id f a shell fine = fine-map (λ x. cond (x.id == id) (f x) x) (one-gentle id f a) shell fine
 
   -- one of them has another role object
-  fine-role : (id : ℕ) (f : Xdg → Xdg) → ((x : Xdg) → (f x).surface ≡ x.surface) → ((x : Xdg) → OfPopup IsUngrabbed (f x)) → (shell : Shell) → HaveElders (with_change id f shell) → Fine shell
+  fine-role : (id : ℕ) (f : Xdg → Xdg) → ((x : Xdg) → (f x).surface ≡ x.surface) → ((x : Xdg) → OfPopup IsReleased (f x)) → (shell : Shell) → HaveElders (with_change id f shell) → Fine shell
       → Fine (with_change id f shell)
   fine-role id f surfaces none shell elders fine = record {
     elders = elders;
-    ungrabbed = each-map (OfPopup IsUngrabbed) (OfPopup IsUngrabbed) (λ x. cond (x.id == id) (f x) x) (λ x is. grab x (x.id == id) is) shell fine.ungrabbed;
+    released = each-map (OfPopup IsReleased) (OfPopup IsReleased) (λ x. cond (x.id == id) (f x) x) (λ x is. grab x (x.id == id) is) shell fine.released;
     surfaces = each-map (λ x. P x.surface) (λ x. P x.surface) (λ x. cond (x.id == id) (f x) x) (λ x is. its x (x.id == id) is) shell fine.surfaces;
   }
     where
-      grab : (x : Xdg) (b : Bool) → OfPopup IsUngrabbed x → OfPopup IsUngrabbed (cond b (f x) x)
+      grab : (x : Xdg) (b : Bool) → OfPopup IsReleased x → OfPopup IsReleased (cond b (f x) x)
       grab x true is = none x
       grab x false is = is
 
@@ -96,24 +97,27 @@ module _ (P : ℕ → Type 0) where
   fine-new : (id base surface : ℕ) (shell : Shell) → P surface → Fine shell → Fine (with_new id base surface shell)
   fine-new id base surface shell new fine = record {
     elders = elders-more id base surface shell fine.elders;
-    ungrabbed = each-more (OfPopup IsUngrabbed) shell _ tt fine.ungrabbed;
+    released = each-more (OfPopup IsReleased) shell _ tt fine.released;
     surfaces = each-more (λ x. P x.surface) shell _ new fine.surfaces;
   }
 
   fine-left : (id : ℕ) (shell : Shell) → HasNoRole (xdg_at id shell) → Fine shell → Fine (without_xdg id shell)
   fine-left id shell bare fine = record {
     elders = elders-left id shell (bare-no-parent id shell (bare-age id shell bare) fine.elders) fine.elders;
-    ungrabbed = each-left (OfPopup IsUngrabbed) (λ x. not (x.id == id)) shell fine.ungrabbed;
+    released = each-left (OfPopup IsReleased) (λ x. not (x.id == id)) shell fine.released;
     surfaces = each-left (λ x. P x.surface) (λ x. not (x.id == id)) shell fine.surfaces;
   }
+
+  -- popups are dismissed
+  pub fine-dismissed : (is : Popped → Bool) (shell : Shell) → AreFine P shell → AreFine P (dismissing is shell)
+  fine-dismissed is shell fine = fine-map (dismissed_among (dismissed_with is shell)) (dismissing-gentle is shell) shell fine
 
   -- the popups of a toplevel that goes are dismissed, and have no parent then
   fine-ended : (xdg : ℕ) (shell : Shell) → Fine shell → Fine (with_change xdg without_role (orphaning xdg (dismissing (λ p. is_parent_of xdg p.popup) shell)))
   fine-ended xdg shell fine =
       let gone : Shell = dismissing (λ p. is_parent_of xdg p.popup) shell in
       fine-bare xdg (orphaning xdg gone) (orphaned-no-parent xdg gone)
-      (fine-map (popup_changed (orphan xdg)) (orphaning-gentle xdg) gone
-      (fine-map (dismissed_among (dismissed_with (λ p. is_parent_of xdg p.popup) shell)) (dismissing-gentle (λ p. is_parent_of xdg p.popup) shell) shell fine))
+      (fine-map (popup_changed (orphan xdg)) (orphaning-gentle xdg) gone (fine-dismissed (λ p. is_parent_of xdg p.popup) shell fine))
 
   -- ---- what is demanded
 
@@ -157,24 +161,30 @@ module _ (P : ℕ → Type 0) where
   fine-popup id xdg parent k p (Some x) r next up e bare may fine =
       let since : ℕ = asked_so_far x.surface r in
       subst (λ (n : ℕ). Fine (with_change xdg (new_popup id parent p n since) r.owned.shell)) (sym next)
-      (fine-role xdg (new_popup id parent p (k + 1) since) (λ y. refl) (λ y. refl) r.owned.shell
+      (fine-role xdg (new_popup id parent p (k + 1) since) (λ y. refl) (λ y gone. refl) r.owned.shell
       (elders-popup id xdg parent k since p r.owned.shell up (subst HasNoRole (sym e) bare) may fine.elders) fine)
 
+  -- a grab is taken by a popup that isn't dismissed, or it is dismissed then
+  fine-grabbed : (b : Bool) (xdg : ℕ) (r : Resident) → AreApartBy (λ key x. x.id == key) r.owned.shell → HasLiving xdg r.owned.shell → Fine r.owned.shell → Fine (grabbed b xdg r).owned.shell
+  fine-grabbed true xdg r apart living fine =
+      subst Fine (sym (taken xdg r.owned.shell apart living)) (fine-change xdg (popup_changed taking) (popup-gentle taking taking-gentle) r.owned.shell fine)
+  fine-grabbed false xdg r apart living fine = fine-dismissed (λ p. p.xdg.id == xdg) r.owned.shell fine
+
   pub demanded-fine :
-      (c k : ℕ) (demand : Demand) (r : Resident) (d : Desktop) → IsAllowed r demand → IsFit r demand → Meets P demand → r.peer.requests ≡ k + 1 → OfEach (OfPopup (IsUpTo k)) r.owned.shell
+      (c k : ℕ) (demand : Demand) (r : Resident) (d : Desktop) → AreApartBy (λ key x. x.id == key) r.owned.shell → IsAllowed r demand → IsFit r demand → Meets P demand → r.peer.requests ≡ k + 1 → OfEach (OfPopup (IsUpTo k)) r.owned.shell
       → AreFine P r.owned.shell → AreFine P (changed_for c demand r d).owned.shell
-  demanded-fine c k (Asks ask) r d ok fit new next up fine = fine-asked ask r ok new fine
-  demanded-fine c k (EndSurface id) r d ok fit new next up fine = fine
-  demanded-fine c k (AskFrame id version surface) r d ok fit new next up fine = fine
-  demanded-fine c k (CommitTree surface) r d ok fit new next up fine =
+  demanded-fine c k (Asks ask) r d apart ok fit new next up fine = fine-asked ask r ok new fine
+  demanded-fine c k (EndSurface id) r d apart ok fit new next up fine = fine
+  demanded-fine c k (AskFrame id version surface) r d apart ok fit new next up fine = fine
+  demanded-fine c k (CommitTree surface) r d apart ok fit new next up fine =
       fine-effect (placement_now c r d) surface (effect_of_commit r surface) (xdg_of surface r.owned.shell) (tree_committed surface r) fine
-  demanded-fine c k (GetSubsurface id version child parent) r d ok fit new next up fine = fine
-  demanded-fine c k (EndSubsurface id) r d ok fit new next up fine = fine
-  demanded-fine c k (SetMode link synchronised) r d ok fit new next up fine = fine-mode link synchronised r fine
-  demanded-fine c k (GetPointer id version) r d ok fit new next up fine = fine-drawn (has_focus c d.pointer.focus) (record r { pointers = in_rising_order id r.pointers }) fine
-  demanded-fine c k (MakeCursor surface) r d ok fit new next up fine = fine
-  demanded-fine c k (GetPopup id version xdg parent p) r d ok fit new next up fine = fine-popup id xdg parent k p (xdg_at xdg r.owned.shell) r next up refl ok.1 fit fine
-  demanded-fine c k (Grab xdg serial) r d ok fit new next up fine = absurd fit
-  demanded-fine c k (EndPopup id xdg) r d ok fit new next up fine = fine-bare xdg r.owned.shell (no-parent xdg r.owned.shell fit) fine
-  demanded-fine c k (EndToplevel id xdg top) r d ok fit new next up fine = fine-ended xdg r.owned.shell fine
-  demanded-fine c k (Move surface serial) r d ok fit new next up fine = fine
+  demanded-fine c k (GetSubsurface id version child parent) r d apart ok fit new next up fine = fine
+  demanded-fine c k (EndSubsurface id) r d apart ok fit new next up fine = fine
+  demanded-fine c k (SetMode link synchronised) r d apart ok fit new next up fine = fine-mode link synchronised r fine
+  demanded-fine c k (GetPointer id version) r d apart ok fit new next up fine = fine-drawn (has_focus c d.pointer.focus) (record r { pointers = in_rising_order id r.pointers }) fine
+  demanded-fine c k (MakeCursor surface) r d apart ok fit new next up fine = fine
+  demanded-fine c k (GetPopup id version xdg parent p) r d apart ok fit new next up fine = fine-popup id xdg parent k p (xdg_at xdg r.owned.shell) r next up refl ok.1 fit fine
+  demanded-fine c k (Grab xdg serial) r d apart ok fit new next up fine = fine-grabbed (grab_allowed c xdg serial r d) xdg r apart fit fine
+  demanded-fine c k (EndPopup id xdg) r d apart ok fit new next up fine = fine-bare xdg r.owned.shell (no-parent xdg r.owned.shell fit) fine
+  demanded-fine c k (EndToplevel id xdg top) r d apart ok fit new next up fine = fine-ended xdg r.owned.shell fine
+  demanded-fine c k (Move surface serial) r d apart ok fit new next up fine = fine

@@ -1,17 +1,13 @@
--- What holds of every client by what is served now, with popups and without grabs. Each step keeps it, and each message by itself.
+-- What holds of every client, with popups and grabs. Each step keeps it, and each message by itself.
 use Rattle.std.specs.Prelude.{ℕ, ◌≡◌, ◌≤◌, nat_lt, Bool, true, false, is_some, IfSome, Option, Some, None, [], ◌∷◌, length}
 use Rattle.std.specs.Option.{option_and_then, option_map}
 use Rattle.wl_surface.specs.Surfaces.{surface_at}
 use Rattle.wl_xdg_state.specs.Popups.{is_parent_of, popup_in, popups_of}
 use Rattle.wl_xdg_state.specs.Shell.{IsPopup, Kind, Popup, RoleObject, Shell, Toplevel, XdgSurface, xdg_at}
 use Rattle.wl_shell.specs.Descent.{AreYounger}
+use Rattle.wl_shell.specs.InOrder.{AreReleased}
 use Rattle.wl_plain.specs.Desktop.{Desktop, Resident, client_at}
 use Rattle.wl_invariants.specs.InOrder.{InOrder, OwnsInOrder}
-
--- none of the popups has a grab
-abbrev pub AreUngrabbed : Shell → Type 0
-AreUngrabbed [] = Unit {0}
-AreUngrabbed (x ∷ xs) = IfSome (popup_in x.role) (λ popup. popup.has_grab ≡ false) × AreUngrabbed xs
 
 -- it is said of each xdg_surface
 abbrev pub OfEach : (XdgSurface → Type 0) → Shell → Type 0
@@ -45,12 +41,13 @@ HaveElders shell = OfEach (λ x. IfSome (popup_in x.role) (HasElder shell)) shel
 
 -- ---- a client that lives
 
--- What a client that lives owns is in order: each of its popups is younger than its parent, none has a grab, and it has no more
--- xdg_surfaces than it may have surfaces.
+-- What a client that lives owns is in order: each of its popups is younger than its parent, none that was dismissed has a grab,
+-- and it has no more xdg_surfaces than it may have surfaces.
 pub record OwnsOrdered (r : Resident) : Type 0 where
   pub order : OwnsInOrder r
   pub younger : AreYounger (popups_of r.owned.shell)
-  pub ungrabbed : AreUngrabbed r.owned.shell
+  -- a dismissed popup has no grab (xdg-shell.xml, xdg_popup.popup_done)
+  pub released : AreReleased r.owned.shell
   pub few : length r.owned.shell ≤ 256
   -- the parent of each popup has a role object, which is older (xdg-shell.xml, xdg_surface.get_popup)
   pub parents : HaveElders r.owned.shell

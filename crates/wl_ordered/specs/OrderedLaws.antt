@@ -1,22 +1,24 @@
--- What each client owns is in order by what is served now: each step keeps it.
-use Rattle.std.specs.Prelude.{ℕ, ◌≡◌, ◌≤◌, Ok, Some, None, List}
+-- What each client owns is in order, with popups and grabs: each step keeps it.
+use Rattle.std.specs.Prelude.{ℕ, ◌≡◌, ◌≤◌, Bool, Ok, Some, List}
 use Rattle.wl_peer.specs.declared.cause.Cause.{Cause}
 use Rattle.wl_peer.specs.Peer.{Peer, counted, ended, with_rest}
 use Rattle.wl_peer.specs.Told.{Output}
 use Rattle.wl_shell.specs.InOrder.{HasOrder}
+use Rattle.wl_xdg_state.specs.Popups.{Popped, dismissing}
+use Rattle.wl_stacking.specs.PointerActions.{Dismiss}
 use Rattle.wl_stacking.specs.Stacking.{moved_to, raised}
-use Rattle.wl_stacking.specs.Windows.{Place}
+use Rattle.wl_stacking.specs.Windows.{Place, Window}
 use Rattle.wl_plain.specs.declared.answers.Done.{Done}
 use Rattle.wl_plain.specs.Act.{Act}
-use Rattle.wl_plain.specs.Changing.{changed_for, grab_holder}
+use Rattle.wl_plain.specs.Changing.{changed_for}
 use Rattle.wl_plain.specs.Demand.{Demand}
 use Rattle.wl_plain.specs.Demanding.{judge_all}
-use Rattle.wl_plain.specs.Desktop.{Desktop, Resident, client_at, empty, with_client}
+use Rattle.wl_plain.specs.Desktop.{Desktop, Resident, client_at, empty, unpointed, with_client}
 use Rattle.wl_plain.specs.Framing.{FramesToldAt}
 use Rattle.wl_plain.specs.Happens.{Happens, Serves}
-use Rattle.wl_plain.specs.LeftOut.{served_now}
-use Rattle.wl_plain.specs.Settling.{EndsAndSettles, becomes, unstruck}
-use Rattle.wl_plain.specs.Step.{with_peer}
+use Rattle.wl_plain.specs.LeftOut.{nothing_left_out}
+use Rattle.wl_plain.specs.Settling.{Applies, EndsAndSettles, Midstep, becomes, unstruck}
+use Rattle.wl_plain.specs.Step.{with_peer, with_shell}
 use Rattle.wl_invariants.specs.Acts.{LeavesPointer}
 use Rattle.wl_ordered.specs.Ordered.{Ordered, OwnsOrdered}
 
@@ -26,10 +28,6 @@ use Rattle.wl_ordered.specs.Ordered.{Ordered, OwnsOrdered}
 abbrev pub OrderedHasOrder : Type 0
 OrderedHasOrder = (r : Resident) → OwnsOrdered r → HasOrder r.owned.shell
 
--- No client holds a grab.
-abbrev pub OrderedHoldsNone : Type 0
-OrderedHoldsNone = (d : Desktop) → Ordered d → grab_holder d ≡ None
-
 -- ---- what keeps a desktop so
 
 -- A desktop without clients is so.
@@ -38,11 +36,11 @@ EmptyIsOrdered = (output : Output) → Ordered (empty output)
 
 -- Whatever happens that leaves the pointer alone.
 abbrev pub OrderedStays : Type 0
-OrderedStays = (act : Act) (done : Done) (d e : Desktop) → LeavesPointer act → Ordered d → Happens served_now act done d e → Ordered e
+OrderedStays = (act : Act) (done : Done) (d e : Desktop) → LeavesPointer act → Ordered d → Happens nothing_left_out act done d e → Ordered e
 
 -- One message of a client.
 abbrev pub MessagesKeepOrdered : Type 0
-MessagesKeepOrdered = (c : ℕ) (d e : Desktop) → Ordered d → Serves served_now c d e → Ordered e
+MessagesKeepOrdered = (c : ℕ) (d e : Desktop) → Ordered d → Serves nothing_left_out c d e → Ordered e
 
 -- What is kept of the stream of a client that is there, before its messages are taken.
 abbrev pub PiecesKeepOrdered : Type 0
@@ -79,5 +77,18 @@ PeersKeepOrdered =
 abbrev pub DemandsKeepOrdered : Type 0
 DemandsKeepOrdered =
     (c : ℕ) (r : Resident) (rest : List ℕ) (object opcode : ℕ) (body : List ℕ) (demand : Demand) (d : Desktop) → OwnsOrdered r
-    → judge_all served_now r object opcode body ≡ Ok demand
+    → judge_all nothing_left_out r object opcode body ≡ Ok demand
     → OwnsOrdered (changed_for c demand (with_peer (counted (with_rest rest r.peer)) r) d)
+
+-- Popups that are dismissed, with what descends from them (xdg-shell.xml, xdg_popup.popup_done).
+abbrev pub DismissalsKeepOrdered : Type 0
+DismissalsKeepOrdered =
+    (is : Popped → Bool) (r : Resident) → OwnsOrdered r → OwnsOrdered (with_shell (dismissing is r.owned.shell) r)
+
+-- ---- a press that dismisses
+
+-- A client whose popups with a grab are dismissed, and which is told of them, with the pointer put aside (xdg-shell.xml, xdg_popup.grab).
+abbrev pub PressesKeepOrdered : Type 0
+PressesKeepOrdered =
+    (windows : List Window) (c : ℕ) (old new : Midstep) → Ordered (unpointed old.desktop) → Applies windows (Dismiss c) old new
+    → Ordered (unpointed new.desktop)

@@ -1,19 +1,14 @@
-//! The laws of what is served now, with popups and without grabs: what each client owns is in order on every desktop that is reached, with the
+//! The laws of what is served, with popups and grabs: what each client owns is in order on every desktop that is reached, with the
 //! pointer put aside. Each law is a function that promises it.
 #![tactic(auto)]
 
 ghost use Rattle.wl_ordered.specs.OrderedLaws.{DemandsKeepOrdered, EmptyIsOrdered, EndsKeepOrdered, FramesKeepOrdered};
-ghost use Rattle.wl_ordered.specs.OrderedLaws.{MessagesKeepOrdered, MovesKeepOrdered, OrderedHasOrder, OrderedHoldsNone};
-ghost use Rattle.wl_ordered.specs.OrderedLaws.{OrderedStays, PeersKeepOrdered, PiecesKeepOrdered};
+ghost use Rattle.wl_ordered.specs.OrderedLaws.{DismissalsKeepOrdered, MessagesKeepOrdered, MovesKeepOrdered, OrderedHasOrder};
+ghost use Rattle.wl_ordered.specs.OrderedLaws.{OrderedStays, PeersKeepOrdered, PiecesKeepOrdered, PressesKeepOrdered};
 
 /// A client's popups have the order that the shell asks for (xdg-shell.xml, xdg_popup).
 pub fn ordered_has_order()
     ensures { OrderedHasOrder }
-{}
-
-/// No client holds a grab.
-pub fn ordered_holds_none()
-    ensures { OrderedHoldsNone }
 {}
 
 /// A desktop without clients is in order.
@@ -59,4 +54,14 @@ pub fn peers_keep_ordered()
 /// What an accepted message demands leaves what its client owns in order.
 pub fn demands_keep_ordered()
     ensures { DemandsKeepOrdered }
+{}
+
+/// So do popups that are dismissed.
+pub fn dismissals_keep_ordered()
+    ensures { DismissalsKeepOrdered }
+{}
+
+/// A press that dismisses the popups of the client that holds a grab leaves a desktop in order.
+pub fn presses_keep_ordered()
+    ensures { PressesKeepOrdered }
 {}

@@ -56,13 +56,6 @@ with_xdg id number names = record names { shell = with_id id number names.shell 
 abbrev pub with_toplevel : ℕ → Option ℕ → Names → Names
 with_toplevel id number names = record names { toplevels = with_id id number names.toplevels }
 
--- the interfaces whose objects name the number of a surface
-abbrev pub names_surface : Interface → Bool
-names_surface WlSurface = true
-names_surface XdgSurface = true
-names_surface XdgToplevel = true
-names_surface interface = false
-
 -- each surface under its number
 abbrev pub by_number : ById ℕ → Surfaces → Numbered
 by_number numbers all = λ number. find (λ s. is_number number (numbers s.id)) all.surfaces

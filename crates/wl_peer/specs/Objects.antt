@@ -1,5 +1,5 @@
 -- The live objects of a client, and the globals that it may bind.
-use Rattle.std.specs.Prelude.{ℕ, ◌≡◌, ◌==◌, ◌&&◌, Bool, true, false, nat_le, if◌then◌else◌, Option, Some, None, List, [], ◌∷◌, codes, find}
+use Rattle.std.specs.Prelude.{ℕ, ◌==◌, ◌&&◌, Bool, true, false, nat_le, if◌then◌else◌, Option, Some, None, List, [], ◌∷◌, codes, find}
 use Rattle.std.specs.Map.{lookup}
 use Rattle.std.specs.Option.{option_map}
 use Rattle.std.specs.Ordering.{nat_cmp, is_eq}
@@ -84,10 +84,6 @@ is_of_surface interface = false
 abbrev pub of_surface : Option Entry → Option Entry
 of_surface None = None
 of_surface (Some entry) = if is_of_surface entry.interface then Some entry else None
-
--- those are the same under each id
-abbrev pub KeepsSurfaces : Held → Held → Type 0
-KeepsSurfaces old new = (id : ℕ) → of_surface (entry_of new id) ≡ of_surface (entry_of old id)
 
 -- an argument that names an object names a live one of its interface, or is null where it may be
 abbrev pub fits : Objects → ObjectArg → Bool

@@ -1,6 +1,6 @@
 -- What is left out of all that may be served.
 use Rattle.std.specs.Prelude.{Bool, true, false}
-use Rattle.wl_plain.specs.Served.{Unserved, beyond_clients, of_popups, unserved_now}
+use Rattle.wl_plain.specs.Served.{Unserved, beyond_clients}
 
 -- which requests are refused as a limit would be, and whether wl_buffer.release is never told
 pub record LeftOut : Type 0 where
@@ -9,14 +9,6 @@ pub record LeftOut : Type 0 where
 
 abbrev pub nothing_left_out : LeftOut
 nothing_left_out = record { requests = λ request. false; releases = false }
-
--- what is left out now
-abbrev pub served_now : LeftOut
-served_now = record { requests = unserved_now; releases = false }
-
--- what is left out where popups are
-abbrev pub popups_left_out : LeftOut
-popups_left_out = record { requests = of_popups; releases = false }
 
 -- what is left out where no more is served than a client's own interfaces
 abbrev pub own_only : LeftOut

@@ -1,9 +1,6 @@
 -- Stores of buffers go one after another, and the buffer that one surface showed is released.
-use Rattle.std.specs.Prelude.{ℕ, ◌==◌, ◌&&◌, not, Bool, false, if◌then◌else◌, Option, Some, None, List, ◌∷◌, []}
-use Rattle.wl_interface.specs.declared.interface.Interface.TheVariants.{WlBuffer}
-use Rattle.wl_proto.specs.Messages.{says}
+use Rattle.std.specs.Prelude.{◌==◌, ◌&&◌, not, Bool, false, if◌then◌else◌, Option, Some, None}
 use Rattle.wl_peer.specs.Peer.{released}
-use Rattle.wl_peer.specs.Told.{Said, said}
 use Rattle.wl_store.specs.Stores.{Stock}
 use Rattle.wl_state.specs.Request.{Buffer}
 use Rattle.wl_surface.specs.Surfaces.{is_busy}
@@ -24,8 +21,3 @@ let_if over again (Some b) stores = if not again && over b then released b.store
 -- a buffer that was busy isn't any more, and its wl_buffer lives
 abbrev pub is_released : Resident → Buffer → Bool
 is_released r b = not (is_busy b.number r.owned.surfaces) && has_object r b
-
--- wl_buffer.release
-abbrev pub release_told : Option ℕ → List Said
-release_told None = []
-release_told (Some object) = said object (says WlBuffer 0 []) ∷ []

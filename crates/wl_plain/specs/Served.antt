@@ -2,26 +2,13 @@
 use Rattle.std.specs.Prelude.{Bool, true, false}
 use Rattle.wl_proto.specs.declared.wl_compositor.WlCompositorRequest.TheVariants as compositor
 use Rattle.wl_proto.specs.declared.wl_seat.WlSeatRequest.TheVariants as seat
-use Rattle.wl_proto.specs.declared.xdg_popup.XdgPopupRequest.TheVariants as popup
-use Rattle.wl_proto.specs.declared.xdg_surface.XdgSurfaceRequest.TheVariants as xdg
 use Rattle.wl_proto.specs.declared.xdg_wm_base.XdgWmBaseRequest.TheVariants as base
 use Rattle.wl_peer.specs.Requests.{Request, ToDisplay, ToRegistry, ToCompositor, ToRegion, ToShm, ToPool, ToBuffer}
-use Rattle.wl_peer.specs.Requests.{ToSeat, ToBase, ToPositioner, ToXdgSurface, ToPopup, ToNothing}
+use Rattle.wl_peer.specs.Requests.{ToSeat, ToBase, ToPositioner, ToNothing}
 
 -- Which requests aren't served: they are refused as a limit would be.
 abbrev pub Unserved : Type 0
 Unserved = Request → Bool
-
--- which aren't served now: grabs
-abbrev pub unserved_now : Unserved
-unserved_now (ToPopup (popup.Grab seat serial)) = true
-unserved_now request = false
-
--- those of popups
-abbrev pub of_popups : Unserved
-of_popups (ToXdgSurface (xdg.GetPopup id parent positioner)) = true
-of_popups (ToPopup request) = true
-of_popups request = false
 
 -- which are left out where a client's own interfaces are served, and no surfaces, shell and pointers
 abbrev pub beyond_clients : Unserved

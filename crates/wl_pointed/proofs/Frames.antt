@@ -15,7 +15,7 @@ use Rattle.wl_laws.proofs.Runs.Ends.{ended-after, queues-status}
 use Rattle.wl_laws.proofs.Runs.Fates.{AreStruck, Lives, same-or}
 use Rattle.wl_laws.proofs.Runs.Moves.{callbacks-status, frames-leads}
 use Rattle.wl_laws.proofs.Runs.Places.{number-other, number-same}
-use Rattle.wl_pointed.specs.Happenings.{EndApart, FramesApart, TellsApart, has_ended, pointer_left, unless_ended, with_pointer}
+use Rattle.wl_pointed.specs.Happenings.{FramesApart, has_ended, pointer_left, unless_ended, with_pointer}
 use Rattle.wl_pointed.specs.Pointed.{pointed}
 use Rattle.wl_pointed.proofs.Pointers.{all-nowhere, ended-put, settles-on}
 
@@ -32,9 +32,6 @@ tells-back change events c p old new h = at (client_at c old.desktop) h
     at : (o : Option Resident) → TellsAt change events c o old new → TellsAt change events c o (with_pointer p old) (with_pointer p new)
     at None h = ap (with_pointer p) h
     at (Some r) h = unless (is_some r.peer.status || is_struck c old.struck) r h
-
-pub tells-apart : TellsApart
-tells-apart = tells-back
 
 frames-back : (time n c : ℕ) (p : Pointer) (old new : Midstep) → TellsFrames time n c old new → TellsFrames time n c (with_pointer p old) (with_pointer p new)
 frames-back time zero c p old new h = ap (with_pointer p) h
@@ -187,6 +184,3 @@ frames-apart left time done d path e h =
     (ap (ends_through aside.struck) first ∙ through-left d aside.struck aside.desktop struck lived) (ap (ended_all aside.struck) first ∙ all-left d aside.struck aside.desktop struck lived)
     path e h.1.2 in
     (on.0, on.1, λ later new k. (h.0, (back, frames-back time 32 1 d.pointer (unstruck (unpointed d)) aside told, on.2 later new k)))
-
-pub end-apart : EndApart
-end-apart s d r there = ended-put s.client s.cause d.pointer (unpointed d) r there

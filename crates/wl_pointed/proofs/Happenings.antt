@@ -1,8 +1,8 @@
 -- What happens beside messages, motions and buttons, with the pointer put aside, and put back.
-use Rattle.std.proofs.Common.{ℕ, ◌+◌, List, [], ◌∷◌, ◌++◌, Bool, true, false, Option, Some, None, refl, ap, subst, sym, inl, inr, ◌≡◌, map, ◌∙◌}
+use Rattle.std.proofs.Common.{ℕ, ◌+◌, List, [], ◌∷◌, ◌++◌, Bool, true, false, Option, Some, None, refl, ap, subst, sym, inl, inr, map}
 use Rattle.wl_peer.specs.declared.cause.Cause.{Cause}
 use Rattle.wl_peer.specs.declared.cause.Cause.TheVariants as cause
-use Rattle.wl_peer.specs.Peer.{Peer, ended, with_rest}
+use Rattle.wl_peer.specs.Peer.{Peer, ended}
 use Rattle.wl_plain.specs.declared.answers.Done.{Done}
 use Rattle.wl_plain.specs.declared.answers.Done.TheVariants as gave
 use Rattle.wl_plain.specs.Act.{Connect, Feed, Store, Leave, Tick, Send, Close, Motion, Button, IsClosed, IsSent, IsStored, lowest}
@@ -12,13 +12,10 @@ use Rattle.wl_plain.specs.Happens.{ChangesThen, ConnectsThen, LeavesThen}
 use Rattle.wl_plain.specs.Settling.{Midstep, becomes, pointer_without, unstruck}
 use Rattle.wl_plain.specs.Step.{with_peer}
 use Rattle.wl_plain.specs.Through.{ending_through, settling_through}
-use Rattle.wl_stacking.specs.Pointer.{settled}
-use Rattle.wl_laws.specs.Focus.{IsSettled}
 use Rattle.wl_laws.proofs.Lists.Keys.{differ}
-use Rattle.wl_laws.proofs.Runs.Settled.{focus-is-settled, put-shows, same-windows}
-use Rattle.wl_laws.proofs.Runs.Through.{happens_leads_through, settling-with, settling-without}
+use Rattle.wl_laws.proofs.Runs.Through.{settling-with, settling-without}
 use Rattle.wl_pointed.specs.Apart.{SettlesOn}
-use Rattle.wl_pointed.specs.Happenings.{EndedApart, EndsApart, QuietApart, QuietIsSettled, SettlesOnHappens}
+use Rattle.wl_pointed.specs.Happenings.{EndedApart, EndsApart, QuietApart}
 use Rattle.wl_pointed.specs.Pointed.{pointed}
 use Rattle.wl_pointed.proofs.Pointers.{settles-on}
 
@@ -127,24 +124,3 @@ ends-apart left c h d path e (inl is) leads =
     subst (λ (x : Happening). Leads left x (unpointed d) path e → SettlesOn (pointed (pointer_without c d.pointer)) (Leads left x d) path e) (sym is) (starved c d path e (client_at c d)) leads
 ends-apart left c h d path e (inr is) leads =
     subst (λ (x : Happening). Leads left x (unpointed d) path e → SettlesOn (pointed (pointer_without c d.pointer)) (Leads left x d) path e) (sym is) (leaves c d path e (client_at c d)) leads
-
--- ---- without the desktops on the way
-
-pub settles-on-happens : SettlesOnHappens
-settles-on-happens left act done back d path e new on h =
-    let rest = settling-with new (unstruck (back e)) h in
-    (happens_leads_through left act done d new).0 (map back on.0 ++ back e ∷ rest.1.0) (on.2 rest.1.0 new rest.1.2)
-
-pub quiet-is-settled : QuietIsSettled
-quiet-is-settled left (Receive c piece) d path new quiet short bare is h = at (client_at c d) refl h
-  where
-    at : (o : Option Resident) → client_at c d ≡ o → ReceivesAt c piece o d path new → IsSettled new
-    at None there h = absurd h
-    at (Some r) there h =
-        let come : Resident = with_peer (with_rest (r.peer.rest ++ piece) r.peer) r in
-        subst IsSettled (sym h.1)
-        (is ∙ sym (ap (settled d.pointer) (same-windows d (with_client c (Some come) d) (put-shows c r (Some come) d there refl))))
-quiet-is-settled left (Message c) d path new quiet short bare is h = absurd (differ (sym quiet))
-quiet-is-settled left (Starve c) d path new quiet short bare is h = absurd (differ (sym quiet))
-quiet-is-settled left (Single act done) d path new quiet short bare is h =
-    focus-is-settled left act done d new short bare is ((happens_leads_through left act done d new).0 path h)

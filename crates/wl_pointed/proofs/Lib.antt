@@ -12,5 +12,7 @@ pub mod Pointers
 pub mod Pointing
 pub mod Rounds
 pub mod Seats
+pub mod Serials
+pub mod SerialsKept
 pub mod Unshown
 pub mod Whole

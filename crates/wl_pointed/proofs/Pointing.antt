@@ -178,12 +178,12 @@ module _ (left : LeftOut) (c : ℕ) (d : Desktop) (path : List Desktop) (new : D
 
 -- ---- whatever else happens
 
-closed-same : (s : Option Cause) (p q : Peer) → Some q ≡ closed_by s p → q ≡ p
+pub closed-same : (s : Option Cause) (p q : Peer) → Some q ≡ closed_by s p → q ≡ p
 closed-same None p q e = some-same q p e
 closed-same (Some why) p q e = absurd (none-some q (sym e))
 
 -- a client's peer becomes one that lives or not as it did
-abbrev StaysSo : (Peer → Done → Option Peer → Type 0) → Type 0
+abbrev pub StaysSo : (Peer → Done → Option Peer → Type 0) → Type 0
 StaysSo R = (p : Peer) (done : Done) (q : Peer) → R p done (Some q) → q.status ≡ p.status
 
 module _ (d : Desktop) (path : List Desktop) (new : Desktop) where

@@ -21,7 +21,7 @@ use Rattle.wl_laws.proofs.Marks.Stacks.{and-both, and-left, and-right, differ, s
 use Rattle.wl_laws.proofs.Runs.Ends.{acts-lead, ended-after, ended-one}
 use Rattle.wl_laws.proofs.Runs.Fates.{AreStruck, lasting, lasting-within}
 use Rattle.wl_laws.proofs.Runs.Settled.{HasFocus, ShowsSame, has-settled, put-shows, same-windows, shows-itself}
-use Rattle.wl_pointed.specs.Rounds.{AreRounds, AreToEnd, ButtonsEnd, IsRound, MotionsEnd, RoundsAreFew, RoundsSettle, SettlesIdly, StruckLive, SettlesAtLast, SettledAtOnce}
+use Rattle.wl_pointed.specs.Rounds.{AreRounds, AreToEnd, ButtonsEnd, IsRound, MotionsEnd, RoundsAreFew, RoundsSettle, SettlesIdly, SettlesAtLast, SettledAtOnce}
 
 -- ---- rounds and what comes then
 
@@ -96,9 +96,6 @@ to-end (s ∷ ss) d struck = ((struck.0.there, struck.0.is, struck.0.alive), str
 pub of-end : (ss : List Strike) (d : Desktop) → AreToEnd ss d → AreStruck ss d.clients
 of-end [] d struck = tt
 of-end (s ∷ ss) d struck = (record { there = struck.0.0; is = struck.0.1; alive = struck.0.2 }, struck.1, of-end ss d struck.2)
-
-pub struck-live : StruckLive
-struck-live input old new struck h = to-end new.struck new.desktop ((acts-lead input old (of-end old.struck old.desktop struck)).follows new h).sound
 
 -- a round ends one
 round-fewer : (old new : Midstep) (path : List Desktop) → AreStruck old.struck old.desktop.clients → IsRound old path new

@@ -1,20 +1,17 @@
 -- Whatever happens but a message, a motion and a button may happen with the pointer put aside too.
-use Rattle.std.specs.Prelude.{ℕ, ◌≡◌, ◌≤◌, ◌⊎◌, ◌&&◌, not, is_none, is_some, if◌then◌else◌, Bool, true, false, Option, Some, None}
-use Rattle.std.specs.Prelude.{List, [], ◌∷◌, length}
+use Rattle.std.specs.Prelude.{ℕ, ◌≡◌, ◌⊎◌, ◌&&◌, not, is_none, is_some, if◌then◌else◌, Bool, true, false, Option, Some, None}
+use Rattle.std.specs.Prelude.{List, [], ◌∷◌}
 use Rattle.wl_peer.specs.declared.cause.Cause.{Cause}
 use Rattle.wl_peer.specs.Peer.{ended}
-use Rattle.wl_peer.specs.Told.{Said}
 use Rattle.wl_stacking.specs.Pointer.{Pointer, Target}
 use Rattle.wl_plain.specs.declared.answers.Done.{Done}
 use Rattle.wl_plain.specs.declared.answers.Done.TheVariants as gave
 use Rattle.wl_plain.specs.Act.{Act, Connect, Feed, Store, Leave, Tick, Send, Close, Motion, Button}
-use Rattle.wl_plain.specs.Desktop.{Desktop, Resident, client_at, status_in, unpointed}
+use Rattle.wl_plain.specs.Desktop.{Desktop, Resident, status_in, unpointed}
 use Rattle.wl_plain.specs.Happenings.{Happening, Leads, Message, Receive, Single, Starve}
-use Rattle.wl_plain.specs.Happens.{Happens}
 use Rattle.wl_plain.specs.LeftOut.{LeftOut}
-use Rattle.wl_plain.specs.Settling.{EndsAndSettles, Midstep, SettlesAll, Strike, Tells, becomes, ended_by, pointer_without, unstruck}
+use Rattle.wl_plain.specs.Settling.{EndsAndSettles, Midstep, SettlesAll, becomes, pointer_without, unstruck}
 use Rattle.wl_plain.specs.Through.{settling_through}
-use Rattle.wl_laws.specs.Focus.{EndedAreBare, IsSettled}
 use Rattle.wl_pointed.specs.Apart.{SettlesOn}
 use Rattle.wl_pointed.specs.Pointed.{pointed}
 
@@ -99,31 +96,3 @@ FramesApart =
     (left : LeftOut) (time : ℕ) (done : Done) (d : Desktop) (path : List Desktop) (e : Desktop)
     → Leads left (Single (Tick time) done) (unpointed d) path e
     → SettlesOn (λ x. pointed (pointer_left d x) x) (Leads left (Single (Tick time) done) d) path e
-
--- ---- without the desktops on the way
-
--- What leads so leads where the focus is settled.
-abbrev pub SettlesOnHappens : Type 0
-SettlesOnHappens =
-    (left : LeftOut) (act : Act) (done : Done) (put : Desktop → Desktop) (d : Desktop) (path : List Desktop) (e new : Desktop)
-    → SettlesOn put (Leads left (Single act done) d) path e → SettlesAll 33 (unstruck (put e)) new → Happens left act done d new
-
--- Where nobody is told and nobody ends, a focus that was settled is.
-abbrev pub QuietIsSettled : Type 0
-QuietIsSettled =
-    (left : LeftOut) (h : Happening) (d : Desktop) (path : List Desktop) (new : Desktop)
-    → is_quiet h ≡ true → length d.clients ≤ 32 → EndedAreBare d → IsSettled d → Leads left h d path new → IsSettled new
-
--- ---- one client ends
-
--- A client that is there ends with the pointer put aside, and then the pointer leaves it.
-abbrev pub EndApart : Type 0
-EndApart =
-    (s : Strike) (d : Desktop) (r : Resident) → client_at s.client d ≡ Some r
-    → ended_by s d ≡ pointed (pointer_without s.client d.pointer) (ended_by s (unpointed d))
-
--- A client is told something with the pointer put aside as with it.
-abbrev pub TellsApart : Type 0
-TellsApart =
-    (change : Resident → Resident) (events : Resident → List Said) (c : ℕ) (p : Pointer) (old new : Midstep) → Tells change events c old new
-    → Tells change events c (with_pointer p old) (with_pointer p new)

@@ -1,6 +1,6 @@
 -- The ends of a step as a loop: the focus is settled, the first client that is to end then does, and so on until none is.
 use Rattle.std.specs.Prelude.{ℕ, zero, suc, ◌≡◌, ◌≤◌, ◌<◌, false, Some, None, List, [], ◌∷◌, ◌++◌, length}
-use Rattle.wl_stacking.specs.PointerActions.{PointerInput, Went}
+use Rattle.wl_stacking.specs.PointerActions.{Went}
 use Rattle.wl_plain.specs.Desktop.{Desktop, Resident, client_at}
 use Rattle.wl_plain.specs.Settling.{Midstep, PointerActs, Settles, Strike, ended_by, is_struck, unstruck}
 use Rattle.wl_plain.specs.Through.{SettlesAllThrough, ending_through}
@@ -42,12 +42,6 @@ abbrev pub RoundsAreFew : Type 0
 RoundsAreFew =
     (n : ℕ) (old new : Midstep) (path : List Desktop) → length old.desktop.clients ≤ 32 → AreToEnd old.struck old.desktop
     → AreRounds n old path new → (n ≤ 32) × AreToEnd new.struck new.desktop
-
--- Whatever the pointer does, who is to end lives, and nobody is to end twice.
-abbrev pub StruckLive : Type 0
-StruckLive =
-    (input : PointerInput) (old new : Midstep) → AreToEnd old.struck old.desktop → PointerActs input old new
-    → AreToEnd new.struck new.desktop
 
 -- The focus may always be settled so, and where there are fewer clients than settlings it is settled at last.
 abbrev pub SettlesAtLast : Type 0

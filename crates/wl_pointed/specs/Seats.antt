@@ -1,9 +1,10 @@
 -- The seats of clients: which wl_pointers a client that lives has, that a new one shows nothing, and that a client that ended stays so.
-use Rattle.std.specs.Prelude.{ℕ, ◌≡◌, ◌≢◌, ◌≤◌, ◌⊎◌, true, Some, None, Ok, List, [], length}
+use Rattle.std.specs.Prelude.{ℕ, ◌≡◌, ◌≢◌, ◌≤◌, ◌⊎◌, Bool, true, Some, None, Ok, List, [], length}
 use Rattle.wl_peer.specs.declared.cause.Cause.{Cause}
 use Rattle.wl_stacking.specs.Pointer.{first_pointer}
+use Rattle.wl_plain.specs.declared.answers.Done.{Done}
 use Rattle.wl_plain.specs.declared.answers.Done.TheVariants as gave
-use Rattle.wl_plain.specs.Act.{Close, Connect}
+use Rattle.wl_plain.specs.Act.{Button, Close, Connect}
 use Rattle.wl_plain.specs.Changing.{in_rising_order}
 use Rattle.wl_plain.specs.Demand.{GetPointer}
 use Rattle.wl_plain.specs.Desktop.{Desktop, Resident, client_at, status_in}
@@ -41,6 +42,27 @@ abbrev pub PointersStay : Type 0
 PointersStay =
     (left : LeftOut) (h : Happening) (d : Desktop) (path : List Desktop) (e : Desktop) (c : ℕ) (q : Resident)
     → Leads left h d path e → client_at c e ≡ Some q → q.peer.status ≡ None → HasPointersAfter left h d c q
+
+-- ---- serials
+
+-- a client was told of no other press and release than before
+abbrev pub HadSerials : Desktop → ℕ → Resident → Type 0
+HadSerials d c q =
+    (r : Resident) × (client_at c d ≡ Some r) × (r.peer.status ≡ None) × (q.press ≡ r.press) × (q.release ≡ r.release)
+
+-- or it came, and was told of none yet
+abbrev pub CameWithoutSerials : Happening → ℕ → Resident → Type 0
+CameWithoutSerials h c q = (h ≡ Single Connect (gave.Connect (Ok c))) × (q.press ≡ None) × (q.release ≡ None)
+
+-- no button is pressed or released
+abbrev pub IsNoButton : Happening → Type 0
+IsNoButton h = (time button : ℕ) (pressed : Bool) (done : Done) → h ≢ Single (Button time button pressed) done
+
+-- Only a button changes of which press and of which release a client that lives was told last.
+abbrev pub SerialsStay : Type 0
+SerialsStay =
+    (left : LeftOut) (h : Happening) (d : Desktop) (path : List Desktop) (e : Desktop) (c : ℕ) (q : Resident) → IsNoButton h
+    → Leads left h d path e → client_at c e ≡ Some q → q.peer.status ≡ None → HadSerials d c q ⊎ CameWithoutSerials h c q
 
 -- Where nobody points, a client that gets a wl_pointer and lives on leaves all windows as they are.
 abbrev pub NewPointerShowsNothing : Type 0

@@ -6,14 +6,13 @@ ghost use Rattle.wl_pointed.specs.Acting.{GoesAlong, MotionsAct, PressesAct, Rel
 ghost use Rattle.wl_pointed.specs.Apart.{PointerApart, PointerApartThrough};
 ghost use Rattle.wl_pointed.specs.ByRounds.{ButtonsByRounds, ButtonsMayBeIdle, ButtonsRaise, MotionsByRounds};
 ghost use Rattle.wl_pointed.specs.Entering.{NewPointerApart, NewPointerApartThrough};
-ghost use Rattle.wl_pointed.specs.Happenings.{EndApart, EndedApart, EndsApart, FramesApart, QuietApart, QuietIsSettled};
-ghost use Rattle.wl_pointed.specs.Happenings.{SettlesOnHappens, TellsApart};
+ghost use Rattle.wl_pointed.specs.Happenings.{EndedApart, EndsApart, FramesApart, QuietApart};
 ghost use Rattle.wl_pointed.specs.Lives.{FocusLives, HitLives};
 ghost use Rattle.wl_pointed.specs.Marking.{LastMarksNothing, MarksApart, MarksInParts, MarksOwnThenRounds, NewPointerMarks, RoundsMarkEnds};
 ghost use Rattle.wl_pointed.specs.Marking.{RoundsMarkInTurn, SettlingMarksNothing};
 ghost use Rattle.wl_pointed.specs.Moved.{MovedStandsFirst, MovedStandsMid, MovedStandsOn};
-ghost use Rattle.wl_pointed.specs.Rounds.{ButtonsEnd, MotionsEnd, RoundsAreFew, RoundsSettle, SettledAtOnce, SettlesAtLast, SettlesIdly, StruckLive};
-ghost use Rattle.wl_pointed.specs.Seats.{EndedStay, NewPointerShowsNothing, PointersStay, RoundsEndClients};
+ghost use Rattle.wl_pointed.specs.Rounds.{ButtonsEnd, MotionsEnd, RoundsAreFew, RoundsSettle, SettledAtOnce, SettlesAtLast, SettlesIdly};
+ghost use Rattle.wl_pointed.specs.Seats.{EndedStay, NewPointerShowsNothing, PointersStay, RoundsEndClients, SerialsStay};
 ghost use Rattle.wl_pointed.specs.Whole.{StepsByRounds};
 
 // ---- messages
@@ -47,11 +46,6 @@ pub fn quiet_apart()
     ensures { QuietApart }
 {}
 
-/// Then a focus that was settled is.
-pub fn quiet_is_settled()
-    ensures { QuietIsSettled }
-{}
-
 /// Where memory is wanting, or a client goes, the pointer leaves it, and then its focus is settled.
 pub fn ends_apart()
     ensures { EndsApart }
@@ -65,11 +59,6 @@ pub fn ended_apart()
 /// Where a frame is shown, the pointer leaves each client that ended, and then its focus is settled.
 pub fn frames_apart()
     ensures { FramesApart }
-{}
-
-/// What is led to so through desktops happens.
-pub fn settles_on_happens()
-    ensures { SettlesOnHappens }
 {}
 
 /// A toplevel that is moved with the pointer stands, whatever happens.
@@ -89,16 +78,6 @@ pub fn moved_stands_first()
 
 // ---- the parts of a settling
 
-/// A client ends with the pointer put aside, and then the pointer leaves it.
-pub fn end_apart()
-    ensures { EndApart }
-{}
-
-/// A client is told something with the pointer put aside as with it.
-pub fn tells_apart()
-    ensures { TellsApart }
-{}
-
 // ---- the ends that follow
 
 /// The ends of a step are rounds: the focus is settled, and the first client that is to end then does; where none is, the step is over.
@@ -109,11 +88,6 @@ pub fn rounds_settle()
 /// Each round ends a client that lives, so of 32 clients there are 32 rounds at most.
 pub fn rounds_are_few()
     ensures { RoundsAreFew }
-{}
-
-/// Whatever the pointer does, the clients that are to end for it live.
-pub fn struck_live()
-    ensures { StruckLive }
 {}
 
 /// The focus may always be settled with the ends that follow, and of 32 clients it is settled at last.
@@ -249,6 +223,11 @@ pub fn hit_lives()
 /// Whatever happens, only wl_seat.get_pointer changes which wl_pointers a client that lives has.
 pub fn pointers_stay()
     ensures { PointersStay }
+{}
+
+/// Whatever happens, only a button changes of which press and of which release a client that lives was told last.
+pub fn serials_stay()
+    ensures { SerialsStay }
 {}
 
 /// Where nobody points, a client that gets a wl_pointer and lives on leaves all windows as they are.

@@ -12,7 +12,7 @@ use Rattle.wl_options.specs.declared.rate.Rate as paced
 use Rattle.wl_options.specs.declared.size.Size as declared
 use Rattle.wl_plain.specs.Act.{Act}
 use Rattle.wl_plain.specs.Desktop.{empty}
-use Rattle.wl_plain.specs.LeftOut.{served_now}
+use Rattle.wl_plain.specs.LeftOut.{nothing_left_out}
 use Rattle.wl_replay.specs.Told.{IsFirst, Stage}
 use Rattle.wl_server.specs.Acting.{InTurn, ShowsScratch, Stretch, Then}
 use Rattle.wl_server.specs.Phases.{IsTurn, StartsTurn}
@@ -72,7 +72,7 @@ pub record ServedTurns (serve : Serve) (report told : Option (List ℕ)) : Type 
   pub begins : IsFirst (output_of serve.size) first
   pub unpointed : is_some serve.pointer ≡ false → lines ≡ []
   pub turns : AreTurns socket_ways folder_files serve.rate serve.turns (begun_of serve lines) to first.now acts events last
-  pub runs : Runs served_now first.now acts events last
+  pub runs : Runs nothing_left_out first.now acts events last
   pub shows : ShowsScratch nobody events
   pub tells : IsToldOf report told images imaged events
 

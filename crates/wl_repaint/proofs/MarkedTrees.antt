@@ -1,12 +1,11 @@
 -- What loops over the windows of several trees mark on an output.
-use Rattle.std.proofs.Common.{◌≡◌, ◌<◌, ◌≤◌, ◌+◌, ℕ, ℤ, pos, Bool, true, false, List, [], ◌∷◌, ◌++◌, cond, length, take, get_or, Option, Some, None, refl, ap, sym, ◌∙◌, arith}
+use Rattle.std.proofs.Common.{◌≡◌, ◌<◌, ◌+◌, ℕ, ℤ, pos, Bool, true, false, List, [], ◌∷◌, ◌++◌, cond, length, take, get_or, Option, Some, None, refl, ap, sym, ◌∙◌, arith}
 use Rattle.std.specs.Prelude.{◌==◌, ◌&&◌, ◌||◌, filter, not}
 use Rattle.std.specs.List.{list_any}
 use Rattle.std.specs.Option.{option_eq}
 use Rattle.std.proofs.Math.Bool.{or_assoc}
 use Rattle.std.proofs.lemmas.Bool.{eqb-true, or_left, or_right}
 use Rattle.std.proofs.lemmas.Bool.Decides.{nat_tests}
-use Rattle.std.proofs.lemmas.List.{take_all}
 use Rattle.std.proofs.lemmas.List.Folds.{list_any-append, list_any_more}
 use Rattle.wl_paint.specs.Damage.{Damaged, has}
 use Rattle.wl_marking.specs.Marking.{AddsPoints, IsAsLarge}
@@ -23,14 +22,6 @@ pub record AreMarked (Together : Type 0) (marked : ℕ → ℤ → ℤ → Bool)
 pub or-none : (b : Bool) → b ≡ (b || false)
 or-none true = refl
 or-none false = refl
-
--- no window yet
-pub none-yet : (Together : Type 0) (marked : ℕ → ℤ → ℤ → Bool) (d : Damaged) → AreMarked Together marked [] None d d
-none-yet Together marked d = record {
-  points = λ t x y wide high. or-none (has d x y);
-  sides = record { width = refl; height = refl };
-  known = λ t root e x y wide high m. absurd (cc);
-}
 
 module _ (Together : Type 0) (marked : ℕ → ℤ → ℤ → Bool) (xs : List TreeWindow) (n : ℕ) (d : TreeWindow) (old : Damaged) (less : n < length xs) where
   more : (x y : ℕ) → list_any (λ w. marked w.root (pos x) (pos y)) (take (n + 1) xs)
@@ -73,12 +64,6 @@ module _ (Together : Type 0) (marked : ℕ → ℤ → ℤ → Bool) (xs : List 
     where
       some-root : (root : ℕ) → Some (get_or xs n d).root ≡ Some root → (get_or xs n d).root ≡ root
       some-root root e = cc
-
--- all of them
-pub all-marked : (Together : Type 0) (marked : ℕ → ℤ → ℤ → Bool) (xs : List TreeWindow) (n : ℕ) (last : Option ℕ) (old new : Damaged) → length xs ≤ n
-    → AreMarked Together marked (take n xs) last old new → Together → AddsPoints (λ x y. list_any (λ w. marked w.root x y) xs) old new
-all-marked Together marked xs n last old new past is together x y wide high =
-    is.points together x y wide high ∙ ap (λ ws. has old x y || list_any (λ w. marked w.root (pos x) (pos y)) ws) (take_all n xs past)
 
 -- ---- trees that weren't there
 

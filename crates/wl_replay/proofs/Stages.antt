@@ -2,7 +2,7 @@
 use Rattle.std.proofs.Common.{◌≡◌, ◌++◌, ◌*◌, ℕ, false, List, [], ap, refl, subst, ◌∙◌}
 use Rattle.wl_plain.specs.Act.{Act, Tick}
 use Rattle.wl_plain.specs.Desktop.{empty}
-use Rattle.wl_plain.specs.LeftOut.{served_now}
+use Rattle.wl_plain.specs.LeftOut.{nothing_left_out}
 use Rattle.wl_plain.specs.declared.answers.Done.{Done}
 use Rattle.wl_plain.specs.declared.answers.Done.TheVariants as gave
 use Rattle.wl_session.specs.Agreeing.{Agrees}
@@ -28,8 +28,8 @@ abbrev pub after : (act : Act) → (done : Done) → (old new : SessionView) →
 after act done old new stage course = record { first = stage.first; events = stage.events ++ course.events; now = moment course.desktop new }
 
 module _ (act : Act) (done : Done) (old new : SessionView) (stage : Stage) (stands : Stands old stage) (course : Course act done old new stage.now.desktop) where
-  leads-on : AreEvents served_now stage.now course.events (moment course.desktop new)
-  leads-on = subst (λ (m : Moment). AreEvents served_now m course.events (moment course.desktop new)) (same-moment old stage stands) course.leads
+  leads-on : AreEvents nothing_left_out stage.now course.events (moment course.desktop new)
+  leads-on = subst (λ (m : Moment). AreEvents nothing_left_out m course.events (moment course.desktop new)) (same-moment old stage stands) course.leads
 
   pub steps-on : Steps act done stage (after act done old new stage course)
   steps-on = record { happens = course.happens; events = course.events; parts = course.parts; leads = leads-on; later = refl; first = refl }

@@ -6,7 +6,7 @@ use Rattle.wl_session.specs.View.{SessionView}
 use Rattle.wl_plain.specs.Act.{Act}
 use Rattle.wl_plain.specs.Desktop.{empty}
 use Rattle.wl_plain.specs.Happens.{Happens}
-use Rattle.wl_plain.specs.LeftOut.{served_now}
+use Rattle.wl_plain.specs.LeftOut.{nothing_left_out}
 use Rattle.wl_plain.specs.Scratch.{scratch}
 use Rattle.wl_plain.specs.Stacked.{all_windows}
 use Rattle.wl_plain.specs.declared.answers.Done.{Done}
@@ -45,7 +45,7 @@ pub record Stands (session : SessionView) (stage : Stage) : Type 0 where
   pub damage : session.damage ≡ stage.now.damage
   pub frame : session.frame ≡ stage.now.frame
   pub right : IsRightBut nobody stage.first
-  pub led : AreEvents served_now stage.first stage.events stage.now
+  pub led : AreEvents nothing_left_out stage.first stage.events stage.now
   pub apart : AreApart stage.events
 
 -- At first nothing has happened: there is no client, the image is the background, and nothing is to be painted.
@@ -65,10 +65,10 @@ pub record IsFirst (config : Config) (stage : Stage) : Type 0 where
 
 -- A step leads from one stage to another: it happens, and its events are the next ones.
 pub record Steps (act : Act) (done : Done) (old new : Stage) : Type 0 where
-  pub happens : Happens served_now act done old.now.desktop new.now.desktop
+  pub happens : Happens nothing_left_out act done old.now.desktop new.now.desktop
   pub events : List Event
   pub parts : AreParts act done (happenings events)
-  pub leads : AreEvents served_now old.now events new.now
+  pub leads : AreEvents nothing_left_out old.now events new.now
   pub later : new.events ≡ old.events ++ events
   pub first : new.first ≡ old.first
 

@@ -1,5 +1,9 @@
 pub mod Letting
 pub mod PopupsDismissed
+pub mod PopupsNext
+pub mod PopupsReleased
+pub mod ReleasedDone
+pub mod PopupsGrabbed
 pub mod PopupsAnswered
 pub mod Numbers
 pub mod Naming

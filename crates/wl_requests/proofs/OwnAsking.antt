@@ -31,7 +31,7 @@ use Rattle.wl_plain.specs.Ask.{owns, Own}
 use Rattle.wl_plain.specs.Demand.{Demand}
 use Rattle.wl_plain.specs.Demanding.{demand_of, demands, judge_all}
 use Rattle.wl_plain.specs.Desktop.{Desktop, Resident}
-use Rattle.wl_plain.specs.LeftOut.{served_now}
+use Rattle.wl_plain.specs.LeftOut.{nothing_left_out}
 use Rattle.wl_ordered.specs.Ordered.{OwnsOrdered}
 use Rattle.wl_owning.specs.Owning.{Names, by_number, target_as, targets_in}
 use Rattle.wl_owning.specs.RoleNames.{names_of, role_target, roles_in}
@@ -106,7 +106,7 @@ names-kept old new keeps =
 
 -- one of the client's own interfaces
 own-asked : (interface : Interface) (r : Resident) (object version : ℕ) (m : Message) → is_own interface ≡ true
-    → m.interface ≡ interface → demand_of served_now r object version m ≡ demands (owns (action_of (known_of r.peer) object version (request_of m)))
+    → m.interface ≡ interface → demand_of nothing_left_out r object version m ≡ demands (owns (action_of (known_of r.peer) object version (request_of m)))
 own-asked WlDisplay r object version m own is = rw is refl
 own-asked WlRegistry r object version m own is = rw is refl
 own-asked WlRegion r object version m own is = rw is refl
@@ -117,7 +117,7 @@ own-asked XdgPositioner r object version m own is = rw is refl
 own-asked interface r object version m own is = absurd (cc)
 
 pub own-demand-of : (r : Resident) (object version : ℕ) (m : Message) → is_own m.interface ≡ true
-    → demand_of served_now r object version m ≡ demands (owns (action_of (known_of r.peer) object version (request_of m)))
+    → demand_of nothing_left_out r object version m ≡ demands (owns (action_of (known_of r.peer) object version (request_of m)))
 own-demand-of r object version m own = own-asked m.interface r object version m own refl
 
 -- what it leaves
@@ -185,7 +185,7 @@ own-served old new r q is (object, version, size, target, m, passes, own) same k
     let left : Resident = with_peer (with_rest (drop size r.peer.rest) r.peer) r in
     let action : Result Action Refusal = action_of (known_of r.peer) object version (request_of m) in
     let used : ℕ → Bool = λ number. is_used number r.owned.surfaces in
-    let judged : judge_all served_now r object m.opcode body ≡ demands (owns action) = demanded-first old r object version size target m passes is ∙ own-demand-of left object version m own in
+    let judged : judge_all nothing_left_out r object m.opcode body ≡ demands (owns action) = demanded-first old r object version size target m passes is ∙ own-demand-of left object version m own in
     let judged_own : judge_own (known_of r.peer) object m.opcode body ≡ action =
     judged-by old r object version size target m passes is (λ version m. action_of (known_of r.peer) object version (request_of m)) in
     let taken : TakesWith used (Whole object m.opcode size) r.peer q = subst (λ (s : Split). TakesWith used s r.peer q) whole serves.1 in

@@ -46,11 +46,11 @@ use Rattle.wl_owning.proofs.Keeping.OwningXdg.{toplevel-named}
 use Rattle.wl_owning.proofs.Keeping.OwningNames.{targets-at}
 use Rattle.wl_plain.specs.Ask.{Ask, Ignore, owns}
 use Rattle.wl_plain.specs.Demand.{Asks, CommitTree, Demand, EndSurface}
-use Rattle.wl_plain.specs.Demanding.{committed_by, demand_by, demand_of, demands, effect_of_commit, toplevel_asked, xdg_asked}
+use Rattle.wl_plain.specs.Demanding.{committed_by, demand_of, demands, effect_of_commit, toplevel_asked, xdg_asked}
 use Rattle.wl_plain.specs.Desktop.{Resident}
-use Rattle.wl_plain.specs.LeftOut.{served_now}
-use Rattle.wl_plain.specs.XdgPopup.{is_no_popup, may_be_parent, popup_asked, popup_made, positioner_of}
-use Rattle.wl_xdg_state.specs.Popups.{is_parent}
+use Rattle.wl_plain.specs.LeftOut.{nothing_left_out}
+use Rattle.wl_plain.specs.XdgPopup.{grab_of, is_no_popup, may_be_parent, popup_asked, popup_made, positioner_of}
+use Rattle.wl_xdg_state.specs.Popups.{Popped, is_parent, is_popup_mapped, popup_at}
 use Rattle.wl_xdg_state.specs.Positioner.{Positioner, is_complete}
 use Rattle.wl_proto.specs.declared.xdg_popup.XdgPopupRequest.{XdgPopupRequest}
 use Rattle.wl_proto.specs.declared.xdg_popup.XdgPopupRequest.TheVariants as popups
@@ -86,7 +86,7 @@ module _ (numbers : ById ℕ) where
   if-nothing true x y f g = f
   if-nothing false x y f g = g
 
-  compositor-nothing : (r : Resident) (object version : ℕ) (request : WlCompositorRequest) → AsksPointerSo numbers (demand_of served_now r object version (wl_compositor_request request)) Nothing
+  compositor-nothing : (r : Resident) (object version : ℕ) (request : WlCompositorRequest) → AsksPointerSo numbers (demand_of nothing_left_out r object version (wl_compositor_request request)) Nothing
   compositor-nothing r object version (compositor.CreateSurface id) = alone (surface_created r id version)
   compositor-nothing r object version (compositor.CreateRegion id) = refl
 
@@ -103,7 +103,7 @@ module _ (numbers : ById ℕ) where
   ended-nothing object true refused = tt
   ended-nothing object false refused = refl
 
-  surface-nothing : (r : Resident) (object version : ℕ) (request : WlSurfaceRequest) → AsksPointerSo numbers (demand_of served_now r object version (wl_surface_request request)) Nothing
+  surface-nothing : (r : Resident) (object version : ℕ) (request : WlSurfaceRequest) → AsksPointerSo numbers (demand_of nothing_left_out r object version (wl_surface_request request)) Nothing
   surface-nothing r object version surface.Destroy = ended-nothing object (is_some (xdg_of object r.owned.shell)) _
   surface-nothing r object version (surface.Attach buffer x y) = refl
   surface-nothing r object version (surface.Damage x y width height) = refl
@@ -127,7 +127,7 @@ module _ (numbers : ById ℕ) where
   xdg-asked-nothing r (Some x) version (requests.SetWindowGeometry a b width height) = alone (geometry_set x (rect a b width height))
   xdg-asked-nothing r (Some x) version (requests.AckConfigure serial) = alone (acknowledged_by x serial)
 
-  xdg-nothing : (r : Resident) (object version : ℕ) (request : XdgSurfaceRequest) → AsksPointerSo numbers (demand_of served_now r object version (xdg_surface_request request)) Nothing
+  xdg-nothing : (r : Resident) (object version : ℕ) (request : XdgSurfaceRequest) → AsksPointerSo numbers (demand_of nothing_left_out r object version (xdg_surface_request request)) Nothing
   xdg-nothing r object version requests.Destroy = xdg-asked-nothing r (xdg_at object r.owned.shell) version requests.Destroy
   xdg-nothing r object version (requests.GetToplevel id) = xdg-asked-nothing r (xdg_at object r.owned.shell) version (requests.GetToplevel id)
   xdg-nothing r object version (requests.GetPopup id parent positioner) = xdg-asked-nothing r (xdg_at object r.owned.shell) version (requests.GetPopup id parent positioner)
@@ -139,9 +139,18 @@ module _ (numbers : ById ℕ) where
   destroyed-nothing r object None = tt
   destroyed-nothing r object (Some x) = if-nothing (is_parent x.id r.owned.shell) _ _ tt refl
 
-  popup-nothing : (r : Resident) (object version : ℕ) (request : XdgPopupRequest) → AsksPointerSo numbers (demand_of served_now r object version (xdg_popup_request request)) Nothing
+  -- and one that asks for a grab
+  grab-nothing : (r : Resident) (object seat serial : ℕ) (o : Option Xdg) → AsksPointerSo numbers (popup_asked r object o (popups.Grab seat serial)) Nothing
+  grab-nothing r object seat serial None = tt
+  grab-nothing r object seat serial (Some x) = at (popup_at x.id r.owned.shell)
+    where
+      at : (o : Option Popped) → AsksPointerSo numbers (grab_of object serial x o) Nothing
+      at None = tt
+      at (Some p) = if-nothing p.popup.is_dismissed _ _ refl (if-nothing (is_popup_mapped p) _ _ tt refl)
+
+  popup-nothing : (r : Resident) (object version : ℕ) (request : XdgPopupRequest) → AsksPointerSo numbers (demand_of nothing_left_out r object version (xdg_popup_request request)) Nothing
   popup-nothing r object version popups.Destroy = destroyed-nothing r object (xdg_with object r.owned.shell)
-  popup-nothing r object version (popups.Grab by serial) = tt
+  popup-nothing r object version (popups.Grab seat serial) = grab-nothing r object seat serial (xdg_with object r.owned.shell)
 
   placed-nothing : (object parent : ℕ) (request : Member → AskedOf) (o : Option Member) → AsksPointerSo numbers (placed_beside object parent request o) Nothing
   placed-nothing object parent request None = tt
@@ -156,7 +165,7 @@ module _ (numbers : ById ℕ) where
   linked-nothing r object (Some l) subsurface.SetSync = refl
   linked-nothing r object (Some l) subsurface.SetDesync = refl
 
-  subsurface-nothing : (r : Resident) (object version : ℕ) (request : WlSubsurfaceRequest) → AsksPointerSo numbers (demand_of served_now r object version (wl_subsurface_request request)) Nothing
+  subsurface-nothing : (r : Resident) (object version : ℕ) (request : WlSubsurfaceRequest) → AsksPointerSo numbers (demand_of nothing_left_out r object version (wl_subsurface_request request)) Nothing
   subsurface-nothing r object version subsurface.Destroy = linked-nothing r object (link_of_subsurface object r) subsurface.Destroy
   subsurface-nothing r object version (subsurface.SetPosition x y) = linked-nothing r object (link_of_subsurface object r) (subsurface.SetPosition x y)
   subsurface-nothing r object version (subsurface.PlaceAbove sibling) = linked-nothing r object (link_of_subsurface object r) (subsurface.PlaceAbove sibling)
@@ -165,26 +174,26 @@ module _ (numbers : ById ℕ) where
   subsurface-nothing r object version subsurface.SetDesync = linked-nothing r object (link_of_subsurface object r) subsurface.SetDesync
 
   subcompositor-nothing : (r : Resident) (object version : ℕ) (request : WlSubcompositorRequest)
-      → AsksPointerSo numbers (demand_of served_now r object version (wl_subcompositor_request request)) Nothing
+      → AsksPointerSo numbers (demand_of nothing_left_out r object version (wl_subcompositor_request request)) Nothing
   subcompositor-nothing r object version subcompositor.Destroy = refl
   subcompositor-nothing r object version (subcompositor.GetSubsurface id child parent) =
       if-nothing (is_too_deep r.owned.surfaces child parent) past_limit _ tt
       (if-nothing (is_no_subsurface (role_of r child) || (has_subsurface child r || is_some (xdg_of child r.owned.shell))) _ _ tt
       (if-nothing (is_bad_parent r.owned.surfaces child parent) _ _ tt refl))
 
-  cursor-nothing : (r : Resident) (object version : ℕ) (request : WlPointerRequest) → AsksPointerSo numbers (demand_of served_now r object version (wl_pointer_request request)) Nothing
+  cursor-nothing : (r : Resident) (object version : ℕ) (request : WlPointerRequest) → AsksPointerSo numbers (demand_of nothing_left_out r object version (wl_pointer_request request)) Nothing
   cursor-nothing r object version (on_pointer.SetCursor serial surface x y) =
       if-nothing (surface == 0) (Ok (Asks Ignore)) _ refl
       (if-nothing (is_no_cursor (role_of r surface) || is_some (xdg_of surface r.owned.shell)) (refuses object HasAnotherRole) _ tt refl)
 
-  base-nothing : (r : Resident) (object version : ℕ) (request : XdgWmBaseRequest) → AsksPointerSo numbers (demand_of served_now r object version (xdg_wm_base_request request)) Nothing
+  base-nothing : (r : Resident) (object version : ℕ) (request : XdgWmBaseRequest) → AsksPointerSo numbers (demand_of nothing_left_out r object version (xdg_wm_base_request request)) Nothing
   base-nothing r object version base.Destroy = alone _
   base-nothing r object version (base.CreatePositioner id) = refl
   base-nothing r object version (base.GetXdgSurface id surface) = alone _
   base-nothing r object version (base.Pong serial) = refl
 
   seat-asks : (r : Resident) (object version target : ℕ) (request : WlSeatRequest)
-      → AsksPointerSo numbers (demand_of served_now r object version (wl_seat_request request)) (pointer_asked_by target (kind.Seat request))
+      → AsksPointerSo numbers (demand_of nothing_left_out r object version (wl_seat_request request)) (pointer_asked_by target (kind.Seat request))
   seat-asks r object version target (seat.GetPointer id) = refl
   seat-asks r object version target (seat.GetKeyboard id) = tt
   seat-asks r object version target (seat.GetTouch id) = tt
@@ -201,13 +210,9 @@ module _ (numbers : ById ℕ) where
   toplevel-asks object target x request named = refl
 
   -- a message that is this request
-  told-asks : (r : Resident) (object version : ℕ) (m n : Message) (asked : PointerAsked) → m ≡ n → AsksPointerSo numbers (demand_of served_now r object version n) asked
-      → AsksPointerSo numbers (demand_of served_now r object version m) asked
-  told-asks r object version m n asked told h = subst (λ (x : Message). AsksPointerSo numbers (demand_of served_now r object version x) asked) (sym told) h
-
-  unserved-asks : (r : Resident) (object version : ℕ) (m : Message) → IsKind kind.Unserved m → AsksPointerSo numbers (demand_of served_now r object version m) Nothing
-  unserved-asks r object version m unserved =
-      subst (λ (b : Bool). AsksPointerSo numbers (if b then past_limit else demand_by (request_of m) r object version) Nothing) (sym unserved) tt
+  told-asks : (r : Resident) (object version : ℕ) (m n : Message) (asked : PointerAsked) → m ≡ n → AsksPointerSo numbers (demand_of nothing_left_out r object version n) asked
+      → AsksPointerSo numbers (demand_of nothing_left_out r object version m) asked
+  told-asks r object version m n asked told h = subst (λ (x : Message). AsksPointerSo numbers (demand_of nothing_left_out r object version x) asked) (sym told) h
 
 -- ---- a message that passes
 
@@ -216,7 +221,7 @@ module _ {A : Type 0} (v : Kept A) (r : Resident) (its : Owns v r) where
   numbered = targets_in WlSurface v.client.objects
 
   toplevel-told : (object version target : ℕ) (m : Message) (t : ToplevelAsked) → IsToplevel v object target → IsKind (kind.Toplevel t) m
-      → AsksPointerSo numbered (demand_of served_now r object version m) (pointer_asked_by target (kind.Toplevel t))
+      → AsksPointerSo numbered (demand_of nothing_left_out r object version m) (pointer_asked_by target (kind.Toplevel t))
   toplevel-told object version target m t named is_it =
       let request = toplevel_request m.opcode m.fields in
       let one = toplevel-named (names_of v.client.objects) v.owned.linked.surfaces v.owned.linked.family (kept_of v.owned.shell) r.owned its object target
@@ -227,7 +232,7 @@ module _ {A : Type 0} (v : Kept A) (r : Resident) (its : Owns v r) where
       (toplevel-asks numbered object target one.1 request one.3.surface)))
 
   pub kind-asks : (object version target : ℕ) (m : Message) (k : Kind) → IsKind k m → (m.interface ≡ XdgToplevel → IsToplevel v object target)
-      → AsksPointerSo numbered (demand_of served_now r object version m) (pointer_asked_by target k)
+      → AsksPointerSo numbered (demand_of nothing_left_out r object version m) (pointer_asked_by target k)
   kind-asks object version target m (kind.Compositor request) is_it named = told-asks numbered r object version m _ Nothing is_it (compositor-nothing numbered r object version request)
   kind-asks object version target m (kind.Surface request) is_it named = told-asks numbered r object version m _ Nothing is_it (surface-nothing numbered r object version request)
   kind-asks object version target m (kind.Subcompositor request) is_it named = told-asks numbered r object version m _ Nothing is_it (subcompositor-nothing numbered r object version request)
@@ -238,7 +243,6 @@ module _ {A : Type 0} (v : Kept A) (r : Resident) (its : Owns v r) where
   kind-asks object version target m (kind.XdgSurface request) is_it named = told-asks numbered r object version m _ Nothing is_it (xdg-nothing numbered r object version request)
   kind-asks object version target m (kind.Toplevel t) is_it named = toplevel-told object version target m t (named is_it.0) is_it
   kind-asks object version target m (kind.Popup request) is_it named = told-asks numbered r object version m _ Nothing is_it (popup-nothing numbered r object version request)
-  kind-asks object version target m kind.Unserved is_it named = unserved-asks numbered r object version m is_it
 
 -- ---- the first message
 
@@ -248,7 +252,7 @@ module _ {A : Type 0} (v : Kept A) (r : Resident) (is : IsResident v r) where
 
   -- one that passes
   passed-asks : (object version size target : ℕ) (m : Message) (asked : PointerAsked) → Passes v.client object version size target m
-      → AsksPointerSo names (demand_of served_now (with_peer (with_rest (drop size r.peer.rest) r.peer) r) object version m) asked
+      → AsksPointerSo names (demand_of nothing_left_out (with_peer (with_rest (drop size r.peer.rest) r.peer) r) object version m) asked
       → AsksPointerFirst names (split_of r.peer.rest) r asked
   passed-asks object version size target m asked passes h =
       subst (λ (s : Split). AsksPointerFirst names s r asked) (sym (whole-first v r object version size target m passes is))
@@ -256,7 +260,7 @@ module _ {A : Type 0} (v : Kept A) (r : Resident) (is : IsResident v r) where
 
   refused-asks : (s : Split) (refusal : Refusal) → IsRefused s v.client refusal → AsksPointerFirst names s r Nothing
   refused-asks (Whole object opcode size) refusal why =
-      let judged = judged-refused r.peer.objects r.peer.held (λ version m. demand_of served_now r object version m) opcode (take (size - 8) (drop 8 r.peer.rest)) (r.peer.objects object) refusal
+      let judged = judged-refused r.peer.objects r.peer.held (λ version m. demand_of nothing_left_out r object version m) opcode (take (size - 8) (drop 8 r.peer.rest)) (r.peer.objects object) refusal
       (passing-peer v.client r.peer object opcode size (Err refusal) is.peer why) in
       subst (λ (j : Result Demand Refusal). AsksPointerSo names j Nothing) (sym judged) tt
   refused-asks Bad refusal why = tt

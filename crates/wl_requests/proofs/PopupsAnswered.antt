@@ -37,7 +37,7 @@ use Rattle.wl_xdg_state.specs.Shell.{XdgSurface as Xdg, is_role, xdg_at, xdg_wit
 use Rattle.wl_plain.specs.Changing.{changed_for, popup_given_to}
 use Rattle.wl_plain.specs.Demand.{Demand, EndPopup, EndToplevel, GetPopup}
 use Rattle.wl_plain.specs.Desktop.{Desktop, Resident, unpointed}
-use Rattle.wl_plain.specs.LeftOut.{served_now}
+use Rattle.wl_plain.specs.LeftOut.{nothing_left_out}
 use Rattle.wl_plain.specs.Replies.{popups_done, releases, replies}
 use Rattle.wl_plain.specs.Stacked.{all_windows}
 use Rattle.wl_plain.specs.Step.{making, with_peer}
@@ -235,7 +235,7 @@ module _ {A : Type 0} (old gone : Kept A) (w : ClientView) (shell : Book) (c : �
   abbrev those_told : List Said
   those_told = map done_told (undismissed (go_with x.id r.owned.shell) r.owned.shell)
 
-  events-are : replies served_now c ending counted_one ended_one (all_windows d) (unpointed d) ≡ id_deleted object ∷ those_told
+  events-are : replies nothing_left_out c ending counted_one ended_one (all_windows d) (unpointed d) ≡ id_deleted object ∷ those_told
   events-are =
       ap (λ (es : List Said). id_deleted object ∷ (es ++ popups_done counted_one ended_one)) (still-released counted_one ended_one refl)
       ∙ ap (λ (es : List Said). id_deleted object ∷ es)

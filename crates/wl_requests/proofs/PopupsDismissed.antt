@@ -1,6 +1,6 @@
 -- The popups that go with an xdg_surface are dismissed one after another, and each is told that it is done.
 use Rattle.std.proofs.Common.{◌≡◌, ℕ, suc, ◌+◌, ◌≤◌, List, [], ◌∷◌, ◌++◌, Bool, true, false, Option, Some, None, cond, map, length, arith, eq-eqb, refl, ap, subst, sym, ◌∙◌}
-use Rattle.std.specs.Prelude.{◌&&◌, not, filter, flat_map, fold, if◌then◌else◌, IfSome, is_some, nat_lt}
+use Rattle.std.specs.Prelude.{◌&&◌, not, filter, flat_map, fold, if◌then◌else◌, is_some, nat_lt}
 use Rattle.std.specs.Option.{option_map}
 use Rattle.std.proofs.lemmas.List.{length-append}
 use Rattle.wl_client.proofs.Queueing.{queues-over, queues-then}
@@ -12,14 +12,14 @@ use Rattle.wl_peer.specs.Peer.{Peer, Queues}
 use Rattle.wl_peer.specs.Told.{Said, said}
 use Rattle.wl_linked.specs.declared.linked.Linked.{Linked}
 use Rattle.wl_shell.specs.Found.{AreFound}
-use Rattle.wl_shell.specs.InOrder.{AreReleased, HasOrder, goes_with, newest_first, undismissed, with_dismissed}
+use Rattle.wl_shell.specs.InOrder.{HasOrder, goes_with, newest_first, undismissed, with_dismissed}
 use Rattle.wl_shell.specs.Popups.{IsNewest, dismissible_under}
 use Rattle.wl_stacking.specs.Stacking.{Owned}
 use Rattle.wl_xdg_state.specs.Kept.{Book, Kept as KeptXdg, changing, kept_changed, kept_of}
-use Rattle.wl_xdg_state.specs.Popups.{Popped, by_number, dismiss, dismissed_with, is_among, popped_kind, popped_of, popped_role, popup_in, popups_of, with_popup_role}
-use Rattle.wl_xdg_state.specs.Shell.{IsPopup, Kind, Popup, RoleObject, Shell, Toplevel, XdgSurface}
+use Rattle.wl_xdg_state.specs.Popups.{Popped, by_number, dismiss, dismissed_with, is_among, popped_kind, popped_of, popped_role, popups_of, with_popup_role}
+use Rattle.wl_xdg_state.specs.Shell.{IsPopup, Kind, RoleObject, Shell, Toplevel, XdgSurface}
 use Rattle.wl_plain.specs.Desktop.{Resident}
-use Rattle.wl_ordered.specs.Ordered.{AreUngrabbed, OwnsOrdered}
+use Rattle.wl_ordered.specs.Ordered.{OwnsOrdered}
 use Rattle.wl_owning.specs.Owning.{IsOwned, Names}
 use Rattle.wl_owning.specs.Popups.{NextIs, WereDismissed, done_told}
 use Rattle.wl_owning.proofs.Popups.Dismissing.{popups-dismissed}
@@ -30,16 +30,8 @@ use Rattle.wl_requests.proofs.Letting.{IsToldSo, none-told}
 
 -- ---- the popups of a client in order have the order that the shell asks for
 
-released-role : (o : Option Popup) → IfSome o (λ popup. popup.has_grab ≡ false) → IfSome o (λ popup. popup.is_dismissed ≡ true → popup.has_grab ≡ false)
-released-role None is = tt
-released-role (Some popup) is = λ dismissed. is
-
-all-released : (xs : Shell) → AreUngrabbed xs → AreReleased xs
-all-released [] is = tt
-all-released (x ∷ xs) is = (released-role (popup_in x.role) is.0, all-released xs is.1)
-
 pub has-order : (r : Resident) → OwnsOrdered r → HasOrder r.owned.shell
-has-order r is = roles-known.order r is.order is.younger (all-released r.owned.shell is.ungrabbed) is.few
+has-order r is = roles-known.order r is.order is.younger is.released is.few
 
 -- ---- no more go than there are surfaces
 
@@ -80,7 +72,7 @@ length-filter test (p ∷ ps) = at (test p) (length-filter test ps)
     at true le = omega (arith, le)
     at false le = omega (arith, le)
 
-few-go : (is : Popped → Bool) (shell : Shell) → length (undismissed is shell) ≤ length shell
+pub few-go : (is : Popped → Bool) (shell : Shell) → length (undismissed is shell) ≤ length shell
 few-go is shell =
     let some = length-filter (λ p. is_among p.xdg.id (dismissed_with is shell) && not p.popup.is_dismissed) (newest_first (popups_of shell)) in
     let newest = length-newest [] (popups_of shell) in
@@ -119,7 +111,7 @@ none-dismissed names xdg o p now owns order peer lives = (
 )
 
 -- the id of the role object stays
-id-stays : (k : Option KeptXdg) → role_id (option_map (kept_changed dismiss) k) ≡ role_id k
+pub id-stays : (k : Option KeptXdg) → role_id (option_map (kept_changed dismiss) k) ≡ role_id k
 id-stays None = refl
 id-stays (Some k) = at k.role
   where
@@ -127,7 +119,7 @@ id-stays (Some k) = at k.role
     at None = refl
     at (Some object) = refl
 
-changed-here : (went : ℕ) (change : KeptXdg → KeptXdg) (kept : ℕ → Option KeptXdg) → changing went change kept went ≡ option_map change (kept went)
+pub changed-here : (went : ℕ) (change : KeptXdg → KeptXdg) (kept : ℕ → Option KeptXdg) → changing went change kept went ≡ option_map change (kept went)
 changed-here went change kept = ap (λ (b : Bool). cond b (option_map change (kept went)) (kept went)) (eq-eqb went went refl)
 
 -- one event is told, and those after it are left

@@ -18,7 +18,7 @@ use Rattle.wl_interface.specs.declared.interface.Interface.TheVariants.{XdgTople
 use Rattle.wl_peer.specs.declared.refusals.ErrorCode.TheVariants.{Role as HasAnotherRole}
 use Rattle.wl_peer.specs.declared.refusals.Refusal.{Refusal}
 use Rattle.wl_xdg_state.specs.Kept.{kept_of}
-use Rattle.wl_xdg_state.specs.Popups.{is_parent, is_toplevel}
+use Rattle.wl_xdg_state.specs.Popups.{Popped, is_parent, is_popup_mapped, is_toplevel, popup_at}
 use Rattle.wl_xdg_state.specs.Positioner.{Positioner, is_complete}
 use Rattle.wl_xdg_state.specs.Shell.{Effect, XdgSurface as Xdg, xdg_at, xdg_of, xdg_with}
 use Rattle.wl_xdg_state.specs.declared.acts.ShellAct.{ShellAct}
@@ -27,7 +27,7 @@ use Rattle.wl_plain.specs.Ask.{Ignore}
 use Rattle.wl_plain.specs.Demand.{Asks, Demand, CommitTree}
 use Rattle.wl_plain.specs.Demanding.{demand_of, demands, effect_of_commit, moved_by_pointer, toplevel_asked, toplevel_demand, toplevel_destroyed, xdg_asked}
 use Rattle.wl_plain.specs.Desktop.{Resident}
-use Rattle.wl_plain.specs.LeftOut.{served_now}
+use Rattle.wl_plain.specs.LeftOut.{nothing_left_out}
 use Rattle.wl_owning.specs.Owning.{effect_by}
 use Rattle.wl_owning.specs.RoleNames.{names_of}
 use Rattle.wl_peer.specs.Requests.{toplevel_request, rect}
@@ -38,7 +38,7 @@ use Rattle.wl_surface.specs.Surfaces.{Link}
 use Rattle.wl_surface.specs.Trees.{is_bad_parent, is_too_deep}
 use Rattle.wl_plain.specs.WlPointer.{is_no_cursor}
 use Rattle.wl_plain.specs.WlSubsurface.{beside, demand_by_link, has_subsurface, is_no_subsurface, link_of_subsurface, past_limit, placed_beside, refuses}
-use Rattle.wl_plain.specs.XdgPopup.{is_no_popup, may_be_parent, popup_asked, popup_made, positioner_of}
+use Rattle.wl_plain.specs.XdgPopup.{grab_of, is_no_popup, may_be_parent, popup_asked, popup_made, positioner_of}
 use Rattle.wl_plain.specs.XdgShell.{acknowledged_by, geometry_set, role_of, state_asked, toplevel_made, xdg_surface_destroyed}
 use Rattle.wl_owning.proofs.Keeping.OwningXdg.{toplevel-named}
 use Rattle.wl_owning.proofs.Popups.Naming.{roles-named}
@@ -112,7 +112,7 @@ toplevel-state object o request is = absurd (cc)
 
 -- what is demanded of a toplevel
 pub toplevel-of : (r : Resident) (object version : ℕ) (m : Message) → m.interface ≡ XdgToplevel
-    → demand_of served_now r object version m ≡ toplevel_demand r object (toplevel_request m.opcode m.fields)
+    → demand_of nothing_left_out r object version m ≡ toplevel_demand r object (toplevel_request m.opcode m.fields)
 toplevel-of r object version m is = rw is refl
 
 -- whichever of two it is
@@ -136,7 +136,7 @@ xdg-asked-stays old r (Some x) version (requests.SetWindowGeometry a b width hei
 xdg-asked-stays old r (Some x) version (requests.AckConfigure serial) = asks-stay old r (acknowledged_by x serial)
 
 pub xdg-stays : {A : Type 0} (old : Kept A) (r : Resident) (object version : ℕ) (request : XdgSurfaceRequest)
-    → StacksSo old r (demand_of served_now r object version (xdg_surface_request request)) Stays
+    → StacksSo old r (demand_of nothing_left_out r object version (xdg_surface_request request)) Stays
 xdg-stays old r object version requests.Destroy = xdg-asked-stays old r (xdg_at object r.owned.shell) version requests.Destroy
 xdg-stays old r object version (requests.GetToplevel id) = xdg-asked-stays old r (xdg_at object r.owned.shell) version (requests.GetToplevel id)
 xdg-stays old r object version (requests.GetPopup id parent positioner) = xdg-asked-stays old r (xdg_at object r.owned.shell) version (requests.GetPopup id parent positioner)
@@ -148,10 +148,18 @@ destroyed-stays : {A : Type 0} (old : Kept A) (r : Resident) (object : ℕ) (o :
 destroyed-stays old r object None = tt
 destroyed-stays old r object (Some x) = if-stays old r (is_parent x.id r.owned.shell) _ _ tt refl
 
+grab-stays : {A : Type 0} (old : Kept A) (r : Resident) (object seat serial : ℕ) (o : Option Xdg) → StacksSo old r (popup_asked r object o (popups.Grab seat serial)) Stays
+grab-stays old r object seat serial None = tt
+grab-stays old r object seat serial (Some x) = at (popup_at x.id r.owned.shell)
+  where
+    at : (o : Option Popped) → StacksSo old r (grab_of object serial x o) Stays
+    at None = tt
+    at (Some p) = if-stays old r p.popup.is_dismissed _ _ refl (if-stays old r (is_popup_mapped p) _ _ tt refl)
+
 pub popup-stays : {A : Type 0} (old : Kept A) (r : Resident) (object version : ℕ) (request : XdgPopupRequest)
-    → StacksSo old r (demand_of served_now r object version (xdg_popup_request request)) Stays
+    → StacksSo old r (demand_of nothing_left_out r object version (xdg_popup_request request)) Stays
 popup-stays old r object version popups.Destroy = destroyed-stays old r object (xdg_with object r.owned.shell)
-popup-stays old r object version (popups.Grab seat serial) = tt
+popup-stays old r object version (popups.Grab seat serial) = grab-stays old r object seat serial (xdg_with object r.owned.shell)
 
 -- a request of a wl_subsurface
 placed-stays : {A : Type 0} (old : Kept A) (r : Resident) (object parent : ℕ) (request : Member → Asked) (o : Option Member) → StacksSo old r (placed_beside object parent request o) Stays
@@ -168,7 +176,7 @@ linked-stays old r object (Some l) subsurface.SetSync = refl
 linked-stays old r object (Some l) subsurface.SetDesync = refl
 
 pub subsurface-stays : {A : Type 0} (old : Kept A) (r : Resident) (object version : ℕ) (request : WlSubsurfaceRequest)
-    → StacksSo old r (demand_of served_now r object version (wl_subsurface_request request)) Stays
+    → StacksSo old r (demand_of nothing_left_out r object version (wl_subsurface_request request)) Stays
 subsurface-stays old r object version subsurface.Destroy = linked-stays old r object (link_of_subsurface object r) subsurface.Destroy
 subsurface-stays old r object version (subsurface.SetPosition x y) = linked-stays old r object (link_of_subsurface object r) (subsurface.SetPosition x y)
 subsurface-stays old r object version (subsurface.PlaceAbove sibling) = linked-stays old r object (link_of_subsurface object r) (subsurface.PlaceAbove sibling)
@@ -178,7 +186,7 @@ subsurface-stays old r object version subsurface.SetDesync = linked-stays old r 
 
 -- a request of a wl_subcompositor
 pub subcompositor-stays : {A : Type 0} (old : Kept A) (r : Resident) (object version : ℕ) (request : WlSubcompositorRequest)
-    → StacksSo old r (demand_of served_now r object version (wl_subcompositor_request request)) Stays
+    → StacksSo old r (demand_of nothing_left_out r object version (wl_subcompositor_request request)) Stays
 subcompositor-stays old r object version subcompositor.Destroy = refl
 subcompositor-stays old r object version (subcompositor.GetSubsurface id child parent) =
     if-stays old r (is_too_deep r.owned.surfaces child parent) past_limit _ tt
@@ -187,14 +195,14 @@ subcompositor-stays old r object version (subcompositor.GetSubsurface id child p
 
 -- a request of a wl_pointer
 pub pointer-stays : {A : Type 0} (old : Kept A) (r : Resident) (object version : ℕ) (request : WlPointerRequest)
-    → StacksSo old r (demand_of served_now r object version (wl_pointer_request request)) Stays
+    → StacksSo old r (demand_of nothing_left_out r object version (wl_pointer_request request)) Stays
 pointer-stays old r object version (pointer.SetCursor serial surface x y) =
     if-stays old r (surface == 0) (Ok (Asks Ignore)) _ refl
     (if-stays old r (is_no_cursor (role_of r surface) || is_some (xdg_of surface r.owned.shell)) (refuses object HasAnotherRole) _ tt refl)
 
 -- a request of an xdg_wm_base
 pub base-stays : {A : Type 0} (old : Kept A) (r : Resident) (object version : ℕ) (request : XdgWmBaseRequest)
-    → StacksSo old r (demand_of served_now r object version (xdg_wm_base_request request)) Stays
+    → StacksSo old r (demand_of nothing_left_out r object version (xdg_wm_base_request request)) Stays
 base-stays old r object version base.Destroy = asks-stay old r _
 base-stays old r object version (base.CreatePositioner id) = refl
 base-stays old r object version (base.GetXdgSurface id surface) = asks-stay old r _

@@ -3,7 +3,8 @@
 use Rattle.std.specs.Prelude.{ℕ, ◌≡◌, Bool, Option, Some, None, map}
 use Rattle.std.specs.Option.{option_and_then, option_map}
 use Rattle.wl_client.specs.Agreement.{IsPeer}
-use Rattle.wl_peer.specs.Peer.{Peer, Queues}
+use Rattle.wl_client.specs.View.{opened}
+use Rattle.wl_peer.specs.Peer.{Peer, Queues, QueuesTo}
 use Rattle.wl_shell.specs.Descent.{has_popup_at}
 use Rattle.wl_shell.specs.InOrder.{HasOrder, goes_with, undismissed}
 use Rattle.wl_stacking.specs.Stacking.{Owned}
@@ -39,3 +40,22 @@ DismissesWith surface old new =
     → IsOwned names old.owned.linked.surfaces old.owned.linked.family (kept_of old.owned.shell) o
     → HasOrder o.shell → names.shell xdg ≡ Some surface → IsPeer old.client p → p.status ≡ None
     → (q : Peer) × AreDismissed names xdg o p q new
+
+-- ---- popups with a grab
+
+-- What is kept of the client stands for it with its popups with a grab dismissed, and whatever descends from them; and it was told of each
+-- that wasn't before, the newest first, until an event wasn't queued: then it is to end for that (xdg-shell.xml, xdg_popup.grab).
+pub record AreReleased {A : Type 0} (names : Names) (o : Owned) (p q : Peer) (new : Kept A) : Type 0 where
+  pub peer : IsPeer (opened new.client) q
+  pub told : QueuesTo (map done_told (undismissed (λ p. p.popup.has_grab) o.shell)) p q new.client.refused
+  pub owns :
+      IsOwned names new.owned.linked.surfaces new.owned.linked.family (kept_of new.owned.shell)
+      (record o { shell = dismissing (λ p. p.popup.has_grab) o.shell })
+
+-- So it is of a client that lives and isn't to end, whose popups have the order that the shell asks for.
+abbrev pub ReleasesGrabs : {A : Type 0} → Kept A → Kept A → Type 0
+ReleasesGrabs old new =
+    (names : Names) (o : Owned) (p : Peer)
+    → IsOwned names old.owned.linked.surfaces old.owned.linked.family (kept_of old.owned.shell) o
+    → HasOrder o.shell → IsPeer old.client p → p.status ≡ None → old.client.refused ≡ None
+    → (q : Peer) × AreReleased names o p q new

@@ -14,11 +14,13 @@ use Rattle.wl_plain.specs.Changing.{changed_for}
 use Rattle.wl_plain.specs.Demand.{Demand}
 use Rattle.wl_plain.specs.Demanding.{judge_all}
 use Rattle.wl_plain.specs.Desktop.{Desktop, Resident, unpointed}
-use Rattle.wl_plain.specs.LeftOut.{served_now}
+use Rattle.wl_plain.specs.LeftOut.{nothing_left_out}
 use Rattle.wl_plain.specs.Step.{with_peer}
 use Rattle.wl_requests.specs.declared.messages.Asked.{Asked}
+use Rattle.wl_requests.specs.declared.residents.Grabbing.{Grabbing}
 use Rattle.wl_requests.specs.declared.residents.Placing.{Placing}
 use Rattle.wl_requests.specs.declared.residents.Resident.{Resident as Kept}
+use Rattle.wl_requests.specs.Grabbing.{IsGrabbingOf}
 use Rattle.wl_requests.specs.Placing.{IsPlacingFor, IsPlacingOf}
 use Rattle.wl_requests.specs.declared.messages.Kind.{Kind}
 use Rattle.wl_requests.specs.Residents.{IsResident}
@@ -41,15 +43,15 @@ HoldsSo (Err refusal) c r d old new = Unit {0}
 
 abbrev pub HoldsFirst : {A : Type 0} → Split → ℕ → Resident → Desktop → Kept A → Kept A → Type 0
 HoldsFirst (Whole object opcode size) c r d old new =
-    HoldsSo (judge_all served_now r object opcode (take (size - 8) (drop 8 r.peer.rest))) c
+    HoldsSo (judge_all nothing_left_out r object opcode (take (size - 8) (drop 8 r.peer.rest))) c
     (with_peer (with_rest (drop size r.peer.rest) r.peer) r) d old new
 HoldsFirst Bad c r d old new = Unit {0}
 HoldsFirst More c r d old new = Unit {0}
 
-abbrev pub HoldsMessage : {A : Type 0} → Asked → Placing → Kept A → Kept A → Type 0
-HoldsMessage asked placing old new =
+abbrev pub HoldsMessage : {A : Type 0} → Asked → Placing → Grabbing → Kept A → Kept A → Type 0
+HoldsMessage asked placing grabbing old new =
     (c : ℕ) (r : Resident) (d : Desktop) → IsResident old r → OwnsOrdered r → IsPlacingOf placing asked c r d
-    → HoldsFirst (split_of r.peer.rest) c r d old new
+    → IsGrabbingOf grabbing asked c r d → HoldsFirst (split_of r.peer.rest) c r d old new
 
 -- what is judged so, where it was done
 abbrev pub HoldsAs : {A : Type 0} → Bool → (Resident → Result Demand Refusal) → Kept A → Kept A → Type 0

@@ -1,5 +1,6 @@
 pub mod Dismissing
 pub mod Freed
+pub mod Grabbing
 pub mod Holding
 pub mod LetGo
 pub mod Linking

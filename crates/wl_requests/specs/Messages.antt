@@ -1,5 +1,5 @@
 -- What the first message of a client asks, for the desk.
-use Rattle.std.specs.Prelude.{ℕ, ◌≡◌, true}
+use Rattle.std.specs.Prelude.{ℕ, ◌≡◌}
 use Rattle.wl_wire.specs.Wire.{split_of}
 use Rattle.wl_wire.specs.declared.header.Split.TheVariants.{More}
 use Rattle.wl_interface.specs.declared.interface.Interface.TheVariants.{XdgToplevel}
@@ -20,8 +20,7 @@ use Rattle.wl_requests.specs.declared.residents.Resident.{Resident as Kept}
 use Rattle.wl_requests.specs.Linking.{IsOnlyChild}
 use Rattle.wl_requests.specs.Residents.{asked_by}
 use Rattle.wl_requests.specs.Touching.{Touch, Closes, Commits, Destroys, Parts, Releases}
-use Rattle.wl_plain.specs.LeftOut.{served_now}
-use Rattle.wl_peer.specs.Requests.{request_of, toplevel_request}
+use Rattle.wl_peer.specs.Requests.{toplevel_request}
 
 -- the message is this request
 abbrev pub IsKind : Kind → Message → Type 0
@@ -35,7 +34,6 @@ IsKind (kind.XdgSurface request) m = m ≡ xdg_surface_request request
 IsKind (kind.Toplevel toplevel) m = (m.interface ≡ XdgToplevel) × (toplevel ≡ asked_by (toplevel_request m.opcode m.fields))
 IsKind (kind.Subsurface request) m = m ≡ wl_subsurface_request request
 IsKind (kind.Popup request) m = m ≡ xdg_popup_request request
-IsKind kind.Unserved m = served_now.requests (request_of m) ≡ true
 
 abbrev pub IsAsked : ClientView → Asked → Type 0
 IsAsked v asked.More = split_of v.rest ≡ More

@@ -10,7 +10,7 @@ use Rattle.wl_owning.specs.Owning.{targets_in}
 use Rattle.wl_plain.specs.Demand.{Demand, GetPointer, Move}
 use Rattle.wl_plain.specs.Demanding.{judge_all}
 use Rattle.wl_plain.specs.Desktop.{Resident}
-use Rattle.wl_plain.specs.LeftOut.{served_now}
+use Rattle.wl_plain.specs.LeftOut.{nothing_left_out}
 use Rattle.wl_requests.specs.declared.messages.Asked.{Asked}
 use Rattle.wl_requests.specs.declared.messages.Asked.TheVariants as asks
 use Rattle.wl_requests.specs.declared.messages.Kind.{Kind}
@@ -37,7 +37,7 @@ AsksPointerSo numbers (Err refusal) asked = Unit {0}
 
 abbrev pub AsksPointerFirst : ById ℕ → Split → Resident → PointerAsked → Type 0
 AsksPointerFirst numbers (Whole object opcode size) r asked =
-    AsksPointerSo numbers (judge_all served_now r object opcode (take (size - 8) (drop 8 r.peer.rest))) asked
+    AsksPointerSo numbers (judge_all nothing_left_out r object opcode (take (size - 8) (drop 8 r.peer.rest))) asked
 AsksPointerFirst numbers Bad r asked = Unit {0}
 AsksPointerFirst numbers More r asked = Unit {0}
 

@@ -27,9 +27,11 @@ use Rattle.wl_requests.specs.declared.xdg_toplevel.ToplevelAsked.TheVariants.{De
 use Rattle.wl_requests.specs.declared.xdg_toplevel.ToplevelAsked.TheVariants.{Move as AskedMove, Nothing as AskedNothing}
 use Rattle.wl_requests.specs.declared.messages.Asked.{Asked}
 use Rattle.wl_requests.specs.declared.messages.Kind.{Kind}
+use Rattle.wl_requests.specs.declared.residents.Grabbing.{Grabbing}
 use Rattle.wl_requests.specs.declared.residents.Placing.{Placing}
 use Rattle.wl_requests.specs.declared.residents.Stacking.{Stacking}
 use Rattle.wl_requests.specs.declared.residents.Stacking.TheVariants.{Stays, ToTop, Out}
+use Rattle.wl_requests.specs.Grabbing.{IsGrabbingFor, IsGrabbingOf}
 use Rattle.wl_requests.specs.Placing.{IsPlacingFor, IsPlacingOf}
 use Rattle.wl_plain.specs.Ask.{Ask}
 use Rattle.wl_plain.specs.Changing.{changed_for}
@@ -38,7 +40,7 @@ use Rattle.wl_plain.specs.Demanding.{effect_of_commit, judge_all}
 use Rattle.wl_peer.specs.ToplevelRequest.{ToplevelRequest}
 use Rattle.wl_peer.specs.ToplevelRequest as toplevel
 use Rattle.wl_plain.specs.Desktop.{Desktop, Resident, unpointed}
-use Rattle.wl_plain.specs.LeftOut.{served_now}
+use Rattle.wl_plain.specs.LeftOut.{nothing_left_out}
 use Rattle.wl_ordered.specs.Ordered.{OwnsOrdered}
 use Rattle.wl_owning.specs.Owning.{IsOwned, by_number, targets_in}
 use Rattle.wl_owning.specs.RoleNames.{names_of}
@@ -95,7 +97,7 @@ Does ask old new = (r : Resident) → IsResident old r → (q : Peer) × ActsFor
 abbrev pub MeetsFor : ℕ → Demand → Resident → Desktop → Peer → Type 0
 MeetsFor c demand r d q =
     WantsOr (wants_memory demand)
-    (Queues (replies served_now c demand r (changed_for c demand r (unpointed d)) (all_windows d) (unpointed d))
+    (Queues (replies nothing_left_out c demand r (changed_for c demand r (unpointed d)) (all_windows d) (unpointed d))
     (changed_for c demand r (unpointed d)).peer q)
     r.peer q
 
@@ -117,7 +119,7 @@ AnswersDemand judged old new = (c : ℕ) (r : Resident) (d : Desktop) → IsResi
 abbrev pub MeetsAs : {A : Type 0} → Bool → ℕ → Demand → Resident → Desktop → Kept A → Kept A → Type 0
 MeetsAs true c demand r d old new =
     (q : Peer)
-    × Queues (replies served_now c demand r (changed_for c demand r (unpointed d)) (all_windows d) (unpointed d))
+    × Queues (replies nothing_left_out c demand r (changed_for c demand r (unpointed d)) (all_windows d) (unpointed d))
     (changed_for c demand r (unpointed d)).peer q
     × IsLeft old new (changed_for c demand r (unpointed d)) q
 MeetsAs false c demand r d old new = (wants_memory demand ≡ true) × (q : Peer) × LacksMemory r.peer q
@@ -146,6 +148,16 @@ AnswersPlaced placing kind object judged old new = (c : ℕ) (r : Resident) (d :
 abbrev pub AnswersPlacedAs : {A : Type 0} → Bool → Placing → Kind → ℕ → (Resident → Result Demand Refusal) → Kept A → Kept A → Type 0
 AnswersPlacedAs done placing kind object judged old new = (c : ℕ) (r : Resident) (d : Desktop) → IsResident old r → OwnsOrdered r
     → IsPlacingFor placing object kind c r d → AnswersAs done (judged r) c r d old new
+
+-- So it is answered where what a grab is allowed by is that of the desktop, with this request.
+abbrev pub AnswersAllowed : {A : Type 0} → Grabbing → Kind → (Resident → Result Demand Refusal) → Kept A → Kept A → Type 0
+AnswersAllowed grabbing kind judged old new = (c : ℕ) (r : Resident) (d : Desktop) → IsResident old r → OwnsOrdered r
+    → IsGrabbingFor grabbing kind c r d → AnswersSo (judged r) c r d old new
+
+-- where both are
+abbrev pub AnswersGiven : {A : Type 0} → Placing → Grabbing → Kind → ℕ → (Resident → Result Demand Refusal) → Kept A → Kept A → Type 0
+AnswersGiven placing grabbing kind object judged old new = (c : ℕ) (r : Resident) (d : Desktop) → IsResident old r → OwnsOrdered r
+    → IsPlacingFor placing object kind c r d → IsGrabbingFor grabbing kind c r d → AnswersSo (judged r) c r d old new
 
 -- what has come of a client and wasn't taken gets no longer
 abbrev pub Leaves : {A : Type 0} → Kept A → Kept A → Type 0
@@ -238,29 +250,29 @@ Stacks judged old stacking = (r : Resident) → IsResident old r → OwnsOrdered
 -- The first message of what has come is taken and answered, and the mapped toplevels are restacked as it asks.
 abbrev pub TakesSo : {A : Type 0} → Split → ℕ → Resident → Desktop → Kept A → Kept A → Stacking → Type 0
 TakesSo (Whole object opcode size) c r d old new stacking =
-    AnswersSo (judge_all served_now r object opcode (take (size - 8) (drop 8 r.peer.rest))) c
+    AnswersSo (judge_all nothing_left_out r object opcode (take (size - 8) (drop 8 r.peer.rest))) c
     (with_peer (with_rest (drop size r.peer.rest) r.peer) r) d old new
-    × StacksSo old r (judge_all served_now r object opcode (take (size - 8) (drop 8 r.peer.rest))) stacking
+    × StacksSo old r (judge_all nothing_left_out r object opcode (take (size - 8) (drop 8 r.peer.rest))) stacking
 TakesSo Bad c r d old new stacking = AnswersSo (Err (display_error InvalidMethod)) c r d old new
 TakesSo More c r d old new stacking = ⊥
 
 -- The same where it is known whether it was done.
 abbrev pub TakesAs : {A : Type 0} → Bool → Split → ℕ → Resident → Desktop → Kept A → Kept A → Type 0
 TakesAs done (Whole object opcode size) c r d old new =
-    AnswersAs done (judge_all served_now r object opcode (take (size - 8) (drop 8 r.peer.rest))) c
+    AnswersAs done (judge_all nothing_left_out r object opcode (take (size - 8) (drop 8 r.peer.rest))) c
     (with_peer (with_rest (drop size r.peer.rest) r.peer) r) d old new
 TakesAs done Bad c r d old new = AnswersAs done (Err (display_error InvalidMethod)) c r d old new
 TakesAs done More c r d old new = ⊥
 
--- It is taken so where what popups are placed by is that of the desktop.
-abbrev pub TakesMessageAs : {A : Type 0} → Bool → Asked → Placing → Kept A → Kept A → Type 0
-TakesMessageAs done asked placing old new = (c : ℕ) (r : Resident) (d : Desktop) → IsResident old r → OwnsOrdered r
-    → IsPlacingOf placing asked c r d → TakesAs done (split_of r.peer.rest) c r d old new
+-- It is taken so where what popups are placed by, and what a grab is allowed by, is that of the desktop.
+abbrev pub TakesMessageAs : {A : Type 0} → Bool → Asked → Placing → Grabbing → Kept A → Kept A → Type 0
+TakesMessageAs done asked placing grabbing old new = (c : ℕ) (r : Resident) (d : Desktop) → IsResident old r → OwnsOrdered r
+    → IsPlacingOf placing asked c r d → IsGrabbingOf grabbing asked c r d → TakesAs done (split_of r.peer.rest) c r d old new
 
-abbrev pub TakesMessage : {A : Type 0} → Asked → Placing → Kept A → Kept A → Stacking → Type 0
-TakesMessage asked placing old new stacking =
+abbrev pub TakesMessage : {A : Type 0} → Asked → Placing → Grabbing → Kept A → Kept A → Stacking → Type 0
+TakesMessage asked placing grabbing old new stacking =
     (c : ℕ) (r : Resident) (d : Desktop) → IsResident old r → OwnsOrdered r → IsPlacingOf placing asked c r d
-    → TakesSo (split_of r.peer.rest) c r d old new stacking
+    → IsGrabbingOf grabbing asked c r d → TakesSo (split_of r.peer.rest) c r d old new stacking
 
 -- what a toplevel's request comes to
 abbrev pub asked_by : ToplevelRequest → ToplevelAsked

@@ -3,12 +3,13 @@
 ghost use Rattle.std.specs.Prelude.{ℕ, ◌≡◌, ◌∷◌, [], None, Some, is_some, true};
 ghost use Rattle.wl_client.specs.Agreement.{IsPeer};
 ghost use Rattle.wl_client.specs.Said.{said_of};
+ghost use Rattle.wl_client.specs.View.{opened};
 ghost use Rattle.wl_interface.specs.declared.interface.Interface.TheVariants.{XdgPopup};
-ghost use Rattle.wl_peer.specs.Peer.{Peer, Queues};
+ghost use Rattle.wl_peer.specs.Peer.{Peer, Queues, QueuesTo};
 ghost use Rattle.wl_peer.specs.Told.{said};
 ghost use Rattle.wl_proto.specs.Messages.{says};
 ghost use Rattle.wl_xdg_state.specs.Kept.{kept_of};
-ghost use Rattle.wl_requests.specs.Dismissing.{DismissesWith, role_id};
+ghost use Rattle.wl_requests.specs.Dismissing.{DismissesWith, ReleasesGrabs, role_id};
 ghost use Rattle.wl_requests.specs.Residents.{Leaves};
 
 use crate::residents::Resident;
@@ -70,6 +71,39 @@ impl<A: Allocator + Copy> Resident<A> {
                 return;
             };
             self.tell_done(gone);
+        }
+    }
+
+    /// Tells a client that isn't to end that the popup of a surface is done; one that is to end is told nothing.
+    fn tell_released(&mut self, surface: SurfaceNo)
+        ensures told { (popup : ℕ) → role_id (kept_of self.old.owned.shell surface) ≡ Some popup → (p : Peer) → IsPeer self.old.client p
+            → (q : Peer) × QueuesTo (said popup (says XdgPopup 1 []) ∷ []) p q self.new.client.refused × IsPeer (opened self.new.client) q }
+        ensures refused { is_some self.old.client.refused ≡ true → self.new.client ≡ self.old.client }
+        ensures client { self.new.client ≡ record self.old.client { unsent = self.new.client.unsent; refused = self.new.client.refused } }
+        ensures owned { self.new.owned ≡ self.old.owned }
+        ensures subsurfaces { self.new.subsurfaces ≡ self.old.subsurfaces }
+    {
+        let Some(popup) = self.popup_object_of(surface) else {
+            return;
+        };
+        let _queued = self.client.queue(&popup_done_event(popup));
+    }
+
+    /// The popups of a client with a grab are dismissed, and whatever descends from them: one after another, the newest first
+    /// (xdg-shell.xml, xdg_popup.grab). Each that wasn't dismissed before is told that it is done, until an event isn't queued: the client is
+    /// to end for that then, and is told nothing more (see [`wl_client::Client::queue`]).
+    pub fn release_grabs(&mut self)
+        ensures releases { ReleasesGrabs self.old self.new }
+        ensures client { self.new.client ≡ record self.old.client { unsent = self.new.client.unsent; refused = self.new.client.refused } }
+        ensures linked { self.new.owned.linked ≡ self.old.owned.linked }
+        ensures subsurfaces { self.new.subsurfaces ≡ self.old.subsurfaces }
+    {
+        for _ in 0..PAST_POPUPS {
+            self.owned.shell.are_found();
+            let Some(gone) = self.owned.shell.dismiss_grabbing() else {
+                return;
+            };
+            self.tell_released(gone);
         }
     }
 }

@@ -22,5 +22,5 @@ mod xdg_wm_base;
 
 pub use messages::{Asked, Kind};
 pub use pointer_asked::PointerAsked;
-pub use residents::{Outcome, Placing, Resident, Stacking};
+pub use residents::{Grabbing, Outcome, Placing, Resident, Stacking};
 pub use xdg_toplevel::ToplevelAsked;

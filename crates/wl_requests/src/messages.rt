@@ -12,12 +12,12 @@ ghost use Rattle.wl_requests.specs.Holding.{HoldsMessage, HoldsPlaced};
 ghost use Rattle.wl_requests.specs.Messages.{IsAsked, IsKind, IsTouchOf, IsTouchOfAsked};
 ghost use Rattle.wl_requests.specs.PointerAsks.{pointer_asked_by, pointer_in};
 ghost use Rattle.wl_requests.specs.Touching.{IsTouched, Touch};
-ghost use Rattle.wl_requests.specs.Residents.{AnswersPlaced, AnswersPlacedAs, Leaves, NewIsFree, ObjectsFit, Stacks, TakesMessage, TakesMessageAs};
-ghost use Rattle.wl_plain.specs.LeftOut.{served_now};
+ghost use Rattle.wl_requests.specs.Residents.{AnswersGiven, AnswersPlacedAs, Leaves, NewIsFree, ObjectsFit, Stacks, TakesMessage, TakesMessageAs};
+ghost use Rattle.wl_plain.specs.LeftOut.{nothing_left_out};
 ghost use Rattle.wl_plain.specs.Demanding.{demand_of};
 
 use crate::pointer_asked::PointerAsked;
-use crate::residents::{Outcome, Placing, Resident, Stacking};
+use crate::residents::{Grabbing, Outcome, Placing, Resident, Stacking};
 use crate::xdg_toplevel::{ToplevelAsked, asked_of};
 use std::alloc::Allocator;
 use wl_client::{Action, First, Refusal};
@@ -39,8 +39,6 @@ pub enum Kind {
     XdgSurface(XdgSurfaceRequest),
     Toplevel(ToplevelAsked),
     Popup(XdgPopupRequest),
-    /// It isn't served here.
-    Unserved,
 }
 
 /// What the first message of what came asks.
@@ -67,7 +65,8 @@ pub enum Asked {
 
 /// What a request is that isn't one of the client's own.
 fn kind_of(request: &Request) -> Kind
-    ensures { is_own (request_message request.now).interface ≡ false → IsKind result (request_message request.now) }
+    requires { is_own (request_message request.now).interface ≡ false }
+    ensures { IsKind result (request_message request.now) }
 {
     match request {
         Request::WlCompositor(request) => Kind::Compositor(*request),
@@ -86,7 +85,7 @@ fn kind_of(request: &Request) -> Kind
         | Request::WlShm(_)
         | Request::WlShmPool(_)
         | Request::WlBuffer(_)
-        | Request::XdgPositioner(_) => Kind::Unserved,
+        | Request::XdgPositioner(_) => unreachable!(),
     }
 }
 
@@ -118,7 +117,7 @@ impl<A: Allocator + Copy> Resident<A> {
     }
 
     /// Answers a request to an object, which has this version and target. Where there is no room for windows nothing is applied, and where
-    /// there is none for a new wl_pointer its client ends. A popup is placed by what is handed in for that.
+    /// there is none for a new wl_pointer its client ends. A popup is placed, and a grab allowed, by what is handed in for that.
     fn answer(
         &mut self,
         object: u32,
@@ -127,14 +126,15 @@ impl<A: Allocator + Copy> Resident<A> {
         kind: Kind,
         has_room: bool,
         placing: Placing,
+        grabbing: Grabbing,
     ) -> Outcome<A>
         ensures answers { (m : Message) → IsKind kind m → entry_of self.old.client.objects object ≡ Some (record { interface = m.interface; version = version; target = target })
-            → NewIsFree self.old m → ObjectsFit self.old m → AnswersPlaced placing kind object (λ r. demand_of served_now r object version m) self.old self.new }
+            → NewIsFree self.old m → ObjectsFit self.old m → AnswersGiven placing grabbing kind object (λ r. demand_of nothing_left_out r object version m) self.old self.new }
         ensures stacks { (m : Message) → IsKind kind m → entry_of self.old.client.objects object ≡ Some (record { interface = m.interface; version = version; target = target })
-            → Stacks (λ r. demand_of served_now r object version m) self.old result.stacking }
+            → Stacks (λ r. demand_of nothing_left_out r object version m) self.old result.stacking }
         ensures decides { (touch : Touch) → IsTouchOf kind object target self.old touch
             → (m : Message) → IsKind kind m → entry_of self.old.client.objects object ≡ Some (record { interface = m.interface; version = version; target = target })
-            → AnswersPlacedAs (is_some result.applied) placing kind object (λ r. demand_of served_now r object version m) self.old self.new }
+            → AnswersPlacedAs (is_some result.applied) placing kind object (λ r. demand_of nothing_left_out r object version m) self.old self.new }
         ensures touched { (touch : Touch) → IsTouchOf kind object target self.old touch
             → IsTouched touch self.old.owned.linked self.new.owned.linked result.applied }
         ensures nothing { ((touch : Touch) → IsTouchOf kind object target self.old touch → ⊥) → (numbers : ById ℕ) (subsurfaces : List Subsurface) → AreOfSurfaces self.old.subsurfaces numbers subsurfaces → result.applied ≡ None }
@@ -142,7 +142,7 @@ impl<A: Allocator + Copy> Resident<A> {
         ensures room { is_some result.applied ≡ true → has_room ≡ true }
         ensures holds { (touch : Touch) → IsTouchOf kind object target self.old touch
             → (m : Message) → IsKind kind m → entry_of self.old.client.objects object ≡ Some (record { interface = m.interface; version = version; target = target })
-            → HoldsPlaced (is_some result.applied) placing kind object (λ r. demand_of served_now r object version m) self.old self.new }
+            → HoldsPlaced (is_some result.applied) placing kind object (λ r. demand_of nothing_left_out r object version m) self.old self.new }
         ensures seat { (id : ℕ) → pointer_asked_by target kind ≡ PointerAsked.NewPointer id → has_room ≡ false → is_some self.new.client.ended ≡ true }
     {
         match kind {
@@ -175,10 +175,8 @@ impl<A: Allocator + Copy> Resident<A> {
                 self.xdg_surface(object, version, target, &request);
                 Outcome::of(Stacking::Stays)
             }
-            Kind::Popup(request) => self.xdg_popup(object, version, target, &request, has_room),
-            Kind::Unserved => {
-                self.refuse_unserved();
-                Outcome::of(Stacking::Stays)
+            Kind::Popup(request) => {
+                self.xdg_popup(object, version, target, &request, has_room, grabbing)
             }
         }
     }
@@ -186,19 +184,25 @@ impl<A: Allocator + Copy> Resident<A> {
     /// Takes the first whole message of a client that lives, which asks this, and answers what that did. None where there is no whole message;
     /// then nothing is changed. Where there is no room for the windows that it leads to, a request that may change what several surfaces show
     /// lacks memory, and nothing is applied; so does wl_seat.get_pointer where there is none for the new wl_pointer. A popup whose surface is
-    /// committed for the first time is placed by what is handed in for that.
-    pub fn serve(&mut self, asked: Asked, has_room: bool, placing: Placing) -> Option<Outcome<A>>
+    /// committed for the first time is placed by what is handed in for that, and so is what a grab is allowed by.
+    pub fn serve(
+        &mut self,
+        asked: Asked,
+        has_room: bool,
+        placing: Placing,
+        grabbing: Grabbing,
+    ) -> Option<Outcome<A>>
         requires { IsAsked self.old.client asked }
         ensures lives { IfSome result (λ s. self.old.client.ended ≡ None) }
-        ensures takes { IfSome result (λ s. TakesMessage asked placing self.old self.new s.stacking) }
-        ensures decides { IfSome result (λ s. (touch : Touch) → IsTouchOfAsked asked self.old touch → TakesMessageAs (is_some s.applied) asked placing self.old self.new) }
+        ensures takes { IfSome result (λ s. TakesMessage asked placing grabbing self.old self.new s.stacking) }
+        ensures decides { IfSome result (λ s. (touch : Touch) → IsTouchOfAsked asked self.old touch → TakesMessageAs (is_some s.applied) asked placing grabbing self.old self.new) }
         ensures touched { IfSome result (λ s. (touch : Touch) → IsTouchOfAsked asked self.old touch
             → IsTouched touch self.old.owned.linked self.new.owned.linked s.applied) }
         ensures nothing { IfSome result (λ s. ((touch : Touch) → IsTouchOfAsked asked self.old touch → ⊥) → (numbers : ById ℕ) (subsurfaces : List Subsurface) → AreOfSurfaces self.old.subsurfaces numbers subsurfaces → s.applied ≡ None) }
         ensures idle { IfNone result ((self.new ≡ self.old) × IsIdleAt self.old.client.ended self.old.client.rest) }
         ensures less { IfSome result (λ s. length self.new.client.rest < length self.old.client.rest) }
         ensures room { IfSome result (λ s. is_some s.applied ≡ true → has_room ≡ true) }
-        ensures holds { IfSome result (λ s. (touch : Touch) → IsTouchOfAsked asked self.old touch → is_some s.applied ≡ true → HoldsMessage asked placing self.old self.new) }
+        ensures holds { IfSome result (λ s. (touch : Touch) → IsTouchOfAsked asked self.old touch → is_some s.applied ≡ true → HoldsMessage asked placing grabbing self.old self.new) }
         ensures seat { IfSome result (λ s. (id : ℕ) → pointer_in asked ≡ PointerAsked.NewPointer id → has_room ≡ false → is_some self.new.client.ended ≡ true) }
     {
         if self.client.has_ended() {
@@ -224,7 +228,7 @@ impl<A: Allocator + Copy> Resident<A> {
                 kind,
             } => {
                 self.client.take_first(size);
-                Some(self.answer(object, version, target, kind, has_room, placing))
+                Some(self.answer(object, version, target, kind, has_room, placing, grabbing))
             }
         }
     }

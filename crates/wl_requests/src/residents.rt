@@ -28,6 +28,15 @@ pub struct Placing {
     pub parent_at: (i32, i32),
 }
 
+/// What a grab is allowed by (xdg-shell.xml, xdg_popup.grab): the serials of the latest press and of the latest release that the client was
+/// told of, and whether another client holds a grab.
+#[derive(Clone, Copy, Debug, PartialEq, Eq)]
+pub struct Grabbing {
+    pub press: Option<u32>,
+    pub release: Option<u32>,
+    pub held_elsewhere: bool,
+}
+
 /// What a request did: to the stack of toplevels, and what it applied, if it may change what surfaces show (wayland.xml, wl_surface.commit and
 /// destroy; wl_subsurface.set_desync and destroy; xdg-shell.xml, xdg_popup.destroy).
 #[derive(Drop)]

@@ -22,7 +22,7 @@ ghost use Rattle.wl_owning.specs.Popups.{IsAtParent};
 ghost use Rattle.wl_owning.specs.RoleNames.{names_of};
 ghost use Rattle.wl_owning.specs.Subsurfaces.{AreOfSurfaces};
 ghost use Rattle.wl_plain.specs.Framing.{AreFramed};
-ghost use Rattle.wl_plain.specs.LeftOut.{served_now};
+ghost use Rattle.wl_plain.specs.LeftOut.{nothing_left_out};
 ghost use Rattle.wl_requests.specs.Freed.{is_freed_in};
 ghost use Rattle.wl_requests.specs.Holding.{HoldsAs, HoldsBy, HoldsPlaced};
 ghost use Rattle.wl_requests.specs.Messages.{IsTouchOf};
@@ -180,14 +180,14 @@ impl<A: Allocator + Copy> Resident<A> {
         placing: Placing,
     ) -> Outcome<A>
         ensures answers { IsSurface self.old object surface
-            → AnswersPlacedAs (is_some result.applied) placing (Kind.Surface Commit) object (λ r. demand_of served_now r object version (wl_surface_request Commit)) self.old self.new }
+            → AnswersPlacedAs (is_some result.applied) placing (Kind.Surface Commit) object (λ r. demand_of nothing_left_out r object version (wl_surface_request Commit)) self.old self.new }
         ensures stacks { IsSurface self.old object surface
-            → Stacks (λ r. demand_of served_now r object version (wl_surface_request Commit)) self.old result.stacking }
+            → Stacks (λ r. demand_of nothing_left_out r object version (wl_surface_request Commit)) self.old result.stacking }
         ensures touched { IsTouched (Commits surface) self.old.owned.linked self.new.owned.linked result.applied }
         ensures rest { Leaves self.old self.new }
         ensures room { is_some result.applied ≡ true → has_room ≡ true }
         ensures holds { IsSurface self.old object surface
-            → HoldsPlaced (is_some result.applied) placing (Kind.Surface Commit) object (λ r. demand_of served_now r object version (wl_surface_request Commit)) self.old self.new }
+            → HoldsPlaced (is_some result.applied) placing (Kind.Surface Commit) object (λ r. demand_of nothing_left_out r object version (wl_surface_request Commit)) self.old self.new }
     {
         let has_buffer = self.owned.linked.surfaces.pending_buffer(surface).is_some();
         let is_toplevel = self.has_toplevel(surface);
@@ -284,13 +284,13 @@ impl<A: Allocator + Copy> Resident<A> {
         has_room: bool,
     ) -> Outcome<A>
         ensures answers { IsSurface self.old object surface
-            → AnswersDemandAs (is_some result.applied) (λ r. demand_of served_now r object version (wl_surface_request Destroy)) self.old self.new }
+            → AnswersDemandAs (is_some result.applied) (λ r. demand_of nothing_left_out r object version (wl_surface_request Destroy)) self.old self.new }
         ensures touched { IsTouched (Destroys surface) self.old.owned.linked self.new.owned.linked result.applied }
         ensures stays { result.stacking ≡ Stacking.Stays }
         ensures rest { Leaves self.old self.new }
         ensures room { is_some result.applied ≡ true → has_room ≡ true }
         ensures holds { IsSurface self.old object surface
-            → HoldsAs (is_some result.applied) (λ r. demand_of served_now r object version (wl_surface_request Destroy)) self.old self.new }
+            → HoldsAs (is_some result.applied) (λ r. demand_of nothing_left_out r object version (wl_surface_request Destroy)) self.old self.new }
     {
         if self.has_xdg_surface(surface) {
             let refusal = Refusal::of(object, ErrorCode::SurfaceHasRoleObject);
@@ -307,7 +307,7 @@ impl<A: Allocator + Copy> Resident<A> {
     /// wl_surface.set_buffer_transform, of one of the eight.
     fn transform(&mut self, object: u32, version: u32, surface: SurfaceNo, transform: i32)
         ensures answers { IsSurface self.old object surface
-            → AnswersDemand (λ r. demand_of served_now r object version (wl_surface_request (TransformAsked transform))) self.old self.new }
+            → AnswersDemand (λ r. demand_of nothing_left_out r object version (wl_surface_request (TransformAsked transform))) self.old self.new }
         ensures rest { Leaves self.old self.new }
     {
         if !is_valid(transform) {
@@ -322,7 +322,7 @@ impl<A: Allocator + Copy> Resident<A> {
     /// wl_surface.frame: the callback with this id waits until a commit applies the request and a frame is shown.
     fn frame(&mut self, object: u32, version: u32, surface: SurfaceNo, callback: u32)
         ensures answers { IsSurface self.old object surface → IsFree self.old callback
-            → AnswersDemand (λ r. demand_of served_now r object version (wl_surface_request (FrameAsked callback))) self.old self.new }
+            → AnswersDemand (λ r. demand_of nothing_left_out r object version (wl_surface_request (FrameAsked callback))) self.old self.new }
         ensures rest { Leaves self.old self.new }
     {
         self.client.count();
@@ -350,18 +350,18 @@ impl<A: Allocator + Copy> Resident<A> {
         placing: Placing,
     ) -> Outcome<A>
         ensures answers { IsSurface self.old object surface → NewIsFree self.old (wl_surface_request request.now)
-            → AnswersPlaced placing (Kind.Surface request.now) object (λ r. demand_of served_now r object version (wl_surface_request request.now)) self.old self.new }
+            → AnswersPlaced placing (Kind.Surface request.now) object (λ r. demand_of nothing_left_out r object version (wl_surface_request request.now)) self.old self.new }
         ensures stacks { IsSurface self.old object surface
-            → Stacks (λ r. demand_of served_now r object version (wl_surface_request request.now)) self.old result.stacking }
+            → Stacks (λ r. demand_of nothing_left_out r object version (wl_surface_request request.now)) self.old result.stacking }
         ensures decides { (touch : Touch) → IsTouchOf (Kind.Surface request.now) object surface self.old touch → IsSurface self.old object surface
-            → AnswersPlacedAs (is_some result.applied) placing (Kind.Surface request.now) object (λ r. demand_of served_now r object version (wl_surface_request request.now)) self.old self.new }
+            → AnswersPlacedAs (is_some result.applied) placing (Kind.Surface request.now) object (λ r. demand_of nothing_left_out r object version (wl_surface_request request.now)) self.old self.new }
         ensures touched { (touch : Touch) → IsTouchOf (Kind.Surface request.now) object surface self.old touch
             → IsTouched touch self.old.owned.linked self.new.owned.linked result.applied }
         ensures nothing { ((touch : Touch) → IsTouchOf (Kind.Surface request.now) object surface self.old touch → ⊥) → result.applied ≡ None }
         ensures rest { Leaves self.old self.new }
         ensures room { is_some result.applied ≡ true → has_room ≡ true }
         ensures holds { (touch : Touch) → IsTouchOf (Kind.Surface request.now) object surface self.old touch → IsSurface self.old object surface
-            → HoldsPlaced (is_some result.applied) placing (Kind.Surface request.now) object (λ r. demand_of served_now r object version (wl_surface_request request.now)) self.old self.new }
+            → HoldsPlaced (is_some result.applied) placing (Kind.Surface request.now) object (λ r. demand_of nothing_left_out r object version (wl_surface_request request.now)) self.old self.new }
     {
         match *request {
             WlSurfaceRequest::Commit => self.commit(object, version, surface, has_room, placing),

@@ -5,7 +5,7 @@ ghost use Rattle.wl_proto.specs.Messages.{wl_compositor_request};
 ghost use Rattle.wl_peer.specs.declared.actions.Action.TheVariants.{CreateRegion};
 ghost use Rattle.wl_plain.specs.Ask.{Own};
 ghost use Rattle.wl_plain.specs.Demand.{Asks};
-ghost use Rattle.wl_plain.specs.LeftOut.{served_now};
+ghost use Rattle.wl_plain.specs.LeftOut.{nothing_left_out};
 ghost use Rattle.wl_plain.specs.Demanding.{demand_of, demands};
 ghost use Rattle.wl_requests.specs.Residents.{AnswersDemand, IsFree, Leaves, NewIsFree};
 ghost use Rattle.wl_plain.specs.WlSurface.{surface_created};
@@ -63,7 +63,7 @@ impl<A: Allocator + Copy> Resident<A> {
     /// A request of a wl_compositor whose new id is free.
     pub(crate) fn wl_compositor(&mut self, object: u32, version: u32, request: &WlCompositorRequest)
         ensures answers { NewIsFree self.old (wl_compositor_request request.now)
-            → AnswersDemand (λ r. demand_of served_now r object version (wl_compositor_request request.now)) self.old self.new }
+            → AnswersDemand (λ r. demand_of nothing_left_out r object version (wl_compositor_request request.now)) self.old self.new }
         ensures rest { Leaves self.old self.new }
     {
         match *request {

@@ -6,7 +6,7 @@ ghost use Rattle.wl_proto.specs.declared.wl_subcompositor.WlSubcompositorRequest
 ghost use Rattle.wl_plain.specs.Demanding.{demand_of};
 ghost use Rattle.wl_requests.specs.Linking.{IsLinkMade, LinksAsJudged, link_refused};
 ghost use Rattle.wl_requests.specs.Residents.{AnswersDemand, IsFree, IsSubcompositor, IsSurface, Leaves, NewIsFree, ObjectsFit};
-ghost use Rattle.wl_plain.specs.LeftOut.{served_now};
+ghost use Rattle.wl_plain.specs.LeftOut.{nothing_left_out};
 
 use crate::residents::Resident;
 use std::alloc::Allocator;
@@ -30,7 +30,7 @@ fn refusal_of(object: u32, error: SurfaceError) -> Option<Refusal>
 impl<A: Allocator + Copy> Resident<A> {
     /// wl_subcompositor.destroy: its id is given back.
     fn destroy_subcompositor(&mut self, object: u32, version: u32)
-        ensures answers { IsSubcompositor self.old object → AnswersDemand (λ r. demand_of served_now r object version (wl_subcompositor_request Destroy)) self.old self.new }
+        ensures answers { IsSubcompositor self.old object → AnswersDemand (λ r. demand_of nothing_left_out r object version (wl_subcompositor_request Destroy)) self.old self.new }
         ensures rest { Leaves self.old self.new }
     {
         self.client.count();
@@ -67,7 +67,7 @@ impl<A: Allocator + Copy> Resident<A> {
         parent: SurfaceNo,
     )
         ensures answers { (surface above : ℕ) → IsFree self.old id → IsSurface self.old surface child → IsSurface self.old above parent
-            → AnswersDemand (λ r. demand_of served_now r object version (wl_subcompositor_request (GetSubsurface id surface above))) self.old self.new }
+            → AnswersDemand (λ r. demand_of nothing_left_out r object version (wl_subcompositor_request (GetSubsurface id surface above))) self.old self.new }
         ensures rest { Leaves self.old self.new }
     {
         match self.link(id, child, parent) {
@@ -98,7 +98,7 @@ impl<A: Allocator + Copy> Resident<A> {
         request: &WlSubcompositorRequest,
     )
         ensures answers { IsSubcompositor self.old object → NewIsFree self.old (wl_subcompositor_request request.now) → ObjectsFit self.old (wl_subcompositor_request request.now)
-            → AnswersDemand (λ r. demand_of served_now r object version (wl_subcompositor_request request.now)) self.old self.new }
+            → AnswersDemand (λ r. demand_of nothing_left_out r object version (wl_subcompositor_request request.now)) self.old self.new }
         ensures rest { Leaves self.old self.new }
     {
         match *request {

@@ -14,7 +14,7 @@ ghost use Rattle.wl_requests.specs.Holding.{HoldsAs};
 ghost use Rattle.wl_requests.specs.Linking.{IsChildOf, IsOnlyChild};
 ghost use Rattle.wl_requests.specs.Residents.{AnswersDemand, AnswersDemandAs, IsSubsurface, IsSurface, Leaves, ObjectsFit};
 ghost use Rattle.wl_requests.specs.Touching.{IsTouched, Parts, Releases, Touch};
-ghost use Rattle.wl_plain.specs.LeftOut.{served_now};
+ghost use Rattle.wl_plain.specs.LeftOut.{nothing_left_out};
 
 use crate::messages::Kind;
 use crate::residents::{Outcome, Resident, Stacking};
@@ -37,7 +37,7 @@ impl<A: Allocator + Copy> Resident<A> {
 
     /// wl_subsurface.set_position of the child, relative to its parent, in pixels: once the parent is committed and applied.
     fn set_position(&mut self, object: u32, version: u32, x: i32, y: i32)
-        ensures answers { IsSubsurface self.old object → AnswersDemand (λ r. demand_of served_now r object version (wl_subsurface_request (SetPosition x y))) self.old self.new }
+        ensures answers { IsSubsurface self.old object → AnswersDemand (λ r. demand_of nothing_left_out r object version (wl_subsurface_request (SetPosition x y))) self.old self.new }
         ensures rest { Leaves self.old self.new }
     {
         self.client.count();
@@ -71,7 +71,7 @@ impl<A: Allocator + Copy> Resident<A> {
     /// wl_subsurface.place_above: the child stands right above a sibling, or above its parent, once the parent is committed and applied.
     fn place_above(&mut self, object: u32, version: u32, sibling: u32, beside: SurfaceNo)
         ensures answers { IsSubsurface self.old object → IsSurface self.old sibling beside
-            → AnswersDemand (λ r. demand_of served_now r object version (wl_subsurface_request (PlaceAbove sibling))) self.old self.new }
+            → AnswersDemand (λ r. demand_of nothing_left_out r object version (wl_subsurface_request (PlaceAbove sibling))) self.old self.new }
         ensures rest { Leaves self.old self.new }
     {
         let Some(child) = self.child_of(object) else {
@@ -87,7 +87,7 @@ impl<A: Allocator + Copy> Resident<A> {
     /// wl_subsurface.place_below: the child stands right below a sibling, or below its parent, once the parent is committed and applied.
     fn place_below(&mut self, object: u32, version: u32, sibling: u32, beside: SurfaceNo)
         ensures answers { IsSubsurface self.old object → IsSurface self.old sibling beside
-            → AnswersDemand (λ r. demand_of served_now r object version (wl_subsurface_request (PlaceBelow sibling))) self.old self.new }
+            → AnswersDemand (λ r. demand_of nothing_left_out r object version (wl_subsurface_request (PlaceBelow sibling))) self.old self.new }
         ensures rest { Leaves self.old self.new }
     {
         let Some(child) = self.child_of(object) else {
@@ -102,7 +102,7 @@ impl<A: Allocator + Copy> Resident<A> {
 
     /// wl_subsurface.set_sync: what the child commits is held until its parent is applied.
     fn set_sync(&mut self, object: u32, version: u32)
-        ensures answers { IsSubsurface self.old object → AnswersDemand (λ r. demand_of served_now r object version (wl_subsurface_request SetSync)) self.old self.new }
+        ensures answers { IsSubsurface self.old object → AnswersDemand (λ r. demand_of nothing_left_out r object version (wl_subsurface_request SetSync)) self.old self.new }
         ensures rest { Leaves self.old self.new }
     {
         self.client.count();
@@ -114,16 +114,16 @@ impl<A: Allocator + Copy> Resident<A> {
     /// wl_subsurface.set_desync: what the child commits is applied at once, unless a surface above it is synchronised; and so is what was held,
     /// where that changes how it behaves.
     fn set_desync(&mut self, object: u32, version: u32, has_room: bool) -> Option<Applied<A>>
-        ensures answers { IsSubsurface self.old object → AnswersDemand (λ r. demand_of served_now r object version (wl_subsurface_request SetDesync)) self.old self.new }
+        ensures answers { IsSubsurface self.old object → AnswersDemand (λ r. demand_of nothing_left_out r object version (wl_subsurface_request SetDesync)) self.old self.new }
         ensures decides { (child : ℕ) → IsOnlyChild self.old object child → IsSubsurface self.old object
-            → AnswersDemandAs (is_some result) (λ r. demand_of served_now r object version (wl_subsurface_request SetDesync)) self.old self.new }
+            → AnswersDemandAs (is_some result) (λ r. demand_of nothing_left_out r object version (wl_subsurface_request SetDesync)) self.old self.new }
         ensures touched { (child : ℕ) → IsOnlyChild self.old object child
             → IsTouched (Releases child) self.old.owned.linked self.new.owned.linked result }
         ensures nothing { ((child : ℕ) → IsOnlyChild self.old object child → ⊥) → (numbers : ById ℕ) (subsurfaces : List Subsurface) → AreOfSurfaces self.old.subsurfaces numbers subsurfaces → result ≡ None }
         ensures rest { Leaves self.old self.new }
         ensures room { is_some result ≡ true → has_room ≡ true }
         ensures holds { (child : ℕ) → IsOnlyChild self.old object child → IsSubsurface self.old object
-            → HoldsAs (is_some result) (λ r. demand_of served_now r object version (wl_subsurface_request SetDesync)) self.old self.new }
+            → HoldsAs (is_some result) (λ r. demand_of nothing_left_out r object version (wl_subsurface_request SetDesync)) self.old self.new }
     {
         self.client.count();
         let child = self.child_of(object)?;
@@ -158,16 +158,16 @@ impl<A: Allocator + Copy> Resident<A> {
         version: u32,
         has_room: bool,
     ) -> Option<Applied<A>>
-        ensures answers { IsSubsurface self.old object → AnswersDemand (λ r. demand_of served_now r object version (wl_subsurface_request Destroy)) self.old self.new }
+        ensures answers { IsSubsurface self.old object → AnswersDemand (λ r. demand_of nothing_left_out r object version (wl_subsurface_request Destroy)) self.old self.new }
         ensures decides { (child : ℕ) → IsOnlyChild self.old object child → IsSubsurface self.old object
-            → AnswersDemandAs (is_some result) (λ r. demand_of served_now r object version (wl_subsurface_request Destroy)) self.old self.new }
+            → AnswersDemandAs (is_some result) (λ r. demand_of nothing_left_out r object version (wl_subsurface_request Destroy)) self.old self.new }
         ensures touched { (child : ℕ) → IsOnlyChild self.old object child
             → IsTouched (Parts child) self.old.owned.linked self.new.owned.linked result }
         ensures nothing { ((child : ℕ) → IsOnlyChild self.old object child → ⊥) → (numbers : ById ℕ) (subsurfaces : List Subsurface) → AreOfSurfaces self.old.subsurfaces numbers subsurfaces → result ≡ None }
         ensures rest { Leaves self.old self.new }
         ensures room { is_some result ≡ true → has_room ≡ true }
         ensures holds { (child : ℕ) → IsOnlyChild self.old object child → IsSubsurface self.old object
-            → HoldsAs (is_some result) (λ r. demand_of served_now r object version (wl_subsurface_request Destroy)) self.old self.new }
+            → HoldsAs (is_some result) (λ r. demand_of nothing_left_out r object version (wl_subsurface_request Destroy)) self.old self.new }
     {
         self.client.count();
         let Some(child) = self.child_of(object) else {
@@ -197,9 +197,9 @@ impl<A: Allocator + Copy> Resident<A> {
         has_room: bool,
     ) -> Outcome<A>
         ensures answers { IsSubsurface self.old object → ObjectsFit self.old (wl_subsurface_request request.now)
-            → AnswersDemand (λ r. demand_of served_now r object version (wl_subsurface_request request.now)) self.old self.new }
+            → AnswersDemand (λ r. demand_of nothing_left_out r object version (wl_subsurface_request request.now)) self.old self.new }
         ensures decides { (target : ℕ) (touch : Touch) → IsTouchOf (Kind.Subsurface request.now) object target self.old touch → IsSubsurface self.old object
-            → AnswersDemandAs (is_some result.applied) (λ r. demand_of served_now r object version (wl_subsurface_request request.now)) self.old self.new }
+            → AnswersDemandAs (is_some result.applied) (λ r. demand_of nothing_left_out r object version (wl_subsurface_request request.now)) self.old self.new }
         ensures touched { (target : ℕ) (touch : Touch) → IsTouchOf (Kind.Subsurface request.now) object target self.old touch
             → IsTouched touch self.old.owned.linked self.new.owned.linked result.applied }
         ensures nothing { (target : ℕ) → ((touch : Touch) → IsTouchOf (Kind.Subsurface request.now) object target self.old touch → ⊥) → (numbers : ById ℕ) (subsurfaces : List Subsurface) → AreOfSurfaces self.old.subsurfaces numbers subsurfaces → result.applied ≡ None }
@@ -207,7 +207,7 @@ impl<A: Allocator + Copy> Resident<A> {
         ensures rest { Leaves self.old self.new }
         ensures room { is_some result.applied ≡ true → has_room ≡ true }
         ensures holds { (target : ℕ) (touch : Touch) → IsTouchOf (Kind.Subsurface request.now) object target self.old touch → IsSubsurface self.old object
-            → HoldsAs (is_some result.applied) (λ r. demand_of served_now r object version (wl_subsurface_request request.now)) self.old self.new }
+            → HoldsAs (is_some result.applied) (λ r. demand_of nothing_left_out r object version (wl_subsurface_request request.now)) self.old self.new }
     {
         let mut applied = None;
         match *request {

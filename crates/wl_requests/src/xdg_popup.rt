@@ -1,22 +1,42 @@
 //! The requests of xdg_popup.
 
-ghost use Rattle.std.specs.Prelude.{◌≡◌, IfSome, None, [], is_some, true};
+ghost use Rattle.std.specs.Prelude.{ℕ, ◌≡◌, ◌&&◌, ◌||◌, IfSome, None, [], is_some, not, true};
 ghost use Rattle.wl_proto.specs.Messages.{xdg_popup_request};
-ghost use Rattle.wl_proto.specs.declared.xdg_popup.XdgPopupRequest.TheVariants.{Destroy};
+ghost use Rattle.wl_proto.specs.declared.xdg_popup.XdgPopupRequest.TheVariants.{Destroy, Grab};
 ghost use Rattle.wl_xdg_state.specs.Shell.{xdg_with};
+ghost use Rattle.wl_plain.specs.Changing.{is_serial};
 ghost use Rattle.wl_plain.specs.Demanding.{demand_of};
-ghost use Rattle.wl_plain.specs.LeftOut.{served_now};
+ghost use Rattle.wl_plain.specs.LeftOut.{nothing_left_out};
 ghost use Rattle.wl_plain.specs.XdgPopup.{popup_asked};
 ghost use Rattle.wl_requests.specs.Holding.{HoldsAs};
 ghost use Rattle.wl_requests.specs.Messages.{IsTouchOf};
-ghost use Rattle.wl_requests.specs.Residents.{AnswersDemand, AnswersDemandAs, IsPopup, Leaves};
+ghost use Rattle.wl_requests.specs.Residents.{AnswersAllowed, AnswersDemandAs, IsPopup, Leaves};
 ghost use Rattle.wl_requests.specs.Touching.{IsTouched, Touch};
 
 use crate::messages::Kind;
-use crate::residents::{Outcome, Resident, Stacking};
+use crate::residents::{Grabbing, Outcome, Resident, Stacking};
 use std::alloc::Allocator;
 use wl_proto::XdgPopupRequest;
 use wl_surface::{Applied, SurfaceNo};
+
+/// Whether a serial is this one, if there is one.
+fn is_serial(serial: u32, other: Option<u32>) -> bool
+    ensures { result ≡ is_serial serial other }
+{
+    match other {
+        Some(other) => other == serial,
+        None => false,
+    }
+}
+
+impl Grabbing {
+    /// Whether a grab with this serial is allowed, where the parent of its popup allows it.
+    fn allows(&self, serial: u32) -> bool
+        ensures { result ≡ ((is_serial serial self.now.press || is_serial serial self.now.release) && not self.now.held_elsewhere) }
+    {
+        (is_serial(serial, self.press) || is_serial(serial, self.release)) && !self.held_elsewhere
+    }
+}
 
 impl<A: Allocator + Copy> Resident<A> {
     /// What applied nothing: no surface changes, no buffer is freed, and no callback goes.
@@ -64,7 +84,27 @@ impl<A: Allocator + Copy> Resident<A> {
         }
     }
 
-    /// A request of the popup of a surface. A grab isn't served.
+    /// xdg_popup.grab with this serial, of a popup that isn't mapped: it has the grab where the serial is that of the latest press or of the
+    /// latest release that its client was told of, no other client holds a grab, and its parent is a toplevel or a popup with one. Else it is
+    /// dismissed, with those that descend from it (xdg-shell.xml, xdg_popup.popup_done). Nothing is done where it was dismissed before.
+    fn grab(&mut self, object: u32, surface: SurfaceNo, serial: u32, grabbing: Grabbing)
+        ensures answers { IsPopup self.old object surface → (seat : ℕ)
+            → AnswersAllowed grabbing (Kind.Popup (Grab seat serial)) (λ r. popup_asked r object (xdg_with object r.owned.shell) (Grab seat serial)) self.old self.new }
+        ensures rest { Leaves self.old self.new }
+        ensures surfaces { self.new.owned.linked ≡ self.old.owned.linked }
+    {
+        self.owned.shell.are_found();
+        match self.owned.shell.grab(surface, grabbing.allows(serial)) {
+            Ok(true) => self.client.count(),
+            Ok(false) => {
+                self.client.count();
+                self.dismiss_popups(surface);
+            }
+            Err(error) => self.refuse_xdg_surface(object, surface, error),
+        }
+    }
+
+    /// A request of the popup of a surface. What a grab is allowed by is handed in.
     pub(crate) fn xdg_popup(
         &mut self,
         object: u32,
@@ -72,25 +112,26 @@ impl<A: Allocator + Copy> Resident<A> {
         surface: SurfaceNo,
         request: &XdgPopupRequest,
         has_room: bool,
+        grabbing: Grabbing,
     ) -> Outcome<A>
-        ensures answers { IsPopup self.old object surface → AnswersDemand (λ r. demand_of served_now r object version (xdg_popup_request request.now)) self.old self.new }
+        ensures answers { IsPopup self.old object surface → AnswersAllowed grabbing (Kind.Popup request.now) (λ r. demand_of nothing_left_out r object version (xdg_popup_request request.now)) self.old self.new }
         ensures decides { (touch : Touch) → IsTouchOf (Kind.Popup request.now) object surface self.old touch → IsPopup self.old object surface
-            → AnswersDemandAs (is_some result.applied) (λ r. demand_of served_now r object version (xdg_popup_request request.now)) self.old self.new }
+            → AnswersDemandAs (is_some result.applied) (λ r. demand_of nothing_left_out r object version (xdg_popup_request request.now)) self.old self.new }
         ensures touched { (touch : Touch) → IsTouchOf (Kind.Popup request.now) object surface self.old touch → IsTouched touch self.old.owned.linked self.new.owned.linked result.applied }
         ensures nothing { ((touch : Touch) → IsTouchOf (Kind.Popup request.now) object surface self.old touch → ⊥) → result.applied ≡ None }
         ensures stays { result.stacking ≡ Stacking.Stays }
         ensures rest { Leaves self.old self.new }
         ensures room { is_some result.applied ≡ true → has_room ≡ true }
         ensures holds { (touch : Touch) → IsTouchOf (Kind.Popup request.now) object surface self.old touch → IsPopup self.old object surface
-            → HoldsAs (is_some result.applied) (λ r. demand_of served_now r object version (xdg_popup_request request.now)) self.old self.new }
+            → HoldsAs (is_some result.applied) (λ r. demand_of nothing_left_out r object version (xdg_popup_request request.now)) self.old self.new }
     {
         match *request {
             XdgPopupRequest::Destroy => Outcome {
                 stacking: Stacking::Stays,
                 applied: self.destroy_popup(object, surface, has_room),
             },
-            XdgPopupRequest::Grab { .. } => {
-                self.refuse_unserved();
+            XdgPopupRequest::Grab { serial, .. } => {
+                self.grab(object, surface, serial, grabbing);
                 Outcome::of(Stacking::Stays)
             }
         }

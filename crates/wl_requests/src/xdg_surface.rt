@@ -9,7 +9,7 @@ ghost use Rattle.wl_proto.specs.declared.xdg_surface.XdgSurfaceRequest.TheVarian
 ghost use Rattle.wl_xdg_state.specs.Kept.{kept_of};
 ghost use Rattle.wl_owning.specs.Owning.{kept_base, kept_id, shell_refusal, targets_in};
 ghost use Rattle.wl_requests.specs.Residents.{AnswersDemand, IsFree, IsXdgSurface, Leaves, NewIsFree, ObjectsFit};
-ghost use Rattle.wl_plain.specs.LeftOut.{served_now};
+ghost use Rattle.wl_plain.specs.LeftOut.{nothing_left_out};
 ghost use Rattle.wl_plain.specs.Demanding.{demand_of};
 ghost use Rattle.wl_plain.specs.XdgPopup.{is_no_popup, positioner_of};
 ghost use Rattle.wl_plain.specs.XdgShell.{is_no_toplevel};
@@ -112,7 +112,7 @@ impl<A: Allocator + Copy> Resident<A> {
 
     /// xdg_surface.destroy: its id is given back.
     fn destroy_xdg_surface(&mut self, object: u32, version: u32, surface: SurfaceNo)
-        ensures answers { IsXdgSurface self.old object surface → AnswersDemand (λ r. demand_of served_now r object version (xdg_surface_request Destroy)) self.old self.new }
+        ensures answers { IsXdgSurface self.old object surface → AnswersDemand (λ r. demand_of nothing_left_out r object version (xdg_surface_request Destroy)) self.old self.new }
         ensures rest { Leaves self.old self.new }
         ensures surfaces { self.new.owned.linked ≡ self.old.owned.linked }
     {
@@ -128,7 +128,7 @@ impl<A: Allocator + Copy> Resident<A> {
     /// xdg_surface.get_toplevel: a new toplevel under a free id. The surface has the role of one from then on.
     fn get_toplevel(&mut self, object: u32, version: u32, surface: SurfaceNo, id: u32)
         ensures answers { IsXdgSurface self.old object surface → IsFree self.old id
-            → AnswersDemand (λ r. demand_of served_now r object version (xdg_surface_request (GetToplevel id))) self.old self.new }
+            → AnswersDemand (λ r. demand_of nothing_left_out r object version (xdg_surface_request (GetToplevel id))) self.old self.new }
         ensures rest { Leaves self.old self.new }
     {
         let has_other_role = is_other_role(self.owned.linked.surfaces.role(surface));
@@ -154,7 +154,7 @@ impl<A: Allocator + Copy> Resident<A> {
     /// xdg_surface.set_window_geometry of a rectangle in surface pixels.
     fn set_window_geometry(&mut self, object: u32, version: u32, surface: SurfaceNo, rect: Rect)
         ensures answers { IsXdgSurface self.old object surface
-            → AnswersDemand (λ r. demand_of served_now r object version (xdg_surface_request (SetWindowGeometry rect.x rect.y rect.w rect.h))) self.old self.new }
+            → AnswersDemand (λ r. demand_of nothing_left_out r object version (xdg_surface_request (SetWindowGeometry rect.x rect.y rect.w rect.h))) self.old self.new }
         ensures rest { Leaves self.old self.new }
         ensures surfaces { self.new.owned.linked ≡ self.old.owned.linked }
     {
@@ -167,7 +167,7 @@ impl<A: Allocator + Copy> Resident<A> {
     /// xdg_surface.ack_configure of the configure with this serial.
     fn ack_configure(&mut self, object: u32, version: u32, surface: SurfaceNo, serial: u32)
         ensures answers { IsXdgSurface self.old object surface
-            → AnswersDemand (λ r. demand_of served_now r object version (xdg_surface_request (AckConfigure serial))) self.old self.new }
+            → AnswersDemand (λ r. demand_of nothing_left_out r object version (xdg_surface_request (AckConfigure serial))) self.old self.new }
         ensures rest { Leaves self.old self.new }
         ensures surfaces { self.new.owned.linked ≡ self.old.owned.linked }
     {
@@ -210,7 +210,7 @@ impl<A: Allocator + Copy> Resident<A> {
     fn get_popup(&mut self, object: u32, version: u32, surface: SurfaceNo, asked: &PopupAsked)
         ensures answers { IsXdgSurface self.old object surface → IsFree self.old asked.now.id
             → ObjectsFit self.old (xdg_surface_request (GetPopup asked.now.id asked.now.parent asked.now.positioner))
-            → AnswersDemand (λ r. demand_of served_now r object version (xdg_surface_request (GetPopup asked.now.id asked.now.parent asked.now.positioner))) self.old self.new }
+            → AnswersDemand (λ r. demand_of nothing_left_out r object version (xdg_surface_request (GetPopup asked.now.id asked.now.parent asked.now.positioner))) self.old self.new }
         ensures rest { Leaves self.old self.new }
     {
         let has_other_role = is_not_of_popup(self.owned.linked.surfaces.role(surface));
@@ -253,7 +253,7 @@ impl<A: Allocator + Copy> Resident<A> {
         request: &XdgSurfaceRequest,
     )
         ensures answers { IsXdgSurface self.old object surface → NewIsFree self.old (xdg_surface_request request.now) → ObjectsFit self.old (xdg_surface_request request.now)
-            → AnswersDemand (λ r. demand_of served_now r object version (xdg_surface_request request.now)) self.old self.new }
+            → AnswersDemand (λ r. demand_of nothing_left_out r object version (xdg_surface_request request.now)) self.old self.new }
         ensures rest { Leaves self.old self.new }
     {
         match *request {

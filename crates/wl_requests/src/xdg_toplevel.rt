@@ -5,7 +5,7 @@ ghost use Rattle.wl_interface.specs.declared.interface.Interface.TheVariants.{Xd
 ghost use Rattle.wl_proto.specs.Messages.{Message, xdg_toplevel_request};
 ghost use Rattle.wl_xdg_state.specs.Shell.{xdg_with};
 ghost use Rattle.wl_plain.specs.Demanding.{demand_of, demands, toplevel_destroyed};
-ghost use Rattle.wl_plain.specs.LeftOut.{served_now};
+ghost use Rattle.wl_plain.specs.LeftOut.{nothing_left_out};
 ghost use Rattle.wl_requests.specs.Residents.{AnswersDemand, asked_by, IsToplevel, Leaves, Stacks};
 ghost use Rattle.wl_peer.specs.Requests.{toplevel_request};
 ghost use Rattle.wl_plain.specs.XdgShell.{state_asked};
@@ -92,9 +92,9 @@ impl<A: Allocator + Copy> Resident<A> {
         asked: ToplevelAsked,
     ) -> Stacking
         ensures answers { IsToplevel self.old object surface → (version : ℕ) (m : Message) → m.interface ≡ XdgToplevel → asked ≡ asked_by (toplevel_request m.opcode m.fields)
-            → AnswersDemand (λ r. demand_of served_now r object version m) self.old self.new }
+            → AnswersDemand (λ r. demand_of nothing_left_out r object version m) self.old self.new }
         ensures stacks { IsToplevel self.old object surface → (version : ℕ) (m : Message) → m.interface ≡ XdgToplevel → asked ≡ asked_by (toplevel_request m.opcode m.fields)
-            → Stacks (λ r. demand_of served_now r object version m) self.old result }
+            → Stacks (λ r. demand_of nothing_left_out r object version m) self.old result }
         ensures rest { Leaves self.old self.new }
         ensures surfaces { self.new.owned.linked ≡ self.old.owned.linked }
     {

@@ -9,7 +9,7 @@ ghost use Rattle.wl_plain.specs.Ask.{EndObject, Ignore, Own};
 ghost use Rattle.wl_plain.specs.Demand.{Asks};
 ghost use Rattle.wl_owning.specs.Owning.{targets_in};
 ghost use Rattle.wl_requests.specs.Residents.{AnswersDemand, Does, GoesAlone, IsBase, IsFree, IsSurface, Leaves, NewIsFree, ObjectsFit};
-ghost use Rattle.wl_plain.specs.LeftOut.{served_now};
+ghost use Rattle.wl_plain.specs.LeftOut.{nothing_left_out};
 ghost use Rattle.wl_plain.specs.Demanding.{demand_of};
 ghost use Rattle.wl_plain.specs.WlSubsurface.{past_limit};
 ghost use Rattle.wl_plain.specs.XdgShell.{is_foreign};
@@ -82,7 +82,7 @@ impl<A: Allocator + Copy> Resident<A> {
 
     /// xdg_wm_base.destroy: its id is given back.
     fn destroy_base(&mut self, object: u32, version: u32)
-        ensures answers { IsBase self.old object → AnswersDemand (λ r. demand_of served_now r object version (xdg_wm_base_request Destroy)) self.old self.new }
+        ensures answers { IsBase self.old object → AnswersDemand (λ r. demand_of nothing_left_out r object version (xdg_wm_base_request Destroy)) self.old self.new }
         ensures rest { Leaves self.old self.new }
         ensures surfaces { self.new.owned.linked ≡ self.old.owned.linked }
     {
@@ -117,7 +117,7 @@ impl<A: Allocator + Copy> Resident<A> {
         number: SurfaceNo,
     )
         ensures answers { IsFree self.old id → IsSurface self.old surface number
-            → AnswersDemand (λ r. demand_of served_now r object version (xdg_wm_base_request (GetXdgSurface id surface))) self.old self.new }
+            → AnswersDemand (λ r. demand_of nothing_left_out r object version (xdg_wm_base_request (GetXdgSurface id surface))) self.old self.new }
         ensures rest { Leaves self.old self.new }
         ensures surfaces { self.new.owned.linked ≡ self.old.owned.linked }
     {
@@ -151,7 +151,7 @@ impl<A: Allocator + Copy> Resident<A> {
     /// A request of an xdg_wm_base whose new id is free and whose wl_surface is there.
     pub(crate) fn xdg_wm_base(&mut self, object: u32, version: u32, request: &XdgWmBaseRequest)
         ensures answers { IsBase self.old object → NewIsFree self.old (xdg_wm_base_request request.now) → ObjectsFit self.old (xdg_wm_base_request request.now)
-            → AnswersDemand (λ r. demand_of served_now r object version (xdg_wm_base_request request.now)) self.old self.new }
+            → AnswersDemand (λ r. demand_of nothing_left_out r object version (xdg_wm_base_request request.now)) self.old self.new }
         ensures rest { Leaves self.old self.new }
         ensures surfaces { self.new.owned.linked ≡ self.old.owned.linked }
     {

@@ -12,7 +12,7 @@ use Rattle.std.proofs.lemmas.List.Elements.{recursion_from_All}
 use Rattle.std.proofs.lemmas.Map.Made.{length-le_from_is_member}
 use Rattle.wl_laws.proofs.Lists.Keys.{differ}
 use Rattle.wl_laws.proofs.Marks.Stacks.{Each, and-left}
-use Rattle.wl_invariants.specs.Orderly.{HasMappedToplevel}
+use Rattle.wl_invariants.specs.Standing.{HasMappedToplevel}
 use Rattle.wl_named.specs.Renaming.{has_surface}
 use Rattle.wl_named_popups.specs.Popups.{RenamesOwned, renamed_owned, renamed_shell, renamed_xdg}
 use Rattle.wl_named_popups.proofs.Popped.{each-there}

@@ -12,7 +12,7 @@ use Rattle.wl_plain.specs.Demand.{Demand}
 use Rattle.wl_owning.specs.Subsurfaces.{AreOfSurfaces}
 use Rattle.wl_plain.specs.Desktop.{Desktop, Resident, Subsurface, status_in}
 use Rattle.wl_plain.specs.Happens.{Serves}
-use Rattle.wl_plain.specs.LeftOut.{served_now}
+use Rattle.wl_plain.specs.LeftOut.{nothing_left_out}
 use Rattle.wl_plain.specs.Through.{ServesThrough}
 use Rattle.wl_proto.specs.declared.wl_subsurface.WlSubsurfaceRequest.TheVariants as subsurface
 use Rattle.wl_proto.specs.declared.wl_surface.WlSurfaceRequest.TheVariants as surface
@@ -27,7 +27,7 @@ use Rattle.wl_requests.specs.declared.residents.Stacking.{Stacking}
 use Rattle.wl_requests.specs.Linking.{IsChildOf}
 use Rattle.wl_requests.specs.Messages.{IsAsked, IsTouchOf, IsTouchOfAsked}
 use Rattle.wl_requests.specs.Placing.{IsPlacingOf}
-use Rattle.wl_requests.specs.Residents.{IsResident, KeepsNumbers, TakesMessage, TakesMessageAs, TakesSo}
+use Rattle.wl_requests.specs.Residents.{IsResident, KeepsNumbers, TakesSo}
 use Rattle.wl_requests.specs.Touching.{Touch}
 use Rattle.wl_surface.specs.declared.applied.Applied.{Applied}
 use Rattle.wl_toplevels.specs.Done.{touched_by}
@@ -43,6 +43,7 @@ use Rattle.wl_resident.proofs.Apart.{settled-least, settled-most, settled-seated
 use Rattle.wl_resident.proofs.Assembling.{ways}
 use Rattle.wl_resident.proofs.Commits.{asked-touches, untouched-never}
 use Rattle.wl_resident.proofs.Ended.{Taken}
+use Rattle.wl_resident.proofs.Given.{TakesGiven, TakesGivenAs}
 use Rattle.wl_resident.proofs.Living.{stays-apart}
 use Rattle.wl_resident.proofs.Numbers as seat
 use Rattle.wl_resident.proofs.Placing.{placed-so}
@@ -82,13 +83,14 @@ unapplied v asked applied by nothing numbers subsurfaces are = nothing (λ touch
 -- ---- what was done
 
 -- What the message did, and what is left of it where nothing was touched.
-pub record Alone {A : Type 0} (c : ℕ) (old mid left : Kept A) (was new : Screen A) (asked : Asked) (placing : Placing) (stacking : Stacking) (applied : Option (Applied A)) : Type 0 where
+pub record Alone {A : Type 0} (c : ℕ) (r : Resident) (d : Desktop) (old mid left : Kept A) (was new : Screen A)
+    (asked : Asked) (placing : Placing) (stacking : Stacking) (applied : Option (Applied A)) : Type 0 where
   pub lives : old.client.ended ≡ None
   pub asks : IsAsked old.client asked
   pub by : IsTouchedBy old asked None
   pub placed : IsPlacedBy was c old asked placing
-  pub takes : TakesMessage asked placing old mid stacking
-  pub decides : (touch : Touch) → IsTouchOfAsked asked old touch → TakesMessageAs (is_some applied) asked placing old mid
+  pub takes : TakesGiven asked placing c r d old mid stacking
+  pub decides : (touch : Touch) → IsTouchOfAsked asked old touch → TakesGivenAs (is_some applied) asked placing c r d old mid
   pub none : applied ≡ None
   pub clears : IsClearedBy mid.client.ended c mid left (pile_of was) (pile_of new)
   pub points : is_some mid.client.ended ≡ true → (x y : ℕ) → x < was.damage.width → y < was.damage.height
@@ -97,7 +99,7 @@ pub record Alone {A : Type 0} (c : ℕ) (old mid left : Kept A) (was new : Scree
 
 module _ {A : Type 0} (laws : MessageLaws) (c : ℕ) (others : ℕ → ById ℕ) (base d : Desktop) (r : Resident) (old mid left : Kept A) (was new : Screen A)
     (before : IsSeated c others base old (pile_of was) d r)
-    (ordered : Ordered d) (asked : Asked) (placing : Placing) (stacking : Stacking) (applied : Option (Applied A)) (a : Alone c old mid left was new asked placing stacking applied)
+    (ordered : Ordered d) (asked : Asked) (placing : Placing) (stacking : Stacking) (applied : Option (Applied A)) (a : Alone c r d old mid left was new asked placing stacking applied)
     (width : was.damage.width ≡ d.output.width) (height : was.damage.height ≡ d.output.height) where
   resident : IsResident old r
   resident = seat.resident c others base d r old (pile_of was) before ordered a.lives
@@ -112,9 +114,9 @@ module _ {A : Type 0} (laws : MessageLaws) (c : ℕ) (others : ℕ → ById ℕ)
   placed = placed-so c others base d r old was before (whole-so d ordered before.mapped).trees placing width height asked a.asks a.placed
 
   answers : TakesSo (split_of r.peer.rest) c r d old mid stacking
-  answers = a.takes c r d resident owns placed
+  answers = a.takes resident owns placed
 
-  untouched : (demand : Demand) → IsDemanded served_now (split_of r.peer.rest) r demand → touched_by demand r ≡ None
+  untouched : (demand : Demand) → IsDemanded nothing_left_out (split_of r.peer.rest) r demand → touched_by demand r ≡ None
   untouched demand demanded = at (touch-named old r asked demand None resident owns a.asks demanded a.by)
     where
       at : IsTouchNamed old r demand None → touched_by demand r ≡ None
@@ -146,15 +148,15 @@ module _ {A : Type 0} (laws : MessageLaws) (c : ℕ) (others : ℕ → ById ℕ)
   keeps : mid.client.ended ≡ None → KeepsNumbers old.client.objects mid.client.objects
   keeps none = (left-of (split_of r.peer.rest) c r d old mid stacking answers).2.numbers none
 
-  pub alone-seated : (e : Desktop) × (q : Resident) × Serves served_now c d e × IsSeated c others base left (pile_of new) e q
+  pub alone-seated : (e : Desktop) × (q : Resident) × Serves nothing_left_out c d e × IsSeated c others base left (pile_of new) e q
   alone-seated = settled-seated (ways laws) c others base d r old mid left was new before ordered alive untouched a.clears a.points a.same m keeps
 
-  pub alone-least : (e : Desktop) (q : Resident) → Serves served_now c d e → IsSeated c others base left (pile_of new) e q → MarksAtLeast d e was.damage new.damage
+  pub alone-least : (e : Desktop) (q : Resident) → Serves nothing_left_out c d e → IsSeated c others base left (pile_of new) e q → MarksAtLeast d e was.damage new.damage
   alone-least = settled-least (ways laws) c others base d r old mid left was new before ordered alive untouched a.clears a.points a.same
 
-  pub alone-most : (e : Desktop) (q : Resident) → Serves served_now c d e → IsSeated c others base left (pile_of new) e q → status_in c e ≡ None → MarksMost d e was.damage new.damage
+  pub alone-most : (e : Desktop) (q : Resident) → Serves nothing_left_out c d e → IsSeated c others base left (pile_of new) e q → status_in c e ≡ None → MarksMost d e was.damage new.damage
   alone-most = settled-most (ways laws) c others base d r old mid left was new before ordered alive untouched a.clears a.points a.same
 
-  pub alone-through : (e : Desktop) × (q : Resident) × (path : List Desktop) × ServesThrough served_now c d path e × IsSeated c others base left (pile_of new) e q
+  pub alone-through : (e : Desktop) × (q : Resident) × (path : List Desktop) × ServesThrough nothing_left_out c d path e × IsSeated c others base left (pile_of new) e q
       × MarksThrough d path was.damage new.damage
   alone-through = settled-through (ways laws) c others base d r old mid left was new before ordered alive untouched a.clears a.points a.same m keeps width height

@@ -6,7 +6,7 @@ use Rattle.wl_ordered.specs.Ordered.{OwnsOrdered}
 use Rattle.wl_peer.specs.Peer.{Peer}
 use Rattle.wl_plain.specs.Demand.{Demand, EndToplevel}
 use Rattle.wl_plain.specs.Desktop.{Desktop, Resident}
-use Rattle.wl_plain.specs.LeftOut.{served_now}
+use Rattle.wl_plain.specs.LeftOut.{nothing_left_out}
 use Rattle.wl_requests.specs.declared.messages.Asked.{Asked}
 use Rattle.wl_requests.specs.declared.residents.Resident.{Resident as Kept}
 use Rattle.wl_requests.specs.declared.residents.Stacking.{Stacking}
@@ -36,7 +36,7 @@ applied-value None some = absurd (differ (sym some))
 applied-value (Some x) some = (x, refl)
 
 module _ {A : Type 0} (old mid : Kept A) (r : Resident) (p : Peer) (c : ℕ) (d : Desktop) (resident : IsResident old r) (owns : OwnsOrdered r) (asked : Asked) (asks : IsAsked old.client asked)
-    (surface : ℕ) (by : IsTouchedBy old asked (Some surface)) (demand : Demand) (demanded : IsDemanded served_now (split_of r.peer.rest) r demand) (stacking : Stacking)
+    (surface : ℕ) (by : IsTouchedBy old asked (Some surface)) (demand : Demand) (demanded : IsDemanded nothing_left_out (split_of r.peer.rest) r demand) (stacking : Stacking)
     (stacks : StacksFor old r demand stacking) (applied : Option (Applied A))
     (touched_so : (touch : Touch) → IsTouchOfAsked asked old touch → IsTouched touch old.owned.linked mid.owned.linked applied)
     (some_applied : (touch : Touch) → IsTouchOfAsked asked old touch → is_some applied ≡ true) where

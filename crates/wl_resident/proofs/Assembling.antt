@@ -18,7 +18,7 @@ use Rattle.wl_surface.specs.Slots.{count}
 use Rattle.wl_surface.specs.declared.applied.Applied.{Applied}
 use Rattle.wl_plain.specs.Desktop.{Desktop, Resident, client_at, owned_in, owned_of, status_of}
 use Rattle.wl_plain.specs.Happens.{Serves}
-use Rattle.wl_plain.specs.LeftOut.{served_now}
+use Rattle.wl_plain.specs.LeftOut.{nothing_left_out}
 use Rattle.wl_plain.specs.Marks.{in_output}
 use Rattle.wl_plain.specs.Stacked.{all_windows}
 use Rattle.wl_plain.specs.Through.{ServesThrough}
@@ -41,10 +41,9 @@ use Rattle.wl_requests.specs.declared.residents.Placing.{Placing}
 use Rattle.wl_requests.specs.declared.residents.Resident.{Resident as Kept}
 use Rattle.wl_requests.specs.declared.residents.Stacking.{Stacking}
 use Rattle.wl_requests.specs.declared.residents.Stacking.TheVariants as on
-use Rattle.wl_requests.specs.Holding.{HoldsMessage}
 use Rattle.wl_requests.specs.Messages.{IsAsked, IsTouchOfAsked}
 use Rattle.wl_requests.specs.Placing.{IsPlacingOf}
-use Rattle.wl_requests.specs.Residents.{IsResident, KeepsNumbers, StacksFor, TakesMessage, TakesMessageAs, TakesSo}
+use Rattle.wl_requests.specs.Residents.{IsResident, KeepsNumbers, StacksFor, TakesSo}
 use Rattle.wl_requests.specs.Touching.{IsTouched, Touch}
 use Rattle.wl_resident.specs.declared.screens.Screen.{Screen}
 use Rattle.wl_resident.specs.Agreement.{IsSeat, with_numbers}
@@ -58,6 +57,7 @@ use Rattle.wl_resident.proofs.After.{HoldsAs}
 use Rattle.wl_resident.proofs.Asked.{told-of}
 use Rattle.wl_resident.proofs.Commits.{asked-touches, untouched-never}
 use Rattle.wl_resident.proofs.Ended.{Taken}
+use Rattle.wl_resident.proofs.Given.{HoldsGiven, TakesGiven, TakesGivenAs}
 use Rattle.wl_resident.proofs.Gone.{WayLaws}
 use Rattle.wl_resident.proofs.Holding.{OrderLaws, holds-now, names-agree}
 use Rattle.wl_resident.proofs.Lived.{led-seated, led-serves, led-through, shown-after, trees-after}
@@ -92,8 +92,8 @@ orders laws = record { order = laws.order; demands = laws.demands; rising = laws
 -- ---- what is known before a message
 
 -- What was prepared for it, with the toplevel that was found for the tree that it may change, and what it did.
-pub record Asks {A : Type 0} (c : ℕ) (old mid : Kept A) (was ready : Screen A) (asked : Asked) (placing : Placing) (surface root : ℕ) (found : Option ℕ) (stacking : Stacking)
-    (applied : Option (Applied A)) : Type 0 where
+pub record Asks {A : Type 0} (c : ℕ) (r : Resident) (d : Desktop) (old mid : Kept A) (was ready : Screen A) (asked : Asked)
+    (placing : Placing) (surface root : ℕ) (found : Option ℕ) (stacking : Stacking) (applied : Option (Applied A)) : Type 0 where
   pub lives : old.client.ended ≡ None
   pub asks : IsAsked old.client asked
   pub by : IsTouchedBy old asked (Some surface)
@@ -103,10 +103,10 @@ pub record Asks {A : Type 0} (c : ℕ) (old mid : Kept A) (was ready : Screen A)
       (o : Owned) (histories : ℕ → Option History) → IsShell (kept_of old.owned.shell) histories o.shell
       → found ≡ found_by c root (parent_by o (popup_in_shell old.owned.shell root)) was.stacked.windows
   pub placed : IsPlacedBy was c old asked placing
-  pub takes : TakesMessage asked placing old mid stacking
-  pub decides : (touch : Touch) → IsTouchOfAsked asked old touch → TakesMessageAs (is_some applied) asked placing old mid
+  pub takes : TakesGiven asked placing c r d old mid stacking
+  pub decides : (touch : Touch) → IsTouchOfAsked asked old touch → TakesGivenAs (is_some applied) asked placing c r d old mid
   pub touched_so : (touch : Touch) → IsTouchOfAsked asked old touch → IsTouched touch old.owned.linked mid.owned.linked applied
-  pub holds : (touch : Touch) → IsTouchOfAsked asked old touch → is_some applied ≡ true → HoldsMessage asked placing old mid
+  pub holds : (touch : Touch) → IsTouchOfAsked asked old touch → is_some applied ≡ true → HoldsGiven asked placing c r d old mid
   pub nothing : ((touch : Touch) → IsTouchOfAsked asked old touch → ⊥) → applied ≡ None
   pub same : IsSameScreen was ready
   pub kept : is_some applied ≡ true → ready.spare.was.items ≡ run_kept c found was.stacked.windows
@@ -124,7 +124,7 @@ fits-so a b c d e f = omega (arith)
 module _ {A : Type 0} (laws : MessageLaws) (c : ℕ) (others : ℕ → ById ℕ) (base d : Desktop) (r : Resident) (old mid : Kept A) (was ready : Screen A)
     (before : IsSeated c others base old (pile_of was) d r)
     (ordered : Ordered d) (asked : Asked) (placing : Placing) (surface root : ℕ) (found : Option ℕ) (stacking : Stacking) (applied : Option (Applied A))
-    (a : Asks c old mid was ready asked placing surface root found stacking applied) (width : was.damage.width ≡ d.output.width) (height : was.damage.height ≡ d.output.height) where
+    (a : Asks c r d old mid was ready asked placing surface root found stacking applied) (width : was.damage.width ≡ d.output.width) (height : was.damage.height ≡ d.output.height) where
   abbrev pile : Pile
   pile = pile_of was
 
@@ -144,7 +144,7 @@ module _ {A : Type 0} (laws : MessageLaws) (c : ℕ) (others : ℕ → ById ℕ)
   placed = placed-so c others base d r old was before trees placing width height asked a.asks a.placed
 
   pub answers : TakesSo (split_of r.peer.rest) c r d old mid stacking
-  answers = a.takes c r d resident owns placed
+  answers = a.takes resident owns placed
 
   pub touches : ((touch : Touch) × IsTouchOfAsked asked old touch) ⊎ ((touch : Touch) → IsTouchOfAsked asked old touch → ⊥)
   touches = asked-touches old (numbers old) r.subsurfaces before.seat.subsurfaces asked
@@ -196,14 +196,14 @@ module _ {A : Type 0} (laws : MessageLaws) (c : ℕ) (others : ℕ → ById ℕ)
 
     -- ---- any desktop to which it leads
 
-    module _ (e : Desktop) (s : Resident) (serves : Serves served_now c d e) (there : client_at c e ≡ Some s) (seated : IsSeat mid.client (owned_view mid) s) (after : HasTrees e)
+    module _ (e : Desktop) (s : Resident) (serves : Serves nothing_left_out c d e) (there : client_at c e ≡ Some s) (seated : IsSeat mid.client (owned_view mid) s) (after : HasTrees e)
         (shown : ShownStand e) where
       status-e : s.peer.status ≡ None
       status-e = sym seated.peer.status ∙ lives
 
-      message : MessageChanges served_now c r d e
+      message : MessageChanges nothing_left_out c r d e
       message =
-          messages-change served_now c r d e ordered.in_order before.mapped before.based.there serves (ap (λ (o : Option Resident). status_of o) there ∙ status-e)
+          messages-change nothing_left_out c r d e ordered.in_order before.mapped before.based.there serves (ap (λ (o : Option Resident). status_of o) there ∙ status-e)
 
       stacks : StacksFor old r message.demand stacking
       stacks = stacks-of (split_of r.peer.rest) c r d old mid stacking message.demand answers message.demanded
@@ -319,15 +319,15 @@ module _ {A : Type 0} (laws : MessageLaws) (c : ℕ) (others : ℕ → ById ℕ)
 
     -- ---- what the clauses say
 
-    pub live-least : (e : Desktop) (q : Resident) → Serves served_now c d e → IsSeated c others base mid (pile_of new) e q → MarksAtLeast d e was.damage new.damage
+    pub live-least : (e : Desktop) (q : Resident) → Serves nothing_left_out c d e → IsSeated c others base mid (pile_of new) e q → MarksAtLeast d e was.damage new.damage
     live-least e q serves after =
         lives-least e q serves after.based.there after.seat (trees-after (ways laws) c others base d r old mid was new before ordered alive lives e serves) after.mapped
 
-    pub live-most : (e : Desktop) (q : Resident) → Serves served_now c d e → IsSeated c others base mid (pile_of new) e q → MarksMost d e was.damage new.damage
+    pub live-most : (e : Desktop) (q : Resident) → Serves nothing_left_out c d e → IsSeated c others base mid (pile_of new) e q → MarksMost d e was.damage new.damage
     live-most e q serves after =
         lives-most e q serves after.based.there after.seat (trees-after (ways laws) c others base d r old mid was new before ordered alive lives e serves) after.mapped
 
-    led : Serves served_now c d m.after
+    led : Serves nothing_left_out c d m.after
     led = led-serves (ways laws) c others base d r old mid was new before ordered alive lives m
 
     trees-m : HasTrees m.after
@@ -339,10 +339,10 @@ module _ {A : Type 0} (laws : MessageLaws) (c : ℕ) (others : ℕ → ById ℕ)
     led-windows : AreStacked (with_numbers c (numbers mid) others) new.stacked.windows (all_windows m.after)
     led-windows = lives-windows m.after m.resident led m.sits.based.there m.sits.seat trees-m shown-m
 
-    pub live-seated : (e : Desktop) × (q : Resident) × Serves served_now c d e × IsSeated c others base mid (pile_of new) e q
+    pub live-seated : (e : Desktop) × (q : Resident) × Serves nothing_left_out c d e × IsSeated c others base mid (pile_of new) e q
     live-seated = led-seated (ways laws) c others base d r old mid was new before ordered alive lives m led-windows
 
-    pub live-through : (e : Desktop) × (q : Resident) × (path : List Desktop) × ServesThrough served_now c d path e × IsSeated c others base mid (pile_of new) e q
+    pub live-through : (e : Desktop) × (q : Resident) × (path : List Desktop) × ServesThrough nothing_left_out c d path e × IsSeated c others base mid (pile_of new) e q
         × MarksThrough d path was.damage new.damage
     live-through =
         led-through (ways laws) c others base d r old mid was new before ordered alive lives m led-windows

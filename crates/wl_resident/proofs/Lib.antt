@@ -9,10 +9,12 @@ pub mod Ended
 pub mod Ends
 pub mod Finding
 pub mod Fitting
+pub mod Given
 pub mod Gone
 pub mod Holding
 pub mod Leaving
 pub mod Lengths
+pub mod Lifted
 pub mod Lived
 pub mod Living
 pub mod Lookup
@@ -20,8 +22,11 @@ pub mod Marked
 pub mod Numbers
 pub mod Parting
 pub mod Placing
+pub mod Pressed
 pub mod Raised
 pub mod Renumbered
+pub mod Released
+pub mod ReleasedSeats
 pub mod Restacking
 pub mod Rising
 pub mod Rooms

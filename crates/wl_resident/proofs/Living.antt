@@ -17,7 +17,7 @@ use Rattle.wl_surface.specs.declared.applied.Applied.{Applied}
 use Rattle.wl_plain.specs.Demand.{Demand, CommitTree, EndToplevel}
 use Rattle.wl_plain.specs.Demanding.{effect_of_commit, judge_all}
 use Rattle.wl_plain.specs.Desktop.{Desktop, Resident}
-use Rattle.wl_plain.specs.LeftOut.{served_now}
+use Rattle.wl_plain.specs.LeftOut.{nothing_left_out}
 use Rattle.wl_laws.proofs.Lists.Keys.{differ, none-some}
 use Rattle.wl_ordered.specs.Ordered.{OwnsOrdered}
 use Rattle.wl_toplevels.specs.Done.{touched_by}
@@ -29,9 +29,10 @@ use Rattle.wl_requests.specs.declared.residents.Stacking.{Stacking}
 use Rattle.wl_requests.specs.declared.residents.Stacking.TheVariants as on
 use Rattle.wl_requests.specs.Messages.{IsTouchOfAsked}
 use Rattle.wl_requests.specs.Placing.{IsPlacingOf}
-use Rattle.wl_requests.specs.Residents.{AnswersAs, AnswersSo, IsResident, StacksFor, StacksIf, StacksSo, TakesAs, TakesMessage, TakesMessageAs, TakesSo}
+use Rattle.wl_requests.specs.Residents.{AnswersAs, AnswersSo, IsResident, StacksFor, StacksIf, StacksSo, TakesAs, TakesSo}
 use Rattle.wl_requests.specs.Touching.{Touch}
 use Rattle.wl_resident.proofs.Ends.{errs-over, lacks-over, over-ended}
+use Rattle.wl_resident.proofs.Given.{TakesGiven, TakesGivenAs}
 
 -- ---- what isn't done ends the client
 
@@ -75,12 +76,12 @@ top-commits old r (EndToplevel id xdg surface) n h = absurd (out-top h.0 n h.2)
 top-commits old r demand n h = absurd (cc)
 
 top-demanded : {A : Type 0} (split : Split) (c : ℕ) (r : Resident) (d : Desktop) (old mid : Kept A) (n : ℕ) → TakesSo split c r d old mid (on.ToTop n) → mid.client.ended ≡ None
-    → (id : ℕ) × IsDemanded served_now split r (CommitTree id) × (effect_of_commit r id ≡ Maps)
-top-demanded {A} (Whole object opcode size) c r d old mid n h alive = at (judge_all served_now r object opcode (take (size - 8) (drop 8 r.peer.rest))) refl h.0 h.1
+    → (id : ℕ) × IsDemanded nothing_left_out split r (CommitTree id) × (effect_of_commit r id ≡ Maps)
+top-demanded {A} (Whole object opcode size) c r d old mid n h alive = at (judge_all nothing_left_out r object opcode (take (size - 8) (drop 8 r.peer.rest))) refl h.0 h.1
   where
-    at : (judged : Result Demand Refusal) → judge_all served_now r object opcode (take (size - 8) (drop 8 r.peer.rest)) ≡ judged
+    at : (judged : Result Demand Refusal) → judge_all nothing_left_out r object opcode (take (size - 8) (drop 8 r.peer.rest)) ≡ judged
         → AnswersSo judged c (with_peer (with_rest (drop size r.peer.rest) r.peer) r) d old mid
-        → StacksSo old r judged (on.ToTop n) → (id : ℕ) × IsDemanded served_now (Whole object opcode size) r (CommitTree id) × (effect_of_commit r id ≡ Maps)
+        → StacksSo old r judged (on.ToTop n) → (id : ℕ) × IsDemanded nothing_left_out (Whole object opcode size) r (CommitTree id) × (effect_of_commit r id ≡ Maps)
     at (Ok demand) is told stacks =
         let top = top-commits old r demand n stacks in
         (top.0, is ∙ ap (λ (x : Demand). let j : Result Demand Refusal = Ok x in j) top.1, top.2)
@@ -96,10 +97,10 @@ untouched-stays old r (EndToplevel id xdg surface) stacking h none = absurd (non
 untouched-stays old r demand stacking h none = h
 
 demanded-stays : {A : Type 0} (split : Split) (c : ℕ) (r : Resident) (d : Desktop) (old mid : Kept A) (stacking : Stacking) → TakesSo split c r d old mid stacking → mid.client.ended ≡ None
-    → ((demand : Demand) → IsDemanded served_now split r demand → touched_by demand r ≡ None) → stacking ≡ on.Stays
-demanded-stays (Whole object opcode size) c r d old mid stacking h alive none = at (judge_all served_now r object opcode (take (size - 8) (drop 8 r.peer.rest))) refl h.0 h.1
+    → ((demand : Demand) → IsDemanded nothing_left_out split r demand → touched_by demand r ≡ None) → stacking ≡ on.Stays
+demanded-stays (Whole object opcode size) c r d old mid stacking h alive none = at (judge_all nothing_left_out r object opcode (take (size - 8) (drop 8 r.peer.rest))) refl h.0 h.1
   where
-    at : (judged : Result Demand Refusal) → judge_all served_now r object opcode (take (size - 8) (drop 8 r.peer.rest)) ≡ judged
+    at : (judged : Result Demand Refusal) → judge_all nothing_left_out r object opcode (take (size - 8) (drop 8 r.peer.rest)) ≡ judged
         → AnswersSo judged c (with_peer (with_rest (drop size r.peer.rest) r.peer) r) d old mid → StacksSo old r judged stacking → stacking ≡ on.Stays
     at (Ok demand) is told stacks = untouched-stays old r demand stacking stacks (none demand is)
     at (Err refusal) is told stacks = absurd (differ (ended-by-peer mid told.0 told.2.peer (over-ended told.0 (errs-over refusal (with_rest (drop size r.peer.rest) r.peer) told.0 told.1)) alive))
@@ -109,10 +110,10 @@ demanded-stays More c r d old mid stacking h alive none = absurd h
 
 module _ {A : Type 0} (c : ℕ) (r : Resident) (d : Desktop) (old mid : Kept A) (resident : IsResident old r) (owns : OwnsOrdered r) (asked : Asked) (placing : Placing)
     (placed : IsPlacingOf placing asked c r d) (applied : Option (Applied A))
-    (decides : (touch : Touch) → IsTouchOfAsked asked old touch → TakesMessageAs (is_some applied) asked placing old mid) (alive : mid.client.ended ≡ None) where
+    (decides : (touch : Touch) → IsTouchOfAsked asked old touch → TakesGivenAs (is_some applied) asked placing c r d old mid) (alive : mid.client.ended ≡ None) where
   -- What may change what several surfaces show was done.
   pub some-applied : (touch : Touch) → IsTouchOfAsked asked old touch → is_some applied ≡ true
-  some-applied touch it = at (is_some applied) refl (decides touch it c r d resident owns placed)
+  some-applied touch it = at (is_some applied) refl (decides touch it resident owns placed)
     where
       at : (b : Bool) → is_some applied ≡ b → TakesAs b (split_of r.peer.rest) c r d old mid → is_some applied ≡ true
       at true is h = is
@@ -120,12 +121,12 @@ module _ {A : Type 0} (c : ℕ) (r : Resident) (d : Desktop) (old mid : Kept A) 
 
   -- A toplevel that was mapped was by such a request.
   pub top-applied : ((touch : Touch) × IsTouchOfAsked asked old touch) ⊎ ((touch : Touch) → IsTouchOfAsked asked old touch → ⊥)
-      → (((touch : Touch) → IsTouchOfAsked asked old touch → ⊥) → (id : ℕ) → IsDemanded served_now (split_of r.peer.rest) r (CommitTree id) → effect_of_commit r id ≡ Maps → ⊥)
-      → (stacking : Stacking) → TakesMessage asked placing old mid stacking → (n : ℕ) → stacking ≡ on.ToTop n → is_some applied ≡ true
+      → (((touch : Touch) → IsTouchOfAsked asked old touch → ⊥) → (id : ℕ) → IsDemanded nothing_left_out (split_of r.peer.rest) r (CommitTree id) → effect_of_commit r id ≡ Maps → ⊥)
+      → (stacking : Stacking) → TakesGiven asked placing c r d old mid stacking → (n : ℕ) → stacking ≡ on.ToTop n → is_some applied ≡ true
   top-applied touches never stacking takes n is = by touches
     where
       answers : TakesSo (split_of r.peer.rest) c r d old mid (on.ToTop n)
-      answers = subst (λ (s : Stacking). TakesSo (split_of r.peer.rest) c r d old mid s) is (takes c r d resident owns placed)
+      answers = subst (λ (s : Stacking). TakesSo (split_of r.peer.rest) c r d old mid s) is (takes resident owns placed)
 
       by : ((touch : Touch) × IsTouchOfAsked asked old touch) ⊎ ((touch : Touch) → IsTouchOfAsked asked old touch → ⊥) → is_some applied ≡ true
       by (inl t) = some-applied t.0 t.1
@@ -134,6 +135,6 @@ module _ {A : Type 0} (c : ℕ) (r : Resident) (d : Desktop) (old mid : Kept A) 
           absurd (never none top.0 top.1 top.2)
 
   -- What touches no tree leaves the stack as it is.
-  pub stays-apart : (stacking : Stacking) → TakesMessage asked placing old mid stacking
-      → ((demand : Demand) → IsDemanded served_now (split_of r.peer.rest) r demand → touched_by demand r ≡ None) → stacking ≡ on.Stays
-  stays-apart stacking takes untouched = demanded-stays (split_of r.peer.rest) c r d old mid stacking (takes c r d resident owns placed) alive untouched
+  pub stays-apart : (stacking : Stacking) → TakesGiven asked placing c r d old mid stacking
+      → ((demand : Demand) → IsDemanded nothing_left_out (split_of r.peer.rest) r demand → touched_by demand r ≡ None) → stacking ≡ on.Stays
+  stays-apart stacking takes untouched = demanded-stays (split_of r.peer.rest) c r d old mid stacking (takes resident owns placed) alive untouched

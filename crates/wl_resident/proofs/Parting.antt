@@ -12,7 +12,7 @@ use Rattle.wl_peer.specs.declared.cause.Cause.{Cause}
 use Rattle.wl_peer.specs.Objects.{ById}
 use Rattle.wl_plain.specs.Desktop.{Desktop, Resident, owned_in, status_in}
 use Rattle.wl_plain.specs.Happens.{Serves}
-use Rattle.wl_plain.specs.LeftOut.{served_now}
+use Rattle.wl_plain.specs.LeftOut.{nothing_left_out}
 use Rattle.wl_plain.specs.Through.{ServesThrough}
 use Rattle.wl_repaint.specs.Repaint.{window_has}
 use Rattle.wl_requests.specs.declared.messages.Asked.{Asked}
@@ -58,7 +58,7 @@ none-fit n = omega (arith)
 
 module _ {A : Type 0} (laws : MessageLaws) (c : ℕ) (others : ℕ → ById ℕ) (base d : Desktop) (r : Resident) (old mid left : Kept A) (was ready new : Screen A)
     (before : IsSeated c others base old (pile_of was) d r) (ordered : Ordered d) (asked : Asked) (placing : Placing) (surface root : ℕ) (found : Option ℕ) (stacking : Stacking)
-    (applied : Option (Applied A)) (a : Asks c old mid was ready asked placing surface root found stacking applied) (width : was.damage.width ≡ d.output.width)
+    (applied : Option (Applied A)) (a : Asks c r d old mid was ready asked placing surface root found stacking applied) (width : was.damage.width ≡ d.output.width)
     (height : was.damage.height ≡ d.output.height) (cause : Cause) (over : mid.client.ended ≡ Some cause) (p : IsParted c found mid left stacking applied ready new) where
   abbrev pile : Pile
   pile = pile_of was
@@ -159,7 +159,7 @@ module _ {A : Type 0} (laws : MessageLaws) (c : ℕ) (others : ℕ → ById ℕ)
   touches-it = touches laws c others base d r old mid was ready before ordered asked placing surface root found stacking applied a width height
 
   -- by a desktop on which the client lived
-  module _ (e : Desktop) (path : List Desktop) (s : Struck served_now c r d path e) (by_peer : IsTakenBy (split_of r.peer.rest) r s.before)
+  module _ (e : Desktop) (path : List Desktop) (s : Struck nothing_left_out c r d path e) (by_peer : IsTakenBy (split_of r.peer.rest) r s.before)
       (some_applied : (touch : Touch) → IsTouchOfAsked asked old touch → is_some applied ≡ true) where
     stacks : StacksFor old r s.demand stacking
     stacks =
@@ -172,7 +172,7 @@ module _ {A : Type 0} (laws : MessageLaws) (c : ℕ) (others : ℕ → ById ℕ)
         (holds-then (orders laws) (split_of r.peer.rest) c r d old mid s.demand s.before its-owns s.demanded by_peer ordered.in_order.pointer (first (touches-it)))
       where
         first : ((touch : Touch) × IsTouchOfAsked asked old touch) ⊎ ((touch : Touch) → IsTouchOfAsked asked old touch → ⊥) → HoldsFirst (split_of r.peer.rest) c r d old mid
-        first (inl t) = a.holds t.0 t.1 some c r d its-resident its-owns its-placing
+        first (inl t) = a.holds t.0 t.1 some its-resident its-owns its-placing
         first (inr never) = absurd (differ (sym some ∙ ap (λ (o : Option (Applied A)). is_some o) (a.nothing never)))
 
     -- those that the toplevel has there
@@ -188,10 +188,10 @@ module _ {A : Type 0} (laws : MessageLaws) (c : ℕ) (others : ℕ → ById ℕ)
   -- ---- what the clauses say
 
   -- the peer of which the message demands something, on a way on which the client is struck
-  knows : (e : Desktop) (path : List Desktop) (s : Struck served_now c r d path e) → IsTakenBy (split_of r.peer.rest) r s.before
+  knows : (e : Desktop) (path : List Desktop) (s : Struck nothing_left_out c r d path e) → IsTakenBy (split_of r.peer.rest) r s.before
   knows e path s = at (split_of r.peer.rest) refl s.demanded
     where
-      at : (split : Split) → split_of r.peer.rest ≡ split → IsDemanded served_now split r s.demand → IsTakenBy split r s.before
+      at : (split : Split) → split_of r.peer.rest ≡ split → IsDemanded nothing_left_out split r s.demand → IsTakenBy split r s.before
       at (Whole object opcode size) is told = s.taken object opcode size is
       at Bad is told = told
       at More is told = told
@@ -209,16 +209,16 @@ module _ {A : Type 0} (laws : MessageLaws) (c : ℕ) (others : ℕ → ById ℕ)
   its-alive : r.peer.status ≡ None
   its-alive = alive laws c others base d r old mid was ready before ordered asked placing surface root found stacking applied a width height
 
-  pub over-least : (e : Desktop) (q : Resident) → Serves served_now c d e → IsSeated c others base left (pile_of new) e q → MarksAtLeast d e was.damage new.damage
+  pub over-least : (e : Desktop) (q : Resident) → Serves nothing_left_out c d e → IsSeated c others base left (pile_of new) e q → MarksAtLeast d e was.damage new.damage
   over-least = ended-least (ways laws) c others base d r old mid left was new before ordered its-alive cause over ending
 
   pub over-on : (e : Desktop) (q : Resident) → IsSeated c others base left (pile_of new) e q → status_in c e ≡ None → ⊥
   over-on = ended-on (ways laws) c others base d r old mid left was new before ordered its-alive cause over ending
 
-  pub over-seated : (e : Desktop) × (q : Resident) × Serves served_now c d e × IsSeated c others base left (pile_of new) e q
+  pub over-seated : (e : Desktop) × (q : Resident) × Serves nothing_left_out c d e × IsSeated c others base left (pile_of new) e q
   over-seated = ended-seated (ways laws) c others base d r old mid left was new before ordered its-alive cause over ending m.0
 
-  pub over-through : (e : Desktop) × (q : Resident) × (path : List Desktop) × ServesThrough served_now c d path e × IsSeated c others base left (pile_of new) e q
+  pub over-through : (e : Desktop) × (q : Resident) × (path : List Desktop) × ServesThrough nothing_left_out c d path e × IsSeated c others base left (pile_of new) e q
       × MarksThrough d path was.damage new.damage
   unfolding ending
   over-through =

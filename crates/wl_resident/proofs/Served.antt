@@ -5,7 +5,7 @@ use Rattle.std.specs.declared.alloc.AllocError.{AllocError}
 use Rattle.wl_family.specs.Family.{links_in, parents_of, root_by}
 use Rattle.wl_laws.proofs.Lists.Keys.{differ, none-some, some-same}
 use Rattle.wl_peer.specs.Objects.{ById}
-use Rattle.wl_plain.specs.Desktop.{Subsurface}
+use Rattle.wl_plain.specs.Desktop.{Desktop, Resident, Subsurface}
 use Rattle.wl_owning.specs.Subsurfaces.{AreOfSurfaces}
 use Rattle.wl_requests.specs.declared.messages.Asked.{Asked}
 use Rattle.wl_requests.specs.declared.messages.Asked.TheVariants as asked
@@ -16,10 +16,8 @@ use Rattle.wl_requests.specs.declared.residents.Placing.{Placing}
 use Rattle.wl_requests.specs.declared.residents.Resident.{Resident as Kept}
 use Rattle.wl_requests.specs.declared.residents.Stacking.{Stacking}
 use Rattle.wl_requests.specs.declared.xdg_toplevel.ToplevelAsked.TheVariants.{Move as MoveAsked}
-use Rattle.wl_requests.specs.Holding.{HoldsMessage}
 use Rattle.wl_requests.specs.Messages.{IsAsked, IsTouchOfAsked}
 use Rattle.wl_requests.specs.PointerAsks.{pointer_asked_by, pointer_in}
-use Rattle.wl_requests.specs.Residents.{TakesMessage, TakesMessageAs}
 use Rattle.wl_requests.specs.Touching.{IsTouched, Touch}
 use Rattle.wl_shell.specs.Agreement.{IsShell}
 use Rattle.wl_stacking.specs.Stacking.{Owned}
@@ -31,6 +29,7 @@ use Rattle.wl_resident.specs.declared.screens.Screen.{Screen}
 use Rattle.wl_resident.specs.Finding.{IsPlacedBy, found_by, parent_by, popup_in_shell}
 use Rattle.wl_resident.specs.Screens.{HasRoom, IsSameScreen, IsTouchedBy, IsTouchedIn, root_in, run_kept}
 use Rattle.wl_resident.proofs.Assembling.{Asks}
+use Rattle.wl_resident.proofs.Given.{HoldsGiven, TakesGiven, TakesGivenAs}
 
 -- ---- what was prepared
 
@@ -38,22 +37,23 @@ prepared-so : (result : Result (Unit {0}) AllocError) (P : Type 0) → is_ok res
 prepared-so (Ok u) P ok h = h
 prepared-so (Err e) P ok h = absurd (differ (sym ok))
 
-pub asks-so : {A : Type 0} (c : ℕ) (v mid : Kept A) (b : Bool) (was ready : Screen A) (asked : Asked) (placing : Placing) (surface root : ℕ) (found : Option ℕ) (stacking : Stacking)
+pub asks-so : {A : Type 0} (c : ℕ) (r : Resident) (d : Desktop) (v mid : Kept A) (b : Bool) (was ready : Screen A)
+    (asked : Asked) (placing : Placing) (surface root : ℕ) (found : Option ℕ) (stacking : Stacking)
     (applied : Option (Applied A)) (result : Result (Unit {0}) AllocError) (surfaces : ℕ)
     → v.client.ended ≡ None → IsAsked v.client asked → IsTouchedBy v asked (Some surface) → root_in v (Some surface) ≡ Some root → links_in v.owned.linked.family root ≡ None
     → ((o : Owned) (histories : ℕ → Option History) → IsShell (kept_of v.owned.shell) histories o.shell
     → found ≡ found_by c root (parent_by o (popup_in_shell v.owned.shell root)) was.stacked.windows)
-    → IsPlacedBy was c v asked placing → TakesMessage asked placing v mid stacking
-    → ((touch : Touch) → IsTouchOfAsked asked v touch → TakesMessageAs (is_some applied) asked placing v mid)
+    → IsPlacedBy was c v asked placing → TakesGiven asked placing c r d v mid stacking
+    → ((touch : Touch) → IsTouchOfAsked asked v touch → TakesGivenAs (is_some applied) asked placing c r d v mid)
     → ((touch : Touch) → IsTouchOfAsked asked v touch → IsTouched touch v.owned.linked mid.owned.linked applied)
-    → ((touch : Touch) → IsTouchOfAsked asked v touch → is_some applied ≡ true → HoldsMessage asked placing v mid)
+    → ((touch : Touch) → IsTouchOfAsked asked v touch → is_some applied ≡ true → HoldsGiven asked placing c r d v mid)
     → (((touch : Touch) → IsTouchOfAsked asked v touch → ⊥) → (numbers : ById ℕ) (subsurfaces : List Subsurface) → AreOfSurfaces v.subsurfaces numbers subsurfaces → applied ≡ None)
     → (is_some applied ≡ true → b ≡ true) → b ≡ is_ok result → surfaces ≡ count v.owned.linked.surfaces → IsSameScreen was ready
     → OnOk result (ready.spare.was.items ≡ run_kept c found was.stacked.windows) → OnOk result (HasRoom surfaces ready)
     → ready.spare.is.items ≡ [] → (numbers : ById ℕ) (subsurfaces : List Subsurface) → AreOfSurfaces v.subsurfaces numbers subsurfaces
-    → Asks c v mid was ready asked placing surface root found stacking applied
-asks-so c v mid b was ready asked placing surface root found stacking applied result surfaces lives asks by root_is top found_is placed takes decides touched_so holds nothing room ok counted same kept
-    has_room empty numbers subsurfaces are =
+    → Asks c r d v mid was ready asked placing surface root found stacking applied
+asks-so c r d v mid b was ready asked placing surface root found stacking applied result surfaces lives asks by root_is top found_is placed takes decides touched_so holds nothing room ok counted same
+    kept has_room empty numbers subsurfaces are =
     record {
       lives = lives;
       asks = asks;

@@ -6,7 +6,7 @@ use Rattle.std.specs.List.{list_any}
 use Rattle.std.specs.Option.{option_and_then, option_map}
 use Rattle.std.proofs.lemmas.List.{length-map}
 use Rattle.wl_family.specs.Family.{Tied}
-use Rattle.wl_invariants.specs.Orderly.{HasMappedToplevel, IsMappedToplevel}
+use Rattle.wl_invariants.specs.Standing.{HasMappedToplevel, IsMappedToplevel}
 use Rattle.wl_laws.proofs.Lists.Keys.{found-any, found-passes}
 use Rattle.wl_laws.proofs.Lists.Standings.{of-client, of-surface}
 use Rattle.wl_laws.proofs.Marks.Stacks.{Each, and-left, differ, each-map}

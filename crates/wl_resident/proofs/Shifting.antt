@@ -1,6 +1,6 @@
 -- A toplevel is moved with its popups: what is kept agrees with that, and what is marked is what has to be and may be.
 use Rattle.std.proofs.Common.{◌≡◌, ◌≤◌, ◌<◌, ℕ, Bool, true, false, cond, Option, Some, None, List, [], ◌∷◌, length, arith, refl, ap, sym, subst, ◌∙◌}
-use Rattle.std.specs.Prelude.{ℤ, pos, ◌==◌, IfSome, find}
+use Rattle.std.specs.Prelude.{ℤ, pos, ◌==◌, find}
 use Rattle.std.specs.List.{list_any}
 use Rattle.std.proofs.lemmas.Int.{ints}
 use Rattle.wl_interface.specs.declared.interface.Interface.TheVariants.{WlSurface}
@@ -8,7 +8,7 @@ use Rattle.wl_invariants.specs.InOrder.{InOrderAt, InOrderBy}
 use Rattle.wl_laws.proofs.Isolation.Own.{any-kept}
 use Rattle.wl_laws.proofs.Lists.Keys.{found-any, found-passes}
 use Rattle.wl_laws.proofs.Marks.Stacks.{differ, or-left, or-right}
-use Rattle.wl_ordered.specs.Ordered.{AreUngrabbed, Ordered, OwnsOrdered}
+use Rattle.wl_ordered.specs.Ordered.{Ordered, OwnsOrdered}
 use Rattle.wl_owning.specs.Owning.{targets_in}
 use Rattle.wl_owning.specs.RoleNames.{names_of}
 use Rattle.wl_owning.proofs.Popups.Knowing.{roles-known}
@@ -21,14 +21,13 @@ use Rattle.wl_requests.specs.declared.residents.Resident.{Resident as Kept}
 use Rattle.wl_runs.specs.Moves.{IsWhole, MovesAreMarked, shifted}
 use Rattle.wl_runs.proofs.Shifted.{stays-whole}
 use Rattle.wl_scene.specs.Roots.{HasRole, IsHeld}
-use Rattle.wl_shell.specs.InOrder.{AreReleased, AreRising, HasOrder}
+use Rattle.wl_shell.specs.InOrder.{AreRising, HasOrder}
 use Rattle.wl_stacked.specs.Stacked.{replaced, run_of}
 use Rattle.wl_stacking.specs.Popups.{place_or_origin, standing_place}
 use Rattle.wl_stacking.specs.Stacking.{Owned, Standing, is_of, moved_to}
 use Rattle.wl_stacking.specs.Windows.{Owner, Place, moved}
 use Rattle.wl_toplevels.proofs.RootsOf.Stacked.{none-any}
-use Rattle.wl_xdg_state.specs.Popups.{popup_in, popups_of}
-use Rattle.wl_xdg_state.specs.Shell.{Popup, Shell}
+use Rattle.wl_xdg_state.specs.Popups.{popups_of}
 use Rattle.wl_resident.specs.Agreement.{IsStack, with_numbers}
 use Rattle.wl_resident.specs.Marking.{MarksAtLeast, MarksMost}
 use Rattle.wl_resident.specs.Moving.{with_moved}
@@ -85,17 +84,8 @@ found-as numbers c surface n once named (k ∷ ks) (s ∷ ss) is =
 
 -- ---- what a client owns
 
--- where no popup has a grab, none does that was dismissed
-released : (shell : Shell) → AreUngrabbed shell → AreReleased shell
-released [] free = tt
-released (x ∷ xs) free = (at (popup_in x.role) free.0, released xs free.1)
-  where
-    at : (o : Option Popup) → IfSome o (λ popup. popup.has_grab ≡ false) → IfSome o (λ popup. popup.is_dismissed ≡ true → popup.has_grab ≡ false)
-    at None free = tt
-    at (Some popup) free = λ dismissed. free
-
 in-order : (r : Resident) → OwnsOrdered r → HasOrder r.owned.shell
-in-order r owns = roles-known.order r owns.order owns.younger (released r.owned.shell owns.ungrabbed) owns.few
+in-order r owns = roles-known.order r owns.order owns.younger owns.released owns.few
 
 -- what is to be painted is of the output
 within-output : (width height x y : ℕ) → x < width → y < height → in_output width height (pos x) (pos y) ≡ true

@@ -22,7 +22,7 @@ use Rattle.wl_plain.specs.Changing.{Placing, changed_for, effect_placing, placem
 use Rattle.wl_plain.specs.Demand.{Demand, EndToplevel}
 use Rattle.wl_plain.specs.Demanding.{effect_of_commit}
 use Rattle.wl_plain.specs.Desktop.{Desktop, Resident}
-use Rattle.wl_plain.specs.LeftOut.{served_now}
+use Rattle.wl_plain.specs.LeftOut.{nothing_left_out}
 use Rattle.wl_plain.specs.Step.{with_peer}
 use Rattle.wl_ordered.specs.Ordered.{OwnsOrdered}
 use Rattle.wl_toplevels.specs.Messages.{IsDemanded}
@@ -105,7 +105,7 @@ module _ {A : Type 0} (v : Kept A) (r : Resident) (p : Peer) (c : ℕ) (d : Desk
 
 -- What is told of a request that may change what several surfaces show is the damage that is applied to the windows of their trees.
 pub touch-told : {A : Type 0} (v mid : Kept A) (r : Resident) (p : Peer) (c : ℕ) (d : Desktop) (a : Asked) (demand : Demand) (touch : Touch) (applied : Applied A) → IsResident v r → OwnsOrdered r
-    → IsAsked v.client a → IsDemanded served_now (split_of r.peer.rest) r demand → IsTouchOfAsked a v touch → IsTouched touch v.owned.linked mid.owned.linked (Some applied)
+    → IsAsked v.client a → IsDemanded nothing_left_out (split_of r.peer.rest) r demand → IsTouchOfAsked a v touch → IsTouched touch v.owned.linked mid.owned.linked (Some applied)
     → TellsTrees (named_by v) applied.changes.items r.owned.surfaces (changed_for c demand (with_peer p r) d).owned.surfaces
 touch-told v mid r p c d a demand touch applied is orderly asks demanded it touched =
     told-by v r p c d is orderly applied.changes.items touch demand (touch-demands v r a demand touch is orderly asks demanded it) touched.1

@@ -34,13 +34,13 @@ use Rattle.wl_client.proofs.Passing.{judged-refused}
 use Rattle.wl_peer.specs.Judgement.{action_of}
 use Rattle.wl_peer.specs.Objects.{ById}
 use Rattle.wl_peer.specs.Peer.{known_of, with_rest}
-use Rattle.wl_peer.specs.Requests.{Request, ToCompositor, ToXdgSurface, rect, request_of, toplevel_request}
+use Rattle.wl_peer.specs.Requests.{Request, ToCompositor, rect, request_of, toplevel_request}
 use Rattle.wl_peer.specs.ToplevelRequest.{ToplevelRequest}
 use Rattle.wl_peer.specs.ToplevelRequest as toplevel
 use Rattle.wl_peer.specs.declared.refusals.Refusal.{Refusal}
 use Rattle.wl_peer.proofs.Requests.{of-wl_subsurface, of-wl_surface}
 use Rattle.wl_xdg_state.specs.Kept.{kept_of}
-use Rattle.wl_xdg_state.specs.Popups.{is_parent}
+use Rattle.wl_xdg_state.specs.Popups.{Popped, is_parent, is_popup_mapped, popup_at}
 use Rattle.wl_xdg_state.specs.Positioner.{Positioner, is_complete}
 use Rattle.wl_xdg_state.specs.Shell.{Effect, Stays, Unconfigured, Configures, Maps, Unmaps, XdgSurface as Xdg, is_full, xdg_at, xdg_of, xdg_with}
 use Rattle.wl_state.specs.Request.{Request as Asking, Member, PlaceAbove, PlaceBelow}
@@ -51,13 +51,12 @@ use Rattle.wl_plain.specs.Demand.{Demand, Asks, CommitTree, EndPopup, EndSubsurf
 use Rattle.wl_plain.specs.Demanding.{committed_by, demand_by, demand_of, demands, effect_of_commit, moved_by_pointer, surface_demand, toplevel_asked, toplevel_destroyed}
 use Rattle.wl_plain.specs.Demanding.{xdg_asked}
 use Rattle.wl_plain.specs.Desktop.{Resident}
-use Rattle.wl_plain.specs.LeftOut.{served_now}
-use Rattle.wl_plain.specs.Served.{unserved_now}
+use Rattle.wl_plain.specs.LeftOut.{nothing_left_out}
 use Rattle.wl_plain.specs.Step.{with_peer}
 use Rattle.wl_plain.specs.WlPointer.{is_no_cursor}
 use Rattle.wl_plain.specs.WlSubsurface.{beside, demand_by_link, has_subsurface, is_no_subsurface, link_of_subsurface, past_limit, placed_beside, refuses}
 use Rattle.wl_plain.specs.WlSurface.{surface_created, transform_set}
-use Rattle.wl_plain.specs.XdgPopup.{is_no_popup, may_be_parent, popup_asked, popup_destroyed, popup_made, positioner_of}
+use Rattle.wl_plain.specs.XdgPopup.{grab_of, is_no_popup, may_be_parent, popup_asked, popup_destroyed, popup_made, positioner_of}
 use Rattle.wl_plain.specs.XdgShell.{acknowledged_by, base_destroyed, geometry_set, role_of, state_asked, toplevel_made, xdg_surface_destroyed, xdg_surface_made}
 use Rattle.wl_laws.proofs.Lists.Keys.{none-some}
 use Rattle.wl_ordered.specs.Ordered.{OwnsOrdered}
@@ -135,29 +134,29 @@ if-untouched : (b : Bool) (x y : Result Demand Refusal) → Untouched x → Unto
 if-untouched true x y f g = f
 if-untouched false x y f g = g
 
-compositor-untouched : (r : Resident) (object version : ℕ) (request : WlCompositorRequest) → Untouched (demand_of served_now r object version (wl_compositor_request request))
+compositor-untouched : (r : Resident) (object version : ℕ) (request : WlCompositorRequest) → Untouched (demand_of nothing_left_out r object version (wl_compositor_request request))
 compositor-untouched r object version (compositor.CreateSurface id) = asks-untouched (surface_created r id version)
 compositor-untouched r object version (compositor.CreateRegion id) =
     asks-untouched (owns (action_of (known_of r.peer) object version (ToCompositor (compositor.CreateRegion id))))
 
-seat-untouched : (r : Resident) (object version : ℕ) (request : WlSeatRequest) → Untouched (demand_of served_now r object version (wl_seat_request request))
+seat-untouched : (r : Resident) (object version : ℕ) (request : WlSeatRequest) → Untouched (demand_of nothing_left_out r object version (wl_seat_request request))
 seat-untouched r object version (seat.GetPointer id) = λ q. refl
 seat-untouched r object version (seat.GetKeyboard id) = tt
 seat-untouched r object version (seat.GetTouch id) = tt
 
-pointer-untouched : (r : Resident) (object version : ℕ) (request : WlPointerRequest) → Untouched (demand_of served_now r object version (wl_pointer_request request))
+pointer-untouched : (r : Resident) (object version : ℕ) (request : WlPointerRequest) → Untouched (demand_of nothing_left_out r object version (wl_pointer_request request))
 pointer-untouched r object version (pointer.SetCursor serial surface x y) =
     if-untouched (surface == 0) _ _ (λ q. refl)
     (if-untouched (is_no_cursor (role_of r surface) || is_some (xdg_of surface r.owned.shell)) (refuses object HasAnotherRole) _ tt (λ q. refl))
 
-subcompositor-untouched : (r : Resident) (object version : ℕ) (request : WlSubcompositorRequest) → Untouched (demand_of served_now r object version (wl_subcompositor_request request))
+subcompositor-untouched : (r : Resident) (object version : ℕ) (request : WlSubcompositorRequest) → Untouched (demand_of nothing_left_out r object version (wl_subcompositor_request request))
 subcompositor-untouched r object version subcompositor.Destroy = λ q. refl
 subcompositor-untouched r object version (subcompositor.GetSubsurface id child parent) =
     if-untouched (is_too_deep r.owned.surfaces child parent) past_limit _ tt
     (if-untouched (is_no_subsurface (role_of r child) || (has_subsurface child r || is_some (xdg_of child r.owned.shell))) _ _ tt
     (if-untouched (is_bad_parent r.owned.surfaces child parent) _ _ tt (λ q. refl)))
 
-base-untouched : (r : Resident) (object version : ℕ) (request : XdgWmBaseRequest) → Untouched (demand_of served_now r object version (xdg_wm_base_request request))
+base-untouched : (r : Resident) (object version : ℕ) (request : XdgWmBaseRequest) → Untouched (demand_of nothing_left_out r object version (xdg_wm_base_request request))
 base-untouched r object version base.Destroy = asks-untouched (base_destroyed r object)
 base-untouched r object version (base.CreatePositioner id) = λ q. refl
 base-untouched r object version (base.GetXdgSurface id surface) = asks-untouched (xdg_surface_made r object version id surface)
@@ -169,22 +168,31 @@ popup-untouched r x version id parent p =
     (if-untouched (is_no_popup (role_of r x.surface)) _ _ tt
     (if-untouched (may_be_parent (xdg_at parent r.owned.shell)) _ _ (if-untouched (is_complete p) _ _ (λ q. refl) tt) tt))
 
-xdg-asked-untouched : (r : Resident) (o : Option Xdg) (version : ℕ) (request : XdgSurfaceRequest) → unserved_now (ToXdgSurface request) ≡ false → Untouched (xdg_asked r o version request)
-xdg-asked-untouched r None version request served = tt
-xdg-asked-untouched r (Some x) version requests.Destroy served = asks-untouched (xdg_surface_destroyed x)
-xdg-asked-untouched r (Some x) version (requests.GetToplevel id) served = asks-untouched (toplevel_made r x version id)
-xdg-asked-untouched r (Some x) version (requests.GetPopup id parent positioner) served = popup-untouched r x version id parent (positioner_of (r.peer.positioners positioner))
-xdg-asked-untouched r (Some x) version (requests.SetWindowGeometry a b width height) served = asks-untouched (geometry_set x (rect a b width height))
-xdg-asked-untouched r (Some x) version (requests.AckConfigure serial) served = asks-untouched (acknowledged_by x serial)
+grab-untouched : (object serial : ℕ) (x : Xdg) (o : Option Popped) → Untouched (grab_of object serial x o)
+grab-untouched object serial x None = tt
+grab-untouched object serial x (Some p) =
+    if-untouched p.popup.is_dismissed (Ok (Asks Ignore)) _ (λ q. refl) (if-untouched (is_popup_mapped p) _ _ tt (λ q. refl))
 
-xdg-untouched : (r : Resident) (object version : ℕ) (request : XdgSurfaceRequest) → Untouched (demand_of served_now r object version (xdg_surface_request request))
+popup-grab-untouched : (r : Resident) (object by serial : ℕ) (o : Option Xdg) → Untouched (popup_asked r object o (popup.Grab by serial))
+popup-grab-untouched r object by serial None = tt
+popup-grab-untouched r object by serial (Some x) = grab-untouched object serial x (popup_at x.id r.owned.shell)
+
+xdg-asked-untouched : (r : Resident) (o : Option Xdg) (version : ℕ) (request : XdgSurfaceRequest) → Untouched (xdg_asked r o version request)
+xdg-asked-untouched r None version request = tt
+xdg-asked-untouched r (Some x) version requests.Destroy = asks-untouched (xdg_surface_destroyed x)
+xdg-asked-untouched r (Some x) version (requests.GetToplevel id) = asks-untouched (toplevel_made r x version id)
+xdg-asked-untouched r (Some x) version (requests.GetPopup id parent positioner) = popup-untouched r x version id parent (positioner_of (r.peer.positioners positioner))
+xdg-asked-untouched r (Some x) version (requests.SetWindowGeometry a b width height) = asks-untouched (geometry_set x (rect a b width height))
+xdg-asked-untouched r (Some x) version (requests.AckConfigure serial) = asks-untouched (acknowledged_by x serial)
+
+xdg-untouched : (r : Resident) (object version : ℕ) (request : XdgSurfaceRequest) → Untouched (demand_of nothing_left_out r object version (xdg_surface_request request))
 xdg-untouched r object version (requests.GetPopup id parent positioner) =
-    xdg-asked-untouched r (xdg_at object r.owned.shell) version (requests.GetPopup id parent positioner) refl
-xdg-untouched r object version requests.Destroy = xdg-asked-untouched r (xdg_at object r.owned.shell) version requests.Destroy refl
-xdg-untouched r object version (requests.GetToplevel id) = xdg-asked-untouched r (xdg_at object r.owned.shell) version (requests.GetToplevel id) refl
+    xdg-asked-untouched r (xdg_at object r.owned.shell) version (requests.GetPopup id parent positioner)
+xdg-untouched r object version requests.Destroy = xdg-asked-untouched r (xdg_at object r.owned.shell) version requests.Destroy
+xdg-untouched r object version (requests.GetToplevel id) = xdg-asked-untouched r (xdg_at object r.owned.shell) version (requests.GetToplevel id)
 xdg-untouched r object version (requests.SetWindowGeometry a b width height) =
-    xdg-asked-untouched r (xdg_at object r.owned.shell) version (requests.SetWindowGeometry a b width height) refl
-xdg-untouched r object version (requests.AckConfigure serial) = xdg-asked-untouched r (xdg_at object r.owned.shell) version (requests.AckConfigure serial) refl
+    xdg-asked-untouched r (xdg_at object r.owned.shell) version (requests.SetWindowGeometry a b width height)
+xdg-untouched r object version (requests.AckConfigure serial) = xdg-asked-untouched r (xdg_at object r.owned.shell) version (requests.AckConfigure serial)
 
 moved-untouched : (serial : ℕ) (o : Option Xdg) → Untouched (moved_by_pointer serial o)
 moved-untouched serial None = tt
@@ -207,7 +215,7 @@ placed-untouched object parent request (Some member) = λ q. refl
 
 -- one of the client's own interfaces
 own-judged : (interface : Interface) (r : Resident) (object version : ℕ) (m : Message) → is_own interface ≡ true → m.interface ≡ interface
-    → demand_of served_now r object version m ≡ demands (owns (action_of (known_of r.peer) object version (request_of m)))
+    → demand_of nothing_left_out r object version m ≡ demands (owns (action_of (known_of r.peer) object version (request_of m)))
 own-judged WlDisplay r object version m own is = rw is refl
 own-judged WlRegistry r object version m own is = rw is refl
 own-judged WlRegion r object version m own is = rw is refl
@@ -217,26 +225,22 @@ own-judged WlBuffer r object version m own is = rw is refl
 own-judged XdgPositioner r object version m own is = rw is refl
 own-judged interface r object version m own is = absurd (cc)
 
-own-untouched : (r : Resident) (object version : ℕ) (m : Message) → is_own m.interface ≡ true → Untouched (demand_of served_now r object version m)
+own-untouched : (r : Resident) (object version : ℕ) (m : Message) → is_own m.interface ≡ true → Untouched (demand_of nothing_left_out r object version m)
 own-untouched r object version m own =
     subst (λ (j : Result Demand Refusal). Untouched j) (sym (own-judged m.interface r object version m own refl))
     (asks-untouched (owns (action_of (known_of r.peer) object version (request_of m))))
 
--- one that isn't served
-left-out-untouched : (r : Resident) (object version : ℕ) (m : Message) → unserved_now (request_of m) ≡ true → Untouched (demand_of served_now r object version m)
-left-out-untouched r object version m is = rw is tt
-
-judged-untouched : (r : Resident) (object version : ℕ) (m n : Message) → n ≡ m → Untouched (demand_of served_now r object version n) → Untouched (demand_of served_now r object version m)
-judged-untouched r object version m n is none = subst (λ (x : Message). Untouched (demand_of served_now r object version x)) is none
+judged-untouched : (r : Resident) (object version : ℕ) (m n : Message) → n ≡ m → Untouched (demand_of nothing_left_out r object version n) → Untouched (demand_of nothing_left_out r object version m)
+judged-untouched r object version m n is none = subst (λ (x : Message). Untouched (demand_of nothing_left_out r object version x)) is none
 
 -- ---- what is demanded of a surface
 
 -- a request of a wl_surface
 surface-judged : (r : Resident) (object version : ℕ) (m : Message) (request : WlSurfaceRequest) → m ≡ wl_surface_request request
-    → demand_of served_now r object version m ≡ surface_demand r object version request
+    → demand_of nothing_left_out r object version m ≡ surface_demand r object version request
 surface-judged r object version m request is =
-    ap (demand_of served_now r object version) is
-    ∙ ap (λ (q : Request). if unserved_now q then past_limit else demand_by q r object version) (of-wl_surface request)
+    ap (demand_of nothing_left_out r object version) is
+    ∙ ap (λ (q : Request). demand_by q r object version) (of-wl_surface request)
 
 -- if it isn't refused, it demands this
 abbrev IsOnly : Demand → Result Demand Refusal → Type 0
@@ -261,10 +265,10 @@ commit-only object (Some x) Unmaps = refl
 -- ---- what is demanded of a wl_subsurface
 
 subsurface-judged : (r : Resident) (object version : ℕ) (m : Message) (request : WlSubsurfaceRequest) → m ≡ wl_subsurface_request request
-    → demand_of served_now r object version m ≡ demand_by_link r object (link_of_subsurface object r) request
+    → demand_of nothing_left_out r object version m ≡ demand_by_link r object (link_of_subsurface object r) request
 subsurface-judged r object version m request is =
-    ap (demand_of served_now r object version) is
-    ∙ ap (λ (q : Request). if unserved_now q then past_limit else demand_by q r object version) (of-wl_subsurface request)
+    ap (demand_of nothing_left_out r object version) is
+    ∙ ap (λ (q : Request). demand_by q r object version) (of-wl_subsurface request)
 
 synced-untouched : (r : Resident) (object : ℕ) (o : Option Link) → Untouched (demand_by_link r object o subsurface.SetSync)
 synced-untouched r object None = λ q. refl
@@ -305,16 +309,16 @@ module _ {A : Type 0} (v : Kept A) (r : Resident) (is : IsResident v r) (orderly
   -- ---- that passes
 
   module _ (object version size target : ℕ) (m : Message) (passes : Passes v.client object version size target m) (demand : Demand)
-      (told : IsDemanded served_now (split_of r.peer.rest) r demand) where
+      (told : IsDemanded nothing_left_out (split_of r.peer.rest) r demand) where
     abbrev left : Resident
     left = with_peer (with_rest (drop size r.peer.rest) r.peer) r
 
-    judged : demand_of served_now left object version m ≡ Ok demand
+    judged : demand_of nothing_left_out left object version m ≡ Ok demand
     judged =
         sym (demanded-first v r object version size target m passes is)
-        ∙ subst (λ (s : Split). IsDemanded served_now s r demand) (whole-first v r object version size target m passes is) told
+        ∙ subst (λ (s : Split). IsDemanded nothing_left_out s r demand) (whole-first v r object version size target m passes is) told
 
-    untouched : (T : Touch → Type 0) (touched : Option ℕ) → Untouched (demand_of served_now left object version m) → touched ≡ None → ((touch : Touch) → T touch → ⊥)
+    untouched : (T : Touch → Type 0) (touched : Option ℕ) → Untouched (demand_of nothing_left_out left object version m) → touched ≡ None → ((touch : Touch) → T touch → ⊥)
         → Touches v r T touched demand
     untouched T touched none there never =
         none-touched T touched demand (subst (λ (j : Result Demand Refusal). Untouched j) judged none r) there never
@@ -491,7 +495,7 @@ module _ {A : Type 0} (v : Kept A) (r : Resident) (is : IsResident v r) (orderly
         toplevel-named (names_of v.client.objects) v.owned.linked.surfaces v.owned.linked.family (kept_of v.owned.shell) r.owned is.owns object target
         (roles-named.popup v.client.objects object target named) in
         let asks : popup_asked left object (xdg_with object r.owned.shell) popup.Destroy ≡ Ok demand =
-        subst (λ (n : Message). demand_of served_now left object version n ≡ Ok demand) is_it judged in
+        subst (λ (n : Message). demand_of nothing_left_out left object version n ≡ Ok demand) is_it judged in
         let e : demand ≡ EndPopup object its.1.id =
         is-only (EndPopup object its.1.id) demand (popup_destroyed left object its.1)
         (if-only (EndPopup object its.1.id) (is_parent its.1.id left.owned.shell) _ (Ok (EndPopup object its.1.id)) tt refl)
@@ -500,7 +504,9 @@ module _ {A : Type 0} (v : Kept A) (r : Resident) (is : IsResident v r) (orderly
         (one-touched (λ touch. touch ≡ Closes target) touched (EndPopup object its.1.id) its.1.surface target (ap (option_map (λ (x : Xdg). x.surface)) its.3.at_id) there its.3.surface
         (Closes target, refl, refl) (λ touch same. subst (λ (t : Touch). IsDemandOf v r t (EndPopup object its.1.id)) (sym same) (object, its.1.id, refl)))
     popup-touches (popup.Grab by serial) is_it touched there =
-        untouched (λ touch. ⊥) touched (judged-untouched left object version m (xdg_popup_request (popup.Grab by serial)) (sym is_it) tt) there (λ touch it. it)
+        untouched (λ touch. ⊥) touched
+        (judged-untouched left object version m (xdg_popup_request (popup.Grab by serial)) (sym is_it) (popup-grab-untouched left object by serial (xdg_with object left.owned.shell))) there
+        (λ touch it. it)
 
     -- ---- of whatever interface
 
@@ -521,14 +527,12 @@ module _ {A : Type 0} (v : Kept A) (r : Resident) (is : IsResident v r) (orderly
         untouched (λ touch. ⊥) touched (judged-untouched left object version m _ (sym is_it) (base-untouched left object version request)) there (λ touch it. it)
     by-kind (kind.XdgSurface request) is_it touched there =
         untouched (λ touch. ⊥) touched (judged-untouched left object version m _ (sym is_it) (xdg-untouched left object version request)) there (λ touch it. it)
-    by-kind kind.Unserved is_it touched there =
-        untouched (λ touch. ⊥) touched (left-out-untouched left object version m is_it) there (λ touch it. it)
 
   -- ---- that is refused
 
-  refused-demands : (s : Split) (refusal : Refusal) (demand : Demand) → IsRefused s v.client refusal → IsDemanded served_now s r demand → ⊥
+  refused-demands : (s : Split) (refusal : Refusal) (demand : Demand) → IsRefused s v.client refusal → IsDemanded nothing_left_out s r demand → ⊥
   refused-demands (Whole object opcode size) refusal demand why told =
-      let judged = judged-refused r.peer.objects r.peer.held (λ version m. demand_of served_now r object version m) opcode (take (size - 8) (drop 8 r.peer.rest)) (r.peer.objects object) refusal
+      let judged = judged-refused r.peer.objects r.peer.held (λ version m. demand_of nothing_left_out r object version m) opcode (take (size - 8) (drop 8 r.peer.rest)) (r.peer.objects object) refusal
       (passing-peer v.client r.peer object opcode size (Err refusal) is.peer why) in
       let both : Result.Err refusal ≡ Ok demand = sym judged ∙ told in
       absurd (cc)
@@ -537,11 +541,11 @@ module _ {A : Type 0} (v : Kept A) (r : Resident) (is : IsResident v r) (orderly
 
   -- ---- whatever is asked
 
-  pub touches : (a : Asked) (demand : Demand) (touched : Option ℕ) → IsAsked v.client a → IsDemanded served_now (split_of r.peer.rest) r demand → IsTouchedBy v a touched
+  pub touches : (a : Asked) (demand : Demand) (touched : Option ℕ) → IsAsked v.client a → IsDemanded nothing_left_out (split_of r.peer.rest) r demand → IsTouchedBy v a touched
       → Touches v r (IsTouchOfAsked a v) touched demand
-  touches asked.More demand touched more told there = absurd (subst (λ (s : Split). IsDemanded served_now s r demand) (ap split_of (sym is.peer.rest) ∙ more) told)
+  touches asked.More demand touched more told there = absurd (subst (λ (s : Split). IsDemanded nothing_left_out s r demand) (ap split_of (sym is.peer.rest) ∙ more) told)
   touches (asked.Refused refusal) demand touched why told there =
-      absurd (refused-demands (split_of v.client.rest) refusal demand why (subst (λ (rest : List ℕ). IsDemanded served_now (split_of rest) r demand) (sym is.peer.rest) told))
+      absurd (refused-demands (split_of v.client.rest) refusal demand why (subst (λ (rest : List ℕ). IsDemanded nothing_left_out (split_of rest) r demand) (sym is.peer.rest) told))
   touches (asked.Own size j) demand touched own told there =
       let m = request_message own.request in
       untouched own.object own.version size own.target m own.passes demand told (λ touch. ⊥) touched
@@ -551,12 +555,12 @@ module _ {A : Type 0} (v : Kept A) (r : Resident) (is : IsResident v r) (orderly
 
 -- The surface that a message touches is the one that is taken for it, by its number.
 pub touch-named : {A : Type 0} (v : Kept A) (r : Resident) (a : Asked) (demand : Demand) (touched : Option ℕ) → IsResident v r → OwnsOrdered r → IsAsked v.client a
-    → IsDemanded served_now (split_of r.peer.rest) r demand → IsTouchedBy v a touched → IsTouchNamed v r demand touched
+    → IsDemanded nothing_left_out (split_of r.peer.rest) r demand → IsTouchedBy v a touched → IsTouchNamed v r demand touched
 touch-named v r a demand touched is orderly asks told by = (touches v r is orderly a demand touched asks told by).named
 
 -- And the request is one of that surface that may change what several show, unless it is the end of a toplevel; where none is touched it is none.
 pub touch-is : {A : Type 0} (v : Kept A) (r : Resident) (a : Asked) (demand : Demand) (touched : Option ℕ) → IsResident v r → OwnsOrdered r → IsAsked v.client a
-    → IsDemanded served_now (split_of r.peer.rest) r demand → IsTouchedBy v a touched → IsTouchIf (IsTouchOfAsked a v) touched demand
+    → IsDemanded nothing_left_out (split_of r.peer.rest) r demand → IsTouchedBy v a touched → IsTouchIf (IsTouchOfAsked a v) touched demand
 touch-is v r a demand touched is orderly asks told by = (touches v r is orderly a demand touched asks told by).is_touch
 
 -- the surface of such a request is the one that is taken for it
@@ -575,5 +579,5 @@ touch-by v a touch it = absurd it
 
 -- Such a request demands what changes the surfaces so.
 pub touch-demands : {A : Type 0} (v : Kept A) (r : Resident) (a : Asked) (demand : Demand) (touch : Touch) → IsResident v r → OwnsOrdered r → IsAsked v.client a
-    → IsDemanded served_now (split_of r.peer.rest) r demand → IsTouchOfAsked a v touch → IsDemandOf v r touch demand
+    → IsDemanded nothing_left_out (split_of r.peer.rest) r demand → IsTouchOfAsked a v touch → IsDemandOf v r touch demand
 touch-demands v r a demand touch is orderly asks told it = (touches v r is orderly a demand (Some (surface_of touch)) asks told (touch-by v a touch it)).demanded touch it

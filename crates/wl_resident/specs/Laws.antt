@@ -1,4 +1,6 @@
 -- The laws by which a message is served: on which ways it leads, what is marked there, and how what its client owns stays in order.
+use Rattle.wl_grabs.specs.Marks.{DismissalMarks}
+use Rattle.wl_grabs.specs.Windows.{DismissedStaysShown, DismissedWindowsGo}
 use Rattle.wl_named_popups.specs.Popups.{RisingNamed}
 use Rattle.wl_ordered.specs.OrderedLaws.{DemandsKeepOrdered, MessagesKeepOrdered, OrderedHasOrder}
 use Rattle.wl_toplevels.specs.Marked.{MarksByTreesBetween}
@@ -17,3 +19,10 @@ pub record MessageLaws : Type 0 where
   pub demands : DemandsKeepOrdered
   pub messages : MessagesKeepOrdered
   pub rising : RisingNamed
+
+-- The laws by which popups with a grab are dismissed: which windows go, what is marked of them, and in which order a client's popups are.
+pub record ReleaseLaws : Type 0 where
+  pub windows : DismissedWindowsGo
+  pub shown : DismissedStaysShown
+  pub marks : DismissalMarks
+  pub order : OrderedHasOrder

@@ -1,9 +1,11 @@
 pub mod Agreement
 pub mod Finding
+pub mod Gone
 pub mod Laws
 pub mod Marking
 pub mod Moving
 pub mod Raising
+pub mod Releasing
 pub mod Runs
 pub mod Screens
 pub mod Seats

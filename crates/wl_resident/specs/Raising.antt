@@ -1,8 +1,10 @@
 -- A press raises a toplevel: what is kept follows, and what is marked.
-use Rattle.std.specs.Prelude.{ℕ, ◌≡◌, if◌then◌else◌, Some, None}
+use Rattle.std.specs.Prelude.{ℕ, ◌≡◌, if◌then◌else◌, Option, Some, None, List}
 use Rattle.wl_interface.specs.declared.interface.Interface.TheVariants.{WlSurface}
 use Rattle.wl_peer.specs.Objects.{ById}
-use Rattle.wl_stacking.specs.Stacking.{raised}
+use Rattle.wl_paint.specs.Damage.{Damaged}
+use Rattle.wl_stacking.specs.Pointer.{Target}
+use Rattle.wl_stacking.specs.Stacking.{Standing, raised}
 use Rattle.wl_ordered.specs.Ordered.{Ordered}
 use Rattle.wl_owning.specs.Owning.{targets_in}
 use Rattle.wl_plain.specs.Desktop.{Desktop, Resident}
@@ -39,3 +41,19 @@ MarksRaisedMost {A} c number old new =
     → old.damage.width ≡ d.output.width → old.damage.height ≡ d.output.height → IsSeated c others base v (pile_of old) d r
     → Ordered d → targets_in WlSurface v.client.objects surface ≡ Some number
     → MarksMostBy (if is_topmost c surface d.standing then None else Some (c, surface)) d (with_raised c surface d) old.damage new.damage
+
+-- ---- a toplevel, if one is given
+
+-- the stack with it on top of the others
+abbrev pub raised_to : Option Target → List Standing → List Standing
+raised_to None standing = standing
+raised_to (Some t) standing = raised t.client t.surface standing
+
+-- the toplevel that moved up then: one that wasn't topmost
+abbrev pub moved_up : Option Target → List Standing → Option (ℕ × ℕ)
+moved_up None standing = None
+moved_up (Some t) standing = if is_topmost t.client t.surface standing then None else Some (t.client, t.surface)
+
+-- A change from one desktop to another marks what it has to, and no more than it may where a press raised this toplevel.
+abbrev pub MarksChange : Option (ℕ × ℕ) → Desktop → Desktop → Damaged → Damaged → Type 0
+MarksChange raised d e old new = MarksAtLeast d e old new × MarksMostBy raised d e old new

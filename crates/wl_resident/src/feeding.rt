@@ -9,12 +9,14 @@ ghost use Rattle.wl_client.specs.Agreement.{IsPeer};
 ghost use Rattle.wl_peer.specs.Peer.{IsIdleAt, Peer, ended, stored_at};
 ghost use Rattle.wl_plain.specs.Desktop.{Desktop, Resident as Plain, become};
 ghost use Rattle.wl_paint.specs.Damage.{has};
+ghost use Rattle.wl_requests.specs.Grabbing.{IsGrabbingOf};
+ghost use Rattle.wl_requests.specs.Messages.{IsAsked};
 ghost use Rattle.wl_requests.specs.PointerAsks.{MessageAsksPointer};
 ghost use Rattle.wl_resident.specs.Screens.{IsFollowed, IsParted, has_own};
 ghost use Rattle.wl_resident.specs.Seats.{IsBare, IsChangedSo, IsClearedBy, IsSeated, ended_by, opened_kept};
 ghost use Rattle.wl_resident.specs.Finding.{IsPlacedBy};
 ghost use Rattle.wl_resident.specs.View.{Pile, pile_of};
-ghost use Rattle.wl_plain.specs.LeftOut.{served_now};
+ghost use Rattle.wl_plain.specs.LeftOut.{nothing_left_out};
 ghost use Rattle.wl_ordered.specs.Ordered.{Ordered};
 ghost use Rattle.wl_plain.specs.Happens.{Serves};
 ghost use Rattle.wl_plain.specs.Through.{ServesThrough};
@@ -27,7 +29,7 @@ use std::alloc::Allocator;
 use wl_client::{Cause, Client, StoreNo};
 use wl_linked::Linked;
 use wl_plain::{ClientNo, Done, Stored};
-use wl_requests::{Asked, Outcome, Placing, PointerAsked, Resident};
+use wl_requests::{Asked, Grabbing, Outcome, Placing, PointerAsked, Resident};
 use wl_scene::{Owned, parent_corner};
 use wl_shell::Shell;
 use wl_subsurfaces::Subsurfaces;
@@ -130,35 +132,37 @@ impl<A: Allocator + Copy> Screen<A> {
         }
     }
 
-    /// Takes the first whole message of a client that lives, and answers what it asks of the pointer; None where there is none. What it changes
-    /// of the windows of a toplevel is marked, tree by tree: the damage that it applied, where the windows of a tree stand as they did; else
-    /// all of them, as they were before and as they are after. Where the client ends by it, its windows are marked, and no more; so does one that asks for a wl_pointer
-    /// where there is no seat for that.
+    /// Takes the first whole message of a client that lives, which asks this, and answers what it asks of the pointer; None where there is
+    /// none. What it changes of the windows of a toplevel is marked, tree by tree: the damage that it applied, where the windows of a tree
+    /// stand as they did; else all of them, as they were before and as they are after. Where the client ends by it, its windows are marked, and
+    /// no more; so does one that asks for a wl_pointer where there is no seat for that. A grab is allowed by what is handed in for that.
     pub fn serve(
         &mut self,
         resident: &mut Resident<A>,
         client: ClientNo,
+        asked: Asked,
         has_seat: bool,
-        alloc: A,
+        grabbing: Grabbing,
     ) -> Option<PointerAsked>
+        requires { IsAsked resident.old.client asked }
         ensures serves { is_some result ≡ true → (others : ℕ → ById ℕ) (base d : Desktop) (r : Plain)
             → self.old.damage.width ≡ d.output.width → self.old.damage.height ≡ d.output.height
-            → IsSeated client others base resident.old (pile_of self.old) d r → Ordered d
-            → (e : Desktop) × (q : Plain) × Serves served_now client d e × IsSeated client others base resident.new (pile_of self.new) e q }
+            → IsSeated client others base resident.old (pile_of self.old) d r → Ordered d → IsGrabbingOf grabbing asked client r d
+            → (e : Desktop) × (q : Plain) × Serves nothing_left_out client d e × IsSeated client others base resident.new (pile_of self.new) e q }
         ensures marks { is_some result ≡ true → (others : ℕ → ById ℕ) (base d : Desktop) (r : Plain)
             → self.old.damage.width ≡ d.output.width → self.old.damage.height ≡ d.output.height
-            → IsSeated client others base resident.old (pile_of self.old) d r → Ordered d
-            → (e : Desktop) (q : Plain) → Serves served_now client d e → IsSeated client others base resident.new (pile_of self.new) e q
+            → IsSeated client others base resident.old (pile_of self.old) d r → Ordered d → IsGrabbingOf grabbing asked client r d
+            → (e : Desktop) (q : Plain) → Serves nothing_left_out client d e → IsSeated client others base resident.new (pile_of self.new) e q
             → MarksAtLeast d e self.old.damage self.new.damage }
         ensures within { is_some result ≡ true → (others : ℕ → ById ℕ) (base d : Desktop) (r : Plain)
             → self.old.damage.width ≡ d.output.width → self.old.damage.height ≡ d.output.height
-            → IsSeated client others base resident.old (pile_of self.old) d r → Ordered d
-            → (e : Desktop) (q : Plain) → Serves served_now client d e → IsSeated client others base resident.new (pile_of self.new) e q
+            → IsSeated client others base resident.old (pile_of self.old) d r → Ordered d → IsGrabbingOf grabbing asked client r d
+            → (e : Desktop) (q : Plain) → Serves nothing_left_out client d e → IsSeated client others base resident.new (pile_of self.new) e q
             → MarksAtMost client d e self.old.damage self.new.damage }
         ensures through { is_some result ≡ true → (others : ℕ → ById ℕ) (base d : Desktop) (r : Plain)
             → self.old.damage.width ≡ d.output.width → self.old.damage.height ≡ d.output.height
-            → IsSeated client others base resident.old (pile_of self.old) d r → Ordered d
-            → (e : Desktop) × (q : Plain) × (path : List Desktop) × ServesThrough served_now client d path e
+            → IsSeated client others base resident.old (pile_of self.old) d r → Ordered d → IsGrabbingOf grabbing asked client r d
+            → (e : Desktop) × (q : Plain) × (path : List Desktop) × ServesThrough nothing_left_out client d path e
             × IsSeated client others base resident.new (pile_of self.new) e q × MarksThrough d path self.old.damage self.new.damage }
         ensures asks { IfSome result (λ asked. (resident.old.client.ended ≡ None) × MessageAsksPointer resident.old asked) }
         ensures seat { IfSome result (λ asked. (id : ℕ) → asked ≡ PointerAsked.NewPointer id → has_seat ≡ false → is_some resident.new.client.ended ≡ true) }
@@ -171,11 +175,11 @@ impl<A: Allocator + Copy> Screen<A> {
         if resident.client.has_ended() {
             return None;
         }
-        let asked = resident.asked();
+        let alloc = resident.client.allocator();
         let pointer = resident.pointer_asked(&asked);
         let placing = self.placing(resident, client, &asked);
         let Some(surface) = touched_by(resident, &asked) else {
-            let Some(_outcome) = resident.serve(asked, has_seat, placing) else {
+            let Some(_outcome) = resident.serve(asked, has_seat, placing, grabbing) else {
                 return None;
             };
             self.part_alone(resident, client, alloc);
@@ -185,7 +189,7 @@ impl<A: Allocator + Copy> Screen<A> {
         let toplevel = find_toplevel(&resident.owned.shell, &self.stacked, client, root);
         let surfaces = resident.owned.linked.surfaces.len();
         let has_room = self.prepare(client, toplevel, surfaces).is_ok();
-        let Some(outcome) = resident.serve(asked, has_room, placing) else {
+        let Some(outcome) = resident.serve(asked, has_room, placing, grabbing) else {
             return None;
         };
         if resident.client.has_ended() {

@@ -1,7 +1,8 @@
-//! The laws by which a message is served.
+//! The laws by which a message is served, and popups are dismissed.
 
-ghost use Rattle.wl_resident.specs.Laws.{MessageLaws};
+ghost use Rattle.wl_resident.specs.Laws.{MessageLaws, ReleaseLaws};
 
+use wl_grabs::{dismissal_marks, dismissed_stays_shown, dismissed_windows_go};
 use wl_named_popups::rising_named;
 use wl_ordered::{demands_keep_ordered, messages_keep_ordered, ordered_has_order};
 use wl_toplevels::marks_by_trees_between;
@@ -26,4 +27,14 @@ pub(crate) fn message_laws()
     demands_keep_ordered();
     messages_keep_ordered();
     rising_named();
+}
+
+/// So do those by which popups with a grab are dismissed.
+pub(crate) fn release_laws()
+    ensures { ReleaseLaws }
+{
+    dismissed_windows_go();
+    dismissed_stays_shown();
+    dismissal_marks();
+    ordered_has_order();
 }

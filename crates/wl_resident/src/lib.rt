@@ -8,6 +8,7 @@ mod laws;
 mod marking;
 mod moving;
 mod raising;
+mod releasing;
 mod roots;
 mod run;
 mod screens;
@@ -15,3 +16,4 @@ mod touching;
 
 pub use feeding::{bare, sent, store};
 pub use screens::Screen;
+pub use touching::touched_by;

@@ -5,6 +5,7 @@ ghost use Rattle.std.specs.List.{list_any};
 ghost use Rattle.wl_marking.specs.Marking.{AddsPoints, IsAsLarge};
 ghost use Rattle.wl_paint.specs.Damage.{has};
 ghost use Rattle.wl_repaint.specs.Repaint.{AreTogether, marks_trees, window_has};
+ghost use Rattle.wl_resident.specs.Gone.{is_tree_at, tree_has};
 ghost use Rattle.wl_resident.specs.Screens.{AreToldIf, changes_in, has_own, is_own_at, run_kept, turned_if};
 
 use crate::screens::Screen;
@@ -48,6 +49,38 @@ fn mark_own<A: Allocator>(damage: &mut Damage<A>, windows: &[Stacked], client: C
     }
 }
 
+/// All points of a window are marked, if it is of the tree of this root of the client.
+fn mark_rooted<A: Allocator>(
+    damage: &mut Damage<A>,
+    stacked: &Stacked,
+    client: ClientNo,
+    root: SurfaceNo,
+)
+    ensures points { (x y : ℕ) → x < damage.old.width → y < damage.old.height
+        → has damage.new x y ≡ (has damage.old x y || is_tree_at client root (pos x) (pos y) stacked.now) }
+    ensures sides { IsAsLarge damage.old damage.new }
+{
+    if stacked.client == client && stacked.window.root == root {
+        mark_windows(damage, &[stacked.window]);
+    }
+}
+
+/// All points of those of these windows are marked that are of the tree of this root of the client.
+fn mark_all_rooted<A: Allocator>(
+    damage: &mut Damage<A>,
+    windows: &[Stacked],
+    client: ClientNo,
+    root: SurfaceNo,
+)
+    ensures points { (x y : ℕ) → x < damage.old.width → y < damage.old.height
+        → has damage.new x y ≡ (has damage.old x y || tree_has client root (pos x) (pos y) windows.now) }
+    ensures sides { IsAsLarge damage.old damage.new }
+{
+    for stacked in windows {
+        mark_rooted(damage, stacked, client, root);
+    }
+}
+
 /// All points of these windows are marked.
 fn mark_kept<A: Allocator>(damage: &mut Damage<A>, windows: &[Stacked])
     ensures points { (x y : ℕ) → x < damage.old.width → y < damage.old.height
@@ -70,6 +103,17 @@ impl<A: Allocator + Copy> Screen<A> {
         ensures spare { self.new.spare ≡ self.old.spare }
     {
         mark_own(&mut self.damage, self.stacked.windows(), client);
+    }
+
+    /// All points of the windows of the tree of this root of a client are marked.
+    pub(crate) fn mark_tree(&mut self, client: ClientNo, root: SurfaceNo)
+        ensures points { (x y : ℕ) → x < self.old.damage.width → y < self.old.damage.height
+            → has self.new.damage x y ≡ (has self.old.damage x y || tree_has client root (pos x) (pos y) self.old.stacked.windows) }
+        ensures sides { IsAsLarge self.old.damage self.new.damage }
+        ensures scene { self.new.scene ≡ self.old.scene }
+        ensures stacked { self.new.stacked ≡ self.old.stacked }
+    {
+        mark_all_rooted(&mut self.damage, self.stacked.windows(), client, root);
     }
 
     /// All points of the windows are marked that the toplevel has after a message.

@@ -40,11 +40,10 @@ fn touched_in<A: Allocator + Copy>(
     }
 }
 
-/// The surface in whose tree a message may change windows.
-pub(crate) fn touched_by<A: Allocator + Copy>(
-    resident: &Resident<A>,
-    asked: &Asked,
-) -> Option<SurfaceNo>
+/// The surface in whose tree a message that asks this may change windows, by its number: one that is committed or goes, the child of a
+/// wl_subsurface that goes or is desynchronised while its link lives, and that of a toplevel or of a popup that goes (wayland.xml, wl_surface
+/// and wl_subsurface; xdg-shell.xml, xdg_toplevel.destroy and xdg_popup.destroy). None where it may change none.
+pub fn touched_by<A: Allocator + Copy>(resident: &Resident<A>, asked: &Asked) -> Option<SurfaceNo>
     ensures { IsTouchedBy resident.now asked.now result }
 {
     match asked {

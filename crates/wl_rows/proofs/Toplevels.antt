@@ -14,7 +14,7 @@ use Rattle.wl_stacking.specs.Windows.{Place, Window, tree}
 use Rattle.wl_plain.specs.Desktop.{Desktop, Resident, arrival, client_at, empty, with_client}
 use Rattle.wl_plain.specs.Moments.{marks_at_least}
 use Rattle.wl_laws.specs.Ample.{fed}
-use Rattle.wl_plain.specs.LeftOut.{served_now}
+use Rattle.wl_plain.specs.LeftOut.{nothing_left_out}
 use Rattle.wl_plain.specs.Scratch.{scratch}
 use Rattle.wl_plain.specs.Stacked.{all_windows}
 use Rattle.wl_plain.specs.Ask.{CreateSurface, ConfigureAgain}
@@ -31,7 +31,7 @@ start =
 
 -- a request of a client to an object
 abbrev pub asks : ℕ → ℕ → ℕ → List Field → Desktop → Desktop
-asks c object opcode fields d = fed served_now c (message_bytes object opcode fields) d
+asks c object opcode fields d = fed nothing_left_out c (message_bytes object opcode fields) d
 
 abbrev quiet : ℕ → Option Resident → Desktop → Desktop
 quiet c None d = d

@@ -175,9 +175,6 @@ module _ (c t : ℕ) (d : Desktop) (sound : IsSound d) where
     above : List Window
     above = shown_of d f.above
 
-    run : List Window
-    run = shown d f.it
-
     whole : all_windows d ≡ shown_of d f.below ++ (shown d f.it ++ shown_of d f.above)
     whole = ap (shown_of d) f.parts ∙ shown-both d f.below (f.it ∷ f.above)
 

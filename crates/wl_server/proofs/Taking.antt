@@ -3,7 +3,7 @@ use Rattle.std.proofs.Common.{◌≡◌, ◌+◌, ℕ, suc, List, [], ◌∷◌,
 use Rattle.wl_plain.specs.declared.answers.Done.{Done}
 use Rattle.wl_plain.specs.Act.{Act}
 use Rattle.wl_plain.specs.Desktop.{Desktop}
-use Rattle.wl_plain.specs.LeftOut.{LeftOut, served_now}
+use Rattle.wl_plain.specs.LeftOut.{LeftOut, nothing_left_out}
 use Rattle.wl_session.specs.Agreeing.{Agrees}
 use Rattle.wl_session.specs.Course.{AreParts, Course, Runs, TakesCourse, happenings, moment}
 use Rattle.wl_session.specs.Events.{Event, Moment}
@@ -51,7 +51,7 @@ abbrev pub went-then : (a b : List Act) (old mid new : SessionView) (d : Desktop
 went-then a b old mid new d first next = record {
   desktop = next.desktop;
   events = first.events ++ next.events;
-  runs = runs-append served_now a b (moment d old) (moment first.desktop mid) (moment next.desktop new) first.events next.events first.runs next.runs;
+  runs = runs-append nothing_left_out a b (moment d old) (moment first.desktop mid) (moment next.desktop new) first.events next.events first.runs next.runs;
   apart = apart-then first.events next.events first.apart next.apart;
   agrees = next.agrees;
 }
@@ -62,7 +62,7 @@ went-then a b old mid new d first next = record {
 abbrev pub Joins : Stretch → Stretch → Stretch → SessionView → SessionView → Type 0
 Joins P Q R mid new =
     (start : Moment) (d e : Desktop) (a b : List Act) (es fs : List Event) → Agrees mid.desk d → Agrees new.desk e
-    → Runs served_now start a es (moment d mid) → Runs served_now (moment d mid) b fs (moment e new)
+    → Runs nothing_left_out start a es (moment d mid) → Runs nothing_left_out (moment d mid) b fs (moment e new)
     → P start a es (moment d mid) → Q (moment d mid) b fs (moment e new) → R start (a ++ b) (es ++ fs) (moment e new)
 
 pub Takes-none : (P : Stretch) (old new : SessionView) → new ≡ old → ((d : Desktop) → Agrees old.desk d → P (moment d old) [] [] (moment d new)) → Takes P old new
@@ -84,7 +84,7 @@ Takes-then P Q R old mid new first next join = λ d agrees.
 abbrev pub Weakens : Stretch → Stretch → SessionView → SessionView → Type 0
 Weakens P Q old new =
     (d e : Desktop) (a : List Act) (es : List Event) → Agrees old.desk d → Agrees new.desk e
-    → Runs served_now (moment d old) a es (moment e new) → P (moment d old) a es (moment e new) → Q (moment d old) a es (moment e new)
+    → Runs nothing_left_out (moment d old) a es (moment e new) → P (moment d old) a es (moment e new) → Q (moment d old) a es (moment e new)
 
 pub Takes-weaker : (P Q : Stretch) (old new : SessionView) → Takes P old new → Weakens P Q old new → Takes Q old new
 Takes-weaker P Q old new takes weaker = λ d agrees.
@@ -110,7 +110,7 @@ pub idle-is : {W : Type 0} (from to : W) (start end : Moment) → to ≡ from �
 idle-is from to start end same ends = record { kept = same; acts_are = refl; events_are = refl; stays = ends }
 
 pub both : {W : Type 0} (P Q : W → W → Stretch) (from mid to : W) (start moment end : Moment) (a b : List Act) (es fs : List Event)
-    → Runs served_now start a es moment → Runs served_now moment b fs end → P from mid start a es moment → Q mid to moment b fs end
+    → Runs nothing_left_out start a es moment → Runs nothing_left_out moment b fs end → P from mid start a es moment → Q mid to moment b fs end
     → Then P Q from to start (a ++ b) (es ++ fs) end
 both P Q from mid to start moment end a b es fs leads goes p q = record {
   mid = mid;

@@ -9,7 +9,7 @@ use Rattle.std.proofs.KnownBytes.{Appends-nil, Appends-trans}
 use Rattle.std.proofs.lemmas.List.Elements.{All-append, All-cons, All-head, All-map, All-nil, All-tail, All-weaker}
 use Rattle.wl_plain.specs.Act.{Act, Connect, Feed, Store, Leave, Tick, Send, Close, Motion, Button}
 use Rattle.wl_plain.specs.Happenings.{Happening, Message, Receive, Single, Starve}
-use Rattle.wl_plain.specs.LeftOut.{served_now}
+use Rattle.wl_plain.specs.LeftOut.{nothing_left_out}
 use Rattle.wl_plain.specs.declared.answers.Done.{Done}
 use Rattle.wl_session.specs.Course.{AreParts, Runs, TakesCourse, happenings, moment}
 use Rattle.wl_session.specs.Agreeing.{Agrees}
@@ -44,7 +44,7 @@ head_or other [] = other
 head_or other (h ∷ hs) = h
 
 -- what is told of a step that is one event
-pub told-single : (tell : Telling) (h : Happening) (from to : Moment) (events : List Event) → happenings events ≡ h ∷ [] → AreEvents served_now from events to
+pub told-single : (tell : Telling) (h : Happening) (from to : Moment) (events : List Event) → happenings events ≡ h ∷ [] → AreEvents nothing_left_out from events to
     → gathered tell events ≡ tell h from to
 unfolding head_or
 told-single tell h from to [] parts leads = absurd (cc)
@@ -95,7 +95,7 @@ events-quiet tell quiet (e ∷ es) silent are =
     ap (λ (front : List ℕ). front ++ gathered tell es) (silent e.happening e.before e.after are.0) ∙ events-quiet tell quiet es silent are.1
 
 runs-quiet : (tell : Telling) (quiet : Act → Bool) (acts : List Act) (from to : Moment) (events : List Event) → IsSilent tell quiet → AllPass quiet acts
-    → Runs served_now from acts events to → gathered tell events ≡ []
+    → Runs nothing_left_out from acts events to → gathered tell events ≡ []
 runs-quiet tell quiet [] from to events silent pass run = ap (gathered tell) run.0
 runs-quiet tell quiet (act ∷ acts) from to events silent pass run =
     let now : gathered tell run.2 ≡ [] =

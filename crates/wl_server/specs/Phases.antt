@@ -5,7 +5,7 @@ use Rattle.wl_hub.specs.Faults.{Rose}
 use Rattle.wl_hub.specs.Moves.{Delivers}
 use Rattle.wl_plain.specs.Act.{Act, Connect, Feed, Store, Leave, Tick, Send, Close, peer_at, status_of, store_size_of, unsent_of}
 use Rattle.wl_plain.specs.Happenings.{Single}
-use Rattle.wl_plain.specs.LeftOut.{served_now}
+use Rattle.wl_plain.specs.LeftOut.{nothing_left_out}
 use Rattle.wl_plain.specs.declared.answers.ConnectError.{ConnectError}
 use Rattle.wl_plain.specs.declared.answers.Done.TheVariants as gave
 use Rattle.wl_plain.specs.declared.answers.Fed.{Fed}
@@ -216,7 +216,7 @@ pub data FillsUpTo {S : Type 0} (files : Files S) (client number : ℕ) (from : 
   more : (before : ℕ) (mid to : S) (moment end : Moment) (first next : List Act) (early late : List Event) (store : ℕ)
       → FillsUpTo files client number from start before mid first early moment
       → next_store_of before (peer_at client moment.desktop) ≡ Some store
-      → Runs served_now start first early moment → Runs served_now moment next late end
+      → Runs nothing_left_out start first early moment → Runs nothing_left_out moment next late end
       → Puts files client number store mid to moment next late end
       → FillsUpTo files client number from start store to (first ++ next) (early ++ late) end
 

@@ -5,7 +5,7 @@ use Rattle.wl_plain.specs.Act.{Act, Connect, Feed, Store, Leave, Tick, Send, Clo
 use Rattle.wl_plain.specs.Desktop.{Desktop}
 use Rattle.wl_plain.specs.Happenings.{Happening, Message, Single, Starve, bytes_then_messages}
 use Rattle.wl_plain.specs.Happens.{Happens, Reaches}
-use Rattle.wl_plain.specs.LeftOut.{LeftOut, served_now}
+use Rattle.wl_plain.specs.LeftOut.{LeftOut, nothing_left_out}
 use Rattle.wl_plain.specs.declared.answers.Done.{Done}
 use Rattle.wl_session.specs.Events.{AreApart, AreEvents, Event, Moment, frames_of}
 use Rattle.wl_session.specs.Liars.{AreLiars, IsRightBut}
@@ -40,9 +40,9 @@ happenings events = map (λ e. e.happening) events
 pub record Course (act : Act) (done : Done) (old new : SessionView) (d : Desktop) : Type 0 where
   pub desktop : Desktop
   pub events : List Event
-  pub happens : Happens served_now act done d desktop
+  pub happens : Happens nothing_left_out act done d desktop
   pub parts : AreParts act done (happenings events)
-  pub leads : AreEvents served_now (moment d old) events (moment desktop new)
+  pub leads : AreEvents nothing_left_out (moment d old) events (moment desktop new)
   pub apart : AreApart events
   pub right : (liars last : ℕ → Bool) → AreLiars liars events last → IsRightBut liars (moment d old) → IsRightBut last (moment desktop new)
   pub agrees : Agrees new.desk desktop
@@ -55,9 +55,9 @@ pub record Took (client : ℕ) (old new : SessionView) (d : Desktop) : Type 0 wh
   pub count : ℕ
   pub desktop : Desktop
   pub events : List Event
-  pub reaches : Reaches served_now client count d desktop
+  pub reaches : Reaches nothing_left_out client count d desktop
   pub parts : happenings events ≡ replicate count (Message client)
-  pub leads : AreEvents served_now (moment d old) events (moment desktop new)
+  pub leads : AreEvents nothing_left_out (moment d old) events (moment desktop new)
   pub apart : AreApart events
   pub agrees : Agrees new.desk desktop
 
@@ -78,7 +78,7 @@ Runs left from (act ∷ acts) events to =
 pub record Ran (acts : List Act) (films : List Film) (old new : SessionView) (d : Desktop) : Type 0 where
   pub desktop : Desktop
   pub events : List Event
-  pub runs : Runs served_now (moment d old) acts events (moment desktop new)
+  pub runs : Runs nothing_left_out (moment d old) acts events (moment desktop new)
   pub apart : AreApart events
   pub shots : AreShots (frames_of events) films
   pub agrees : Agrees new.desk desktop

@@ -104,7 +104,7 @@ dismissed-twice x = ap (λ (o : Option RoleObject). record x { role = o }) (role
     role None = refl
     role (Some object) = ap (λ (k : Kind). Some (record object { kind = k })) (kind object.kind)
 
-absorbed : (id : ℕ) (ids : List ℕ) (xs : Shell) → is_among id ids ≡ true → map (dismissed_among ids) (map (gone_at id) xs) ≡ map (dismissed_among ids) xs
+pub absorbed : (id : ℕ) (ids : List ℕ) (xs : Shell) → is_among id ids ≡ true → map (dismissed_among ids) (map (gone_at id) xs) ≡ map (dismissed_among ids) xs
 absorbed id ids [] among = refl
 absorbed id ids (x ∷ xs) among =
     ap (λ (y : XdgSurface). y ∷ map (dismissed_among ids) (map (gone_at id) xs)) (one (x.id == id) refl)
@@ -131,7 +131,7 @@ popup-done : (popup : Popup) → popup.is_dismissed ≡ true → popup.has_grab 
 popup-done popup gone free =
     ap (λ (b : Bool). record popup { is_dismissed = b; has_grab = false }) (sym gone) ∙ ap (λ (b : Bool). record popup { has_grab = b }) (sym free)
 
-xdg-done : (x : XdgSurface) → IfSome (popup_in x.role) (λ popup. (popup.is_dismissed ≡ true) × (popup.has_grab ≡ false)) → popup_changed dismiss x ≡ x
+pub xdg-done : (x : XdgSurface) → IfSome (popup_in x.role) (λ popup. (popup.is_dismissed ≡ true) × (popup.has_grab ≡ false)) → popup_changed dismiss x ≡ x
 xdg-done x done = ap (λ (o : Option RoleObject). record x { role = o }) (role x.role done)
   where
     kind : (k : Kind) → IfSome (kind_popup k) (λ popup. (popup.is_dismissed ≡ true) × (popup.has_grab ≡ false)) → with_popup dismiss k ≡ k

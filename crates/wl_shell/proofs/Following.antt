@@ -10,7 +10,7 @@ use Rattle.wl_shell.specs.Agreement.{IsShell, with_history}
 use Rattle.wl_shell.specs.Descent.{AreYounger, has_popup_at, is_of_xdg}
 use Rattle.wl_shell.specs.Dismissing.{AreDone, GoesByFamily}
 use Rattle.wl_shell.specs.Found.{AreFound}
-use Rattle.wl_shell.specs.InOrder.{AfterFound, AreReleased, AreRising, BeforeFound, FirstFound, GoesNext, HasOrder, IsNextToGo, IsOnly, NextFound, NextStands, PopupsFollow, first_surface, goes_with, newest_first, with_dismissed}
+use Rattle.wl_shell.specs.InOrder.{AfterFound, AreReleased, AreRising, BeforeFound, FirstFound, GoesNext, HasOrder, IsNextToGo, IsOnly, NextFound, NextStands, first_surface, goes_with, newest_first, undismissed, with_dismissed}
 use Rattle.wl_shell.specs.Popups.{IsFound, IsNewest, IsOldest, dismissible, dismissible_under, has_popup, number_of, reaches}
 use Rattle.wl_shell.proofs.Descending.{descents_found, or-first, or-second, same-id}
 use Rattle.wl_shell.proofs.Dismissing.{EachAlike, alike-popups, dismissals_end, gone_at, same-after}
@@ -22,7 +22,7 @@ use Rattle.wl_shell.proofs.Standing.{both, kept-for, there}
 use Rattle.wl_state.specs.State.{History}
 use Rattle.wl_xdg_state.proofs.Standing.{changes_stand}
 use Rattle.wl_xdg_state.specs.Kept.{Book, Kept, changing, kept_changed, kept_of}
-use Rattle.wl_xdg_state.specs.Popups.{Popped, by_number, dismiss, dismissed_with, is_among, is_parent_of, kind_popup, popped_kind, popped_of, popped_role, popup_changed}
+use Rattle.wl_xdg_state.specs.Popups.{Popped, by_number, dismiss, dismissed_with, dismissing, is_among, is_parent_of, kind_popup, popped_kind, popped_of, popped_role, popup_changed}
 use Rattle.wl_xdg_state.specs.Popups.{popup_in, popups_of, with_popup, with_popup_role}
 use Rattle.wl_xdg_state.specs.Shell.{IsPopup, Kind, Popup, RoleObject, Shell, Toplevel, XdgSurface, xdg_at, xdg_of}
 
@@ -36,7 +36,7 @@ none-of : (T : Popped → Bool) (ps : List Popped) → Each (λ p. T p ≡ false
 none-of T [] none = refl
 none-of T (p ∷ ps) none = ap (λ (b : Bool). cond b (p ∷ filter T ps) (filter T ps)) none.0 ∙ none-of T ps none.1
 
-any-none : (T : Popped → Bool) (ps : List Popped) → Each (λ p. T p ≡ false) ps → list_any T ps ≡ false
+pub any-none : (T : Popped → Bool) (ps : List Popped) → Each (λ p. T p ≡ false) ps → list_any T ps ≡ false
 any-none T [] none = refl
 any-none T (p ∷ ps) none = ap (λ (b : Bool). b || list_any T ps) none.0 ∙ any-none T ps none.1
 
@@ -52,7 +52,7 @@ among-any p (q ∷ qs) (inr after) = or-second (q.xdg.id == p.xdg.id) (list_any 
 
 -- ---- sorted by number
 
-abbrev AreSorted : (ℕ → ℕ → Type 0) → List Popped → Type 0
+abbrev pub AreSorted : (ℕ → ℕ → Type 0) → List Popped → Type 0
 AreSorted Before [] = Unit {0}
 AreSorted Before (p ∷ ps) = Each (λ q. Before p.popup.number q.popup.number) ps × AreSorted Before ps
 
@@ -63,7 +63,7 @@ number-each P (p ∷ ps) all = (
   number-each P ps (λ n e. all n (or-second (p.popup.number == n) (list_any (λ q. q.popup.number == n) ps) e)),
 )
 
-abbrev Rises : ℕ → ℕ → Type 0
+abbrev pub Rises : ℕ → ℕ → Type 0
 Rises a b = a < b
 
 abbrev Falls : ℕ → ℕ → Type 0
@@ -78,11 +78,11 @@ fall-clash a b less more = omega (arith, less, more)
 below-none : (a : ℕ) → a < a → ⊥
 below-none a less = omega (arith, less)
 
-rising-sorted : (ps : List Popped) → AreRising ps → AreSorted Rises ps
+pub rising-sorted : (ps : List Popped) → AreRising ps → AreSorted Rises ps
 rising-sorted [] rising = tt
 rising-sorted (p ∷ ps) rising = (number-each (λ n. p.popup.number < n) ps rising.0, rising-sorted ps rising.1)
 
-each-newest : (P : Popped → Type 0) (acc ps : List Popped) → Each P acc → Each P ps → Each P (fold (λ later p. p ∷ later) acc ps)
+pub each-newest : (P : Popped → Type 0) (acc ps : List Popped) → Each P acc → Each P ps → Each P (fold (λ later p. p ∷ later) acc ps)
 each-newest P acc [] first all = first
 each-newest P acc (p ∷ ps) first all = each-newest P (p ∷ acc) ps (all.0, first) all.1
 
@@ -266,20 +266,20 @@ module _ (kept : ℕ → Option Kept) (histories : ℕ → Option History) (shel
         (each-newest (λ q. by-popup q ≡ true → q.popup.number ≤ p.0.popup.number) [] (popups_of shell) tt p.1.best) in
         ap (λ (s : ℕ). Some s) (sym (found-surface surface shell p.0.xdg p.1.only.found)) ∙ sym (ap first_surface rest.1)
 
-first_found : FirstFound
+pub first_found : FirstFound
 first_found result kept histories shell is rising found =
     oldest-found kept histories shell is (λ popup. true) result rising found ∙ ap first_surface (all-of (popups_of shell))
 
-after_found : AfterFound
+pub after_found : AfterFound
 after_found number result kept histories shell is rising found = oldest-found kept histories shell is (λ popup. nat_lt number popup.number) result rising found
 
-before_found : BeforeFound
+pub before_found : BeforeFound
 before_found number result kept histories shell is rising found = newest-found kept histories shell is (λ popup. nat_lt popup.number number) result rising found
 
 -- ---- one is dismissed
 
 module _ (id : ℕ) where
-  abbrev gone_popped : Popped → Popped
+  abbrev pub gone_popped : Popped → Popped
   gone_popped p = cond (p.xdg.id == id) (record { xdg = popup_changed dismiss p.xdg; object = with_popup_role dismiss p.object; popup = dismiss p.popup }) p
 
   number-stays : (p : Popped) → (gone_popped p).popup.number ≡ p.popup.number
@@ -340,7 +340,7 @@ module _ (id : ℕ) where
   ordered-gone acc (p ∷ ps) =
       ap (λ (rs : List Popped). fold (λ rs p. by_number p rs) rs (map gone_popped ps)) (by-number-gone p acc) ∙ ordered-gone (by_number p acc) ps
 
-  popups-gone : (shell : Shell) → popups_of (with_dismissed id shell) ≡ map gone_popped (popups_of shell)
+  pub popups-gone : (shell : Shell) → popups_of (with_dismissed id shell) ≡ map gone_popped (popups_of shell)
   popups-gone shell = ap (λ (ps : List Popped). fold (λ rs p. by_number p rs) [] ps) (flat-gone shell) ∙ ordered-gone [] (flat_map popped_of shell)
 
   newest-gone : (acc ps : List Popped) → fold (λ later p. p ∷ later) (map gone_popped acc) (map gone_popped ps) ≡ map gone_popped (fold (λ later p. p ∷ later) acc ps)
@@ -350,7 +350,7 @@ module _ (id : ℕ) where
   newest-first-gone : (shell : Shell) → newest_first (popups_of (with_dismissed id shell)) ≡ map gone_popped (newest_first (popups_of shell))
   newest-first-gone shell = ap newest_first (popups-gone shell) ∙ newest-gone [] (popups_of shell)
 
-  gone-kept : (q : Popped) → (q.xdg.id == id) ≡ false → gone_popped q ≡ q
+  pub gone-kept : (q : Popped) → (q.xdg.id == id) ≡ false → gone_popped q ≡ q
   gone-kept q e = ap (λ (b : Bool). cond b (record { xdg = popup_changed dismiss q.xdg; object = with_popup_role dismiss q.object; popup = dismiss q.popup }) q) e
 
   gone-tested : (gone : List ℕ) (q : Popped)
@@ -424,7 +424,7 @@ as-many : (id : ℕ) (xs : Shell) → length (with_dismissed id xs) ≡ length x
 as-many id [] = refl
 as-many id (x ∷ xs) = ap suc (as-many id xs)
 
-order-stays : (id : ℕ) (shell : Shell) → HasOrder shell → HasOrder (with_dismissed id shell)
+pub order-stays : (id : ℕ) (shell : Shell) → HasOrder shell → HasOrder (with_dismissed id shell)
 order-stays id shell order =
     let all = alike-popups id shell in
     record {
@@ -463,6 +463,9 @@ length-flat (x ∷ xs) =
 
 length-popups : (shell : Shell) → length (popups_of shell) ≡ length (flat_map popped_of shell)
 length-popups shell = let all = length-ordered [] (flat_map popped_of shell) in omega (arith, all)
+
+pub few-popups : (shell : Shell) → HasOrder shell → length (popups_of shell) ≤ 256
+few-popups shell order = let all = length-popups shell in let flat = length-flat shell in let few = order.few in omega (arith, all, flat, few)
 
 any-second : (T : Popped → Bool) (ps qs : List Popped) → list_any T (ps ++ qs) ≡ false → list_any T qs ≡ false
 any-second T [] qs none = none
@@ -513,31 +516,31 @@ neither : (a b : Bool) → (a || b) ≡ false → (a ≡ false) × (b ≡ false)
 neither true b e = absurd (cc)
 neither false b e = (refl, e)
 
-module _ (gone : List ℕ) where
+module _ (are : ℕ → Bool) where
   abbrev goes : Popped → Bool
-  goes p = is_among p.xdg.id gone && not p.popup.is_dismissed
+  goes p = are p.xdg.id && not p.popup.is_dismissed
 
   abbrev IsDoneIn : ℕ → Option RoleObject → Type 0
-  IsDoneIn id o = is_among id gone ≡ true → IfSome (popup_in o) (λ popup. (popup.is_dismissed ≡ true) × (popup.has_grab ≡ false))
+  IsDoneIn id o = are id ≡ true → IfSome (popup_in o) (λ popup. (popup.is_dismissed ≡ true) × (popup.has_grab ≡ false))
 
-  done-role : (x : XdgSurface) (o : Option RoleObject) (qs : List Popped) → list_any goes (popped_role x o ++ qs) ≡ false
+  pub done-role : (x : XdgSurface) (o : Option RoleObject) (qs : List Popped) → list_any goes (popped_role x o ++ qs) ≡ false
       → IfSome (popup_in o) (λ popup. popup.is_dismissed ≡ true → popup.has_grab ≡ false) → IsDoneIn x.id o × (list_any goes qs ≡ false)
   done-role x None qs none released = ((λ among. tt), none)
   done-role x (Some object) qs none released = kind object.kind none released
     where
       kind : (k : Kind) → list_any goes (popped_kind x object k ++ qs) ≡ false → IfSome (kind_popup k) (λ popup. popup.is_dismissed ≡ true → popup.has_grab ≡ false)
-          → (is_among x.id gone ≡ true → IfSome (kind_popup k) (λ popup. (popup.is_dismissed ≡ true) × (popup.has_grab ≡ false))) × (list_any goes qs ≡ false)
+          → (are x.id ≡ true → IfSome (kind_popup k) (λ popup. (popup.is_dismissed ≡ true) × (popup.has_grab ≡ false))) × (list_any goes qs ≡ false)
       kind Toplevel none released = ((λ among. tt), none)
       kind (IsPopup popup) none released =
-          let both = neither (is_among x.id gone && not popup.is_dismissed) (list_any goes qs) none in (
-            λ among. let dismissed = dismissed-so (is_among x.id gone) popup.is_dismissed among both.0 in (dismissed, released dismissed),
+          let both = neither (are x.id && not popup.is_dismissed) (list_any goes qs) none in (
+            λ among. let dismissed = dismissed-so (are x.id) popup.is_dismissed among both.0 in (dismissed, released dismissed),
             both.1,
           )
 
-  done-each : (xs : Shell) → list_any goes (flat_map popped_of xs) ≡ false → AreReleased xs → AreDone gone xs
-  done-each [] none released = tt
-  done-each (x ∷ xs) none released =
-      let one = done-role x x.role (flat_map popped_of xs) none released.0 in (one.0, done-each xs one.1 released.1)
+done-each : (gone : List ℕ) (xs : Shell) → list_any (λ p. is_among p.xdg.id gone && not p.popup.is_dismissed) (flat_map popped_of xs) ≡ false → AreReleased xs → AreDone gone xs
+done-each gone [] none released = tt
+done-each gone (x ∷ xs) none released =
+    let one = done-role (λ id. is_among id gone) x x.role (flat_map popped_of xs) none released.0 in (one.0, done-each gone xs one.1 released.1)
 
 -- ---- the next one
 
@@ -547,9 +550,82 @@ and-turned true false = refl
 and-turned false true = refl
 and-turned false false = refl
 
-and-left : (a b : Bool) → (a && b) ≡ true → a ≡ true
+pub and-left : (a b : Bool) → (a && b) ≡ true → a ≡ true
 and-left true b e = refl
 and-left false b e = absurd (cc)
+
+-- one popup of an id
+pub only-one : (kept : ℕ → Option Kept) (histories : ℕ → Option History) (shell : Shell) → IsShell kept histories shell → (p : Popped) (other : ℕ) → IsOnly shell other p
+    → (q : Popped) → IsIts shell q → (q.xdg.id == p.xdg.id) ≡ true → q ≡ p
+only-one kept histories shell agrees p other only q its same =
+    let at-q = found-at q.xdg.surface shell q.xdg agrees.apart its.found in
+    let at-p = found-at other shell p.xdg agrees.apart only.found in
+    let one : Some q.xdg ≡ Some p.xdg = sym at-q ∙ ap (λ (i : ℕ). xdg_at i shell) (eqb-true q.xdg.id p.xdg.id same) ∙ at-p in
+    let xdg : q.xdg ≡ p.xdg = cc in
+    let list : q ∷ [] ≡ p ∷ [] = sym its.its ∙ ap popped_of xdg ∙ only.its in
+    cc
+
+module _ (is : Popped → Bool) (shell : Shell) where
+  abbrev pub is_left : Popped → Bool
+  is_left p = is_among p.xdg.id (dismissed_with is shell) && not p.popup.is_dismissed
+
+  -- the newest of those that are left
+  abbrev pub IsNewestLeft : Popped → Type 0
+  IsNewestLeft p = Each (λ q. is_left q ≡ true → q.popup.number ≤ p.popup.number) (popups_of shell)
+
+  -- With it dismissed the same others are left, and to dismiss them all comes to the same.
+  pub record LeavesOthers (p : Popped) : Type 0 where
+    pub left : filter is_left (newest_first (popups_of (with_dismissed p.xdg.id shell))) ≡ undismissed is (with_dismissed p.xdg.id shell)
+    pub rest : dismissing is (with_dismissed p.xdg.id shell) ≡ dismissing is shell
+
+  module _ (book : Book) (histories : ℕ → Option History) (agrees : IsShell (kept_of book) histories shell) (order : HasOrder shell) (reach : ℕ → Bool)
+      (reached : (id : ℕ) → has_popup_at id shell ≡ true → reach id ≡ is_among id (dismissed_with is shell))
+      (leaves : (other : ℕ) (p : Popped) → IsOnly shell other p → is_left p ≡ true → IsNewestLeft p → LeavesOthers p) where
+    abbrev passing : Kept → Bool
+    passing k = has_popup (λ popup. not popup.is_dismissed) k && reach k.id
+
+    agreed-here : (other : ℕ) (k : Kept) (p : Popped) → kept_of book other ≡ Some k → IsOnly shell other p → passing k ≡ is_left p
+    agreed-here other k p here only =
+        ap₂ (λ a b. a && b) (agreed (kept_of book) histories shell agrees (λ popup. not popup.is_dismissed) other k p here only)
+        (ap reach (id-kept (kept_of book) histories shell agrees other k p here only)
+        ∙ reached p.xdg.id (among-any p (popups_of shell) (among-popups shell other p only)))
+        ∙ and-turned (not p.popup.is_dismissed) (is_among p.xdg.id (dismissed_with is shell))
+
+    no-popup-here : (k : Kept) → popup_in k.role ≡ None → passing k ≡ false
+    no-popup-here k none = ap (λ (o : Option Popup). option_map_or (λ popup. not popup.is_dismissed) o false && reach k.id) none
+
+    pub next-by : (result : Option ℕ) → IsNewest passing (kept_of book) result → GoesNext is shell result
+    next-by None none =
+        let nothing = none-found (kept_of book) histories shell agrees passing is_left agreed-here no-popup-here (λ other this. other ≤ this) none in (
+          none-of is_left (newest_first (popups_of shell)) (each-newest (λ p. is_left p ≡ false) [] (popups_of shell) tt nothing),
+          dismissals_end.all is shell
+              (done-each (dismissed_with is shell) shell (sym (any-in-order is_left shell) ∙ any-none is_left (popups_of shell) nothing) order.released),
+        )
+    next-by (Some other) newest =
+        let p = some-found (kept_of book) histories shell agrees passing is_left agreed-here no-popup-here (λ other this. other ≤ this) other newest in
+        (p.0, by p.0 p.1.only p.1.passed p.1.best)
+      where
+        by : (p : Popped) → IsOnly shell other p → is_left p ≡ true → IsNewestLeft p → IsNextToGo is shell other p
+        by p only passes best =
+            let id = p.xdg.id in
+            let all = alike-popups id shell in
+            let others = leaves other p only passes best in
+            record {
+              only = only;
+              order = others-left Falls (λ other this. other ≤ this) fall-clash below-none is_left (gone_popped id) id (gone-tested id (dismissed_with is shell)) (gone-kept id) p
+                  (newest_first (popups_of shell)) (same-id id) (falling (popups_of shell) order.rising)
+                  (among-newest p [] (popups_of shell) (among-popups shell other p only)) passes
+                  (each-newest (λ q. is_left q ≡ true → q.popup.number ≤ p.popup.number) [] (popups_of shell) tt best)
+                  (each-newest (λ q. (q.xdg.id == id) ≡ true → q ≡ p) [] (popups_of shell) tt
+                  (each-map (IsIts shell) (λ q. (q.xdg.id == id) ≡ true → q ≡ p) (only-one (kept_of book) histories shell agrees p other only) (popups_of shell) (all-its shell agrees.apart)))
+                  ∙ ap (λ (qs : List Popped). p ∷ filter is_left qs) (sym (newest-first-gone id shell))
+                  ∙ ap (λ (qs : List Popped). p ∷ qs) others.left;
+              rest = others.rest;
+              has_order = order-stays id shell order;
+              popups = λ xdg. sym (id-alike xdg (popups_of shell) (popups_of (with_dismissed id shell)) all);
+            }
+
+-- ---- with a popup or a toplevel
 
 family-of : (is_popup : Bool) (xdg : ℕ) → GoesByFamily (goes_with is_popup xdg)
 family-of true xdg p q id parent = ap (λ (i : ℕ). i == xdg) id
@@ -560,15 +636,9 @@ module _ (x : XdgSurface) (surface : ℕ) (book : Book) (histories : ℕ → Opt
   abbrev is : Popped → Bool
   is = goes_with (has_popup_at x.id shell) x.id
 
-  abbrev T : Popped → Bool
-  T p = is_among p.xdg.id (dismissed_with is shell) && not p.popup.is_dismissed
-
   reached : (id : ℕ) → has_popup_at id shell ≡ true → reaches 256 book x.id id ≡ is_among id (dismissed_with is shell)
   reached id there = at (has_popup_at x.id shell) refl
     where
-      many : length (popups_of shell) ≤ 256
-      many = let all = length-popups shell in let flat = length-flat shell in let few = order.few in omega (arith, all, flat, few)
-
       less : has_popup_at x.id shell ≡ false → length (popups_of shell) ≤ 255
       less none =
           let all = length-popups shell in
@@ -577,68 +647,31 @@ module _ (x : XdgSurface) (surface : ℕ) (book : Book) (histories : ℕ → Opt
           omega (arith, all, flat, few)
 
       at : (b : Bool) → has_popup_at x.id shell ≡ b → reaches 256 book x.id id ≡ is_among id (dismissed_with (goes_with b x.id) shell)
-      at true e = descents_found.popup x.id id book histories shell each agrees order.younger many e there
+      at true e = descents_found.popup x.id id book histories shell each agrees order.younger (few-popups shell order) e there
       at false e = descents_found.toplevel x.id id book histories shell each agrees order.younger (less e) e there
 
-  agreed-here : (other : ℕ) (k : Kept) (p : Popped) → kept_of book other ≡ Some k → IsOnly shell other p → dismissible book x.id k ≡ T p
-  agreed-here other k p here only =
-      ap₂ (λ a b. a && b) (agreed (kept_of book) histories shell agrees (λ popup. not popup.is_dismissed) other k p here only)
-      (ap (reaches 256 book x.id) (id-kept (kept_of book) histories shell agrees other k p here only)
-      ∙ reached p.xdg.id (among-any p (popups_of shell) (among-popups shell other p only)))
-      ∙ and-turned (not p.popup.is_dismissed) (is_among p.xdg.id (dismissed_with is shell))
+  leaves : (other : ℕ) (p : Popped) → IsOnly shell other p → is_left is shell p ≡ true → IsNewestLeft is shell p → LeavesOthers is shell p
+  leaves other p only passes best =
+      let id = p.xdg.id in
+      let family = family-of (has_popup_at x.id shell) x.id in
+      let same : dismissed_with is shell ≡ dismissed_with is (with_dismissed id shell) =
+      same-after is family (popups_of shell) (popups_of (with_dismissed id shell)) [] (alike-popups id shell) in
+      record {
+        left = ap (λ (gone : List ℕ). filter (λ q. is_among q.xdg.id gone && not q.popup.is_dismissed) (newest_first (popups_of (with_dismissed id shell)))) same;
+        rest = dismissals_end.one is id shell family (and-left (is_among id (dismissed_with is shell)) (not p.popup.is_dismissed) passes);
+      }
 
-  no-popup-here : (k : Kept) → popup_in k.role ≡ None → dismissible book x.id k ≡ false
-  no-popup-here k none = ap (λ (o : Option Popup). option_map_or (λ popup. not popup.is_dismissed) o false && reaches 256 book x.id k.id) none
+  next-of : (result : Option ℕ) → IsNewest (dismissible book x.id) (kept_of book) result → GoesNext is shell result
+  next-of result newest = next-by is shell book histories agrees order (reaches 256 book x.id) reached leaves result newest
 
-  only-one : (p : Popped) (other : ℕ) → IsOnly shell other p → (q : Popped) → IsIts shell q → (q.xdg.id == p.xdg.id) ≡ true → q ≡ p
-  only-one p other only q its same =
-      let at-q = found-at q.xdg.surface shell q.xdg agrees.apart its.found in
-      let at-p = found-at other shell p.xdg agrees.apart only.found in
-      let one : Some q.xdg ≡ Some p.xdg = sym at-q ∙ ap (λ (i : ℕ). xdg_at i shell) (eqb-true q.xdg.id p.xdg.id same) ∙ at-p in
-      let xdg : q.xdg ≡ p.xdg = cc in
-      let list : q ∷ [] ≡ p ∷ [] = sym its.its ∙ ap popped_of xdg ∙ only.its in
-      cc
-
-  next-by : (result : Option ℕ) → IsNewest (dismissible book x.id) (kept_of book) result → GoesNext is shell result
-  next-by None none =
-      let nothing = none-found (kept_of book) histories shell agrees (dismissible book x.id) T agreed-here no-popup-here (λ other this. other ≤ this) none in (
-        none-of T (newest_first (popups_of shell)) (each-newest (λ p. T p ≡ false) [] (popups_of shell) tt nothing),
-        dismissals_end.all is shell
-            (done-each (dismissed_with is shell) shell (sym (any-in-order T shell) ∙ any-none T (popups_of shell) nothing) order.released),
-      )
-  next-by (Some other) newest =
-      let p = some-found (kept_of book) histories shell agrees (dismissible book x.id) T agreed-here no-popup-here (λ other this. other ≤ this) other newest in
-      (p.0, by p.0 p.1.only p.1.passed p.1.best)
-    where
-      by : (p : Popped) → IsOnly shell other p → T p ≡ true → Each (λ q. T q ≡ true → q.popup.number ≤ p.popup.number) (popups_of shell) → IsNextToGo is shell other p
-      by p only passes best =
-          let id = p.xdg.id in
-          let all = alike-popups id shell in
-          let family = family-of (has_popup_at x.id shell) x.id in
-          let same : dismissed_with is (with_dismissed id shell) ≡ dismissed_with is shell =
-          sym (same-after is family (popups_of shell) (popups_of (with_dismissed id shell)) [] all) in
-          record {
-            only = only;
-            order = others-left Falls (λ other this. other ≤ this) fall-clash below-none T (gone_popped id) id (gone-tested id (dismissed_with is shell)) (gone-kept id) p
-                (newest_first (popups_of shell)) (same-id id) (falling (popups_of shell) order.rising)
-                (among-newest p [] (popups_of shell) (among-popups shell other p only)) passes
-                (each-newest (λ q. T q ≡ true → q.popup.number ≤ p.popup.number) [] (popups_of shell) tt best)
-                (each-newest (λ q. (q.xdg.id == id) ≡ true → q ≡ p) [] (popups_of shell) tt
-                (each-map (IsIts shell) (λ q. (q.xdg.id == id) ≡ true → q ≡ p) (only-one p other only) (popups_of shell) (all-its shell agrees.apart)))
-                ∙ ap₂ (λ (gone : List ℕ) (qs : List Popped). p ∷ filter (λ q. is_among q.xdg.id gone && not q.popup.is_dismissed) qs) (sym same) (sym (newest-first-gone id shell));
-            rest = dismissals_end.one is id shell family (and-left (is_among id (dismissed_with is shell)) (not p.popup.is_dismissed) passes);
-            has_order = order-stays id shell order;
-            popups = λ xdg. sym (id-alike xdg (popups_of shell) (popups_of (with_dismissed id shell)) all);
-          }
-
-next_found : NextFound
+pub next_found : NextFound
 next_found surface x result book histories shell each agrees order found newest =
     let t = kept-for (kept_of book) histories shell agrees surface x found in
-    next-by x surface book histories shell each agrees order found result
+    next-of x surface book histories shell each agrees order found result
     (subst (λ (i : ℕ). IsNewest (dismissible book i) (kept_of book) result) t.3.stands.id
     (subst (λ (o : Option Kept). IsNewest (dismissible_under book o) (kept_of book) result) t.2 newest))
 
-next_stands : NextStands
+pub next_stands : NextStands
 next_stands surface x kept histories shell agrees found =
     let t = kept-for kept histories shell agrees surface x found in
     subst (λ (hs : ℕ → Option History). IsShell (changing surface (kept_changed dismiss) kept) hs (with_dismissed x.id shell)) (fun_ext (λ (other : ℕ). same t.1 t.3.history other))
@@ -651,12 +684,3 @@ next_stands surface x kept histories shell agrees found =
         at : (b : Bool) → (other == surface) ≡ b → (if b then Some h else histories other) ≡ histories other
         at true here = sym (ap histories (eqb-true other surface here) ∙ e)
         at false here = refl
-
-pub popups_follow : PopupsFollow
-popups_follow = record {
-  first = first_found;
-  after = after_found;
-  before = before_found;
-  next = next_found;
-  stands = next_stands;
-}

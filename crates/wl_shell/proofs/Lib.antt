@@ -10,3 +10,5 @@ pub mod Dismissing
 pub mod Standing
 pub mod Ordered
 pub mod Following
+pub mod Grabbing
+pub mod InOrder

@@ -12,7 +12,7 @@ use Rattle.wl_xdg_state.specs.Popups.{Popped, by_number, first_of, is_parent, is
 use Rattle.wl_xdg_state.specs.Popups.{allows_grab as has_allowed, parent_allows as is_grab_allowed, parent_of as parent_at_popup}
 use Rattle.wl_xdg_state.specs.Shell.{IsPopup, Kind, Popup, RoleObject, Shell, Toplevel, XdgSurface, xdg_at, xdg_of}
 use Rattle.wl_shell.specs.Agreement.{AreApart, IsKept, IsShell}
-use Rattle.wl_shell.specs.Found.{AreFound, ChildrenFound, GrabbersFound, ParentsFound, ShellsFind, parent_in, xdg_with_role}
+use Rattle.wl_shell.specs.Found.{AreFound, ChildrenFound, GrabbersFound, GrabsFound, ParentsFound, ShellsFind, parent_in, xdg_with_role}
 use Rattle.wl_shell.specs.Popups.{allows_grab, any_allows, has_child, parent_allows}
 use Rattle.wl_shell.proofs.Agreeing.{found-at}
 
@@ -244,9 +244,14 @@ grabbers_found surface book histories shell each is = at (kept_of book surface) 
         ∙ role-allowed book histories shell each is x x.role
         ∙ ap (λ (o : Option XdgSurface). is_grab_allowed (option_and_then (parent_at_popup shell) (option_and_then (λ x. first_of (popped_of x)) o))) (sym (found-at surface shell x is.apart found))
 
+grabs_found : GrabsFound
+grabs_found book histories shell each is =
+    read-any (λ id role. option_map_or (λ popup. popup.has_grab) (popup_in role) false) book histories shell each is ∙ sym (any-popup (λ popup. popup.has_grab) shell)
+
 pub shells_find : ShellsFind
 shells_find = record {
   parents = parents_found;
   children = children_found;
   grabbers = grabbers_found;
+  grabs = grabs_found;
 }

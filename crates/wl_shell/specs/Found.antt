@@ -1,12 +1,13 @@
 -- What is found among what is kept of the xdg_surfaces of a client is what is found among those that it stands for.
 use Rattle.std.specs.Prelude.{ℕ, ◌≡◌, false, if◌then◌else◌, is_some, All, Option, Some, None}
+use Rattle.std.specs.List.{list_any}
 use Rattle.std.specs.Option.{option_and_then, option_map_or}
 use Rattle.wl_state.specs.State.{History}
 use Rattle.wl_xdg_state.specs.Kept.{Book, Kept, kept_of}
-use Rattle.wl_xdg_state.specs.Popups.{is_parent, parent_allows as is_grab_allowed, parent_of, popup_at}
+use Rattle.wl_xdg_state.specs.Popups.{is_parent, parent_allows as is_grab_allowed, parent_of, popup_at, popups_of}
 use Rattle.wl_xdg_state.specs.Shell.{Shell, XdgSurface, xdg_of}
 use Rattle.wl_shell.specs.Agreement.{IsShell}
-use Rattle.wl_shell.specs.Popups.{has_child, parent_allows, parent_id}
+use Rattle.wl_shell.specs.Popups.{has_child, is_grabbing, parent_allows, parent_id}
 
 -- each is found by the number of its surface
 abbrev pub AreFound : Book → Type 0
@@ -41,7 +42,16 @@ GrabbersFound =
     → IsShell (kept_of book) histories shell
     → parent_allows book (kept_of book surface) ≡ is_grab_allowed (option_and_then (parent_in shell) (xdg_of surface shell))
 
+-- a popup has a grab
+abbrev pub GrabsFound : Type 0
+GrabsFound =
+    (book : Book) (histories : ℕ → Option History) (shell : Shell)
+    → AreFound book
+    → IsShell (kept_of book) histories shell
+    → list_any (λ e. is_grabbing e.1) book ≡ list_any (λ p. p.popup.has_grab) (popups_of shell)
+
 pub record ShellsFind : Type 0 where
   pub parents : ParentsFound
   pub children : ChildrenFound
   pub grabbers : GrabbersFound
+  pub grabs : GrabsFound

@@ -6,7 +6,7 @@ use Rattle.wl_state.specs.State.{History}
 use Rattle.wl_shell.specs.Agreement.{IsShell}
 use Rattle.wl_shell.specs.Descent.{AreYounger, has_popup_at}
 use Rattle.wl_shell.specs.Found.{AreFound}
-use Rattle.wl_shell.specs.Popups.{IsNewest, IsOldest, dismissible_under, has_popup}
+use Rattle.wl_shell.specs.Popups.{IsNewest, IsOldest, dismissible_grabbing, dismissible_under, has_popup}
 use Rattle.wl_xdg_state.specs.Kept.{Book, Kept, changing, kept_changed, kept_of}
 use Rattle.wl_xdg_state.specs.Popups.{Popped, dismiss, dismissed_with, dismissing, is_among, is_parent_of, popped_of, popup_changed}
 use Rattle.wl_xdg_state.specs.Popups.{popup_in, popups_of}
@@ -110,6 +110,16 @@ NextFound =
     → IsNewest (dismissible_under book (kept_of book surface)) (kept_of book) result
     → GoesNext (goes_with (has_popup_at x.id shell) x.id) shell result
 
+-- which popup with a grab, or that descends from one that has, is dismissed next
+abbrev pub GrabbingFound : Type 0
+GrabbingFound =
+    (result : Option ℕ) (book : Book) (histories : ℕ → Option History) (shell : Shell)
+    → AreFound book
+    → IsShell (kept_of book) histories shell
+    → HasOrder shell
+    → IsNewest (dismissible_grabbing book) (kept_of book) result
+    → GoesNext (λ p. p.popup.has_grab) shell result
+
 -- and what is kept stands for them then
 abbrev pub NextStands : Type 0
 NextStands =
@@ -123,4 +133,5 @@ pub record PopupsFollow : Type 0 where
   pub after : AfterFound
   pub before : BeforeFound
   pub next : NextFound
+  pub grabbing : GrabbingFound
   pub stands : NextStands

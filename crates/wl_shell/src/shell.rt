@@ -7,7 +7,7 @@ ghost use Rattle.wl_xdg_state.specs.Kept.{acknowledgement_answer, changing, comm
 ghost use Rattle.wl_xdg_state.specs.Popups.{dismiss};
 ghost use Rattle.wl_shell.specs.Found.{AreFound};
 ghost use Rattle.wl_shell.specs.Laws.{orphaned};
-ghost use Rattle.wl_shell.specs.Popups.{IsNewest, IsOldest, IsSurfaceAt, dismissible_under, has_child, has_popup, parent_allows, parent_id, parent_of, popup_destruction};
+ghost use Rattle.wl_shell.specs.Popups.{IsNewest, IsOldest, IsSurfaceAt, dismissible_grabbing, dismissible_under, has_child, has_popup, is_grabbing, parent_allows, parent_id, parent_of, popup_destruction};
 
 use crate::popups::{self, Wanted};
 use std::alloc::Allocator;
@@ -289,6 +289,33 @@ impl<A: Allocator> Shell<A> {
         let newest = self.newest_under(surface)?;
         self.dismiss_one(newest);
         Some(newest)
+    }
+
+    /// The surface of the newest popup that isn't dismissed, of those with a grab and those that descend from one.
+    fn newest_grabbing(&self) -> Option<SurfaceNo>
+        ensures { IsNewest (dismissible_grabbing self.now) (kept_of self.now) result }
+    {
+        popups::find_popup(&self.surfaces, Wanted::Grabbing)
+    }
+
+    /// The popups with a grab are dismissed, with those that descend from them, the newest first, one by each call (xdg-shell.xml,
+    /// xdg_popup.grab and xdg_popup.popup_done). Answers the surface of the one that was, and nothing, with nothing changed, where all are. A
+    /// dismissed popup has no grab.
+    pub fn dismiss_grabbing(&mut self) -> Option<SurfaceNo>
+        ensures newest { IsNewest (dismissible_grabbing self.old) (kept_of self.old) result }
+        ensures some { IfSome result (λ gone. kept_of self.new ≡ changing gone (kept_changed dismiss) (kept_of self.old)) }
+        ensures none { IfNone result (self.new ≡ self.old) }
+    {
+        let newest = self.newest_grabbing()?;
+        self.dismiss_one(newest);
+        Some(newest)
+    }
+
+    /// A popup has a grab (xdg-shell.xml, xdg_popup.grab).
+    pub fn has_grab(&self) -> bool
+        ensures { result ≡ list_any (λ e. is_grabbing e.1) self.now }
+    {
+        popups::has_grab(&self.surfaces)
     }
 
     /// The popup of the surface is dismissed, and no other.

@@ -30,6 +30,10 @@ without_run client toplevel all = filter (λ s. not (is_of client toplevel s)) a
 abbrev pub toplevel_with : ℕ → ℕ → List Stacked → Option ℕ
 toplevel_with client root all = option_map (λ s. s.toplevel) (find (λ s. is_rooted client root s) all)
 
+-- those but of the tree of this root
+abbrev pub without_tree : ℕ → ℕ → List Stacked → List Stacked
+without_tree client root all = filter (λ s. not (is_rooted client root s)) all
+
 -- Those stacked with this toplevel come on top: the others keep their order, and so do they.
 abbrev pub raised : ℕ → ℕ → List Stacked → List Stacked
 raised client toplevel all = without_run client toplevel all ++ run_of client toplevel all

@@ -3,14 +3,14 @@
 ghost use Rattle.std.specs.Prelude.{◌≡◌, ◌++◌, ◌≤◌, [], IsOk, OnErr, OnOk, false, length, map};
 ghost use Rattle.std.specs.List.{list_any};
 ghost use Rattle.wl_linked.specs.Linked.{Stand};
-ghost use Rattle.wl_stacked.specs.Stacked.{AreTogether, is_of, raised, replaced, run_of, stacked, toplevel_with, without_client, without_run};
+ghost use Rattle.wl_stacked.specs.Stacked.{AreTogether, is_of, raised, replaced, run_of, stacked, toplevel_with, without_client, without_run, without_tree};
 ghost use Rattle.wl_stacked.specs.Told.{told_trees};
 ghost use Rattle.wl_stacking.specs.Windows.{Owner};
 ghost use Rattle.wl_surface.specs.Surfaces.{Surfaces as Asked};
 
 use crate::roots::add_trees;
 use crate::runs::{lowest_in, move_in, raise_in, replace_in, run_in};
-use crate::stacked::{Stacked, add_all, is_of_client, is_of_toplevel, reserve_both};
+use crate::stacked::{Stacked, add_all, is_of_client, is_of_root, is_of_toplevel, reserve_both};
 use std::alloc::{AllocError, Allocator};
 use std::marker::Model;
 use wl_linked::Linked;
@@ -172,6 +172,15 @@ impl<A: Allocator> StackedWindows<A> {
     {
         self.windows
             .retain(|stacked| !is_of_toplevel(stacked, client, toplevel));
+    }
+
+    /// The windows of the tree of this root go.
+    pub fn remove_tree(&mut self, client: u32, root: SurfaceNo)
+        ensures windows { self.new.windows ≡ without_tree client root self.old.windows }
+        ensures room { self.old.room ≤ self.new.room }
+    {
+        self.windows
+            .retain(|stacked| !is_of_root(stacked, client, root));
     }
 
     /// All windows of a client go.

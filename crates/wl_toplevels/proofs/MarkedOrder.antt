@@ -78,13 +78,6 @@ passed w v r q k ks ws here apart of-w of-v there distinct before =
     let later = before-in-second w v (of_root k ws) (in_turn ks ws) (other-nowhere w r k ws apart of-w) before in
     differ (sym (apart-second v (of_root k ws) (in_turn ks ws) distinct first) ∙ upper-there w v (in_turn ks ws) later)
 
-apart-turned : (r q : ℕ) → (r == q) ≡ false → (q == r) ≡ false
-apart-turned r q apart = at (q == r) refl
-  where
-    at : (b : Bool) → (q == r) ≡ b → b ≡ false
-    at false e = refl
-    at true e = absurd (differ (sym apart ∙ equal-numbers r q (sym (eqb-true q r e))))
-
 -- windows of two trees that stand in one order don't move past each other
 pub uncrossed : (w v : Window) (r q : ℕ) (was is : List Window) → (r == q) ≡ false → IsRooted w r was → IsRooted v q was → IsRooted w r is → IsRooted v q is
     → list_any (is_same_surface v) was ≡ true → list_any (is_same_surface w) is ≡ true

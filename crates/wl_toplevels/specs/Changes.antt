@@ -13,7 +13,7 @@ use Rattle.wl_plain.specs.Moments.{applied_between}
 use Rattle.wl_plain.specs.Stacked.{all_windows}
 use Rattle.wl_laws.specs.Apart.{AreApartBy}
 use Rattle.wl_laws.specs.Soundness.{IsNoChild, IsSound}
-use Rattle.wl_invariants.specs.Orderly.{HasMappedToplevel}
+use Rattle.wl_invariants.specs.Standing.{HasMappedToplevel}
 use Rattle.wl_invariants.specs.TreeMarksLaws.{AreUndamaged}
 
 -- No window changes, no damage is applied to the surface of one, and no surface has two.

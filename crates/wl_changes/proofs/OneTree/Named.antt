@@ -18,7 +18,7 @@ use Rattle.wl_named.specs.RenamingLaws.{FindsLinks, KeepsPlaces, ReadsSurfaces}
 use Rattle.wl_named.specs.Renaming.{IsRenamedAs, IsRenaming, has_surface, renamed, renamed_link}
 use Rattle.wl_changes.specs.ToldLaws.{CommitTellsApplied, DesyncTellsApplied, EndTellsApplied, TellsApplied, UnlinkTellsApplied, is_told_at, is_told_of}
 use Rattle.wl_changes.specs.ToldWindows.{IsAppliedTo}
-use Rattle.wl_invariants.specs.TreeStanding.{AppliesNothing}
+use Rattle.wl_invariants.specs.TreeStepsLaws.{AppliesNothing}
 use Rattle.wl_changes.specs.RenamedMarks.{IsAppliedByName}
 use Rattle.wl_changes.specs.Telling.{CommitToldByName, DesyncToldByName, EndToldByName, NothingToldByName, TellsTrees, UnlinkToldByName}
 use Rattle.wl_changes.proofs.OneTree.Naming.{commit-there, desync-there, end-there, history-there, numbered-named, once-renamed, shallow-renamed, trees-shallow, unlink-there}

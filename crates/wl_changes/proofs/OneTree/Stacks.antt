@@ -1,24 +1,15 @@
--- Toplevels that stand: one of them among the others, and the windows of each.
-use Rattle.std.proofs.Common.{◌≡◌, ℕ, Bool, true, false, cond, Option, Some, None, List, [], ◌∷◌, ◌++◌, refl, ap, ap₂, sym, subst, ◌∙◌, append_assoc}
-use Rattle.std.specs.Prelude.{◌⊎◌, find, not}
+-- Toplevels that stand: one of them among the others.
+use Rattle.std.proofs.Common.{◌≡◌, ℕ, Bool, true, false, cond, Option, Some, None, List, [], ◌∷◌, ◌++◌, refl, ap, ap₂, sym, ◌∙◌}
+use Rattle.std.specs.Prelude.{◌⊎◌, find}
 use Rattle.std.specs.List.{list_any}
 use Rattle.std.proofs.Common.{inl, inr}
-use Rattle.std.proofs.lemmas.List.{append-nil}
-use Rattle.wl_stacking.specs.Stacking.{Owned, Standing, is_of, windows_on, without_surface_of}
-use Rattle.wl_stacking.specs.Windows.{Window}
+use Rattle.wl_stacking.specs.Stacking.{Standing, is_of}
 use Rattle.wl_laws.specs.Laws.{AreApart}
 use Rattle.wl_laws.proofs.Lists.Standings.{of-client, of-it, of-surface}
-use Rattle.wl_laws.proofs.Marks.Stacks.{Each, differ, or-left, or-right, unless}
-use Rattle.wl_laws.proofs.Soundness.Trees.{each-append, or-none}
-use Rattle.wl_invariants.specs.TreeMarksLaws.{among}
-use Rattle.wl_invariants.specs.TreeStanding.{windows_in}
-use Rattle.wl_changes.specs.Trees.{windows_if}
+use Rattle.wl_laws.proofs.Marks.Stacks.{differ, or-left, or-right, unless}
+use Rattle.wl_laws.proofs.Soundness.Trees.{or-none}
 
 -- ---- lists
-
-pub any-none : {X : Type 0} (p : X → Bool) (xs : List X) → Each (λ x. p x ≡ false) xs → list_any p xs ≡ false
-any-none p [] e = refl
-any-none p (x ∷ xs) e = or-none (p x) (list_any p xs) e.0 (any-none p xs e.1)
 
 find-later : {X : Type 0} (p : X → Bool) (xs ys : List X) → list_any p xs ≡ false → find p (xs ++ ys) ≡ find p ys
 find-later p [] ys none = refl
@@ -28,33 +19,6 @@ find-later p (x ∷ xs) ys none =
 pub find-none : {X : Type 0} (p : X → Bool) (xs : List X) → list_any p xs ≡ false → find p xs ≡ None
 find-none p [] none = refl
 find-none p (x ∷ xs) none = ap (λ b. cond b (Some x) (find p xs)) (or-left (p x) (list_any p xs) none) ∙ find-none p xs (or-right (p x) (list_any p xs) none)
-
--- ---- the windows of toplevels, one after another
-
-windows-first : (owned : ℕ → Owned) (s : Standing) (ss : List Standing) → windows_on owned (s ∷ ss) ≡ windows_in (owned s.client).surfaces s ++ windows_on owned ss
-windows-first owned s ss = ap (λ ws. ws ++ windows_on owned ss) (append-nil _)
-
-windows-both : (owned : ℕ → Owned) (ss rs : List Standing) → windows_on owned (ss ++ rs) ≡ windows_on owned ss ++ windows_on owned rs
-windows-both owned [] rs = refl
-windows-both owned (s ∷ ss) rs =
-    windows-first owned s (ss ++ rs)
-    ∙ (ap (λ ws. windows_in (owned s.client).surfaces s ++ ws) (windows-both owned ss rs)
-    ∙ (sym (append_assoc (windows_in (owned s.client).surfaces s) (windows_on owned ss) (windows_on owned rs))
-    ∙ ap (λ ws. ws ++ windows_on owned rs) (sym (windows-first owned s ss))))
-
--- toplevels that show the same windows one by one
-pub windows-same : (owned new : ℕ → Owned) (ss : List Standing) → Each (λ s. windows_in (new s.client).surfaces s ≡ windows_in (owned s.client).surfaces s) ss
-    → windows_on new ss ≡ windows_on owned ss
-windows-same owned new [] same = refl
-windows-same owned new (s ∷ ss) same =
-    windows-first new s ss
-    ∙ (ap₂ (λ (ws vs : List Window). ws ++ vs) same.0 (windows-same owned new ss same.1) ∙ sym (windows-first owned s ss))
-
-pub windows-each : (P : Window → Type 0) (owned : ℕ → Owned) (ss : List Standing) → Each (λ s. Each P (windows_in (owned s.client).surfaces s)) ss → Each P (windows_on owned ss)
-windows-each P owned [] each = tt
-windows-each P owned (s ∷ ss) each =
-    subst (λ (ws : List Window). Each P ws) (sym (windows-first owned s ss))
-    (each-append P (windows_in (owned s.client).surfaces s) (windows_on owned ss) each.0 (windows-each P owned ss each.1))
 
 -- ---- one toplevel, if it stands
 
@@ -67,14 +31,6 @@ stand (Some s) above = s ∷ above
 abbrev pub IsItsOwn : ℕ → ℕ → Option Standing → Type 0
 IsItsOwn c root None = Unit {0}
 IsItsOwn c root (Some s) = is_of c root s ≡ true
-
-pub windows-among : (owned : ℕ → Owned) (c root : ℕ) (below above : List Standing) (o : Option Standing) → IsItsOwn c root o
-    → windows_on owned (below ++ stand o above) ≡ among (windows_on owned below) (windows_on owned above) (windows_if (owned c).surfaces o)
-windows-among owned c root below above None its = windows-both owned below above
-windows-among owned c root below above (Some s) its =
-    windows-both owned below (s ∷ above)
-    ∙ (ap (λ ws. windows_on owned below ++ ws) (windows-first owned s above)
-    ∙ ap (λ n. windows_on owned below ++ (windows_in (owned n).surfaces s ++ windows_on owned above)) (of-client c root s its))
 
 pub found-among : (c root : ℕ) (below above : List Standing) (o : Option Standing) → IsItsOwn c root o → list_any (is_of c root) below ≡ false → list_any (is_of c root) above ≡ false
     → find (is_of c root) (below ++ stand o above) ≡ o
@@ -122,25 +78,6 @@ none-or-found c root (x ∷ xs) apart = at (is_of c root x) refl (none-or-found 
           no_lower = or-none (is_of c root x) (list_any (is_of c root) f.below) e f.no_lower;
           no_higher = f.no_higher;
         })
-
--- ---- one is taken out
-
-pub without-lower : (c root : ℕ) (below rest : List Standing) → list_any (is_of c root) below ≡ false → without_surface_of c root (below ++ rest) ≡ below ++ without_surface_of c root rest
-without-lower c root [] rest none = refl
-without-lower c root (x ∷ xs) rest none =
-    ap (λ b. cond (not b) (x ∷ without_surface_of c root (xs ++ rest)) (without_surface_of c root (xs ++ rest))) (or-left (is_of c root x) (list_any (is_of c root) xs) none)
-    ∙ ap (λ ys. x ∷ ys) (without-lower c root xs rest (or-right (is_of c root x) (list_any (is_of c root) xs) none))
-
-pub without-none : (c root : ℕ) (ss : List Standing) → list_any (is_of c root) ss ≡ false → without_surface_of c root ss ≡ ss
-without-none c root ss none =
-    ap (without_surface_of c root) (sym (append-nil ss)) ∙ (without-lower c root ss [] none ∙ append-nil ss)
-
-pub without-it : (c root : ℕ) (ss : List Standing) (f : IsFound c root ss) → without_surface_of c root ss ≡ f.below ++ f.above
-without-it c root ss f =
-    ap (without_surface_of c root) f.parts
-    ∙ (without-lower c root f.below (f.it ∷ f.above) f.no_lower
-    ∙ ap (λ ys. f.below ++ ys)
-    (ap (λ b. cond (not b) (f.it ∷ without_surface_of c root f.above) (without_surface_of c root f.above)) f.its ∙ without-none c root f.above f.no_higher))
 
 -- ---- one is put on top
 

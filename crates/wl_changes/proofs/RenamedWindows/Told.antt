@@ -16,9 +16,9 @@ use Rattle.wl_invariants.specs.TreeMarksLaws.{has_root, is_in_any, is_struck_at}
 use Rattle.wl_windows.specs.Windows.{told_of}
 use Rattle.wl_windows.specs.declared.window.TreeWindow.{TreeWindow}
 use Rattle.wl_named.proofs.Names.Lists.{each-weaker}
-use Rattle.wl_repaint.specs.Laws.{AreOfTree, MarksAsApplied, SameAsRecords}
+use Rattle.wl_repaint.specs.Laws.{AreOfTree, SameAsRecords}
 use Rattle.wl_repaint.specs.Repaint.{is_damaged_by, is_struck_by, same_windows, window_has}
-use Rattle.wl_changes.specs.RenamedMarks.{AreNamedApart, IsAppliedByName, MarksAppliedByName, MarksHeedNoNames, SameByName}
+use Rattle.wl_changes.specs.RenamedMarks.{AreNamedApart, IsAppliedByName, MarksAppliedByName, SameByName}
 use Rattle.wl_changes.specs.RenamedWindows.{has_window, told_by}
 use Rattle.wl_changes.proofs.RenamedWindows.Lists.{any-and, any-as, any-mapped, any-turned}
 use Rattle.wl_changes.proofs.RenamedWindows.Names.{same-name}
@@ -123,7 +123,3 @@ marks-applied-by-name A by-name f client root was is of-tree apart changes appli
     ∙ ap (λ b. if same_records was is then list_any (is_struck_at applied x y) is else (b || list_any (window_has x y) (map (told_by f) is)))
     (any-mapped (told_by f) (window_has x y) was)
     ∙ ap (λ b. if same_records was is then list_any (is_struck_at applied x y) is else (is_in_any x y was || b)) (any-mapped (told_by f) (window_has x y) is)
-
-pub marks-heed-no-names : (A : Type 0) → MarksAppliedByName A → MarksAsApplied A → MarksHeedNoNames A
-marks-heed-no-names A by-name by-id f client root was is of-tree apart changes named applied each each-named x y =
-    by-name f client root was is of-tree apart named applied each-named x y ∙ sym (by-id client root was is of-tree changes applied each x y)

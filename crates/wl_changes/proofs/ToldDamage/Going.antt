@@ -2,13 +2,9 @@
 use Rattle.std.proofs.Common.{◌≡◌, ℕ, zero, suc, ◌≤◌, ◌==◌, ◌||◌, Bool, true, false, cond, Option, Some, None, List, refl, ap, sym, subst, ◌∙◌, arith}
 use Rattle.std.specs.Prelude.{◌&&◌}
 use Rattle.std.specs.List.{list_any}
-use Rattle.std.specs.Option.{option_map, option_map_or}
-use Rattle.std.proofs.Math.Path.{fun_ext}
+use Rattle.std.specs.Option.{option_map}
 use Rattle.std.proofs.lemmas.List.Folds.{list_any-append}
 use Rattle.wl_geom.specs.declared.rect.Rect.{Rect}
-use Rattle.wl_trees.specs.Trees.{Parents, depth_by}
-use Rattle.wl_family.specs.Family.{Links, links_in, parents_of}
-use Rattle.wl_family.proofs.Depths.{same-depths}
 use Rattle.wl_state.specs.State.{History, apply}
 use Rattle.wl_state.specs.Surface.{Surface}
 use Rattle.wl_surface.specs.declared.applied.Change.{Change}
@@ -16,15 +12,14 @@ use Rattle.wl_surface.specs.Applied.{AreGoneIf, is_shown_at}
 use Rattle.wl_surface.specs.Slots.{Numbered}
 use Rattle.wl_surface.specs.Surfaces.{Link, Surfaces, history_in, surface_at, without_surface}
 use Rattle.wl_surface.specs.Trees.{depth, descends_from, destroyed_in, levels, link_of, of_parent}
-use Rattle.wl_tree_laws.specs.Laws.{applied_where, ended_with, links_of}
+use Rattle.wl_tree_laws.specs.Laws.{applied_where, ended_with}
 use Rattle.wl_tree_laws.proofs.Coming.{history-applied, history-without}
 use Rattle.wl_tree_laws.proofs.Ending.{ends-links}
-use Rattle.wl_tree_laws.proofs.Parents.{same-depth}
 use Rattle.wl_linked.specs.Linked.{numbered}
 use Rattle.wl_linked.specs.Tree.{is_among}
 use Rattle.wl_linked.proofs.Destroying.{numbered-left}
 use Rattle.wl_plain.specs.Moments.{is_applied_by}
-use Rattle.wl_changes.specs.ToldLaws.{EndTellsApplied, KeptAreShallow, is_told_of}
+use Rattle.wl_changes.specs.ToldLaws.{EndTellsApplied, is_told_of}
 use Rattle.wl_changes.proofs.ToldDamage.Telling.{all-said, is_said_by, one-told, said_at}
 
 -- ---- how deep
@@ -50,24 +45,6 @@ same-within (suc n) all top surface shallow = at (link_of surface all) shallow (
         ≡ (surface == top || of_parent false (λ parent. descends_from n all top parent) o)
     at None few next = refl
     at (Some l) few next = ap (λ b. surface == top || b) (next l.parent (omega arith))
-
-depth-most : (n : ℕ) (parents : Parents) (surface : ℕ) → depth_by n parents surface ≤ n
-unfolding depth_by
-depth-most zero parents surface = omega arith
-depth-most (suc n) parents surface = at (parents surface) (λ parent. depth-most n parents parent)
-  where
-    at : (o : Option ℕ) → ((parent : ℕ) → depth_by n parents parent ≤ n) → option_map_or (λ parent. suc (depth_by n parents parent)) o 0 ≤ suc n
-    at None next = omega arith
-    at (Some parent) next = let few = next parent in omega (arith, few)
-
-pub kept-are-shallow : KeptAreShallow
-kept-are-shallow slots tied all hangs stand surface =
-    subst (λ n. n ≤ 16) (sym (same-depth all levels surface ∙ ap (λ (links : Links). depth_by levels (parents_of links) surface) (sym same)
-    ∙ same-depths (parents_of (links_in tied)) tied.places hangs.trees hangs.within surface))
-    (depth-most 16 (parents_of (links_in tied)) surface)
-  where
-    same : links_in tied ≡ links_of all
-    same = fun_ext stand.hang.0.links
 
 -- ---- the surface that goes
 

@@ -1,12 +1,9 @@
 //! What is told of surfaces by their numbers is told of the windows of their trees.
 
 ghost use Rattle.wl_changes.specs.Telling.{CommitToldByName, DesyncToldByName, EndToldByName};
-ghost use Rattle.wl_changes.specs.Telling.{NothingToldByName, TreeIsTold, UnlinkToldByName};
+ghost use Rattle.wl_changes.specs.Telling.{NothingToldByName, UnlinkToldByName};
 
-use crate::{
-    between_is_applied, commit_tells_applied, desync_tells_applied, end_tells_applied,
-    unlink_tells_applied,
-};
+use crate::{commit_tells_applied, desync_tells_applied, end_tells_applied, unlink_tells_applied};
 use std::alloc::Allocator;
 use wl_invariants::applies_nothing;
 use wl_named::{
@@ -58,11 +55,4 @@ pub fn nothing_told_by_name<A: Allocator>()
     ensures { NothingToldByName A }
 {
     applies_nothing();
-}
-
-/// What is told by name of the surfaces of a client is told of the windows of the tree that changes.
-pub fn tree_is_told<A: Allocator>()
-    ensures { TreeIsTold A }
-{
-    between_is_applied();
 }

@@ -1,10 +1,10 @@
 //! What is marked where one tree changed, of windows that are told under other names of their surfaces.
 
-ghost use Rattle.wl_changes.specs.RenamedMarks.{MarksAppliedByName, MarksBetweenByName, MarksHeedNoNames, SameByName};
+ghost use Rattle.wl_changes.specs.RenamedMarks.{MarksAppliedByName, MarksBetweenByName, SameByName};
 
 use std::alloc::Allocator;
 use wl_invariants::{is_tree_of_root, marks_damage_alone, marks_tree_alone, may_mark_whole_tree};
-use wl_repaint::{marks_as_applied, same_as_records};
+use wl_repaint::same_as_records;
 
 /// The windows of a tree are told by name to be the same where they keep their records.
 pub fn same_by_name()
@@ -19,15 +19,6 @@ pub fn marks_applied_by_name<A: Allocator>()
     ensures { MarksAppliedByName A }
 {
     same_by_name();
-}
-
-/// The same points are marked of windows that are told by name as of those that are told by the ids of their surfaces (wayland.xml,
-/// wl_surface.damage and wl_subsurface).
-pub fn marks_heed_no_names<A: Allocator>()
-    ensures { MarksHeedNoNames A }
-{
-    marks_applied_by_name::<A>();
-    marks_as_applied::<A>();
 }
 
 /// Where a step changes one tree, what is marked of the tree's windows, told by name, is all that the step has to mark, and nothing of the

@@ -43,7 +43,7 @@ use Rattle.wl_invariants.proofs.KeptRecords.Marks.Framing.{told-shows}
 use Rattle.wl_invariants.proofs.KeptRecords.Toplevels.Back.{erred, lacking, settled-back, told-back}
 use Rattle.wl_invariants.proofs.KeptRecords.Toplevels.Serves.{IsDone, after-same, becomes-same, by-pointer, ended_why, kept-still}
 use Rattle.wl_invariants.proofs.EachClient.Clients.{AllAre, AreOthers, At, IsKept, IsPeerOf, become-all, comes-at, ends-all, known-by, lives-there, others-of, others-so, settled-all, with-all}
-use Rattle.wl_invariants.proofs.OrderlyClients.Told.{told-peer}
+use Rattle.wl_invariants.proofs.EachClient.Told.{told-peer}
 
 -- ---- the client's peer
 

@@ -29,7 +29,7 @@ use Rattle.wl_laws.proofs.Soundness.RunSteady.{callbacks-steady, changed-steady}
 use Rattle.wl_laws.proofs.Soundness.RunTold.{nothing-orderly}
 use Rattle.wl_laws.proofs.Soundness.Standing.{standing-kept}
 use Rattle.wl_invariants.specs.InOrder.{OwnsInOrder, OwnsKnown}
-use Rattle.wl_invariants.specs.Orderly.{AreMappedOnce}
+use Rattle.wl_invariants.specs.Standing.{AreMappedOnce}
 use Rattle.wl_invariants.specs.OneBuffer.{OneBuffer}
 use Rattle.wl_invariants.proofs.EachClient.Clients.{IsPeerOf}
 use Rattle.wl_invariants.proofs.EachClient.Steps.{counted_of}

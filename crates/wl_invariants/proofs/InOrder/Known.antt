@@ -32,10 +32,10 @@ use Rattle.wl_laws.proofs.Soundness.ObjectsKeys.{apart-less, none-found}
 use Rattle.wl_laws.proofs.Soundness.ObjectsThere.{there-changed, there-committed, there-desynchronised, there-linked, there-unlinked}
 use Rattle.wl_laws.proofs.Soundness.Orderly.{IsAllowed, IsAsked}
 use Rattle.wl_invariants.specs.InOrder.{OwnsKnown}
-use Rattle.wl_invariants.proofs.WithoutPopups.Held.{AreHeld, IsBare, Left, Rest, bare-new, bare-of, held-at, held-callback}
-use Rattle.wl_invariants.proofs.WithoutPopups.Held.{held-destroyed, held-left, held-subsurface, held-surface, held-there, held-without, other-left}
-use Rattle.wl_invariants.proofs.WithoutPopups.Held.{own-held}
-use Rattle.wl_invariants.proofs.WithoutPopups.Ids.{AreApart, apart-changed, apart-committed, apart-desynchronised, apart-destroyed, apart-linked, apart-new, apart-unlinked}
+use Rattle.wl_invariants.proofs.InOrder.Held.{AreHeld, IsBare, Left, Rest, bare-new, bare-of, held-at, held-callback}
+use Rattle.wl_invariants.proofs.InOrder.Held.{held-destroyed, held-left, held-subsurface, held-surface, held-there, held-without, other-left}
+use Rattle.wl_invariants.proofs.InOrder.Held.{own-held}
+use Rattle.wl_invariants.proofs.InOrder.Ids.{AreApart, apart-changed, apart-committed, apart-desynchronised, apart-destroyed, apart-linked, apart-new, apart-unlinked}
 
 abbrev AreOnce : List Subsurface → Type 0
 AreOnce subs = AreApartBy (λ surface s. is_of_child surface s.surface) subs

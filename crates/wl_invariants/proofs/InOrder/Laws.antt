@@ -3,17 +3,14 @@ use Rattle.std.proofs.Common.{◌≡◌, List, [], Option, Some, None, refl, ap,
 use Rattle.wl_peer.specs.declared.cause.Cause.{Cause}
 use Rattle.wl_peer.specs.Peer.{Peer}
 use Rattle.wl_stacking.specs.Stacking.{Standing}
-use Rattle.wl_plain.specs.Desktop.{Desktop, Resident, arrival, client_at, owned_of, toplevels_of}
+use Rattle.wl_plain.specs.Desktop.{Desktop, Resident, arrival}
 use Rattle.wl_plain.specs.LeftOut.{LeftOut}
 use Rattle.wl_plain.specs.Step.{with_peer}
-use Rattle.wl_invariants.specs.InOrder.{InOrder, InOrderAt, InOrderBy}
+use Rattle.wl_invariants.specs.InOrder.{InOrder, InOrderBy}
 use Rattle.wl_invariants.specs.InOrderLaws.{ClientsAreInOrder, DemandsKeepInOrder, EmptyIsInOrder, EndsKeepInOrder, FramesKeepInOrder, InOrderStays, MessagesKeepInOrder}
-use Rattle.wl_invariants.specs.InOrderLaws.{OrderlyIsInOrder, PeersKeepInOrder, PiecesKeepInOrder, PopupsAreNumbered}
-use Rattle.wl_invariants.specs.Orderly.{OrderlyAt, OrderlyBy}
-use Rattle.wl_invariants.specs.Toplevels.{AreToplevels}
+use Rattle.wl_invariants.specs.InOrderLaws.{PeersKeepInOrder, PiecesKeepInOrder, PopupsAreNumbered}
 use Rattle.wl_invariants.proofs.EachClient.Clients.{AllAre, IsKept, IsPeerOf, empty-all, lives-there, settled-all}
 use Rattle.wl_invariants.proofs.EachClient.Steps.{DemandsKeep, frame-keeps, happens-keeps, piece-keeps, serves-keeps}
-use Rattle.wl_invariants.proofs.InOrder.Clients.{owns_orderly_is_in_order}
 use Rattle.wl_invariants.proofs.InOrder.Kept.{arrival-lives, demand-owns, demand-stands, framed-lives, peer-lives, peer-owns}
 use Rattle.wl_invariants.proofs.InOrder.Numbered.{numbers-apart, numbers-early}
 
@@ -80,30 +77,3 @@ peers_keep_in_order r p objects buffers requests owns = peer-owns r p (record { 
 
 pub demands_keep_in_order : DemandsKeepInOrder
 demands_keep_in_order left c r rest object opcode body demand d owns judged = demand-owns left c r rest object opcode body demand d judged owns
-
--- ---- where no client has a popup
-
-orderly-by : (s : Option Cause) (r : Resident) (tops : List Standing) → OrderlyBy s r tops → InOrderBy s r tops × AreToplevels r.owned.shell
-orderly-by None r tops lives = let both = (owns_orderly_is_in_order r).0 lives.0 in ((both.0, lives.1), both.1)
-orderly-by (Some cause) r tops over = (over, subst (λ (q : Resident). AreToplevels q.owned.shell) (sym over.0) tt)
-
-orderly-at : (o : Option Resident) (tops : List Standing) → OrderlyAt o tops → InOrderAt o tops × AreToplevels (owned_of o).shell
-orderly-at None tops none = (none, tt)
-orderly-at (Some r) tops owns = orderly-by r.peer.status r tops owns
-
-by-orderly : (s : Option Cause) (r : Resident) (tops : List Standing) → InOrderBy s r tops → AreToplevels r.owned.shell → OrderlyBy s r tops
-by-orderly None r tops lives roles = ((owns_orderly_is_in_order r).1 (lives.0, roles), lives.1)
-by-orderly (Some cause) r tops over roles = over
-
-at-orderly : (o : Option Resident) (tops : List Standing) → InOrderAt o tops → AreToplevels (owned_of o).shell → OrderlyAt o tops
-at-orderly None tops none roles = none
-at-orderly (Some r) tops owns roles = by-orderly r.peer.status r tops owns roles
-
-pub orderly_is_in_order : OrderlyIsInOrder
-orderly_is_in_order d = (
-  λ orderly. (
-    record { pointer = orderly.pointer; each = λ c. (orderly-at (client_at c d) (toplevels_of c d) (orderly.each c)).0 },
-    λ c. (orderly-at (client_at c d) (toplevels_of c d) (orderly.each c)).1,
-  ),
-  λ both. record { pointer = both.0.pointer; each = λ c. at-orderly (client_at c d) (toplevels_of c d) (both.0.each c) (both.1 c) },
-)

@@ -21,7 +21,7 @@ use Rattle.wl_invariants.specs.Roots.{AreOwnSubsurfaces, HasSubsurface}
 use Rattle.wl_invariants.proofs.XdgRoots.Orderly.{forest-apart}
 use Rattle.wl_invariants.proofs.XdgRoots.Subsurfaces.{AreOwn}
 use Rattle.wl_invariants.specs.InOrder.{OwnsInOrder, OwnsKnown}
-use Rattle.wl_invariants.specs.Orderly.{AreMappedOnce, HasMappedToplevel, IsMappedToplevel}
+use Rattle.wl_invariants.specs.Standing.{AreMappedOnce, HasMappedToplevel, IsMappedToplevel}
 use Rattle.wl_invariants.proofs.InOrder.Numbers.{AreEarly, AreNumbered as AreNumberedPopups}
 use Rattle.wl_invariants.proofs.InOrder.Subsurfaces.{AreSubsurfaces}
 

@@ -2,6 +2,4 @@
 pub mod Letting
 pub mod OwningXdg
 pub mod StandingClients
-pub mod StandingDesks
-pub mod StandingSteps
 pub mod StandingTurned

@@ -1,12 +1,11 @@
 -- What is done to surfaces attaches no buffer but that of a request.
 use Rattle.std.proofs.Common.{◌≡◌, ℕ, zero, suc, List, [], ◌∷◌, ◌++◌, Bool, true, false, cond, fold, Option, Some, None, refl, ap, sym, subst, inl, inr}
-use Rattle.std.specs.Prelude.{◌==◌, ◌&&◌, ◌||◌, ◌⊎◌, filter, find, map, not, take}
-use Rattle.std.specs.Option.{option_map}
+use Rattle.std.specs.Prelude.{◌==◌, ◌&&◌, ◌||◌, ◌⊎◌, filter, map, not, take}
 use Rattle.wl_state.specs.Request.{Buffer, Request, Attach, Commit, AddChild}
 use Rattle.wl_state.specs.declared.role.Role.TheVariants.{Subsurface}
 use Rattle.wl_state.specs.State.{History, Values, asked, first_values, values, committed}
 use Rattle.wl_state.specs.Surface.{Surface, applying, asking, buffers_of, listed, new_surface, with_role}
-use Rattle.wl_surface.specs.Surfaces.{Link, Surfaces, history_in, link_at, with_change, with_new, without_surface}
+use Rattle.wl_surface.specs.Surfaces.{Link, Surfaces, link_at, with_change, with_new, without_surface}
 use Rattle.wl_surface.specs.Trees.{applied_tree, applied_unless, behaves_synchronised, children_of, committed_in, desynchronised_in, destroyed_in, ended_in, ending, in_mode}
 use Rattle.wl_surface.specs.Trees.{levels, linked, links_with, released_in, with_link}
 use Rattle.wl_plain.specs.Changing.{unlinked_at}
@@ -204,22 +203,3 @@ module _ (h : History) (b : Buffer) where
 
   pub had-by : IsAmong b (buffers_of h) → IsAttachedBy b h.requests
   had-by k = had-last (among-append b (Listed h.requests ++ Listed Held) (Listed Applied) k)
-
-found-to : (id : ℕ) (b : Buffer) (h : History) (ss : List Surface) → option_map (λ (s : Surface). s.history) (find (λ s. s.id == id) ss) ≡ Some h
-    → IsAttachedBy b h.requests → IsAttachedTo b ss
-found-to id b h [] e k = absurd (cc)
-found-to id b h (s ∷ ss) e k = at (s.id == id) e (λ f. found-to id b h ss f k)
-  where
-    here : s.history ≡ h → IsAttachedBy b s.history.requests
-    here same = subst (λ (x : History). IsAttachedBy b x.requests) (sym same) k
-
-    some : (x y : History) → Some x ≡ Some y → x ≡ y
-    some x y f = cc
-
-    at : (c : Bool) → option_map (λ (s : Surface). s.history) (cond c (Some s) (find (λ s. s.id == id) ss)) ≡ Some h
-        → (option_map (λ (s : Surface). s.history) (find (λ s. s.id == id) ss) ≡ Some h → IsAttachedTo b ss) → IsAttachedTo b (s ∷ ss)
-    at true f later = inl (here (some s.history h f))
-    at false f later = inr (later f)
-
-pub had-attached : (id : ℕ) (h : History) (b : Buffer) (all : Surfaces) → history_in id all ≡ Some h → IsAmong b (buffers_of h) → IsAttached b all
-had-attached id h b all e k = found-to id b h all.surfaces e (had-by h b k)

@@ -1,6 +1,6 @@
 -- After an accepted request the mapped toplevels of its client stand, and each surface shows a buffer or none as its role object says.
 use Rattle.std.proofs.Common.{◌≡◌, ◌≢◌, ℕ, List, [], Bool, true, false, cond, Option, Some, None, map, refl, ap, sym, subst, ◌∙◌}
-use Rattle.std.specs.Prelude.{◌==◌, ◌&&◌, is_some}
+use Rattle.std.specs.Prelude.{◌==◌, is_some}
 use Rattle.std.specs.List.{list_any}
 use Rattle.std.specs.Option.{option_map}
 use Rattle.std.proofs.lemmas.Bool.{eqb-true}
@@ -45,9 +45,9 @@ use Rattle.wl_invariants.specs.InOrder.{is_toplevel_with}
 use Rattle.wl_invariants.specs.Shown.{heeded_stage, is_dismissed_kind}
 use Rattle.wl_invariants.proofs.KeptRecords.Keeping.OwningXdg.{has_surface, ids-apart, surfaces-apart}
 use Rattle.wl_invariants.proofs.KeptRecords.Keeping.StandingClients.{IsFound, left-else, left-none, stepped-else, stepped-here}
-use Rattle.wl_invariants.proofs.MappedToplevels.Found.{bare-at, found-so, told-apart, top-with}
-use Rattle.wl_invariants.proofs.MappedToplevels.Roots.{ShowAsBefore, all-show, committed-else, committed-here, destroyed-show, made-show, mode-shows, role-shows, unlinked-shows}
-use Rattle.wl_invariants.proofs.MappedToplevels.Well.{IsWell}
+use Rattle.wl_invariants.proofs.ShownSurfaces.Found.{bare-at, found-so, told-apart, top-with}
+use Rattle.wl_invariants.proofs.ShownSurfaces.Roots.{ShowAsBefore, all-show, committed-else, committed-here, destroyed-show, made-show, mode-shows, role-shows, unlinked-shows}
+use Rattle.wl_invariants.proofs.ShownSurfaces.Well.{IsWell}
 use Rattle.wl_invariants.proofs.ShownSurfaces.Fitting.{AllFit, Fits, FitsAt, IsLess, KeepsSurfaces, acknowledging-less, all-but, all-still, dismissing-id, dismissing-less, dismissing-surface, fits-so}
 use Rattle.wl_invariants.proofs.ShownSurfaces.Fitting.{is_top, known, less-changed, less-mapped, less-same, new-as, orphaned-less, popup-known, role_known, staged, table}
 use Rattle.wl_invariants.proofs.TreeSteps.Coming.{link-keeps-all}
@@ -63,10 +63,6 @@ pub record IsRooted (r : Resident) : Type 0 where
   pub fresh : link_at r.peer.requests r.owned.surfaces ≡ None
   pub apart : AreToldApart r.owned.shell
   pub toplevels : AreObjects XdgToplevel r.peer.objects (λ id x. is_toplevel_with id x.role) r.owned.shell
-
-false-both : (b : Bool) → (b && false) ≡ false
-false-both true = refl
-false-both false = refl
 
 -- ---- the shell of a client
 

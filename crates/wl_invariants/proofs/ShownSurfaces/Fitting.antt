@@ -46,9 +46,6 @@ IsLess k l = (k.0 ≡ l.0) × (k.1 ≡ true → l.1 ≡ true) × (k.2 ≡ true �
 pub less-same : (k l : Bool × Bool × Bool) → k ≡ l → IsLess k l
 less-same k l same = subst (λ (m : Bool × Bool × Bool). IsLess k m) same (refl, λ e. e, λ e. e)
 
-less-then : (k l m : Bool × Bool × Bool) → IsLess k l → IsLess l m → IsLess k m
-less-then k l m a b = (a.0 ∙ b.0, λ e. b.1 (a.1 e), λ e. b.2 (a.2 e))
-
 -- ---- the surfaces of a client
 
 abbrev pub FitsAt : ℕ → ℕ → Owned → List Standing → Type 0

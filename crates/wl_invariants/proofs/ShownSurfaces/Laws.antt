@@ -28,9 +28,9 @@ use Rattle.wl_invariants.proofs.EachClient.Clients.{AllAre, At, IsKept, IsPeerOf
 use Rattle.wl_invariants.proofs.EachClient.Steps.{DemandsKeep, counted_of, frame-keeps, happens-keeps, piece-keeps, serves-keeps}
 use Rattle.wl_invariants.proofs.InOrder.Kept.{arrival-lives, demand-owns, demand-stands, framed-lives, peer-lives}
 use Rattle.wl_invariants.proofs.InOrder.Laws.{NoneStands}
-use Rattle.wl_invariants.proofs.MappedToplevels.Found.{told-apart}
-use Rattle.wl_invariants.proofs.MappedToplevels.Turned.{demand-turned}
-use Rattle.wl_invariants.proofs.MappedToplevels.Well.{well, well-counted}
+use Rattle.wl_invariants.proofs.ShownSurfaces.Found.{told-apart}
+use Rattle.wl_invariants.proofs.ShownSurfaces.Turned.{demand-turned}
+use Rattle.wl_invariants.proofs.ShownSurfaces.Well.{well, well-counted}
 use Rattle.wl_invariants.proofs.ShownSurfaces.Demands.{IsRooted, demand-fits}
 use Rattle.wl_invariants.proofs.ShownSurfaces.Fitting.{AllFit, Fits, fit-of, known, shown-of}
 

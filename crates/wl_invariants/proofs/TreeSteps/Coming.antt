@@ -1,33 +1,21 @@
--- A surface that comes keeps the others, and a link that comes all that counts.
+-- A link that comes keeps all that counts.
 use Rattle.std.proofs.Common.{◌≡◌, ℕ, ◌==◌, true, false, None, ap, sym, ◌∙◌}
 use Rattle.std.specs.Option.{option_map}
 use Rattle.std.proofs.lemmas.Bool.{eqb-true}
 use Rattle.wl_state.specs.declared.role.Role.TheVariants.{Subsurface}
 use Rattle.wl_state.specs.Request.{AddChild}
 use Rattle.wl_state.specs.State.{History, counting}
-use Rattle.wl_state.specs.Surface.{Surface, new_surface, with_role}
+use Rattle.wl_state.specs.Surface.{with_role}
 use Rattle.wl_surface.specs.Surfaces.{Link, Surfaces, history_in, link_at, with_change}
 use Rattle.wl_surface.specs.Trees.{linked}
 use Rattle.wl_tree_laws.specs.Hanging.{AreTied, kid_of, kids_of}
 use Rattle.wl_tree_laws.specs.Stacks.{has_child}
 use Rattle.wl_tree_laws.proofs.Linking.{never-there}
 use Rattle.wl_laws.proofs.Lists.Keys.{new-elsewhere}
-use Rattle.wl_laws.proofs.Marks.Stacks.{differ, equal-numbers, unless}
+use Rattle.wl_laws.proofs.Marks.Stacks.{differ, unless}
 use Rattle.wl_invariants.specs.TreeStepsLaws.{IsNamed}
-use Rattle.wl_invariants.specs.TreeRequests.{CreationKeepsOthers, LinkKeepsAll}
+use Rattle.wl_invariants.specs.TreeRequests.{LinkKeepsAll}
 use Rattle.wl_invariants.proofs.TreeSteps.Commits.{count-asked, cut-asked, history-asked, role-keeps-all, within-requests}
-use Rattle.wl_invariants.proofs.TreeSteps.Fewer.{is-other}
-
-turned : (m n : ℕ) → (m == n) ≡ false → (n == m) ≡ false
-turned m n e = unless (n == m) (λ f. differ (sym e ∙ equal-numbers m n (sym (eqb-true n m f))))
-
-pub creation-keeps-others : CreationKeepsOthers
-creation-keeps-others all id = record {
-  histories = λ s none.
-      ap (option_map (λ (x : Surface). x.history)) (new-elsewhere (λ (x : Surface). x.id == s) all.surfaces (new_surface id) (turned s id (is-other all id s none)));
-  kids = λ number child named is none. is;
-  gone = λ number named e. e;
-}
 
 module _ (all : Surfaces) (tied : AreTied all) (number child parent : ℕ) (free : link_at number all ≡ None) where
   abbrev fresh : Link

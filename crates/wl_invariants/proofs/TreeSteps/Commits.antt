@@ -1,5 +1,5 @@
--- A commit keeps the surfaces that don't descend from the one that is committed, and so does any other request of it.
-use Rattle.std.proofs.Common.{◌≡◌, ℕ, ◌≤◌, ◌==◌, ◌++◌, Bool, true, false, cond, Option, Some, None, List, [], ◌∷◌, length, refl, ap, sym, subst, ◌∙◌, arith}
+-- A commit keeps the surfaces that don't descend from the one that is committed, and any other request of it all that counts.
+use Rattle.std.proofs.Common.{◌≡◌, ℕ, ◌≤◌, ◌==◌, ◌++◌, Bool, true, false, cond, Option, Some, None, List, [], ◌∷◌, length, refl, ap, sym, ◌∙◌, arith}
 use Rattle.std.specs.Option.{option_map}
 use Rattle.wl_state.specs.Request.{Commit, Request}
 use Rattle.wl_state.specs.State.{History, apply, committed as committed_at, counting}
@@ -12,8 +12,8 @@ use Rattle.wl_tree_laws.proofs.Applying.{applies-descendants}
 use Rattle.wl_tree_laws.proofs.Coming.{history-applied}
 use Rattle.wl_tree_laws.proofs.Hanging.{committed-within, history-changed, take-more}
 use Rattle.wl_laws.proofs.Marks.Stacks.{differ}
-use Rattle.wl_invariants.specs.TreeStepsLaws.{KeepsAll, KeepsOthers}
-use Rattle.wl_invariants.specs.TreeRequests.{CommitKeepsOthers, HeldCommitKeepsAll, RequestKeepsAll, RequestKeepsOthers, RoleKeepsAll}
+use Rattle.wl_invariants.specs.TreeStepsLaws.{KeepsOthers}
+use Rattle.wl_invariants.specs.TreeRequests.{CommitKeepsOthers, RequestKeepsAll, RoleKeepsAll}
 use Rattle.wl_invariants.proofs.TreeSteps.Fewer.{HadParents, by-fewer, is-other, none-descends}
 
 -- ---- one surface is asked
@@ -35,9 +35,6 @@ asked-keeps all id r = record {
   kids = λ number child named is none. is;
   gone = λ number named e. e;
 }
-
-pub request-keeps-others : RequestKeepsOthers
-request-keeps-others all id r = asked-keeps all id r
 
 -- what counts is within what was asked
 pub count-asked : (r : Request) (b : Bool) (o : Option History) → ((h : History) → o ≡ Some h → h.cut ≤ length h.requests)
@@ -110,7 +107,3 @@ unless-keeps false id all new once had keeps = applied-keeps id all new once had
 pub commit-keeps-others : CommitKeepsOthers
 commit-keeps-others all once id =
     unless-keeps (behaves_synchronised levels all id) id all (with_change id (asking Commit) all) once (λ s l e. (l, e, refl)) (asked-keeps all id Commit)
-
-pub held-commit-keeps-all : HeldCommitKeepsAll
-held-commit-keeps-all all tied id held =
-    subst (λ b. KeepsAll all (applied_unless b id (with_change id (asking Commit) all))) (sym held) (request-keeps-all all tied id Commit)

@@ -4,7 +4,7 @@ use Rattle.std.specs.Prelude.{nat_lt}
 use Rattle.wl_state.specs.Request.{Request}
 use Rattle.wl_state.specs.State.{applied, between, damaged_rects, height_of, is_damaged, width_of}
 use Rattle.wl_laws.proofs.Lists.Keys.{some-same}
-use Rattle.wl_invariants.specs.TreeStanding.{AppliesNothing}
+use Rattle.wl_invariants.specs.TreeStepsLaws.{AppliesNothing}
 
 drop-taken : (n : ℕ) (rs : List Request) → drop n (take n rs) ≡ []
 drop-taken zero rs = at rs

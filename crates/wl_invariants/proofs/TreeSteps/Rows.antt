@@ -8,9 +8,6 @@ use Rattle.wl_surface.specs.Surfaces.{Surfaces}
 use Rattle.wl_surface.specs.Trees.{applied_tree, behaves_synchronised, committed_in, descends_from, desynchronised_in, destroyed_in, levels, unlinked}
 use Rattle.wl_stacking.specs.Stacking.{Owned, Standing, windows_on}
 use Rattle.wl_stacking.specs.Windows.{Window, tree}
-use Rattle.wl_plain.specs.Desktop.{Desktop, owned_in}
-use Rattle.wl_plain.specs.Moments.{applied_between}
-use Rattle.wl_invariants.specs.TreeStanding.{applied_in, windows_in}
 
 abbrev buffer : ℕ → Buffer
 buffer number = record { number = number; object = number; store = 1; offset = 0; width = 4; height = 4; stride = 16; format = Xrgb8888 }
@@ -34,7 +31,9 @@ abbrev standing : ℕ → Standing
 standing surface = record { client = 1; surface = surface; place = record { x = pos 0; y = pos 0 } }
 
 abbrev shown : Surfaces → ℕ → List ℕ
-shown all root = map (λ (w : Window). w.buffer.number) (windows_in all (standing root))
+shown all root =
+    map (λ (w : Window). w.buffer.number)
+    (tree 17 (record { client = 1; root = root; toplevel = root }) all root (record { x = pos 0; y = pos 0 }))
 
 -- surface 2 is in the tree of 1 alone
 row-descends : map (λ root. descends_from levels (two_trees true) root 2) (1 ∷ 2 ∷ 3 ∷ []) ≡ true ∷ true ∷ false ∷ []
@@ -80,7 +79,3 @@ owned all client = record { surfaces = all; shell = [] }
 row-standing : map (λ (w : Window). w.buffer.number) (windows_on (owned (committed_in 2 (two_trees false))) (standing 3 ∷ standing 1 ∷ [])) ≡ 30 ∷ 10 ∷ 21 ∷ []
 unfolding applied_tree behaves_synchronised tree
 row-standing = refl
-
--- Of two desktops it is the damage that is applied between them.
-row-between : (old new : Desktop) → applied_in (owned_in old) (owned_in new) ≡ applied_between old new
-row-between old new = refl

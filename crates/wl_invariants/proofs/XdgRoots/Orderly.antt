@@ -1,5 +1,5 @@
 -- What is known of the links and the wl_subsurfaces of a client in a desktop that is reached.
-use Rattle.std.proofs.Common.{◌≡◌, ℕ, ◌+◌, List, [], ◌∷◌, Bool, true, false, cond, Option, Some, None, refl, ap, sym, subst, ◌∙◌, arith}
+use Rattle.std.proofs.Common.{◌≡◌, ℕ, ◌+◌, List, [], ◌∷◌, Bool, true, false, cond, Option, Some, None, refl, ap, sym, subst, ◌∙◌}
 use Rattle.std.specs.Prelude.{◌==◌, ◌&&◌, ◌||◌, find, is_some, not}
 use Rattle.std.specs.List.{list_any}
 use Rattle.std.proofs.lemmas.Bool.{eqb-true}
@@ -22,7 +22,7 @@ use Rattle.wl_laws.proofs.Marks.Stacks.{and-left, and-right, equal-numbers}
 use Rattle.wl_laws.proofs.Soundness.Orderly.{AreOrderly, IsForest, IsOrderly, IsOrderlyAt, IsOrderlyBy}
 use Rattle.wl_laws.proofs.Soundness.Run.{empty-orderly}
 use Rattle.wl_laws.proofs.Soundness.RunIsSound.{happens-keeps}
-use Rattle.wl_invariants.specs.Roots.{LinksAreApart, LinksAreOfRequests, LinksHaveSubsurfaces, XdgSurfacesAreRoots}
+use Rattle.wl_invariants.specs.Roots.{LinksAreApart, LinksHaveSubsurfaces, XdgSurfacesAreRoots}
 
 -- ---- every desktop that is reached is orderly
 
@@ -134,9 +134,3 @@ links-apart (Some r) tops known = forest-apart (r.peer.requests + 1) r.owned.sur
 pub links-are-apart : LinksAreApart
 links-are-apart left output acts dones d h c =
     links-apart (client_at c d) (toplevels_of c d) (lasts-orderly left acts dones (empty output) d (empty-orderly output) h c)
-
-pub links-are-of-requests : LinksAreOfRequests
-links-are-of-requests left output acts dones d h c r here number link there =
-    let it = client-orderly c d r (lasts-orderly left acts dones (empty output) d (empty-orderly output) h) here in
-    let early = it.forest.early number link there in
-    omega (arith, early)

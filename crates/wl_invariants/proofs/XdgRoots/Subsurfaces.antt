@@ -1,5 +1,5 @@
 -- A client's wl_subsurfaces are told apart by their links and by their surfaces, which are there.
-use Rattle.std.proofs.Common.{◌≡◌, ℕ, ◌+◌, ◌<◌, List, [], ◌∷◌, ◌++◌, Bool, true, false, Option, Some, None, cond, map, refl, ap, sym, subst, ◌∙◌, arith, ◌⊎◌, inl, inr}
+use Rattle.std.proofs.Common.{◌≡◌, ℕ, ◌+◌, ◌<◌, List, [], ◌∷◌, ◌++◌, Bool, true, false, Option, Some, None, cond, map, refl, ap, sym, ◌∙◌, arith, ◌⊎◌, inl, inr}
 use Rattle.std.specs.Prelude.{◌==◌, ◌||◌, filter, is_some}
 use Rattle.std.specs.List.{list_any}
 use Rattle.std.specs.Option.{option_map_or}
@@ -14,12 +14,7 @@ use Rattle.wl_laws.proofs.Lists.Keys.{apart-left, apart-map, differ, new-apart}
 use Rattle.wl_laws.proofs.Lists.Standings.{any-last}
 use Rattle.wl_laws.proofs.Soundness.ObjectsKeys.{any-less, any-map, any-of-filter, apart-less, is-false, none-found}
 use Rattle.wl_laws.proofs.Soundness.ObjectsThere.{there-changed, there-committed, there-desynchronised, there-destroyed, there-linked, there-more, there-unlinked}
-use Rattle.wl_laws.proofs.Soundness.Run.{empty-orderly}
-use Rattle.wl_plain.specs.Desktop.{empty}
-use Rattle.wl_invariants.specs.Roots.{SubsurfacesAreApart}
-use Rattle.wl_invariants.proofs.XdgRoots.Keeping.{Keeps, messages-hold}
-use Rattle.wl_invariants.proofs.XdgRoots.Orderly.{client-orderly, lasts-orderly}
-use Rattle.wl_invariants.proofs.XdgRoots.Runs.{HoldsAt, lasts-hold}
+use Rattle.wl_invariants.proofs.XdgRoots.Keeping.{Keeps}
 
 abbrev pub has_link : ℕ → Subsurface → Bool
 has_link number s = s.link == number
@@ -142,16 +137,3 @@ own-keeps = record {
   desynchronised = λ b link all ss own. own-grown b all _ ss (λ id is. there-desynchronised link all id ∙ is) own;
   destroyed = λ b surface all ss forest own. own-inert b surface all _ ss (λ id other. there-destroyed surface all id other) own;
 }
-
-pub subsurfaces-are-apart : SubsurfacesAreApart
-subsurfaces-are-apart left output acts dones d h c r here =
-    let it = client-orderly c d r (lasts-orderly left acts dones (empty output) d (empty-orderly output) h) here in
-    let own : AreOwn (r.peer.requests + 1) r.owned.surfaces r.subsurfaces =
-    subst (HoldsAt AreOwn own-first) here (lasts-hold AreOwn own-first (messages-hold AreOwn own-keeps) left output acts dones d h c) in
-    record {
-      ids = it.objects.subsurfaces.0;
-      links = own.links;
-      surfaces = own.surfaces;
-      early = λ number any. let low = own.early number any in omega (arith, low);
-      there = own.there;
-    }

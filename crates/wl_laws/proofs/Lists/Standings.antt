@@ -64,10 +64,7 @@ of-surface c surface s is = eqb-true s.surface surface (and-right (s.client == c
 pub of-it : (c surface : ℕ) (s : Standing) → s.client ≡ c → s.surface ≡ surface → is_of c surface s ≡ true
 of-it c surface s is here = and-both (s.client == c) (s.surface == surface) (equal-numbers s.client c is) (equal-numbers s.surface surface here)
 
--- it isn't of another client, or of another surface
-pub of-other : (c surface : ℕ) (s : Standing) → s.client ≢ c → is_of c surface s ≡ false
-of-other c surface s other = unless (is_of c surface s) (λ is. other (of-client c surface s is))
-
+-- it isn't of another surface
 pub of-another : (c surface : ℕ) (s : Standing) → s.surface ≢ surface → is_of c surface s ≡ false
 of-another c surface s other = unless (is_of c surface s) (λ is. other (of-surface c surface s is))
 
@@ -121,9 +118,6 @@ mapped-else m c surface client other ss not_it =
 pub mapped-another : (m c surface other : ℕ) (ss : List Standing) → surface ≢ other → list_any (is_of c other) (with_mapped m c surface ss) ≡ list_any (is_of c other) ss
 mapped-another m c surface other ss apart = mapped-else m c surface c other ss (of-another c other (newest m c surface) apart)
 
-pub mapped-other : (m c surface client other : ℕ) (ss : List Standing) → c ≢ client → list_any (is_of client other) (with_mapped m c surface ss) ≡ list_any (is_of client other) ss
-mapped-other m c surface client other ss apart = mapped-else m c surface client other ss (of-other client other (newest m c surface) apart)
-
 -- ---- one is taken out
 
 pub without-here : (c surface : ℕ) (ss : List Standing) → list_any (is_of c surface) (without_surface_of c surface ss) ≡ false
@@ -132,10 +126,6 @@ without-here c surface ss = any-gone (is_of c surface) (λ s. not (is_of c surfa
 pub without-another : (c surface other : ℕ) (ss : List Standing) → surface ≢ other → list_any (is_of c other) (without_surface_of c surface ss) ≡ list_any (is_of c other) ss
 without-another c surface other ss apart =
     any-left (is_of c other) (λ s. not (is_of c surface s)) (λ s is. ap (λ b. not b) (of-another c surface s (λ e. apart (sym e ∙ of-surface c other s is)))) ss
-
-pub without-other : (c surface client other : ℕ) (ss : List Standing) → c ≢ client → list_any (is_of client other) (without_surface_of c surface ss) ≡ list_any (is_of client other) ss
-without-other c surface client other ss apart =
-    any-left (is_of client other) (λ s. not (is_of c surface s)) (λ s is. ap (λ b. not b) (of-other c surface s (λ e. apart (sym e ∙ of-client client other s is)))) ss
 
 -- ---- all of a client are
 

@@ -6,8 +6,7 @@ use Rattle.wl_state.specs.State.{History, applied, counting, height_of, order, p
 use Rattle.wl_state.proofs.Scales.{applied-unscaled}
 use Rattle.wl_surface.specs.Surfaces.{Link, history_in, link_at}
 use Rattle.wl_stacking.specs.Stacking.{Owned, root_of}
-use Rattle.wl_stacking.proofs.Scales.{windows-unscaled}
-use Rattle.wl_stacking.specs.Windows.{AreUnscaled, Owner, Place, Root, StackedPopup, Window, child_windows, corner_at, member_windows, owner_of, roots_of, shown_windows, surface_windows, tree}
+use Rattle.wl_stacking.specs.Windows.{Owner, Place, Root, StackedPopup, Window, child_windows, corner_at, member_windows, owner_of, roots_of, shown_windows, surface_windows, tree}
 use Rattle.wl_stacking.specs.Windows.{window_with, windows, windows_of}
 use Rattle.wl_plain.specs.Desktop.{Desktop, owned_in}
 use Rattle.wl_stacking.specs.Popups.{stacked_popups}
@@ -74,9 +73,6 @@ shown-roots owned popups toplevels =
     (λ r. shown-tree 17 owned (owner_of r) r.surface r.place)
     (roots_of (owned toplevel.client).surfaces toplevel (popups toplevel.client)))
     toplevels
-
-pub all-unscaled : (d : Desktop) → AreUnscaled (all_windows d)
-all-unscaled d = windows-unscaled (λ c. (owned_in d c).surfaces) (λ c. stacked_popups (owned_in d c)) (map (root_of (owned_in d)) d.standing)
 
 pub all-shown : (d : Desktop) → Each (IsShown (owned_in d)) (all_windows d)
 all-shown d = shown-roots (owned_in d) (λ c. stacked_popups (owned_in d c)) (map (root_of (owned_in d)) d.standing)

@@ -1,6 +1,6 @@
 -- What each thing that is asked changes of what a client owns, and of what is kept of it.
 use Rattle.std.proofs.Common.{◌≡◌, ℕ, ◌+◌, List, Bool, true, false, Option, Some, None, cond, length, refl, ap, sym, subst, ◌∙◌, eq-eqb}
-use Rattle.std.specs.Prelude.{◌==◌, ℤ, IfSome, Ok, Result, fold, is_some}
+use Rattle.std.specs.Prelude.{ℤ, IfSome, Ok, Result, fold, is_some}
 use Rattle.std.specs.Option.{option_and_then, option_map, option_map_or}
 use Rattle.wl_geom.specs.declared.rect.Rect.{Rect}
 use Rattle.wl_family.specs.Family.{Tied}
@@ -11,13 +11,13 @@ use Rattle.wl_state.specs.Surface.{Surface, asking, new_surface, with_role}
 use Rattle.wl_surface.specs.Surfaces.{history_in, with_change as with_surface_change}
 use Rattle.wl_state.specs.declared.role.Role.TheVariants.{Cursor as AsCursor, Toplevel as AsToplevel}
 use Rattle.wl_shell.specs.Agreement.{with_history}
-use Rattle.wl_xdg_state.specs.Kept.{Kept, Stands, changing, commit_answer, effect_answer, first_kept, kept_acknowledging, kept_after, kept_asking, kept_configuring, kept_toplevel, kept_without_role}
+use Rattle.wl_xdg_state.specs.Kept.{Kept, Stands, changing, commit_answer, effect_answer, first_kept, kept_acknowledging, kept_after, kept_asking, kept_configuring, kept_toplevel}
 use Rattle.wl_xdg_state.specs.Kept.{placement_in, with_kept}
 use Rattle.wl_xdg_state.specs.Laws.{one_more}
-use Rattle.wl_xdg_state.specs.Shell.{Effect, Stays, Unconfigured, Configures, Maps, Unmaps, Fresh, Waiting, Mapped, Popup, RoleObject, Shell, XdgSurface, acknowledging, at_stage, configuring}
+use Rattle.wl_xdg_state.specs.Shell.{Effect, Stays, Unconfigured, Configures, Maps, Unmaps, Fresh, Waiting, Mapped, Popup, Shell, XdgSurface, acknowledging, at_stage, configuring}
 use Rattle.wl_xdg_state.specs.Shell.{Configure as Waits, in_stage, is_full}
-use Rattle.wl_xdg_state.specs.Shell.{is_role, new_toplevel, role_acknowledged, unmapping, with_change, without_role, xdg_of}
-use Rattle.wl_xdg_state.specs.Popups.{effect_in, kind_popup, placing, popup_in, with_effect, without_grab}
+use Rattle.wl_xdg_state.specs.Shell.{new_toplevel, role_acknowledged, unmapping, with_change, xdg_of}
+use Rattle.wl_xdg_state.specs.Popups.{effect_in, placing, popup_in, with_effect, without_grab}
 use Rattle.wl_xdg_state.specs.Positioner.{Placed, place}
 use Rattle.wl_xdg_state.specs.declared.acts.ShellAct.{ShellAct}
 use Rattle.wl_xdg_state.specs.declared.acts.ShellAct.TheVariants.{Configure, Map, Unmap, Nothing}
@@ -40,7 +40,7 @@ use Rattle.wl_owning.specs.Popups.{popup_of_surface}
 use Rattle.wl_owning.specs.Owning.{IsOwned, IsXdg, KeepsRole, Names, effect_by, with_surface, with_toplevel, with_xdg}
 use Rattle.wl_plain.specs.Step.{asked_so_far, toplevel_given, xdg_changed}
 use Rattle.wl_owning.proofs.Keeping.OwningChanges.{IsOwned-history, IsOwned-left, IsOwned-made, IsOwned-shelled}
-use Rattle.wl_owning.proofs.Keeping.OwningChanges.{IsOwned-stepped, IsOwned-toplevel, IsOwned-unshelled, IsOwned-untoplevel, agree-same, changing-none}
+use Rattle.wl_owning.proofs.Keeping.OwningChanges.{IsOwned-stepped, IsOwned-toplevel, IsOwned-unshelled, agree-same, changing-none}
 use Rattle.wl_owning.proofs.Keeping.OwningChanges.{renumbered}
 use Rattle.wl_owning.proofs.Keeping.Ids.{ids-changed, ids-committed, ids-without-links}
 use Rattle.wl_owning.proofs.Keeping.OwningSurfaces.{AreKept-left, AreKept-then, geometry-asked, surface-named}
@@ -48,11 +48,9 @@ use Rattle.wl_owning.proofs.Keeping.OwningTies.{asked-by, committed-by, left-by,
 use Rattle.wl_owning.proofs.Keeping.Roots.{agree-child, agree-committed}
 use Rattle.wl_owning.proofs.Keeping.OwningXdg.{histories-same, xdg-of, xdg-of-none}
 use Rattle.wl_plain.specs.Changing.{drawing, effect_placing, is_configure, tree_committed}
-use Rattle.wl_plain.specs.Demand.{Asks, EndSurface, EndToplevel, MakeCursor}
+use Rattle.wl_plain.specs.Demand.{Asks, EndSurface, MakeCursor}
 use Rattle.wl_plain.specs.Demanding.{effect_on_xdg}
-use Rattle.wl_invariants.specs.Simple.{changed_simply, effect_on}
-use Rattle.wl_invariants.specs.Toplevels.{AreToplevels, IsToplevel}
-use Rattle.wl_invariants.proofs.KeptRecords.Toplevels.Judged.{IsToplevelAt, found-toplevel}
+use Rattle.wl_invariants.specs.Simple.{changed_simply}
 use Rattle.wl_owning.proofs.Keeping.OwningReads.{effect-by-role}
 use Rattle.wl_owning.proofs.Popups.Stepping.{histories-to, popup-keeps, same-role}
 
@@ -95,15 +93,6 @@ effect-owned : (where_to : Popup → Option Placed) (id : ℕ) (effect : Effect)
 effect-owned where_to id effect x r = drawn-owned (is_configure effect) (xdg_changed x.id (with_effect r.peer.serial (asked_so_far id r) where_to effect) r)
 
 -- ---- what is asked
-
--- a toplevel is no popup
-no-popup : (o : Option RoleObject) → IsToplevel o → popup_in o ≡ None
-no-popup None top = refl
-no-popup (Some object) top = ap kind_popup top
-
-no-popup-on : (o : Option XdgSurface) → IsToplevelAt o → option_and_then (λ x. popup_in x.role) o ≡ None
-no-popup-on None top = refl
-no-popup-on (Some x) top = no-popup x.role top
 
 module _ (names : Names) (slots : Slots) (tied : Tied) (kept : ℕ → Option Kept) (r : Resident) (is : IsOwned names slots tied kept r.owned) where
   pub owned-created : (id version number : ℕ) (new : Slots) (now : Names) → names.surfaces id ≡ None
@@ -231,15 +220,6 @@ module _ (names : Names) (slots : Slots) (tied : Tied) (kept : ℕ → Option Ke
         subst (λ (ks : ℕ → Option Kept). IsOwned names slots tied ks (changed_simply (Asks (ConfigureAgain x.id)) r).owned) (sym keeps)
         (stepped-still (kept_configuring r.peer.serial) (configuring r.peer.serial) (configuring-keeps r.peer.serial) (changes_stand.configure r.peer.serial k x h one.stands))
 
-    pub owned-toplevel-gone : (id : ℕ) (after : ℕ → Option Kept) (now : Names) → is_role id x.role ≡ true → after ≡ changing number kept_without_role kept → now ≡ with_toplevel id None names
-        → IsOwned now slots tied after (changed_simply (EndToplevel id x.id x.surface) r).owned
-    owned-toplevel-gone id after now its keeps same =
-        subst (λ (n : Names). IsOwned n slots tied after (changed_simply (EndToplevel id x.id x.surface) r).owned) (sym same)
-        (subst (λ (ks : ℕ → Option Kept). IsOwned (with_toplevel id None names) slots tied ks (changed_simply (EndToplevel id x.id x.surface) r).owned) (sym keeps)
-        (IsOwned-untoplevel names slots tied kept r.owned is number k x h one id kept_without_role without_role h slots r.owned.surfaces (λ y. refl) (λ y. refl) its refl is.surfaces
-        (agree-same r.owned.shell (with_history x.surface (Some h) (λ other. history_in other r.owned.surfaces)) (λ other. history_in other r.owned.surfaces)
-        (sym (histories-same x.surface (Some h) (λ other. history_in other r.owned.surfaces) one.history))) (changes_stand.destruction k x h one.stands)))
-
     -- a commit of its surface
     committed-with : (where_to : Popup → Option Placed) (shows : Bool) (bounds : Rect) (parent_at : ℤ × ℤ) (act : ShellAct) (new : Slots) (tying : Tied)
         → AreOnceLinked r.owned.surfaces.links → AreNumbered r.owned.surfaces.links
@@ -306,17 +286,6 @@ module _ (names : Names) (slots : Slots) (tied : Tied) (kept : ℕ → Option Ke
           (subst (λ effect. IsOwned names new tying (changing number (kept_after r.peer.serial act) kept)
           (effect_placing where_to xdg.0.surface effect (Some xdg.0) (tree_committed xdg.0.surface r)).owned)
           (sym (effect-by-role shows xdg.0)) done))
-
-  pub owned-committed : (id number : ℕ) (shows : Bool) (bounds : Rect) (parent_at : ℤ × ℤ) (act : ShellAct) (new : Slots) (tying : Tied) (after : ℕ → Option Kept) → AreToplevels r.owned.shell
-      → AreOnceLinked r.owned.surfaces.links
-      → AreNumbered r.owned.surfaces.links → ((surface : ℕ) → is_some (xdg_of surface r.owned.shell) ≡ true → IsNoChild surface r.owned.surfaces)
-      → names.surfaces id ≡ Some number → Makes slots tied new tying (committed_in number)
-      → commit_answer shows bounds parent_at (kept number) ≡ Ok act → after ≡ changing number (kept_after r.peer.serial act) kept
-      → IsOwned names new tying after (effect_on id (effect_on_xdg shows (xdg_of id r.owned.shell)) (xdg_of id r.owned.shell) (tree_committed id r)).owned
-  owned-committed id number shows bounds parent_at act new tying after tops =
-      owned-placed (λ popup. None) id number shows bounds parent_at act new tying after
-      (subst (λ (o : Option Popup). IfSome o (λ popup. None ≡ place popup.positioner bounds parent_at))
-      (sym (no-popup-on (xdg_of id r.owned.shell) (found-toplevel (λ x. x.surface == id) r.owned.shell tops))) tt)
 
   -- what a commit comes to for the shell is what the shell answered
   pub answered-effect : (id number : ℕ) (shows : Bool) (bounds : Rect) (parent_at : ℤ × ℤ) (act : ShellAct) → names.surfaces id ≡ Some number → commit_answer shows bounds parent_at (kept number) ≡ Ok act

@@ -28,7 +28,6 @@ use Rattle.wl_shell.proofs.Shells.{shells_stand}
 use Rattle.wl_plain.specs.Ask.{AskSurface, EndObject, GetXdgSurface, DestroyXdgSurface, GetToplevel, Acknowledge, ConfigureAgain, Ignore}
 use Rattle.wl_plain.specs.Desktop.{Resident}
 use Rattle.wl_owning.specs.Owning.{IsOwned, IsXdg, Names, asks_by, asks_unless, by_id, by_number, configuring_if, kept_id, shell_refusal}
-use Rattle.wl_plain.specs.Step.{configures_told, role_configured}
 use Rattle.wl_plain.specs.WlSurface.{refuse, refuse_limit, will_show}
 use Rattle.wl_plain.specs.XdgShell.{acknowledged_by, base_destroyed, configured_again, geometry_set, has_any, is_foreign, is_no_toplevel, role_of, toplevel_made, xdg_surface_destroyed}
 use Rattle.wl_plain.specs.XdgShell.{xdg_surface_made}
@@ -221,10 +220,6 @@ module _ (names : Names) (kept : ℕ → Option Kept) (r : Resident) (number : �
           ≡ asks_by (λ sent. configuring_if sent x.id) refusal (stage_configured o configures)
       at None configures e = refl
       at (Some stage) configures e = rw e (by (answers_states stage) (is_full x.configures))
-
-  -- the configures of its role object, by what is kept
-  pub configures-read : (serial : ℕ) → configures_told serial (Some x) ≡ role_configured serial k.id k.role
-  configures-read serial = ap (λ (role : Option RoleObject). role_configured serial x.id role) (sym one.stands.role) ∙ ap (λ i. role_configured serial i k.role) (sym one.stands.id)
 
   -- it has no role object where none is refused for it
   bare : (o : Option RoleObject) → is_some o ≡ false → o ≡ None

@@ -18,7 +18,7 @@ use Rattle.wl_shell.specs.Found.{AreFound, parent_in}
 use Rattle.wl_shell.specs.InOrder.{GoesNext, IsNextToGo, IsOnly, goes_with, undismissed}
 use Rattle.wl_shell.specs.Popups.{has_child, parent_allows, popup_destruction}
 use Rattle.wl_shell.proofs.Agreeing.{found-surface}
-use Rattle.wl_shell.proofs.Following.{popups_follow}
+use Rattle.wl_shell.proofs.InOrder.{popups_follow}
 use Rattle.wl_shell.proofs.Ordered.{role-of}
 use Rattle.wl_shell.proofs.Reading.{shells_find}
 use Rattle.wl_shell.proofs.Standing.{kept-for}

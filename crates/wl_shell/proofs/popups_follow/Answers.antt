@@ -1,4 +1,4 @@
-use Rattle.wl_shell.proofs.Following.{popups_follow}
+use Rattle.wl_shell.proofs.InOrder.{popups_follow}
 use Rattle.wl_shell.proofs.popups_follow.Goals as goal
 
 pub returns : goal.returns

@@ -117,9 +117,6 @@ module _ (c surface : ℕ) (r : Resident) (d e : Desktop) (had : HasTrees d) (ha
   abbrev where_to : Placing
   where_to = placement_now c r d
 
-  abbrev left : Resident
-  left = tree_committed surface r
-
   keeps : (owned_in e c).surfaces ≡ committed_in surface r.owned.surfaces → KeepsOthers surface (surfaces_in d c) (surfaces_in e c)
   keeps now =
       subst (λ (x : Surfaces). KeepsOthers surface (surfaces_in d c) x) (sym (now ∙ ap (λ (o : Owned). committed_in surface o.surfaces) (sym was)))

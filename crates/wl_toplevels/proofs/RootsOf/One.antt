@@ -42,9 +42,6 @@ module _ (c root : ℕ) (d e : Desktop) (had : IsSound d) (has : IsSound e) (tou
       ∙ (ap (list_any (has_surface x)) touches.popups ∙ sym (any-other x root out (popups_in d c)))
 
   module _ (t : ℕ) (is : IsStackedWith c root d (Some t)) (stays : (t == root) ≡ false → e.standing ≡ d.standing) where
-    roots : List ℕ
-    roots = t ∷ popup_surfaces (popups_in d c)
-
     apart : AreApart (t ∷ popup_surfaces (popups_in d c))
     apart = apart-all c t d had (toplevel-none c root t d had (popup_of c root d) refl is)
 

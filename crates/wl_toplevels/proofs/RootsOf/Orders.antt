@@ -19,9 +19,8 @@ use Rattle.wl_laws.specs.Soundness.{IsNoChild}
 use Rattle.wl_laws.proofs.Lists.Keys.{none-some}
 use Rattle.wl_laws.proofs.Marks.Stacks.{Each, and-left, and-right, differ}
 use Rattle.wl_invariants.specs.InOrder.{InOrderAt, InOrderBy}
-use Rattle.wl_invariants.specs.Orderly.{HasMappedToplevel, IsMappedToplevel}
 use Rattle.wl_invariants.specs.Shown.{AreShown, heeded_stage, is_dismissed_kind, is_mapped_now, is_mapped_toplevel}
-use Rattle.wl_invariants.specs.Standing.{is_mapped_at}
+use Rattle.wl_invariants.specs.Standing.{HasMappedToplevel, IsMappedToplevel, is_mapped_at}
 use Rattle.wl_invariants.proofs.InOrder.Sound.{in_order_is_sound}
 use Rattle.wl_toplevels.specs.OrderLaws.{InOrderHasTrees}
 use Rattle.wl_toplevels.proofs.RootsOf.Popped.{IsPopped, all-popped, first_or}

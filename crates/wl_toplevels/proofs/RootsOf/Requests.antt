@@ -111,9 +111,6 @@ grab-stacked = record { since = λ x. refl; popups = λ x. role x (popup_changed
 pub same-keeps : (all : Surfaces) → KeepsAll all all
 same-keeps all = record { counts = λ surface. refl; cuts = λ surface. refl; kids = λ number named. refl }
 
-pub same-others : (id : ℕ) (all : Surfaces) → KeepsOthers id all all
-same-others id all = record { histories = λ surface none. refl; kids = λ number child named here none. here; gone = λ number named none. none }
-
 module _ (c : ℕ) (d e : Desktop) (had : HasTrees d) (has : HasTrees e) (others : (other : ℕ) → other ≢ c → owned_in e other ≡ owned_in d other) (stack : e.standing ≡ d.standing)
     (all : Surfaces) (was : (owned_in d c).surfaces ≡ all) where
   -- nothing that counts changes, and of the shell nothing that is stacked

@@ -18,10 +18,6 @@ abbrev pub AreFrom : List ℕ → List ℕ → Type 0
 AreFrom xs [] = xs ≡ []
 AreFrom xs (y ∷ ys) = AreFrom xs ys ⊎ ((rest : List ℕ) × (xs ≡ y ∷ rest) × AreFrom rest ys)
 
-pub none-from : (ys : List ℕ) → AreFrom [] ys
-none-from [] = refl
-none-from (y ∷ ys) = inl (none-from ys)
-
 pub all-from : (ys : List ℕ) → AreFrom ys ys
 all-from [] = refl
 all-from (y ∷ ys) = inr (ys, refl, all-from ys)
@@ -117,10 +113,6 @@ AreApart xs = AreOnce (λ x y. x == y) xs
 module _ (tree : Root → List Window) (own : (r : Root) → Each (IsOfRoot r.surface) (tree r)) where
   abbrev shown : List Root → List Window
   shown rs = flat_map tree rs
-
-  -- the windows are of none of these roots
-  abbrev AreOf : List ℕ → List Window → Type 0
-  AreOf xs ws = Each (λ w. list_any (λ x. x == w.owner.root) xs ≡ false) ws
 
   tree-elsewhere : (x : ℕ) (r : Root) → (x == r.surface) ≡ false → Each (λ w. (x == w.owner.root) ≡ false) (tree r)
   tree-elsewhere x r other = each-map (IsOfRoot r.surface) (λ w. (x == w.owner.root) ≡ false) (λ w e. ap (λ n. x == n) e ∙ other) (tree r) (own r)

@@ -17,7 +17,7 @@ use Rattle.wl_laws.proofs.Lists.Keys.{found-by, found-map, gone, new-elsewhere, 
 use Rattle.wl_laws.proofs.Marks.Stacks.{Each, differ, equal-numbers, unless}
 use Rattle.wl_laws.proofs.Soundness.Trees.{or-none}
 use Rattle.wl_laws.proofs.Soundness.Windows.{In}
-use Rattle.wl_invariants.specs.Orderly.{HasMappedToplevel, IsMappedToplevel}
+use Rattle.wl_invariants.specs.Standing.{HasMappedToplevel, IsMappedToplevel}
 use Rattle.wl_invariants.specs.TreeStepsLaws.{KeepsAll}
 use Rattle.wl_toplevels.specs.Changes.{HasTrees, StaysPainted}
 use Rattle.wl_toplevels.specs.Roots.{has_parent_in, is_on_one}

@@ -7,20 +7,17 @@ use Rattle.wl_xdg_state.specs.Popups.{is_toplevel}
 use Rattle.wl_xdg_state.specs.Shell.{Effect, Stays, Unconfigured, Configures, Maps, Unmaps, xdg_of}
 use Rattle.wl_stacking.specs.Pointer.{Pointer, first_pointer}
 use Rattle.wl_stacking.specs.Windows.{Window}
-use Rattle.wl_plain.specs.Changing.{changed_for, moving_from, stacked_by, stacked_for}
+use Rattle.wl_plain.specs.Changing.{moving_from, stacked_by, stacked_for}
 use Rattle.wl_plain.specs.Demand.{Demand, CommitTree, EndToplevel, Move}
 use Rattle.wl_plain.specs.Demanding.{effect_of_commit}
-use Rattle.wl_plain.specs.Desktop.{Desktop, Resident, become, client_at, unpointed, with_client}
-use Rattle.wl_plain.specs.LeftOut.{LeftOut}
-use Rattle.wl_plain.specs.Replies.{replies}
+use Rattle.wl_plain.specs.Desktop.{Desktop, Resident, client_at, with_client}
 use Rattle.wl_plain.specs.Settling.{QueuesFirst, QueuesTo, becomes}
-use Rattle.wl_plain.specs.Stacked.{all_windows}
 use Rattle.wl_plain.specs.Step.{with_peer}
 use Rattle.wl_laws.proofs.Runs.Forms.{Becomes as StepBecomes, after_why}
 use Rattle.wl_invariants.proofs.EachClient.Clients.{IsPeerOf}
 use Rattle.wl_invariants.proofs.KeptRecords.Toplevels.Back.{settled-back, told-back}
 use Rattle.wl_invariants.proofs.KeptRecords.Toplevels.Serves.{IsDone as IsTold, after-same, becomes-same, by-pointer, ended_why}
-use Rattle.wl_ways.specs.Ways.{Becomes, DoesAlone}
+use Rattle.wl_ways.specs.Ways.{Becomes}
 
 -- ---- the pointer stays where it is, which is nowhere
 
@@ -42,20 +39,6 @@ stacked-still c (CommitTree id) r windows d still = by-still (effect_of_commit r
 stacked-still c (EndToplevel id xdg top) r windows d still = still
 stacked-still c (Move id serial) r windows d still = moves-nothing c id serial windows d.pointer still ∙ still
 stacked-still c demand r windows d still = still
-
--- to put the pointer aside changes nothing
-pub unpointed-same : (d : Desktop) → d.pointer ≡ first_pointer → unpointed d ≡ d
-unpointed-same d still = ap (λ (p : Pointer). record d { pointer = p }) (sym still)
-
--- so what is told of a demand with the pointer put aside is what is told of it
-pub told-alone : (left : LeftOut) (c : ℕ) (demand : Demand) (r : Resident) (d : Desktop) (q : Peer) → d.pointer ≡ first_pointer
-    → Queues (replies left c demand r (changed_for c demand r (unpointed d)) (all_windows d) (unpointed d)) (changed_for c demand r (unpointed d)).peer q
-    → DoesAlone left demand c r d (become c (changed_for c demand r d) q (stacked_for c demand r (all_windows d) d))
-told-alone left c demand r d q still told = (
-  q,
-  subst (λ (x : Desktop). Queues (replies left c demand r (changed_for c demand r x) (all_windows d) x) (changed_for c demand r x).peer q) (unpointed-same d still) told,
-  refl,
-)
 
 -- ---- what is told is settled at once
 

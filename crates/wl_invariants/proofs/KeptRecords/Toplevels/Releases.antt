@@ -7,7 +7,7 @@ use Rattle.std.proofs.lemmas.Bool.{or_left, or_right}
 use Rattle.wl_interface.specs.declared.interface.Interface.TheVariants.{WlBuffer}
 use Rattle.wl_proto.specs.Messages.{says}
 use Rattle.wl_peer.specs.Buffers.{Buffer as Made}
-use Rattle.wl_peer.specs.Told.{Said, id_deleted, said}
+use Rattle.wl_peer.specs.Told.{Said, said}
 use Rattle.wl_state.specs.Request.{Buffer, Request}
 use Rattle.wl_state.specs.State.{History, applied, committed, held, is_commit, values}
 use Rattle.wl_state.specs.Surface.{Surface, asking, listed, names, new_surface, shows, with_role}
@@ -15,13 +15,13 @@ use Rattle.wl_surface.specs.Surfaces.{Surfaces, is_busy, surface_at, with_change
 use Rattle.wl_state.specs.declared.role.Role.{Role}
 use Rattle.wl_state.specs.declared.role.Role.TheVariants.{Toplevel as AsToplevel}
 use Rattle.wl_state.proofs.Records.{applied-kept, held-kept}
-use Rattle.wl_xdg_state.specs.Shell.{XdgSurface as Xdg, without_role, xdg_at}
+use Rattle.wl_xdg_state.specs.Shell.{XdgSurface as Xdg, xdg_at}
 use Rattle.wl_plain.specs.Ask.{Ask, Own, CreateSurface, AskSurface, EndObject, GetXdgSurface, DestroyXdgSurface, GetToplevel, Acknowledge, ConfigureAgain, Ignore}
 use Rattle.wl_plain.specs.Desktop.{Resident}
 use Rattle.wl_laws.specs.Apart.{AreApartBy}
 use Rattle.wl_plain.specs.Releases.{is_released}
 use Rattle.wl_plain.specs.Replies.{buffers_busy, buffers_shown, by_object, is_same_buffer, releases}
-use Rattle.wl_plain.specs.Step.{answers_to, changed_by, removing, toplevel_given, with_surfaces, xdg_changed}
+use Rattle.wl_plain.specs.Step.{answers_to, changed_by, toplevel_given, with_surfaces}
 use Rattle.wl_invariants.proofs.KeptRecords.Toplevels.Buffers.{nothing-after}
 use Rattle.wl_invariants.proofs.KeptRecords.Keeping.Letting.{each-more, each-once, listed-each, named-so, none-left, or-any}
 use Rattle.wl_laws.proofs.Lists.Keys.{any-found, found-any, found-map}
@@ -133,9 +133,6 @@ asked-told (Acknowledge xdg serial) r apart = still-released r (changed_by (Ackn
 asked-told (ConfigureAgain xdg) r apart = only (answers_to (ConfigureAgain xdg) r) (releases r (changed_by (ConfigureAgain xdg) r))
     (still-released r (changed_by (ConfigureAgain xdg) r) refl)
 asked-told Ignore r apart = still-released r (changed_by Ignore r) refl
-
-pub ended-told : (id xdg : ℕ) (r : Resident) → id_deleted id ∷ releases r (removing id (xdg_changed xdg without_role r)) ≡ id_deleted id ∷ []
-ended-told id xdg r = ap (λ (es : List Said). id_deleted id ∷ es) (still-released r (removing id (xdg_changed xdg without_role r)) refl)
 
 -- a request of a surface that is no commit leaves it what it shows
 still-shows : (request : Request) → is_commit request ≡ false → (n : ℕ) (s : Surface) → s.history.cut ≤ committed s.history.requests → committed s.history.requests ≤ length s.history.requests

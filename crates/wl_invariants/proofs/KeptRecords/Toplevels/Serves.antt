@@ -1,105 +1,26 @@
--- Clients whose role objects are toplevels keep that, and what becomes of a desktop where nobody points is its own change.
+-- What becomes of a desktop where nobody points is its own change.
 use Rattle.std.proofs.Common.{◌≡◌, ℕ, List, ◌∷◌, ◌++◌, Bool, true, false, Option, Some, None, cond, refl, ap, subst, sym, ◌∙◌, map, inl, inr, []}
-use Rattle.std.specs.Prelude.{◌==◌, not, filter, flat_map}
-use Rattle.std.specs.Option.{option_map}
+use Rattle.std.specs.Prelude.{not, filter, flat_map}
 use Rattle.wl_interface.specs.declared.interface.Interface.TheVariants.{XdgPopup}
 use Rattle.wl_proto.specs.Messages.{says}
 use Rattle.wl_peer.specs.declared.cause.Cause.{Cause}
 use Rattle.wl_peer.specs.declared.cause.Cause.TheVariants.{Memory, Slow}
 use Rattle.wl_peer.specs.Peer.{Peer, Queues, QueuesOr, ended, has_room, queued}
 use Rattle.wl_peer.specs.Told.{Said, said}
-use Rattle.wl_xdg_state.specs.Popups.{is_among, placing, with_effect, with_popup, with_popup_role, without_grab}
-use Rattle.wl_xdg_state.specs.Positioner.{Placed}
-use Rattle.wl_xdg_state.specs.Shell.{Effect, Stays, Unconfigured, Configures, Maps, Unmaps, Fresh, Waiting, Mapped, Popup, RoleObject, Shell, XdgSurface as Xdg, acknowledging, configuring, in_stage}
-use Rattle.wl_xdg_state.specs.Shell.{new_toplevel, unmapping, with_change, with_new, without_role, without_xdg, xdg_at}
+use Rattle.wl_xdg_state.specs.Popups.{is_among}
 use Rattle.wl_stacking.specs.Pointer.{first_pointer}
 use Rattle.wl_stacking.specs.Stacking.{without_client}
-use Rattle.wl_plain.specs.Ask.{Ask, Own, CreateSurface, AskSurface, EndObject, GetXdgSurface, DestroyXdgSurface, GetToplevel, Acknowledge, ConfigureAgain, Ignore}
-use Rattle.wl_plain.specs.Changing.{drawing, effect_placing, is_configure, with_kept_move}
+use Rattle.wl_plain.specs.Changing.{with_kept_move}
 use Rattle.wl_plain.specs.Desktop.{Desktop, Resident, become, become_by, client_at, resident_of, with_client}
 use Rattle.wl_plain.specs.Replies.{dismissed_in, newest_first, popups_done}
 use Rattle.wl_plain.specs.Settling.{EndsAndSettles, QueuesTo, after_status, becomes, ended_at, pointer_without, unstruck}
-use Rattle.wl_plain.specs.Step.{asked_so_far, changed_by, toplevel_given, with_peer, xdg_changed}
+use Rattle.wl_plain.specs.Step.{with_peer}
 use Rattle.wl_invariants.proofs.KeptRecords.Toplevels.Simply.{Becomes}
-use Rattle.wl_invariants.specs.Toplevels.{AreToplevels, IsToplevel}
+use Rattle.wl_invariants.specs.Toplevels.{AreToplevels}
 use Rattle.wl_laws.proofs.Runs.Forms.{after_why, Becomes as StepBecomes}
-use Rattle.wl_invariants.proofs.KeptRecords.Toplevels.Changed.{no-popups, stage-top}
+use Rattle.wl_invariants.proofs.KeptRecords.Toplevels.Changed.{no-popups}
 use Rattle.wl_laws.proofs.Runs.Places.{number-same, number-twice}
 use Rattle.wl_laws.proofs.Runs.Ends.{queues-status}
-
--- ---- the role objects stay toplevels
-
-top-change : (id : ℕ) (f : Xdg → Xdg) → ((x : Xdg) → IsToplevel x.role → IsToplevel (f x).role) → (xs : Shell) → AreToplevels xs → AreToplevels (with_change id f xs)
-top-change id f keeps [] top = tt
-top-change id f keeps (x ∷ xs) top = (at (x.id == id), top-change id f keeps xs top.1)
-  where
-    at : (b : Bool) → IsToplevel (cond b (f x) x).role
-    at true = keeps x top.0
-    at false = top.0
-
-top-new : (id base surface : ℕ) (xs : Shell) → AreToplevels xs → AreToplevels (with_new id base surface xs)
-top-new id base surface [] top = (tt, tt)
-top-new id base surface (x ∷ xs) top = (top.0, top-new id base surface xs top.1)
-
-top-without : (id : ℕ) (xs : Shell) → AreToplevels xs → AreToplevels (without_xdg id xs)
-top-without id [] top = tt
-top-without id (x ∷ xs) top = at (x.id == id) (top-without id xs top.1)
-  where
-    at : (b : Bool) → AreToplevels (without_xdg id xs) → AreToplevels (cond (not b) (x ∷ without_xdg id xs) (without_xdg id xs))
-    at true later = later
-    at false later = (top.0, later)
-
-top-acknowledged : (serial : ℕ) (x : Xdg) (o : Option RoleObject) → x.role ≡ o → IsToplevel o → IsToplevel (acknowledging serial x).role
-top-acknowledged serial x o is top = subst (λ p. IsToplevel (acknowledging serial (record x { role = p })).role) (sym is) (at o top)
-  where
-    at : (o : Option RoleObject) → IsToplevel o → IsToplevel (acknowledging serial (record x { role = o })).role
-    at None top = tt
-    at (Some object) top = top
-
-top-changed : (change : Popup → Popup) (o : Option RoleObject) → IsToplevel o → IsToplevel (option_map (with_popup_role change) o)
-top-changed change None top = tt
-top-changed change (Some object) top = ap (with_popup change) top
-
-top-effect-at : (serial since : ℕ) (where_to : Popup → Option Placed) (effect : Effect) (x : Xdg) → IsToplevel x.role → IsToplevel (with_effect serial since where_to effect x).role
-top-effect-at serial since where_to Stays x is = is
-top-effect-at serial since where_to Unconfigured x is = is
-top-effect-at serial since where_to Configures x is = top-changed (placing where_to) (in_stage Waiting x).role (stage-top Waiting x.role is)
-top-effect-at serial since where_to Maps x is = stage-top Mapped x.role is
-top-effect-at serial since where_to Unmaps x is = top-changed without_grab (unmapping since x).role (stage-top Fresh x.role is)
-
-pub top-effect : (where_to : Popup → Option Placed) (id : ℕ) (effect : Effect) (o : Option Xdg) (r : Resident) → AreToplevels r.owned.shell
-    → AreToplevels (effect_placing where_to id effect o r).owned.shell
-top-effect where_to id effect None r top = top
-top-effect where_to id effect (Some x) r top = at (is_configure effect)
-  where
-    changed : Resident
-    changed = xdg_changed x.id (with_effect r.peer.serial (asked_so_far id r) where_to effect) r
-
-    there : AreToplevels changed.owned.shell
-    there = top-change x.id (with_effect r.peer.serial (asked_so_far id r) where_to effect) (top-effect-at r.peer.serial (asked_so_far id r) where_to effect) r.owned.shell top
-
-    at : (b : Bool) → AreToplevels (drawing b changed).owned.shell
-    at true = there
-    at false = there
-
-pub top-given : (id xdg : ℕ) (o : Option Xdg) (r : Resident) → AreToplevels r.owned.shell → AreToplevels (toplevel_given id xdg o r).owned.shell
-top-given id xdg None r top = top
-top-given id xdg (Some x) r top = top-change xdg (new_toplevel id _) (λ y is. refl) r.owned.shell top
-
-pub tops-gone : (xdg : ℕ) (r : Resident) → AreToplevels r.owned.shell → AreToplevels (xdg_changed xdg without_role r).owned.shell
-tops-gone xdg r top = top-change xdg without_role (λ y is. tt) r.owned.shell top
-
-pub tops-kept : (ask : Ask) (r : Resident) → AreToplevels r.owned.shell → AreToplevels (changed_by ask r).owned.shell
-tops-kept (Own action) r top = top
-tops-kept (CreateSurface id version) r top = top
-tops-kept (AskSurface id request) r top = top
-tops-kept (EndObject id) r top = top
-tops-kept (GetXdgSurface id version base surface) r top = top-new id base surface r.owned.shell top
-tops-kept (DestroyXdgSurface id) r top = top-without id r.owned.shell top
-tops-kept (GetToplevel id version xdg) r top = top-given id xdg (xdg_at xdg r.owned.shell) r top
-tops-kept (Acknowledge xdg serial) r top = top-change xdg (acknowledging serial) (λ y is. top-acknowledged serial y y.role refl is) r.owned.shell top
-tops-kept (ConfigureAgain xdg) r top = top-change xdg (configuring r.peer.serial) (λ y is. is) r.owned.shell top
-tops-kept Ignore r top = top
 
 -- ---- the pointer isn't anywhere
 

@@ -7,6 +7,7 @@ use Rattle.wl_plain.specs.Replies.{focus_window}
 use Rattle.wl_plain.specs.Pointing.{entered_surface}
 use Rattle.wl_plain.specs.Settling.{told_drawn}
 use Rattle.wl_desk.specs.Points.{point_told}
+use Rattle.wl_desk.proofs.Noting.{drawing-keeps}
 use Rattle.wl_desk.proofs.Points.{point-there}
 use Rattle.wl_desk.proofs.Telling.{enters-at, point-as}
 use Rattle.wl_desk.proofs.desks.Desk.enter.Goals as goal
@@ -22,3 +23,4 @@ returns-clause-tells g c = λ ws m telling same stacked some.
     let fy : SFits w32 c.in-Some.y = search rules in
     c.tell.ensures.tells told_drawn (entered_surface m.desktop.pointer.place (focus_window (Some (target_of c.args.target)) ws)) m telling
     (enters-at (target_of c.args.target) ws m _ _ same (point-as _ _ c.in-Some.x c.in-Some.y _ (to_z-of_z w32 c.in-Some.x fx) (to_z-of_z w32 c.in-Some.y fy) (c.in-Some.ensures m telling)))
+    (λ r. drawing-keeps _ r)

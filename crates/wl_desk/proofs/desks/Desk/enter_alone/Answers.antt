@@ -6,6 +6,8 @@ use Rattle.wl_scene.specs.Focus.{target_of}
 use Rattle.wl_plain.specs.Changing.{drawing}
 use Rattle.wl_plain.specs.Replies.{entered_at, focus_window}
 use Rattle.wl_plain.specs.Stacked.{all_windows}
+use Rattle.wl_desk.proofs.LatestStay.{keeps-noted}
+use Rattle.wl_desk.proofs.Noting.{drawing-keeps}
 use Rattle.wl_desk.proofs.Points.{point-there}
 use Rattle.wl_desk.proofs.Telling.{enters-new-at, point-as, seen, tells-telling}
 use Rattle.wl_desk.proofs.desks.Desk.enter_alone.Goals as goal
@@ -18,9 +20,10 @@ pub returns-clause-tells : goal.returns-clause-tells
 returns-clause-tells g c = λ m telling stacked some.
     let fx : SFits w32 c.in-Some.x = search rules in
     let fy : SFits w32 c.in-Some.y = search rules in
-    tells-telling (Enter c.args.target.surface _ _) (c.args.pointer ∷ []) c.args.target.client (seen c.self.inside.clients.desk _ c.self.inside.pointer)
-    (seen c.tell.new.self.desk _ c.self.inside.pointer) c.tell.ensures.tells refl refl (drawing true)
+    tells-telling (Enter c.args.target.surface _ _) (c.args.pointer ∷ []) c.args.target.client (seen c.self.inside.clients.desk _ _ c.self.inside.pointer)
+    (seen c.tell.new.self.desk _ _ c.self.inside.pointer) c.tell.ensures.tells refl refl (drawing true)
     (λ r. entered_at c.args.pointer r.peer.serial m.desktop.pointer.place (focus_window (Some (target_of c.args.target)) (all_windows m.desktop))) m (rw (← c.self.view_is) at telling)
+    (keeps-noted _ _ c.args.target.client (drawing true) _ (drawing-keeps true) refl)
     (λ r there lives. enters-new-at (target_of c.args.target) (all_windows m.desktop) m _ _ refl
     (point-as _ _ c.in-Some.x c.in-Some.y _ (to_z-of_z w32 c.in-Some.x fx) (to_z-of_z w32 c.in-Some.y fy) (c.in-Some.ensures m telling)) c.args.pointer r)
 

@@ -7,8 +7,8 @@ use Rattle.wl_desk.proofs.desks.Desk.frames.Goals as goal
 
 pub returns-clause-leads : goal.returns-clause-leads
 returns-clause-leads g c =
-    rw (← c.self.view_is) (frames c.args.time c.self.inside.clients c.frames.new.self (map (λ s. s.items) c.self.inside.seats.items) c.self.inside.pointer c.forget_ended.new.self c.settle.new.self
-    c.frames.ensures.leads c.frames.ensures.sides c.forget_ended.ensures.kept c.forget_ended.ensures.seats c.forget_ended.ensures.damage c.forget_ended.ensures.left c.settle.ensures.settles)
+    rw (← c.self.view_is) (frames c.args.time c.self.inside.clients c.frames.new.self (map (λ s. s.items) c.self.inside.seats.items) c.self.inside.latest.items c.self.inside.pointer c.forget_ended.new.self c.settle.new.self
+    c.frames.ensures.leads c.frames.ensures.sides c.forget_ended.ensures.kept c.forget_ended.ensures.seats c.forget_ended.ensures.latest c.forget_ended.ensures.damage c.forget_ended.ensures.left c.settle.ensures.settles)
 
 pub returns-clause-sides : goal.returns-clause-sides
 returns-clause-sides g c =

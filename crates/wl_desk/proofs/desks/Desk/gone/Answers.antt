@@ -15,12 +15,12 @@ went client lived was old new is leads = subst (λ (b : Bool). LeadsBy (Single (
 
 pub returns-then-not-gone-clause-leads : goal.returns-then-not-gone-clause-leads
 returns-then-not-gone-clause-leads g c =
-    rw (← c.self.view_is) (quiet-step (Leave c.args.client) (gave.Gone false) c.self.inside.clients c.gone.new.self (map (λ s. s.items) c.self.inside.seats.items) c.self.inside.pointer refl
+    rw (← c.self.view_is) (quiet-step (Leave c.args.client) (gave.Gone false) c.self.inside.clients c.gone.new.self (map (λ s. s.items) c.self.inside.seats.items) c.self.inside.latest.items c.self.inside.pointer refl
     (differs c.args.client) (went c.args.client c.gone.result false c.self.inside.clients c.gone.new.self c.if-not-gone.true c.gone.ensures.leads))
 
 pub returns-clause-leads : goal.returns-clause-leads
 returns-clause-leads g c =
-    rw (← c.self.view_is) (goes c.args.client c.self.inside.clients c.gone.new.self (map (λ s. s.items) c.self.inside.seats.items) c.self.inside.pointer c.forget.new.self c.settle.new.self
+    rw (← c.self.view_is) (goes c.args.client c.self.inside.clients c.gone.new.self (map (λ s. s.items) c.self.inside.seats.items) c.self.inside.latest.items c.self.inside.pointer c.forget.new.self c.settle.new.self
     (went c.args.client c.gone.result true c.self.inside.clients c.gone.new.self c.if-not-gone.false c.gone.ensures.leads) c.gone.ensures.sides c.forget.ensures c.settle.ensures.settles)
 
 pub returns-clause-sides : goal.returns-clause-sides

@@ -9,7 +9,7 @@ pub returns-clause-ok : goal.returns-clause-ok
 returns-clause-ok g c =
     let seats = map (λ s. s.items) c.self.inside.seats.items in
     rw (← c.self.view_is) (ok-then c.keep.result (λ kept d a.
-    keeps c.args.client c.args.piece.now (desk_with c.self.inside.clients seats c.self.inside.pointer).desk (desk_with c.keep.new.self seats c.self.inside.pointer).desk d a refl refl
+    keeps c.args.client c.args.piece.now (desk_with c.self.inside.clients seats c.self.inside.latest.items c.self.inside.pointer).desk (desk_with c.keep.new.self seats c.self.inside.latest.items c.self.inside.pointer).desk d a refl refl refl
     (kept (unpointed d) a.kept)) c.keep.ensures.ok)
 
 pub returns-clause-err : goal.returns-clause-err
@@ -17,7 +17,7 @@ returns-clause-err g c =
     let seats = map (λ s. s.items) c.self.inside.seats.items in
     rw (← c.self.view_is) (err-then c.keep.result (λ kept d a.
     let k = kept (unpointed d) a.kept in
-    (agrees-still (desk_with c.self.inside.clients seats c.self.inside.pointer).desk (desk_with c.keep.new.self seats c.self.inside.pointer).desk d a refl refl k.0, k.1)) c.keep.ensures.err)
+    (agrees-still (desk_with c.self.inside.clients seats c.self.inside.latest.items c.self.inside.pointer).desk (desk_with c.keep.new.self seats c.self.inside.latest.items c.self.inside.pointer).desk d a refl refl refl k.0, k.1)) c.keep.ensures.err)
 
 pub returns-clause-damage : goal.returns-clause-damage
 returns-clause-damage g c = rw (← c.self.view_is) c.keep.ensures.damage

@@ -15,9 +15,9 @@ returns-clause-leads g c =
     let y-is : to_z w32 (of_z w32 c.args.y) ≡ c.args.y = omega (arith, ints) in
     let i-is : to_z w32 (of_z w32 c.within.result) ≡ c.within.result = omega (arith, ints) in
     let j-is : to_z w32 (of_z w32 c.within-2.result) ≡ c.within-2.result = omega (arith, ints) in
-    rw (← c.self.view_is) (moves c.args.time c.args.x c.args.y c.self.inside.clients (map (λ s. s.items) c.self.inside.seats.items) c.self.inside.pointer c.motion-moves.new.self
+    rw (← c.self.view_is) (moves c.args.time c.args.x c.args.y c.self.inside.clients (map (λ s. s.items) c.self.inside.seats.items) c.self.inside.latest.items c.self.inside.pointer c.motion-moves.new.self
     c.went-actions.new.self (record { x = c.within.result; y = c.within-2.result }) (map action_of c.motion-moves.result.items) (target_or_none c.seen-hit.result.0) c.seen-hit.result.1
-    (map action_of c.went-actions.result.items) (desk_with c.self-2.inside.clients (map (λ s. s.items) c.self-2.inside.seats.items) c.self-2.inside.pointer) c.apply_all.new.self
+    (map action_of c.went-actions.result.items) (desk_with c.self-2.inside.clients (map (λ s. s.items) c.self-2.inside.seats.items) c.self-2.inside.latest.items c.self-2.inside.pointer) c.apply_all.new.self
     c.settle.new.self
     (point-held c.self.inside.clients c.output-output.result c.args.x c.args.y c.within.result c.within-2.result c.output-output.ensures
     (c.within.ensures ∙ ap (within c.output-output.result.width) x-is) (c.within-2.ensures ∙ ap (within c.output-output.result.height) y-is))

@@ -11,8 +11,8 @@ returns-clause-moves g c = λ m telling known.
     let it = rw (← c.self.view_is) at telling in
     let across : to_z w64 (of_z w64 c.args.x) ≡ c.args.x = omega (arith, ints) in
     let down : to_z w64 (of_z w64 c.args.y) ≡ c.args.y = omega (arith, ints) in
-    moved-telling (target_of c.args.toplevel) c.args.x c.args.y _ _ across down (seen c.self.inside.clients.desk _ c.self.inside.pointer)
-    (seen c.move_toplevel.new.self.desk _ c.self.inside.pointer) m refl refl it
+    moved-telling (target_of c.args.toplevel) c.args.x c.args.y _ _ across down (seen c.self.inside.clients.desk _ _ c.self.inside.pointer)
+    (seen c.move_toplevel.new.self.desk _ _ c.self.inside.pointer) m refl refl refl it
     (c.move_toplevel.ensures.moves (unpointed_mid m) c.args.toplevel.surface it.kept (sym c.in-Some.ensures))
 
 pub returns-clause-marks : goal.returns-clause-marks

@@ -6,6 +6,7 @@ use Rattle.wl_stacking.specs.Windows.{Window}
 use Rattle.wl_plain.specs.Replies.{focus_window}
 use Rattle.wl_plain.specs.Pointing.{motion_told}
 use Rattle.wl_desk.specs.Points.{point_told}
+use Rattle.wl_desk.proofs.Noting.{nothing-keeps}
 use Rattle.wl_desk.proofs.Points.{point-there}
 use Rattle.wl_desk.proofs.Telling.{moves-at, point-as}
 use Rattle.wl_desk.proofs.desks.Desk.move_over.Goals as goal
@@ -21,3 +22,4 @@ returns-clause-tells g c = λ ws m telling same stacked some.
     let fy : SFits w32 c.in-Some.y = search rules in
     c.tell.ensures.tells (λ r. r) (motion_told c.args.time m.desktop.pointer.place (focus_window (Some (target_of c.args.target)) ws)) m telling
     (moves-at (target_of c.args.target) ws m _ _ same (point-as _ _ c.in-Some.x c.in-Some.y _ (to_z-of_z w32 c.in-Some.x fx) (to_z-of_z w32 c.in-Some.y fy) (c.in-Some.ensures m telling)) c.args.time)
+    nothing-keeps

@@ -11,12 +11,12 @@ use Rattle.wl_desk.proofs.desks.Desk.press_serial.Goals as goal
 pub returns-then-is_empty : goal.returns-then-is_empty
 returns-then-is_empty g c = λ d a.
     let it = rw (← c.self.view_is) at a in
-    serial-none (seen c.self.inside.clients.desk _ c.self.inside.pointer) d it (target_of c.in_ok-focus.focus) (sym (ap (option_map target_of) c.in_ok-focus.was) ∙ c.focus.ensures)
+    serial-none (seen c.self.inside.clients.desk _ _ c.self.inside.pointer) d it (target_of c.in_ok-focus.focus) (sym (ap (option_map target_of) c.in_ok-focus.was) ∙ c.focus.ensures)
     c.seat_of.result.now (rw (← c.deref.ensures.value) c.seat_of.ensures) c.is_empty.result c.is_empty.ensures c.if-is_empty.true
 
 pub returns : goal.returns
 returns g c = λ d a.
     let it = rw (← c.self.view_is) at a in
-    serial-some (seen c.self.inside.clients.desk _ c.self.inside.pointer) d it (target_of c.in_ok-focus.focus) (sym (ap (option_map target_of) c.in_ok-focus.was) ∙ c.focus.ensures)
+    serial-some (seen c.self.inside.clients.desk _ _ c.self.inside.pointer) d it (target_of c.in_ok-focus.focus) (sym (ap (option_map target_of) c.in_ok-focus.was) ∙ c.focus.ensures)
     c.seat_of.result.now (rw (← c.deref.ensures.value) c.seat_of.ensures) (not-empty c.seat_of.result.now c.is_empty.result c.is_empty.ensures c.if-is_empty.false) c.serial.result
     (c.serial.ensures (unstruck (unpointed d)) ((mid_begins_and_ends c.self.inside.clients.desk (unpointed d)).0 it.kept))

@@ -11,7 +11,7 @@ returns-in_default-clause-marks g c =
 pub returns-clause-raises : goal.returns-clause-raises
 returns-clause-raises g c = rw c.in-Some.is (λ m telling known.
     let it = rw (← c.self.view_is) at telling in
-    telling-stack (seen c.self.inside.clients.desk _ c.self.inside.pointer) (seen c.raise.new.self.desk _ c.self.inside.pointer) _ m refl refl it
+    telling-stack (seen c.self.inside.clients.desk _ _ c.self.inside.pointer) (seen c.raise.new.self.desk _ _ c.self.inside.pointer) _ m refl refl refl it
     (c.raise.ensures.raises (unpointed_mid m) c.in-Some.toplevel.surface it.kept (sym c.in-Some-surface_number.ensures)))
 
 pub returns-clause-marks : goal.returns-clause-marks

@@ -8,13 +8,13 @@ use Rattle.wl_desk.proofs.desks.Desk.release.Goals as goal
 
 pub returns-then-not-is_down-clause-leads : goal.returns-then-not-is_down-clause-leads
 returns-then-not-is_down-clause-leads g c =
-    rw (← c.self.view_is) (releases-not c.args.time c.args.button c.self.inside.clients (map (λ s. s.items) c.self.inside.seats.items) c.self.inside.pointer
+    rw (← c.self.view_is) (releases-not c.args.time c.args.button c.self.inside.clients (map (λ s. s.items) c.self.inside.seats.items) c.self.inside.latest.items c.self.inside.pointer
     (sym c.is_down.ensures ∙ c.if-not-is_down.true))
 
 pub returns-clause-leads : goal.returns-clause-leads
 returns-clause-leads g c =
     let counts : is_down c.args.button c.self.inside.pointer.buttons ≡ true = sym c.is_down.ensures ∙ c.if-not-is_down.false in
-    rw (← c.self.view_is) (releases c.args.time c.args.button c.self.inside.clients (map (λ s. s.items) c.self.inside.seats.items) c.self.inside.pointer
+    rw (← c.self.view_is) (releases c.args.time c.args.button c.self.inside.clients (map (λ s. s.items) c.self.inside.seats.items) c.self.inside.latest.items c.self.inside.pointer
     c.release-actions.new.self (map action_of c.release-actions.result.items) c.apply_all.new.self c.settle.new.self counts (c.release-actions.ensures.acts counts)
     (c.release-actions.ensures.keeps counts) c.apply_all.ensures.told c.apply_all.ensures.pointer c.apply_all.ensures.damage c.settle.ensures.settles)
 

@@ -10,12 +10,13 @@ differs client count e = absurd (cc)
 pub returns-clause-leads : goal.returns-clause-leads
 returns-clause-leads g c =
     rw (← c.self.view_is) (quiet-step (Send c.args.client c.args.count) (gave.Sent c.sent.result) c.self.inside.clients c.sent.new.self (map (λ s. s.items) c.self.inside.seats.items)
-    c.self.inside.pointer refl (differs c.args.client c.args.count) c.sent.ensures.leads)
+    c.self.inside.latest.items c.self.inside.pointer refl (differs c.args.client c.args.count) c.sent.ensures.leads)
 
 pub returns-clause-nothing : goal.returns-clause-nothing
 returns-clause-nothing g c =
     let seats = map (λ s. s.items) c.self.inside.seats.items in
-    rw (← c.self.view_is) (marks-nothing c.self.inside.clients c.sent.new.self seats seats c.self.inside.pointer c.self.inside.pointer c.sent.ensures.nothing)
+    let latest = c.self.inside.latest.items in
+    rw (← c.self.view_is) (marks-nothing c.self.inside.clients c.sent.new.self seats seats latest latest c.self.inside.pointer c.self.inside.pointer c.sent.ensures.nothing)
 
 pub returns-clause-sides : goal.returns-clause-sides
 returns-clause-sides g c = rw (← c.self.view_is) c.sent.ensures.sides

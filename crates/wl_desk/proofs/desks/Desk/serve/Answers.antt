@@ -15,4 +15,4 @@ returns-clause-leads g c = λ more.
 pub returns-clause-told : goal.returns-clause-told
 returns-clause-told g c = λ more d a.
     c.served_of.ensures
-    ∙ ap served_of (status-at c.args.client c.self.inside.clients _ c.self.inside.pointer c.settle.new.self c.status.result c.self.view_is c.status.ensures (unpointed d) a.kept)
+    ∙ ap served_of (status-at c.args.client c.self.inside.clients _ _ c.self.inside.pointer c.settle.new.self c.status.result c.self.view_is c.status.ensures (unpointed d) a.kept)

@@ -1,22 +1,10 @@
-use Rattle.std.proofs.Common.{arith, false, rules, tests, true, ◌≡◌, ◌∙◌}
-use Rattle.std.specs.Prelude.{is_none}
-use Rattle.wl_desk.proofs.Points.{no-place, some-place}
-use Rattle.wl_desk.proofs.Rests.{left-all, left-on}
-use Rattle.wl_desk.proofs.Rounds.{idle-down, none-settled, settled-last, settled-next, settled-over}
+use Rattle.std.proofs.Common.{arith, ◌∙◌}
+use Rattle.wl_desk.proofs.Rests.{left-on}
+use Rattle.wl_desk.proofs.Rounds.{none-settled, settled-last, settled-next, settled-over}
 use Rattle.wl_desk.proofs.desks.Desk.settle.Goals as goal
 
-pub returns-then-is_none-clause-settles : goal.returns-then-is_none-clause-settles
-returns-then-is_none-clause-settles g c = λ m midway.
-    let none : is_none c.place.result ≡ true = search (rules, tests) in
-    idle-down c.args.self.now m midway (rw (← c.self.view_is) (no-place c.place.result none ∙ c.place.ensures))
-
-pub returns-then-is_none-clause-rests : goal.returns-then-is_none-clause-rests
-returns-then-is_none-clause-rests g c = left-all c.args.self.now.desk.kept
-
 pub loop-init : goal.loop-init
-loop-init g c =
-    let some : is_none c.place.result ≡ false = search (rules, tests) in
-    none-settled c.args.self.now (rw (← c.self.view_is) (rw (← c.place.ensures) (some-place c.place.result some)))
+loop-init g c = none-settled c.args.self.now
 
 pub returns-in_default-clause-settles : goal.returns-in_default-clause-settles
 returns-in_default-clause-settles g c =
@@ -40,7 +28,6 @@ loop-preserved g c =
     record {
       done = settled-next c.loop.counter c.args.self.now c.loop.self inv c.settle_once.new.self c.settle_once.ensures.settles c.settle_once.ensures.damage c.in-Some.client c.in-Some.ensures.first
           c.in-Some.ensures.count c.end_refused.new.self c.end_refused.ensures.ends c.end_refused.ensures.marks _ (omega arith);
-      there = inv.there;
       sides = record { width = before.width ∙ inv.sides.width; height = before.height ∙ inv.sides.height };
       rests = left-on c.args.self.now.desk.kept c.settle_once.new.self.desk.kept c.end_refused.new.self.desk.kept
           (left-on c.args.self.now.desk.kept c.loop.self.desk.kept c.settle_once.new.self.desk.kept inv.rests c.settle_once.ensures.rests) c.end_refused.ensures.rests;

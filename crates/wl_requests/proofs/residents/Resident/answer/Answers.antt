@@ -1,7 +1,6 @@
 use Rattle.std.proofs.Common.{◌≡◌, ℕ, Bool, ap, refl, subst, sym, ◌∙◌}
-use Rattle.std.specs.Prelude.{if◌then◌else◌, is_some}
+use Rattle.std.specs.Prelude.{is_some}
 use Rattle.wl_interface.specs.declared.interface.Interface.TheVariants.{WlSubcompositor, WlSubsurface, XdgPopup as AnXdgPopup, XdgSurface as AnXdgSurface, XdgToplevel, XdgWmBase}
-use Rattle.wl_peer.specs.Requests.{request_of}
 use Rattle.wl_proto.specs.Messages.{Message, wl_compositor_request, wl_pointer_request, wl_seat_request, wl_subcompositor_request, wl_subsurface_request, wl_surface_request, xdg_surface_request}
 use Rattle.wl_proto.specs.Messages.{xdg_popup_request, xdg_wm_base_request}
 use Rattle.wl_proto.specs.declared.wl_surface.WlSurfaceRequest.{WlSurfaceRequest}
@@ -9,21 +8,23 @@ use Rattle.wl_proto.specs.declared.wl_compositor.WlCompositorRequest.{WlComposit
 use Rattle.wl_proto.specs.declared.wl_compositor.WlCompositorRequest.TheVariants as compositor
 use Rattle.wl_proto.specs.declared.wl_seat.WlSeatRequest.{WlSeatRequest}
 use Rattle.wl_proto.specs.declared.wl_seat.WlSeatRequest.TheVariants as seat
-use Rattle.wl_plain.specs.Demanding.{demand_by, demand_of}
+use Rattle.wl_proto.specs.declared.xdg_popup.XdgPopupRequest.{XdgPopupRequest}
+use Rattle.wl_plain.specs.Demanding.{demand_of}
 use Rattle.wl_plain.specs.Desktop.{Resident}
-use Rattle.wl_plain.specs.WlSubsurface.{past_limit}
 use Rattle.wl_plain.specs.WlSurface.{surface_created}
-use Rattle.wl_plain.specs.LeftOut.{served_now}
+use Rattle.wl_plain.specs.LeftOut.{nothing_left_out}
 use Rattle.wl_owning.proofs.Keeping.OwningNames.{targets-at}
 use Rattle.wl_requests.specs.Messages.{IsKind}
+use Rattle.wl_requests.specs.Grabbing.{IsGrabbingFor}
 use Rattle.wl_requests.specs.Placing.{IsPlacingFor}
 use Rattle.wl_requests.specs.declared.messages.Kind.{Kind}
 use Rattle.wl_requests.specs.declared.messages.Kind.TheVariants as kinds
+use Rattle.wl_requests.specs.declared.residents.Grabbing.{Grabbing}
 use Rattle.wl_requests.specs.declared.residents.Placing.{Placing}
 use Rattle.wl_requests.specs.declared.residents.Resident.{Resident as Kept}
 use Rattle.wl_requests.specs.declared.residents.Stacking.{Stacking}
 use Rattle.wl_requests.specs.declared.residents.Stacking.TheVariants.{Stays}
-use Rattle.wl_requests.specs.Residents.{AnswersAs, AnswersDemand, AnswersDemandAs, AnswersPlaced, AnswersPlacedAs, AnswersSo, NewIsFree, ObjectsFit, Stacks, StacksSo}
+use Rattle.wl_requests.specs.Residents.{AnswersAllowed, AnswersAs, AnswersDemand, AnswersDemandAs, AnswersGiven, AnswersPlaced, AnswersPlacedAs, AnswersSo, NewIsFree, ObjectsFit, Stacks, StacksSo}
 use Rattle.wl_requests.proofs.Doing.{named-by}
 use Rattle.wl_requests.proofs.Interfaces.{object-is, of-base, of-popup, of-subcompositor, of-subsurface, of-surface, of-xdg-surface}
 use Rattle.wl_requests.proofs.Meeting.{asks-stay}
@@ -34,53 +35,53 @@ use Rattle.wl_requests.proofs.residents.Resident.answer.Goals as goal
 
 -- ---- the message is that of the request
 
-answered : {A : Type 0} (old new : Kept A) (object version : ℕ) (m n : Message) → m ≡ n → AnswersDemand (λ r. demand_of served_now r object version n) old new
-    → AnswersDemand (λ r. demand_of served_now r object version m) old new
-answered old new object version m n told h = subst (λ (x : Message). AnswersDemand (λ r. demand_of served_now r object version x) old new) (sym told) h
+answered : {A : Type 0} (old new : Kept A) (object version : ℕ) (m n : Message) → m ≡ n → AnswersDemand (λ r. demand_of nothing_left_out r object version n) old new
+    → AnswersDemand (λ r. demand_of nothing_left_out r object version m) old new
+answered old new object version m n told h = subst (λ (x : Message). AnswersDemand (λ r. demand_of nothing_left_out r object version x) old new) (sym told) h
 
-decided : {A : Type 0} (done : Bool) (old new : Kept A) (object version : ℕ) (m n : Message) → m ≡ n → AnswersDemandAs done (λ r. demand_of served_now r object version n) old new
-    → AnswersDemandAs done (λ r. demand_of served_now r object version m) old new
-decided done old new object version m n told h = subst (λ (x : Message). AnswersDemandAs done (λ r. demand_of served_now r object version x) old new) (sym told) h
+decided : {A : Type 0} (done : Bool) (old new : Kept A) (object version : ℕ) (m n : Message) → m ≡ n → AnswersDemandAs done (λ r. demand_of nothing_left_out r object version n) old new
+    → AnswersDemandAs done (λ r. demand_of nothing_left_out r object version m) old new
+decided done old new object version m n told h = subst (λ (x : Message). AnswersDemandAs done (λ r. demand_of nothing_left_out r object version x) old new) (sym told) h
 
-stacked : {A : Type 0} (old : Kept A) (stacking : Stacking) (object version : ℕ) (m n : Message) → m ≡ n → Stacks (λ r. demand_of served_now r object version n) old stacking
-    → Stacks (λ r. demand_of served_now r object version m) old stacking
-stacked old stacking object version m n told h = subst (λ (x : Message). Stacks (λ r. demand_of served_now r object version x) old stacking) (sym told) h
+stacked : {A : Type 0} (old : Kept A) (stacking : Stacking) (object version : ℕ) (m n : Message) → m ≡ n → Stacks (λ r. demand_of nothing_left_out r object version n) old stacking
+    → Stacks (λ r. demand_of nothing_left_out r object version m) old stacking
+stacked old stacking object version m n told h = subst (λ (x : Message). Stacks (λ r. demand_of nothing_left_out r object version x) old stacking) (sym told) h
 
 -- the surface of a commit is what a popup is placed for
-placed-so : {A : Type 0} (old new : Kept A) (placing : Placing) (object version : ℕ) (k : Kind) (request : WlSurfaceRequest) (m : Message) → k ≡ kinds.Surface request → m ≡ wl_surface_request request
-    → AnswersPlaced placing (kinds.Surface request) object (λ r. demand_of served_now r object version (wl_surface_request request)) old new
-    → AnswersPlaced placing k object (λ r. demand_of served_now r object version m) old new
-placed-so old new placing object version k request m is told h = λ c r d its only placed.
-    subst (λ (x : Message). AnswersSo (demand_of served_now r object version x) c r d old new) (sym told)
+placed-so : {A : Type 0} (old new : Kept A) (placing : Placing) (grabbing : Grabbing) (object version : ℕ) (k : Kind) (request : WlSurfaceRequest) (m : Message) → k ≡ kinds.Surface request
+    → m ≡ wl_surface_request request
+    → AnswersPlaced placing (kinds.Surface request) object (λ r. demand_of nothing_left_out r object version (wl_surface_request request)) old new
+    → AnswersGiven placing grabbing k object (λ r. demand_of nothing_left_out r object version m) old new
+placed-so old new placing grabbing object version k request m is told h = λ c r d its only placed given.
+    subst (λ (x : Message). AnswersSo (demand_of nothing_left_out r object version x) c r d old new) (sym told)
     (h c r d its only (subst (λ (j : Kind). IsPlacingFor placing object j c r d) is placed))
+
+-- and a request for a grab is what it is allowed for
+allowed-so : {A : Type 0} (old new : Kept A) (placing : Placing) (grabbing : Grabbing) (object version : ℕ) (k : Kind) (request : XdgPopupRequest) (m : Message) → k ≡ kinds.Popup request
+    → m ≡ xdg_popup_request request
+    → AnswersAllowed grabbing (kinds.Popup request) (λ r. demand_of nothing_left_out r object version (xdg_popup_request request)) old new
+    → AnswersGiven placing grabbing k object (λ r. demand_of nothing_left_out r object version m) old new
+allowed-so old new placing grabbing object version k request m is told h = λ c r d its only placed given.
+    subst (λ (x : Message). AnswersSo (demand_of nothing_left_out r object version x) c r d old new) (sym told)
+    (h c r d its only (subst (λ (j : Kind). IsGrabbingFor grabbing j c r d) is given))
 
 placed-as : {A : Type 0} (done : Bool) (old new : Kept A) (placing : Placing) (object version : ℕ) (k : Kind) (request : WlSurfaceRequest) (m : Message) → k ≡ kinds.Surface request
     → m ≡ wl_surface_request request
-    → AnswersPlacedAs done placing (kinds.Surface request) object (λ r. demand_of served_now r object version (wl_surface_request request)) old new
-    → AnswersPlacedAs done placing k object (λ r. demand_of served_now r object version m) old new
+    → AnswersPlacedAs done placing (kinds.Surface request) object (λ r. demand_of nothing_left_out r object version (wl_surface_request request)) old new
+    → AnswersPlacedAs done placing k object (λ r. demand_of nothing_left_out r object version m) old new
 placed-as done old new placing object version k request m is told h = λ c r d its only placed.
-    subst (λ (x : Message). AnswersAs done (demand_of served_now r object version x) c r d old new) (sym told)
+    subst (λ (x : Message). AnswersAs done (demand_of nothing_left_out r object version x) c r d old new) (sym told)
     (h c r d its only (subst (λ (j : Kind). IsPlacingFor placing object j c r d) is placed))
-
--- what isn't served is refused
-unserved-answered : {A : Type 0} (old new : Kept A) (object version : ℕ) (m : Message) → IsKind kinds.Unserved m → AnswersDemand (λ r. past_limit) old new
-    → AnswersDemand (λ r. demand_of served_now r object version m) old new
-unserved-answered old new object version m unserved h =
-    subst (λ (b : Bool). AnswersDemand (λ r. if b then past_limit else demand_by (request_of m) r object version) old new) (sym unserved) h
-
-unserved-stays : {A : Type 0} (old : Kept A) (r : Resident) (object version : ℕ) (m : Message) → IsKind kinds.Unserved m → StacksSo old r (demand_of served_now r object version m) Stays
-unserved-stays old r object version m unserved =
-    subst (λ (b : Bool). StacksSo old r (if b then past_limit else demand_by (request_of m) r object version) Stays) (sym unserved) tt
 
 -- ---- what leaves the stack as it is
 
 compositor-stays : {A : Type 0} (old : Kept A) (r : Resident) (object version : ℕ) (request : WlCompositorRequest)
-    → StacksSo old r (demand_of served_now r object version (wl_compositor_request request)) Stays
+    → StacksSo old r (demand_of nothing_left_out r object version (wl_compositor_request request)) Stays
 compositor-stays old r object version (compositor.CreateSurface id) = asks-stay old r (surface_created r id version)
 compositor-stays old r object version (compositor.CreateRegion id) = refl
 
 seat-stays : {A : Type 0} (old : Kept A) (r : Resident) (object version : ℕ) (request : WlSeatRequest)
-    → StacksSo old r (demand_of served_now r object version (wl_seat_request request)) Stays
+    → StacksSo old r (demand_of nothing_left_out r object version (wl_seat_request request)) Stays
 seat-stays old r object version (seat.GetPointer id) = refl
 seat-stays old r object version (seat.GetKeyboard id) = tt
 seat-stays old r object version (seat.GetTouch id) = tt
@@ -92,24 +93,24 @@ returns-in-Surface-clause-answers g c = λ m kind entry free fit.
     let v = c.args.self.now in
     let told : m ≡ wl_surface_request c.in-Surface.request = rw c.in-Surface.is at kind in
     let named = named-by v.client.objects c.args.object c.args.target _ entry (ap (λ (n : Message). n.interface) told ∙ of-surface c.in-Surface.request) refl in
-    placed-so v c.wl_surface.new.self c.args.placing c.args.object c.args.version c.args.kind c.in-Surface.request m c.in-Surface.is told
+    placed-so v c.wl_surface.new.self c.args.placing c.args.grabbing c.args.object c.args.version c.args.kind c.in-Surface.request m c.in-Surface.is told
     (c.wl_surface.ensures.answers named (subst (λ (n : Message). NewIsFree v n) told free))
 
 pub returns-in-Toplevel-clause-answers : goal.returns-in-Toplevel-clause-answers
-returns-in-Toplevel-clause-answers g c = λ m kind entry free fit client r on its only placed.
+returns-in-Toplevel-clause-answers g c = λ m kind entry free fit client r on its only placed given.
     let v = c.args.self.now in
     let asked : IsKind (kinds.Toplevel c.in-Toplevel.asked) m = rw c.in-Toplevel.is at kind in
     c.xdg_toplevel.ensures.answers (targets-at XdgToplevel v.client.objects c.args.object _ entry asked.0) c.args.version m asked.0 asked.1 client r on its only
 
 pub returns-in-Compositor-clause-answers : goal.returns-in-Compositor-clause-answers
-returns-in-Compositor-clause-answers g c = λ m kind entry free fit client r on its only placed.
+returns-in-Compositor-clause-answers g c = λ m kind entry free fit client r on its only placed given.
     let v = c.args.self.now in
     let told : m ≡ wl_compositor_request c.in-Compositor.request = rw c.in-Compositor.is at kind in
     answered v c.wl_compositor.new.self c.args.object c.args.version m _ told
     (c.wl_compositor.ensures.answers (subst (λ (n : Message). NewIsFree v n) told free)) client r on its only
 
 pub returns-in-Subcompositor-clause-answers : goal.returns-in-Subcompositor-clause-answers
-returns-in-Subcompositor-clause-answers g c = λ m kind entry free fit client r on its only placed.
+returns-in-Subcompositor-clause-answers g c = λ m kind entry free fit client r on its only placed given.
     let v = c.args.self.now in
     let told : m ≡ wl_subcompositor_request c.in-Subcompositor.request = rw c.in-Subcompositor.is at kind in
     let is = object-is WlSubcompositor v.client.objects c.args.object _ entry (ap (λ (n : Message). n.interface) told ∙ of-subcompositor c.in-Subcompositor.request) in
@@ -117,7 +118,7 @@ returns-in-Subcompositor-clause-answers g c = λ m kind entry free fit client r 
     (c.wl_subcompositor.ensures.answers is (subst (λ (n : Message). NewIsFree v n) told free) (subst (λ (n : Message). ObjectsFit v n) told fit)) client r on its only
 
 pub returns-in-Subsurface-clause-answers : goal.returns-in-Subsurface-clause-answers
-returns-in-Subsurface-clause-answers g c = λ m kind entry free fit client r on its only placed.
+returns-in-Subsurface-clause-answers g c = λ m kind entry free fit client r on its only placed given.
     let v = c.args.self.now in
     let told : m ≡ wl_subsurface_request c.in-Subsurface.request = rw c.in-Subsurface.is at kind in
     let is = object-is WlSubsurface v.client.objects c.args.object _ entry (ap (λ (n : Message). n.interface) told ∙ of-subsurface c.in-Subsurface.request) in
@@ -125,21 +126,21 @@ returns-in-Subsurface-clause-answers g c = λ m kind entry free fit client r on 
     (c.wl_subsurface.ensures.answers is (subst (λ (n : Message). ObjectsFit v n) told fit)) client r on its only
 
 pub returns-in-Seat-clause-answers : goal.returns-in-Seat-clause-answers
-returns-in-Seat-clause-answers g c = λ m kind entry free fit client r on its only placed.
+returns-in-Seat-clause-answers g c = λ m kind entry free fit client r on its only placed given.
     let v = c.args.self.now in
     let told : m ≡ wl_seat_request c.in-Seat.request = rw c.in-Seat.is at kind in
     answered v c.wl_seat.new.self c.args.object c.args.version m _ told
     (c.wl_seat.ensures.answers (subst (λ (n : Message). NewIsFree v n) told free)) client r on its only
 
 pub returns-in-Pointer-clause-answers : goal.returns-in-Pointer-clause-answers
-returns-in-Pointer-clause-answers g c = λ m kind entry free fit client r on its only placed.
+returns-in-Pointer-clause-answers g c = λ m kind entry free fit client r on its only placed given.
     let v = c.args.self.now in
     let told : m ≡ wl_pointer_request c.in-Pointer.request = rw c.in-Pointer.is at kind in
     answered v c.wl_pointer.new.self c.args.object c.args.version m _ told
     (c.wl_pointer.ensures.answers (subst (λ (n : Message). ObjectsFit v n) told fit)) client r on its only
 
 pub returns-in-Base-clause-answers : goal.returns-in-Base-clause-answers
-returns-in-Base-clause-answers g c = λ m kind entry free fit client r on its only placed.
+returns-in-Base-clause-answers g c = λ m kind entry free fit client r on its only placed given.
     let v = c.args.self.now in
     let told : m ≡ xdg_wm_base_request c.in-Base.request = rw c.in-Base.is at kind in
     let is = object-is XdgWmBase v.client.objects c.args.object _ entry (ap (λ (n : Message). n.interface) told ∙ of-base c.in-Base.request) in
@@ -147,7 +148,7 @@ returns-in-Base-clause-answers g c = λ m kind entry free fit client r on its on
     (c.xdg_wm_base.ensures.answers is (subst (λ (n : Message). NewIsFree v n) told free) (subst (λ (n : Message). ObjectsFit v n) told fit)) client r on its only
 
 pub returns-in-XdgSurface-clause-answers : goal.returns-in-XdgSurface-clause-answers
-returns-in-XdgSurface-clause-answers g c = λ m kind entry free fit client r on its only placed.
+returns-in-XdgSurface-clause-answers g c = λ m kind entry free fit client r on its only placed given.
     let v = c.args.self.now in
     let told : m ≡ xdg_surface_request c.in-XdgSurface.request = rw c.in-XdgSurface.is at kind in
     let named = targets-at AnXdgSurface v.client.objects c.args.object _ entry (ap (λ (n : Message). n.interface) told ∙ of-xdg-surface c.in-XdgSurface.request) in
@@ -155,15 +156,11 @@ returns-in-XdgSurface-clause-answers g c = λ m kind entry free fit client r on 
     (c.xdg_surface.ensures.answers named (subst (λ (n : Message). NewIsFree v n) told free) (subst (λ (n : Message). ObjectsFit v n) told fit)) client r on its only
 
 pub returns-in-Popup-clause-answers : goal.returns-in-Popup-clause-answers
-returns-in-Popup-clause-answers g c = λ m kind entry free fit client r on its only placed.
+returns-in-Popup-clause-answers g c = λ m kind entry free fit.
     let v = c.args.self.now in
     let told : m ≡ xdg_popup_request c.in-Popup.request = rw c.in-Popup.is at kind in
     let named = targets-at AnXdgPopup v.client.objects c.args.object _ entry (ap (λ (n : Message). n.interface) told ∙ of-popup c.in-Popup.request) in
-    answered v c.xdg_popup.new.self c.args.object c.args.version m _ told (c.xdg_popup.ensures.answers named) client r on its only
-
-pub returns-in-Unserved-clause-answers : goal.returns-in-Unserved-clause-answers
-returns-in-Unserved-clause-answers g c = λ m kind entry free fit client r on its only placed.
-    unserved-answered c.args.self.now c.refuse_unserved.new.self c.args.object c.args.version m (rw c.in-Unserved.is at kind) c.refuse_unserved.ensures.answers client r on its only
+    allowed-so v c.xdg_popup.new.self c.args.placing c.args.grabbing c.args.object c.args.version c.args.kind c.in-Popup.request m c.in-Popup.is told (c.xdg_popup.ensures.answers named)
 
 -- ---- what becomes of the stack
 
@@ -226,10 +223,6 @@ returns-in-Popup-clause-stacks g c = rw c.xdg_popup.ensures.stays (λ m kind ent
     let v = c.args.self.now in
     let told : m ≡ xdg_popup_request c.in-Popup.request = rw c.in-Popup.is at kind in
     stacked v Stays c.args.object c.args.version m _ told (λ r is only. popup-stays v r c.args.object c.args.version c.in-Popup.request))
-
-pub returns-in-Unserved-clause-stacks : goal.returns-in-Unserved-clause-stacks
-returns-in-Unserved-clause-stacks g c = rw c.of-in-Unserved.ensures (λ m kind entry r is only.
-    unserved-stays c.args.self.now r c.args.object c.args.version m (rw c.in-Unserved.is at kind))
 
 -- ---- what touches several surfaces, and what does not
 
@@ -338,15 +331,6 @@ returns-in-Popup-clause-touched g c = λ touch touches. c.xdg_popup.ensures.touc
 pub returns-in-Popup-clause-nothing : goal.returns-in-Popup-clause-nothing
 returns-in-Popup-clause-nothing g c = λ none numbers ss are. c.xdg_popup.ensures.nothing (λ touch touches. none touch (rw c.in-Popup.is touches))
 
-pub returns-in-Unserved-clause-decides : goal.returns-in-Unserved-clause-decides
-returns-in-Unserved-clause-decides g c = λ touch touches. absurd (rw c.in-Unserved.is at touches)
-
-pub returns-in-Unserved-clause-touched : goal.returns-in-Unserved-clause-touched
-returns-in-Unserved-clause-touched g c = λ touch touches. absurd (rw c.in-Unserved.is at touches)
-
-pub returns-in-Unserved-clause-nothing : goal.returns-in-Unserved-clause-nothing
-returns-in-Unserved-clause-nothing g c = λ none numbers ss are. rw c.of-in-Unserved.ensures
-
 -- ---- what has come gets no longer
 
 pub returns-in-Surface-clause-rest : goal.returns-in-Surface-clause-rest
@@ -379,9 +363,6 @@ returns-in-XdgSurface-clause-rest g c = c.xdg_surface.ensures.rest
 pub returns-in-Popup-clause-rest : goal.returns-in-Popup-clause-rest
 returns-in-Popup-clause-rest g c = c.xdg_popup.ensures.rest
 
-pub returns-in-Unserved-clause-rest : goal.returns-in-Unserved-clause-rest
-returns-in-Unserved-clause-rest g c = c.refuse_unserved.ensures.rest
-
 -- ---- a new wl_pointer where there is no room for it
 
 pub returns-in-Surface-clause-seat : goal.returns-in-Surface-clause-seat
@@ -410,9 +391,6 @@ returns-in-XdgSurface-clause-seat g c = λ id e without. let same = sym c.in-Xdg
 
 pub returns-in-Popup-clause-seat : goal.returns-in-Popup-clause-seat
 returns-in-Popup-clause-seat g c = λ id e without. let same = sym c.in-Popup.is ∙ seat-asked c.args.target c.args.kind id e in absurd (cc)
-
-pub returns-in-Unserved-clause-seat : goal.returns-in-Unserved-clause-seat
-returns-in-Unserved-clause-seat g c = λ id e without. let same = sym c.in-Unserved.is ∙ seat-asked c.args.target c.args.kind id e in absurd (cc)
 
 pub returns-in-Seat-clause-seat : goal.returns-in-Seat-clause-seat
 returns-in-Seat-clause-seat g c = λ id e without.
@@ -465,6 +443,3 @@ returns-in-Base-clause-holds g c = λ touch touches. absurd (rw c.in-Base.is at 
 
 pub returns-in-XdgSurface-clause-holds : goal.returns-in-XdgSurface-clause-holds
 returns-in-XdgSurface-clause-holds g c = λ touch touches. absurd (rw c.in-XdgSurface.is at touches)
-
-pub returns-in-Unserved-clause-holds : goal.returns-in-Unserved-clause-holds
-returns-in-Unserved-clause-holds g c = λ touch touches. absurd (rw c.in-Unserved.is at touches)

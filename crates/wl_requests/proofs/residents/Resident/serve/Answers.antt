@@ -30,11 +30,11 @@ touch-same k object target v w touch subs owned h = h
 
 pub returns-in-Refused-clause-takes : goal.returns-in-Refused-clause-takes
 returns-in-Refused-clause-takes g c =
-    rw c.of.ensures (λ client r on is only placed. first-refused c.args.self.now _ client r on c.in-Refused.refusal (rw c.in-Refused.is at c.requires) is c.refuse.ensures.ended
+    rw c.of.ensures (λ client r on is only placed given. first-refused c.args.self.now _ client r on c.in-Refused.refusal (rw c.in-Refused.is at c.requires) is c.refuse.ensures.ended
     (c.refuse.ensures.errs r.peer is.peer))
 
 pub returns-in-Request-clause-takes : goal.returns-in-Request-clause-takes
-returns-in-Request-clause-takes g c = λ client r on is only placed.
+returns-in-Request-clause-takes g c = λ client r on is only placed given.
     let v = c.args.self.now in
     let asked : IsAsked v.client (Request c.in-Request.object c.in-Request.version c.in-Request.size c.in-Request.target c.in-Request.kind) = rw c.in-Request.is at c.requires in
     let m = asked.0 in
@@ -44,12 +44,12 @@ returns-in-Request-clause-takes g c = λ client r on is only placed.
     let free = new-passed mid v m (ap (λ (w : ClientView). w.objects) c.take_first.ensures) passes.free in
     let fit = fit-passed mid v m (ap (λ (w : ClientView). w.objects) c.take_first.ensures) passes.fit in
     first-taken v r c.in-Request.object c.in-Request.version c.in-Request.size c.in-Request.target m passes is mid c.answer.new.self c.answer.result.stacking
-    (ap (λ (w : ClientView). record v { client = w }) c.take_first.ensures) c.args.placing c.in-Request.kind
+    (ap (λ (w : ClientView). record v { client = w }) c.take_first.ensures) c.args.placing c.args.grabbing c.in-Request.kind
     (c.answer.ensures.answers m asked.2 table free fit)
-    (c.answer.ensures.stacks m asked.2 table) client on only (rw c.in-Request.is at placed)
+    (c.answer.ensures.stacks m asked.2 table) client on only (rw c.in-Request.is at placed) (rw c.in-Request.is at given)
 
 pub returns-in-Own-clause-takes : goal.returns-in-Own-clause-takes
-returns-in-Own-clause-takes g c = rw c.of-in-Own.ensures (λ client r on is only placed.
+returns-in-Own-clause-takes g c = rw c.of-in-Own.ensures (λ client r on is only placed given.
     let v = c.args.self.now in
     let asked : IsAsked v.client (Own c.in-Own.size c.in-Own.judged) = rw c.in-Own.is at c.requires in
     let served = c.serve_own-served.ensures.serves (λ number. is_used number r.owned.surfaces) (used-of v r is) r.peer is.peer in
@@ -98,7 +98,7 @@ pub returns-in-Own-clause-nothing : goal.returns-in-Own-clause-nothing
 returns-in-Own-clause-nothing g c = λ none numbers ss are. rw c.of-in-Own.ensures
 
 pub returns-in-Request-clause-decides : goal.returns-in-Request-clause-decides
-returns-in-Request-clause-decides g c = λ touch touches client r on is only placed.
+returns-in-Request-clause-decides g c = λ touch touches client r on is only placed given.
     let v = c.args.self.now in
     let asked : IsAsked v.client (Request c.in-Request.object c.in-Request.version c.in-Request.size c.in-Request.target c.in-Request.kind) = rw c.in-Request.is at c.requires in
     let m = asked.0 in
@@ -143,7 +143,7 @@ pub returns-in-Own-clause-holds : goal.returns-in-Own-clause-holds
 returns-in-Own-clause-holds g c = λ touch touches. absurd (rw c.in-Own.is at touches)
 
 pub returns-in-Request-clause-holds : goal.returns-in-Request-clause-holds
-returns-in-Request-clause-holds g c = λ touch touches done client r on is only placed.
+returns-in-Request-clause-holds g c = λ touch touches done client r on is only placed given.
     let v = c.args.self.now in
     let object = c.in-Request.object in
     let target = c.in-Request.target in

@@ -10,7 +10,7 @@ use Rattle.wl_requests.proofs.residents.Resident.xdg_popup.Goals as goal
 pub returns-in-Destroy-clause-answers : goal.returns-in-Destroy-clause-answers
 returns-in-Destroy-clause-answers g c = λ named.
     rw c.in-Destroy.is (
-    λ client r d is ordered.
+    λ client r d is ordered given.
     answered-so (is_some c.destroy_popup.result) (popup_demand r c.args.object popup.Destroy) client r d c.args.self.now _ (c.destroy_popup.ensures.decides named client r d is ordered))
 
 pub returns-in-Destroy-clause-decides : goal.returns-in-Destroy-clause-decides
@@ -25,7 +25,7 @@ pub returns-in-Destroy-clause-nothing : goal.returns-in-Destroy-clause-nothing
 returns-in-Destroy-clause-nothing g c = λ never. absurd (never (Closes c.args.surface) (rw c.in-Destroy.is refl))
 
 pub returns-in-Grab-clause-answers : goal.returns-in-Grab-clause-answers
-returns-in-Grab-clause-answers g c = λ named. rw c.in-Grab.is c.refuse_unserved.ensures.answers
+returns-in-Grab-clause-answers g c = λ named. rw c.in-Grab.is (c.grab.ensures.answers named c.in-Grab.seat)
 
 -- ---- what is kept stands by the numbers from before
 

@@ -7,6 +7,7 @@ use Rattle.wl_resident.specs.Seats.{IsSeated}
 use Rattle.wl_resident.specs.View.{pile_of}
 use Rattle.wl_resident.proofs.Alone.{alone-least, alone-most, alone-seated, alone-through, unapplied}
 use Rattle.wl_resident.proofs.Assembling.{live-least, live-most, live-seated, live-through}
+use Rattle.wl_resident.proofs.Given.{holds-given, takes-given, takes-given-as}
 use Rattle.wl_resident.proofs.Parting.{over-least, over-on, over-seated, over-through}
 use Rattle.wl_resident.proofs.Served.{asks-so, ended-so, lives-so, no-pointer}
 use Rattle.wl_resident.proofs.screens.Screen.serve.Goals as goal
@@ -15,88 +16,88 @@ use Rattle.wl_resident.proofs.screens.Screen.serve.Goals.{then-has_ended-2, else
 -- ---- no tree is touched
 
 pub returns-in_default-clause-serves : goal.returns-in_default-clause-serves
-returns-in_default-clause-serves g c = λ some others base d r width height is ordered.
+returns-in_default-clause-serves g c = λ some others base d r width height is ordered allowed.
     let v = c.args.resident.now in
     let mid = c.serve.new.self in
     let was = c.args.self.now in
     let o = c.in-Some-serve._outcome in
     let said = c.in-Some-serve.ensures in
-    alone-seated c.message_laws.ensures c.args.client others base d r v mid c.part_alone.new.resident was c.part_alone.new.self is ordered c.asked-asked.result
+    alone-seated c.message_laws.ensures c.args.client others base d r v mid c.part_alone.new.resident was c.part_alone.new.self is ordered c.args.asked
     c.placing-placing.result o.stacking o.applied
     (record {
       lives = said.lives;
-      asks = c.asked-asked.ensures;
+      asks = c.requires;
       by = c.in_default.ensures;
       placed = c.placing-placing.ensures;
-      takes = said.takes;
-      decides = said.decides;
-      none = unapplied v c.asked-asked.result o.applied c.in_default.ensures said.nothing _ _ is.seat.subsurfaces;
+      takes = takes-given c.args.asked c.placing-placing.result c.args.grabbing c.args.client r d v mid allowed o.stacking said.takes;
+      decides = λ touch it. takes-given-as c.args.asked c.placing-placing.result c.args.grabbing c.args.client r d v mid allowed (is_some o.applied) (said.decides touch it);
+      none = unapplied v c.args.asked o.applied c.in_default.ensures said.nothing _ _ is.seat.subsurfaces;
       clears = c.part_alone.ensures.clears;
       points = c.part_alone.ensures.points;
       same = c.part_alone.ensures.lives;
     }) width height
 
 pub returns-in_default-clause-marks : goal.returns-in_default-clause-marks
-returns-in_default-clause-marks g c = λ some others base d r width height is ordered e q serves after.
+returns-in_default-clause-marks g c = λ some others base d r width height is ordered allowed e q serves after.
     let v = c.args.resident.now in
     let mid = c.serve.new.self in
     let was = c.args.self.now in
     let o = c.in-Some-serve._outcome in
     let said = c.in-Some-serve.ensures in
-    alone-least c.message_laws.ensures c.args.client others base d r v mid c.part_alone.new.resident was c.part_alone.new.self is ordered c.asked-asked.result
+    alone-least c.message_laws.ensures c.args.client others base d r v mid c.part_alone.new.resident was c.part_alone.new.self is ordered c.args.asked
     c.placing-placing.result o.stacking o.applied
     (record {
       lives = said.lives;
-      asks = c.asked-asked.ensures;
+      asks = c.requires;
       by = c.in_default.ensures;
       placed = c.placing-placing.ensures;
-      takes = said.takes;
-      decides = said.decides;
-      none = unapplied v c.asked-asked.result o.applied c.in_default.ensures said.nothing _ _ is.seat.subsurfaces;
+      takes = takes-given c.args.asked c.placing-placing.result c.args.grabbing c.args.client r d v mid allowed o.stacking said.takes;
+      decides = λ touch it. takes-given-as c.args.asked c.placing-placing.result c.args.grabbing c.args.client r d v mid allowed (is_some o.applied) (said.decides touch it);
+      none = unapplied v c.args.asked o.applied c.in_default.ensures said.nothing _ _ is.seat.subsurfaces;
       clears = c.part_alone.ensures.clears;
       points = c.part_alone.ensures.points;
       same = c.part_alone.ensures.lives;
     }) width height e q serves after
 
 pub returns-in_default-clause-within : goal.returns-in_default-clause-within
-returns-in_default-clause-within g c = λ some others base d r width height is ordered e q serves after lives.
+returns-in_default-clause-within g c = λ some others base d r width height is ordered allowed e q serves after lives.
     let v = c.args.resident.now in
     let mid = c.serve.new.self in
     let was = c.args.self.now in
     let o = c.in-Some-serve._outcome in
     let said = c.in-Some-serve.ensures in
-    alone-most c.message_laws.ensures c.args.client others base d r v mid c.part_alone.new.resident was c.part_alone.new.self is ordered c.asked-asked.result
+    alone-most c.message_laws.ensures c.args.client others base d r v mid c.part_alone.new.resident was c.part_alone.new.self is ordered c.args.asked
     c.placing-placing.result o.stacking o.applied
     (record {
       lives = said.lives;
-      asks = c.asked-asked.ensures;
+      asks = c.requires;
       by = c.in_default.ensures;
       placed = c.placing-placing.ensures;
-      takes = said.takes;
-      decides = said.decides;
-      none = unapplied v c.asked-asked.result o.applied c.in_default.ensures said.nothing _ _ is.seat.subsurfaces;
+      takes = takes-given c.args.asked c.placing-placing.result c.args.grabbing c.args.client r d v mid allowed o.stacking said.takes;
+      decides = λ touch it. takes-given-as c.args.asked c.placing-placing.result c.args.grabbing c.args.client r d v mid allowed (is_some o.applied) (said.decides touch it);
+      none = unapplied v c.args.asked o.applied c.in_default.ensures said.nothing _ _ is.seat.subsurfaces;
       clears = c.part_alone.ensures.clears;
       points = c.part_alone.ensures.points;
       same = c.part_alone.ensures.lives;
     }) width height e q serves after lives
 
 pub returns-in_default-clause-through : goal.returns-in_default-clause-through
-returns-in_default-clause-through g c = λ some others base d r width height is ordered.
+returns-in_default-clause-through g c = λ some others base d r width height is ordered allowed.
     let v = c.args.resident.now in
     let mid = c.serve.new.self in
     let was = c.args.self.now in
     let o = c.in-Some-serve._outcome in
     let said = c.in-Some-serve.ensures in
-    alone-through c.message_laws.ensures c.args.client others base d r v mid c.part_alone.new.resident was c.part_alone.new.self is ordered c.asked-asked.result
+    alone-through c.message_laws.ensures c.args.client others base d r v mid c.part_alone.new.resident was c.part_alone.new.self is ordered c.args.asked
     c.placing-placing.result o.stacking o.applied
     (record {
       lives = said.lives;
-      asks = c.asked-asked.ensures;
+      asks = c.requires;
       by = c.in_default.ensures;
       placed = c.placing-placing.ensures;
-      takes = said.takes;
-      decides = said.decides;
-      none = unapplied v c.asked-asked.result o.applied c.in_default.ensures said.nothing _ _ is.seat.subsurfaces;
+      takes = takes-given c.args.asked c.placing-placing.result c.args.grabbing c.args.client r d v mid allowed o.stacking said.takes;
+      decides = λ touch it. takes-given-as c.args.asked c.placing-placing.result c.args.grabbing c.args.client r d v mid allowed (is_some o.applied) (said.decides touch it);
+      none = unapplied v c.args.asked o.applied c.in_default.ensures said.nothing _ _ is.seat.subsurfaces;
       clears = c.part_alone.ensures.clears;
       points = c.part_alone.ensures.points;
       same = c.part_alone.ensures.lives;
@@ -105,23 +106,26 @@ returns-in_default-clause-through g c = λ some others base d r width height is 
 -- ---- a surface is touched
 
 pub returns-clause-serves : goal.returns-clause-serves
-returns-clause-serves g c = λ some others base d r width height is ordered.
+returns-clause-serves g c = λ some others base d r width height is ordered allowed.
     let v = c.args.resident.now in
     let mid = c.serve-2.new.self in
     let was = c.args.self.now in
     let ready = c.prepare.new.self in
     let o = c.in-Some-serve-2.outcome in
     let said = c.in-Some-serve-2.ensures in
-    let asked = c.asked-asked.result in
+    let asked = c.args.asked in
     let placing = c.placing-placing.result in
     let surface = c.in-Some.surface in
     let root = c.root_of-root.result in
     let found = c.find_toplevel-toplevel.result in
     let laws = c.message_laws.ensures in
     let asks =
-    asks-so c.args.client v mid c.is_ok-has_room.result was ready asked placing surface root found o.stacking o.applied c.prepare.result c.len-surfaces.result said.lives
-    c.asked-asked.ensures c.in-Some.ensures c.root_of-root.ensures.root c.root_of-root.ensures.none c.find_toplevel-toplevel.ensures c.placing-placing.ensures said.takes said.decides said.touched
-    said.holds said.nothing said.room c.is_ok-has_room.ensures.value c.len-surfaces.ensures c.prepare.ensures.same c.prepare.ensures.was c.prepare.ensures.room c.prepare.ensures.is _ _
+    asks-so c.args.client r d v mid c.is_ok-has_room.result was ready asked placing surface root found o.stacking o.applied c.prepare.result c.len-surfaces.result said.lives
+    c.requires c.in-Some.ensures c.root_of-root.ensures.root c.root_of-root.ensures.none c.find_toplevel-toplevel.ensures c.placing-placing.ensures
+    (takes-given asked placing c.args.grabbing c.args.client r d v mid allowed o.stacking said.takes)
+    (λ touch it. takes-given-as asked placing c.args.grabbing c.args.client r d v mid allowed (is_some o.applied) (said.decides touch it)) said.touched
+    (λ touch it some. holds-given asked placing c.args.grabbing c.args.client r d v mid allowed (said.holds touch it some)) said.nothing said.room
+    c.is_ok-has_room.ensures.value c.len-surfaces.ensures c.prepare.ensures.same c.prepare.ensures.was c.prepare.ensures.room c.prepare.ensures.is _ _
     is.seat.subsurfaces in
     elim c.if-has_ended-2.branch [
       | then-has_ended-2 w ↦
@@ -137,23 +141,26 @@ returns-clause-serves g c = λ some others base d r width height is ordered.
     ]
 
 pub returns-clause-marks : goal.returns-clause-marks
-returns-clause-marks g c = λ some others base d r width height is ordered e q serves after.
+returns-clause-marks g c = λ some others base d r width height is ordered allowed e q serves after.
     let v = c.args.resident.now in
     let mid = c.serve-2.new.self in
     let was = c.args.self.now in
     let ready = c.prepare.new.self in
     let o = c.in-Some-serve-2.outcome in
     let said = c.in-Some-serve-2.ensures in
-    let asked = c.asked-asked.result in
+    let asked = c.args.asked in
     let placing = c.placing-placing.result in
     let surface = c.in-Some.surface in
     let root = c.root_of-root.result in
     let found = c.find_toplevel-toplevel.result in
     let laws = c.message_laws.ensures in
     let asks =
-    asks-so c.args.client v mid c.is_ok-has_room.result was ready asked placing surface root found o.stacking o.applied c.prepare.result c.len-surfaces.result said.lives
-    c.asked-asked.ensures c.in-Some.ensures c.root_of-root.ensures.root c.root_of-root.ensures.none c.find_toplevel-toplevel.ensures c.placing-placing.ensures said.takes said.decides said.touched
-    said.holds said.nothing said.room c.is_ok-has_room.ensures.value c.len-surfaces.ensures c.prepare.ensures.same c.prepare.ensures.was c.prepare.ensures.room c.prepare.ensures.is _ _
+    asks-so c.args.client r d v mid c.is_ok-has_room.result was ready asked placing surface root found o.stacking o.applied c.prepare.result c.len-surfaces.result said.lives
+    c.requires c.in-Some.ensures c.root_of-root.ensures.root c.root_of-root.ensures.none c.find_toplevel-toplevel.ensures c.placing-placing.ensures
+    (takes-given asked placing c.args.grabbing c.args.client r d v mid allowed o.stacking said.takes)
+    (λ touch it. takes-given-as asked placing c.args.grabbing c.args.client r d v mid allowed (is_some o.applied) (said.decides touch it)) said.touched
+    (λ touch it some. holds-given asked placing c.args.grabbing c.args.client r d v mid allowed (said.holds touch it some)) said.nothing said.room
+    c.is_ok-has_room.ensures.value c.len-surfaces.ensures c.prepare.ensures.same c.prepare.ensures.was c.prepare.ensures.room c.prepare.ensures.is _ _
     is.seat.subsurfaces in
     elim c.if-has_ended-2.branch [
       | then-has_ended-2 w ↦
@@ -173,23 +180,26 @@ returns-clause-marks g c = λ some others base d r width height is ordered e q s
     ]
 
 pub returns-clause-within : goal.returns-clause-within
-returns-clause-within g c = λ some others base d r width height is ordered e q serves after status.
+returns-clause-within g c = λ some others base d r width height is ordered allowed e q serves after status.
     let v = c.args.resident.now in
     let mid = c.serve-2.new.self in
     let was = c.args.self.now in
     let ready = c.prepare.new.self in
     let o = c.in-Some-serve-2.outcome in
     let said = c.in-Some-serve-2.ensures in
-    let asked = c.asked-asked.result in
+    let asked = c.args.asked in
     let placing = c.placing-placing.result in
     let surface = c.in-Some.surface in
     let root = c.root_of-root.result in
     let found = c.find_toplevel-toplevel.result in
     let laws = c.message_laws.ensures in
     let asks =
-    asks-so c.args.client v mid c.is_ok-has_room.result was ready asked placing surface root found o.stacking o.applied c.prepare.result c.len-surfaces.result said.lives
-    c.asked-asked.ensures c.in-Some.ensures c.root_of-root.ensures.root c.root_of-root.ensures.none c.find_toplevel-toplevel.ensures c.placing-placing.ensures said.takes said.decides said.touched
-    said.holds said.nothing said.room c.is_ok-has_room.ensures.value c.len-surfaces.ensures c.prepare.ensures.same c.prepare.ensures.was c.prepare.ensures.room c.prepare.ensures.is _ _
+    asks-so c.args.client r d v mid c.is_ok-has_room.result was ready asked placing surface root found o.stacking o.applied c.prepare.result c.len-surfaces.result said.lives
+    c.requires c.in-Some.ensures c.root_of-root.ensures.root c.root_of-root.ensures.none c.find_toplevel-toplevel.ensures c.placing-placing.ensures
+    (takes-given asked placing c.args.grabbing c.args.client r d v mid allowed o.stacking said.takes)
+    (λ touch it. takes-given-as asked placing c.args.grabbing c.args.client r d v mid allowed (is_some o.applied) (said.decides touch it)) said.touched
+    (λ touch it some. holds-given asked placing c.args.grabbing c.args.client r d v mid allowed (said.holds touch it some)) said.nothing said.room
+    c.is_ok-has_room.ensures.value c.len-surfaces.ensures c.prepare.ensures.same c.prepare.ensures.was c.prepare.ensures.room c.prepare.ensures.is _ _
     is.seat.subsurfaces in
     elim c.if-has_ended-2.branch [
       | then-has_ended-2 w ↦
@@ -209,23 +219,26 @@ returns-clause-within g c = λ some others base d r width height is ordered e q 
     ]
 
 pub returns-clause-through : goal.returns-clause-through
-returns-clause-through g c = λ some others base d r width height is ordered.
+returns-clause-through g c = λ some others base d r width height is ordered allowed.
     let v = c.args.resident.now in
     let mid = c.serve-2.new.self in
     let was = c.args.self.now in
     let ready = c.prepare.new.self in
     let o = c.in-Some-serve-2.outcome in
     let said = c.in-Some-serve-2.ensures in
-    let asked = c.asked-asked.result in
+    let asked = c.args.asked in
     let placing = c.placing-placing.result in
     let surface = c.in-Some.surface in
     let root = c.root_of-root.result in
     let found = c.find_toplevel-toplevel.result in
     let laws = c.message_laws.ensures in
     let asks =
-    asks-so c.args.client v mid c.is_ok-has_room.result was ready asked placing surface root found o.stacking o.applied c.prepare.result c.len-surfaces.result said.lives
-    c.asked-asked.ensures c.in-Some.ensures c.root_of-root.ensures.root c.root_of-root.ensures.none c.find_toplevel-toplevel.ensures c.placing-placing.ensures said.takes said.decides said.touched
-    said.holds said.nothing said.room c.is_ok-has_room.ensures.value c.len-surfaces.ensures c.prepare.ensures.same c.prepare.ensures.was c.prepare.ensures.room c.prepare.ensures.is _ _
+    asks-so c.args.client r d v mid c.is_ok-has_room.result was ready asked placing surface root found o.stacking o.applied c.prepare.result c.len-surfaces.result said.lives
+    c.requires c.in-Some.ensures c.root_of-root.ensures.root c.root_of-root.ensures.none c.find_toplevel-toplevel.ensures c.placing-placing.ensures
+    (takes-given asked placing c.args.grabbing c.args.client r d v mid allowed o.stacking said.takes)
+    (λ touch it. takes-given-as asked placing c.args.grabbing c.args.client r d v mid allowed (is_some o.applied) (said.decides touch it)) said.touched
+    (λ touch it some. holds-given asked placing c.args.grabbing c.args.client r d v mid allowed (said.holds touch it some)) said.nothing said.room
+    c.is_ok-has_room.ensures.value c.len-surfaces.ensures c.prepare.ensures.same c.prepare.ensures.was c.prepare.ensures.room c.prepare.ensures.is _ _
     is.seat.subsurfaces in
     elim c.if-has_ended-2.branch [
       | then-has_ended-2 w ↦
@@ -256,4 +269,4 @@ returns-in_default-clause-seat g c = λ id asked without.
 
 pub returns-clause-seat : goal.returns-clause-seat
 returns-clause-seat g c = λ id asked without.
-    absurd (no-pointer c.args.resident.now c.asked-asked.result c.in-Some.surface id c.in-Some.ensures (sym c.pointer_asked-pointer.ensures.is ∙ asked))
+    absurd (no-pointer c.args.resident.now c.args.asked c.in-Some.surface id c.in-Some.ensures (sym c.pointer_asked-pointer.ensures.is ∙ asked))

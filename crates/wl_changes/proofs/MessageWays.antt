@@ -1,6 +1,0 @@
-pub mod Ends
-pub mod Gone
-pub mod Lists
-pub mod Marks
-pub mod Routes
-pub mod Trees

@@ -1,5 +1,0 @@
-use Rattle.wl_changes.proofs.MessageWays.Ends.{left_is_gone}
-use Rattle.wl_changes.proofs.ways.left_is_gone.Goals as goal
-
-pub returns : goal.returns
-returns c = left_is_gone

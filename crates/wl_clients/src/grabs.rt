@@ -1,0 +1,146 @@
+//! Grabs of popups: which client holds one, what one is allowed by, and how they end (xdg-shell.xml, xdg_popup.grab).
+
+ghost use Rattle.std.specs.Prelude.{ℕ, ◌≡◌, ◌<◌, ◌≤◌, IfNone, IfSome, Some, length};
+ghost use Rattle.wl_marking.specs.Marking.{IsAsLarge};
+ghost use Rattle.wl_plain.specs.Changing.{grab_holder, is_held_elsewhere};
+ghost use Rattle.wl_plain.specs.Desktop.{Desktop, Resident as Plain};
+ghost use Rattle.wl_plain.specs.Replies.{popups_done};
+ghost use Rattle.wl_plain.specs.Settling.{Midstep, Tells, without_grabs};
+ghost use Rattle.wl_requests.specs.Grabbing.{IsGrabbingOf};
+ghost use Rattle.wl_resident.specs.Agreement.{numbers_in};
+ghost use Rattle.wl_resident.specs.Releasing.{MarksJust};
+ghost use Rattle.wl_resident.specs.View.{pile_of};
+ghost use Rattle.wl_clients.specs.Agreeing.{Agrees};
+ghost use Rattle.wl_clients.specs.Feeding.{rest_in};
+ghost use Rattle.wl_clients.specs.Grabbing.{is_grab};
+ghost use Rattle.wl_clients.specs.Holders.{IsFirstHolder, IsReleasedBy, MarksReleasedBy, NoneHolds, SaysGrab};
+ghost use Rattle.wl_clients.specs.Midway.{IsMid};
+ghost use Rattle.wl_clients.specs.Pointing.{IsLatest};
+
+use crate::clients::{Clients, place_of};
+use std::alloc::Allocator;
+use wl_plain::ClientNo;
+use wl_proto::XdgPopupRequest;
+use wl_requests::{Asked, Grabbing, Kind, Resident};
+use wl_resident::Screen;
+
+/// The serials of the latest press and of the latest release of a button that a client was told of (wayland.xml, wl_pointer.button).
+#[derive(Clone, Copy, Debug, PartialEq, Eq)]
+pub struct Latest {
+    pub press: Option<u32>,
+    pub release: Option<u32>,
+}
+
+/// Whether a client is there and has a popup with a grab.
+fn holds_grab<A: Allocator>(slot: &Option<Resident<A>>) -> bool
+    ensures { SaysGrab result slot.now }
+{
+    let Some(resident) = slot else {
+        return false;
+    };
+    resident.owned.shell.are_found();
+    resident.owned.shell.has_grab()
+}
+
+/// The first of these that has one.
+fn holder_in<A: Allocator>(residents: &[Option<Resident<A>>]) -> Option<usize>
+    ensures some { IfSome result (λ k. IsFirstHolder k residents.now) }
+    ensures within { IfSome result (λ k. k < length residents.now) }
+    ensures none { IfNone result (NoneHolds (length residents.now) residents.now) }
+{
+    for (k, slot) in residents.iter().enumerate() {
+        if holds_grab(slot) {
+            return Some(k);
+        }
+    }
+    None
+}
+
+/// Whether a grab is asked for.
+fn is_grab(asked: &Asked) -> bool
+    ensures { result ≡ is_grab asked.now }
+{
+    matches!(
+        asked,
+        Asked::Request {
+            kind: Kind::Popup(XdgPopupRequest::Grab { .. }),
+            ..
+        }
+    )
+}
+
+impl<A: Allocator + Copy> Clients<A> {
+    /// The client that holds a grab, if one does: one of its popups has one.
+    pub fn grab_holder(&self) -> Option<ClientNo>
+        ensures { (m : Midstep) → IsMid self.now.desk m → result ≡ grab_holder m.desktop }
+    {
+        let Some(k) = holder_in(&self.residents) else {
+            return None;
+        };
+        Some(k as u32 + 1)
+    }
+
+    /// Whether another client than this one holds a grab.
+    fn is_held_elsewhere(&self, client: ClientNo) -> bool
+        ensures { (m : Midstep) → IsMid self.now.desk m → result ≡ is_held_elsewhere client (grab_holder m.desktop) }
+    {
+        match self.grab_holder() {
+            Some(holder) => holder != client,
+            None => false,
+        }
+    }
+
+    /// What a grab is allowed by that this asks for, of which this client was told these serials. Whether another client holds one is looked
+    /// for where one is asked for.
+    pub(crate) fn grabbing(&self, client: ClientNo, asked: &Asked, latest: Latest) -> Grabbing
+        ensures { (d : Desktop) (r : Plain) → Agrees self.now.desk d → IsLatest latest (Some r) → IsGrabbingOf result asked.now client r d }
+    {
+        let held_elsewhere = is_grab(asked) && self.is_held_elsewhere(client);
+        Grabbing {
+            press: latest.press,
+            release: latest.release,
+            held_elsewhere,
+        }
+    }
+
+    /// The popups of a client with a grab are dismissed, with those that descend from them, unless the client ended, is to end or isn't there.
+    /// It is told of each that it is done, the newest first; where an event isn't queued, the client is to end for that (see
+    /// [`Clients::end_refused`]). Their windows go, and are marked, and nothing else is.
+    pub fn release_grabs(&mut self, client: ClientNo)
+        ensures releases { (m : Midstep) → IsMid self.old.desk m
+            → (n : Midstep) × Tells without_grabs (λ r. popups_done r (without_grabs r)) client m n × IsMid self.new.desk n
+            × MarksJust m.desktop n.desktop self.old.damage self.new.damage }
+        ensures numbers { numbers_in self.new.desk.clients ≡ numbers_in self.old.desk.clients }
+        ensures rests { (c : ℕ) → length (rest_in c self.new.desk) ≤ length (rest_in c self.old.desk) }
+        ensures sides { IsAsLarge self.old.damage self.new.damage }
+        ensures output { self.new.desk.output ≡ self.old.desk.output }
+    {
+        let Some(k) = place_of(&self.residents, client) else {
+            return;
+        };
+        let Some(resident) = &mut self.residents[k] else {
+            return;
+        };
+        release_of(&mut self.screen, resident, client);
+    }
+}
+
+/// The popups with a grab of a client are dismissed, where it lives and isn't to end, and their windows go and are marked.
+fn release_of<A: Allocator + Copy>(
+    screen: &mut Screen<A>,
+    resident: &mut Resident<A>,
+    client: ClientNo,
+)
+    ensures releases { IsReleasedBy resident.old.client.ended resident.old.client.refused client resident.old resident.new (pile_of screen.old) (pile_of screen.new) }
+    ensures marks { MarksReleasedBy resident.old.client.ended resident.old.client.refused client resident.old (pile_of screen.old) screen.old.damage screen.new.damage }
+    ensures sides { IsAsLarge screen.old.damage screen.new.damage }
+    ensures client { resident.new.client ≡ record resident.old.client { unsent = resident.new.client.unsent; refused = resident.new.client.refused } }
+{
+    if resident.client.has_ended() {
+        return;
+    }
+    if resident.client.to_end_for().is_some() {
+        return;
+    }
+    screen.release_grabs(resident, client);
+}

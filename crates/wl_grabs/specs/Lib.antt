@@ -1,0 +1,4 @@
+pub mod Dismissed
+pub mod Marks
+pub mod Presses
+pub mod Windows
