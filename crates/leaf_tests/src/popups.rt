@@ -36,10 +36,12 @@ enum Row {
     /// Whether a grab is allowed by its serial and the other clients.
     Grabs(SurfaceNo, bool, Result<bool, ShellError>),
     Dismisses(SurfaceNo, Option<SurfaceNo>),
+    DismissesGrabbing(Option<SurfaceNo>),
     Orphans(SurfaceNo),
     EndsToplevel(SurfaceNo),
     Destroys(SurfaceNo, Result<(), ShellError>),
     HasChild(SurfaceNo, bool),
+    HasGrab(bool),
     IsAfter(u64, Option<SurfaceNo>),
     IsBefore(u64, Option<SurfaceNo>),
     /// It was dismissed, it has a grab, and where it is placed.
@@ -106,6 +108,7 @@ fn is_met<A: Allocator>(shell: &mut Shell<A>, row: &Row) -> bool {
         Row::Acknowledges(surface, serial, wanted) => shell.ack(surface, serial) == wanted,
         Row::Grabs(surface, is_allowed, wanted) => shell.grab(surface, is_allowed) == wanted,
         Row::Dismisses(surface, wanted) => shell.dismiss(surface) == wanted,
+        Row::DismissesGrabbing(wanted) => shell.dismiss_grabbing() == wanted,
         Row::Orphans(surface) => {
             shell.orphan(surface);
             true
@@ -123,6 +126,7 @@ fn is_met<A: Allocator>(shell: &mut Shell<A>, row: &Row) -> bool {
 fn is_seen<A: Allocator>(shell: &Shell<A>, row: &Row) -> bool {
     match *row {
         Row::HasChild(surface, wanted) => shell.has_child(surface) == wanted,
+        Row::HasGrab(wanted) => shell.has_grab() == wanted,
         Row::IsAfter(number, wanted) => shell.popup_after(number) == wanted,
         Row::IsBefore(number, wanted) => shell.popup_before(number) == wanted,
         Row::IsPopup(surface, is_dismissed, has_grab, placed) => {
@@ -272,11 +276,49 @@ const DISMISSED_BY_AGE: &[Row] = &[
     Row::Dismisses(1, None),
 ];
 
+// 2 has a grab and 3 is on it: these are dismissed, the newest first, and 4 isn't.
+const GRABBING_DISMISSED: &[Row] = &[
+    Row::GetsPopup(2, Some(1), 5, true, false, Ok(())),
+    Row::GetsPopup(3, Some(2), 6, true, false, Ok(())),
+    Row::GetsPopup(4, Some(1), 7, true, false, Ok(())),
+    Row::HasGrab(false),
+    Row::DismissesGrabbing(None),
+    Row::Grabs(2, true, Ok(true)),
+    Row::HasGrab(true),
+    Row::DismissesGrabbing(Some(3)),
+    Row::HasGrab(true),
+    Row::DismissesGrabbing(Some(2)),
+    Row::HasGrab(false),
+    Row::DismissesGrabbing(None),
+    Row::IsPopup(3, true, false, None),
+    Row::IsPopup(2, true, false, None),
+    Row::IsPopup(4, false, false, None),
+];
+
+// 3 keeps its grab where 2, which it is on, loses its own: it is dismissed alone.
+const GRAB_LOST: &[Row] = &[
+    Row::GetsPopup(2, Some(1), 5, true, false, Ok(())),
+    Row::GetsPopup(3, Some(2), 6, true, false, Ok(())),
+    Row::Grabs(2, true, Ok(true)),
+    Row::Grabs(3, true, Ok(true)),
+    Row::Commits(2, false, 7, Ok(ShellAct::Configure(PLACED))),
+    Row::Acknowledges(2, 7, Ok(())),
+    Row::Commits(2, true, 8, Ok(ShellAct::Map)),
+    Row::Commits(2, false, 8, Ok(ShellAct::Unmap)),
+    Row::IsPopup(2, false, false, PLACED),
+    Row::HasGrab(true),
+    Row::DismissesGrabbing(Some(3)),
+    Row::DismissesGrabbing(None),
+    Row::HasGrab(false),
+];
+
 const CASES: &[(&str, &[Row])] = &[
     ("a popup from its making on", FROM_ITS_MAKING_ON),
     ("what is refused", REFUSED),
     ("the newest are dismissed first", DISMISSED),
     ("grabs", GRABS),
+    ("those with a grab are dismissed", GRABBING_DISMISSED),
+    ("a grab that is lost", GRAB_LOST),
     ("the end of a toplevel", TOPLEVEL_GONE),
     ("dismissed by age", DISMISSED_BY_AGE),
 ];

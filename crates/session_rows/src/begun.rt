@@ -2,8 +2,30 @@
 
 use crate::rows::{Case, Fault, Message, REGISTRY, Row, first_missed_case};
 use std::alloc::Global;
-use wl_session::Fed;
+use wl_session::{Done, Fed, Step};
 use wl_wire::Arg;
+
+/// What the registry 2 tells.
+pub const ANNOUNCED: &[Message] = &[
+    Message(
+        2,
+        0,
+        &[Arg::Uint(1), Arg::Str(b"wl_compositor"), Arg::Uint(2)],
+    ),
+    Message(
+        2,
+        0,
+        &[Arg::Uint(2), Arg::Str(b"wl_subcompositor"), Arg::Uint(1)],
+    ),
+    Message(2, 0, &[Arg::Uint(3), Arg::Str(b"wl_shm"), Arg::Uint(1)]),
+    Message(2, 0, &[Arg::Uint(4), Arg::Str(b"wl_output"), Arg::Uint(1)]),
+    Message(2, 0, &[Arg::Uint(5), Arg::Str(b"wl_seat"), Arg::Uint(1)]),
+    Message(
+        2,
+        0,
+        &[Arg::Uint(6), Arg::Str(b"xdg_wm_base"), Arg::Uint(1)],
+    ),
+];
 
 /// The wl_compositor 3 and the wl_shm 4, by the registry 2.
 pub const SHM: &[Row] = &[
@@ -109,6 +131,65 @@ pub const MAPS: &[Row] = &[
     )),
     Row::Sends(COMMIT),
     Row::Waits(1, Some(&[])),
+];
+
+/// The wl_seat 12, and its wl_pointer 13.
+pub const SEATED: &[Row] = &[
+    Row::Binds(5, b"wl_seat", 1, 12, Fed::Alive),
+    Row::Takes,
+    Row::Sends(Message(12, 0, &[Arg::NewId(13)])),
+];
+
+/// The client 2 has the registry 2, the wl_compositor 3, the wl_shm 4 and the xdg_wm_base 5, and a toplevel that was configured.
+pub const SECOND: &[Row] = &[
+    Row::Calls(Step::Connect, Done::Connect(Ok(2))),
+    Row::From(2, Message(1, 1, &[Arg::NewId(2)])),
+    Row::From(
+        2,
+        Message(
+            2,
+            0,
+            &[
+                Arg::Uint(1),
+                Arg::Str(b"wl_compositor"),
+                Arg::Uint(2),
+                Arg::NewId(3),
+            ],
+        ),
+    ),
+    Row::From(
+        2,
+        Message(
+            2,
+            0,
+            &[
+                Arg::Uint(3),
+                Arg::Str(b"wl_shm"),
+                Arg::Uint(1),
+                Arg::NewId(4),
+            ],
+        ),
+    ),
+    Row::From(
+        2,
+        Message(
+            2,
+            0,
+            &[
+                Arg::Uint(6),
+                Arg::Str(b"xdg_wm_base"),
+                Arg::Uint(1),
+                Arg::NewId(5),
+            ],
+        ),
+    ),
+    Row::From(2, Message(3, 0, &[Arg::NewId(6)])),
+    Row::From(2, Message(5, 2, &[Arg::NewId(7), Arg::Object(6)])),
+    Row::From(2, Message(7, 1, &[Arg::NewId(8)])),
+    Row::From(2, COMMIT),
+    Row::From(2, Message(7, 4, &[Arg::Uint(1)])),
+    Row::From(2, Message(4, 0, &[Arg::NewId(9), Arg::Int(6400)])),
+    Row::TakesOf(2),
 ];
 
 /// A toplevel whose configure was acknowledged, and its buffers.

@@ -82,6 +82,8 @@ pub enum Row<'a> {
     Starts(&'a [u8]),
     /// The messages that wait for the client 1.
     Told(&'a [Message<'a>]),
+    /// The messages that wait for a client, which are taken.
+    ToldOf(u32, &'a [Message<'a>]),
     /// The one wl_display.error, of this object, code and text, that waits for the client 1.
     ErrorTold(u32, u32, &'a [u8]),
     /// How many bytes wait for the client 1.
@@ -266,11 +268,15 @@ pub fn has_out(session: &Session<Global>, client: u32, bytes: &[u8]) -> bool {
     }
 }
 
-fn is_told(alloc: Global, session: &Session<Global>, messages: &[Message]) -> bool {
+fn is_told_of(alloc: Global, session: &Session<Global>, client: u32, messages: &[Message]) -> bool {
     match bytes_of(alloc, messages) {
-        Some(bytes) => has_out(session, 1, &bytes),
+        Some(bytes) => has_out(session, client, &bytes),
         None => false,
     }
+}
+
+fn is_told(alloc: Global, session: &Session<Global>, messages: &[Message]) -> bool {
+    is_told_of(alloc, session, 1, messages)
 }
 
 fn is_error_told(
@@ -462,6 +468,9 @@ fn is_met(alloc: Global, session: &mut Session<Global>, row: &Row) -> bool {
         Row::Waits(client, None) => session.out(client).is_none(),
         Row::Starts(bytes) => session.out(1).unwrap_or(&[]).starts_with(bytes),
         Row::Told(messages) => is_told(alloc, session, messages),
+        Row::ToldOf(client, messages) => {
+            is_told_of(alloc, session, client, messages) && take_all_of(session, client)
+        }
         Row::ErrorTold(object, code, text) => is_error_told(alloc, session, object, code, text),
         Row::Waiting(count) => waiting(session) == count,
         Row::Store(client, store, wanted) => session.store_size(client, store) == wanted,

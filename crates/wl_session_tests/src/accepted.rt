@@ -1,13 +1,12 @@
 //! Each request that is served, where it is accepted: its client lives on, and is told what the protocol says (wayland.xml and xdg-shell.xml).
 
-use crate::registry::GLOBALS as ANNOUNCED;
 use session_rows::begun::{
-    ACKNOWLEDGES, ATTACH_10, BUFFER_10, BUFFERS, COMMIT, CONFIGURED, CONFIGURES, GLOBALS, GREEN,
-    MADE, MAPS,
+    ACKNOWLEDGES, ANNOUNCED, ATTACH_10, BUFFER_10, BUFFERS, COMMIT, CONFIGURED, CONFIGURES,
+    GLOBALS, GREEN, MADE, MAPS,
 };
 use session_rows::rows::{CLIENT, Fault, Message, Pixel, REGISTRY, Row, play, play_after};
 use std::alloc::Global;
-use wl_session::Fed;
+use wl_session::{Done, Fed, Step};
 use wl_wire::Arg;
 
 /// A rectangle of four numbers.
@@ -202,6 +201,69 @@ const OF_A_TOPLEVEL: &[Row] = &[
     Row::Accepts(Message(5, 0, &[]), &[Message(1, 1, &[Arg::Uint(5)])]),
     Row::Shows(1600, 1600, &[]),
 ];
+
+/// The wl_pointer 14 tells of a press with the serial 3.
+const PRESSED: &[Row] = &[
+    Row::Accepts(Message(12, 0, &[Arg::NewId(14)]), &[]),
+    Row::Calls(
+        Step::Motion {
+            time: 1,
+            x: 5,
+            y: 4,
+        },
+        Done::Motion,
+    ),
+    Row::Calls(
+        Step::Button {
+            time: 2,
+            button: 272,
+            pressed: true,
+        },
+        Done::Button,
+    ),
+    Row::Takes,
+    Row::Accepts(
+        Message(
+            14,
+            0,
+            &[Arg::Uint(2), Arg::Object(0), Arg::Int(0), Arg::Int(0)],
+        ),
+        &[],
+    ),
+];
+
+/// Those of xdg_positioner, get_popup, and the requests of xdg_popup: the popup 19 of the surface 16 grabs with that serial.
+const OF_A_POPUP: &[Row] = &[
+    Row::Accepts(Message(5, 1, &[Arg::NewId(15)]), &[]),
+    Row::Accepts(Message(15, 1, &[Arg::Int(8), Arg::Int(8)]), &[]),
+    Row::Accepts(Message(15, 2, RECT), &[]),
+    Row::Accepts(Message(15, 3, &[Arg::Uint(8)]), &[]),
+    Row::Accepts(Message(15, 4, &[Arg::Uint(8)]), &[]),
+    Row::Accepts(Message(15, 5, &[Arg::Uint(63)]), &[]),
+    Row::Accepts(Message(15, 6, &[Arg::Int(-1), Arg::Int(1)]), &[]),
+    Row::Accepts(Message(3, 0, &[Arg::NewId(16)]), &[]),
+    Row::Accepts(Message(5, 2, &[Arg::NewId(17), Arg::Object(16)]), &[]),
+    Row::Accepts(
+        Message(17, 2, &[Arg::NewId(19), Arg::Object(7), Arg::Object(15)]),
+        &[],
+    ),
+    Row::Accepts(Message(19, 1, &[Arg::Object(12), Arg::Uint(3)]), &[]),
+    Row::Accepts(Message(19, 0, &[]), &[Message(1, 1, &[Arg::Uint(19)])]),
+    Row::Accepts(Message(15, 0, &[]), &[Message(1, 1, &[Arg::Uint(15)])]),
+];
+
+fn accepts_popup(alloc: Global) -> Result<(), Fault> {
+    play_after(
+        alloc,
+        &[REGISTRY, GLOBALS, BUFFERS, SEATED],
+        &[OF_THE_SHELL, MAPS, PRESSED, OF_A_POPUP],
+    )
+}
+
+#[test]
+fn requests_of_popups_are_accepted(rt: HostRuntime) {
+    assert_eq!(rt; accepts_popup(rt.alloc()), Ok(()));
+}
 
 fn accepts_shell(alloc: Global) -> Result<(), Fault> {
     play_after(

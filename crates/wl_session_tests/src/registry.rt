@@ -1,5 +1,6 @@
 //! The registry, binds, and the order in which messages are refused.
 
+use session_rows::begun::ANNOUNCED;
 use session_rows::rows::{
     CLIENT, Case, Fault, INVALID_OBJECT, Message, REGISTRY, Row, SYNC, first_missed_case,
     first_missed_row, play,
@@ -7,28 +8,6 @@ use session_rows::rows::{
 use std::alloc::Global;
 use wl_session::{Cause, Done, Fed, Step};
 use wl_wire::Arg;
-
-/// What the registry 2 tells.
-pub(crate) const GLOBALS: &[Message] = &[
-    Message(
-        2,
-        0,
-        &[Arg::Uint(1), Arg::Str(b"wl_compositor"), Arg::Uint(2)],
-    ),
-    Message(
-        2,
-        0,
-        &[Arg::Uint(2), Arg::Str(b"wl_subcompositor"), Arg::Uint(1)],
-    ),
-    Message(2, 0, &[Arg::Uint(3), Arg::Str(b"wl_shm"), Arg::Uint(1)]),
-    Message(2, 0, &[Arg::Uint(4), Arg::Str(b"wl_output"), Arg::Uint(1)]),
-    Message(2, 0, &[Arg::Uint(5), Arg::Str(b"wl_seat"), Arg::Uint(1)]),
-    Message(
-        2,
-        0,
-        &[Arg::Uint(6), Arg::Str(b"xdg_wm_base"), Arg::Uint(1)],
-    ),
-];
 
 /// The bytes of the first of them.
 const FIRST_GLOBAL: &[u8] = &[
@@ -38,7 +17,7 @@ const FIRST_GLOBAL: &[u8] = &[
 
 const GLOBALS_TOLD: &[Row] = &[
     Row::Sends(Message(1, 1, &[Arg::NewId(2)])),
-    Row::Told(GLOBALS),
+    Row::Told(ANNOUNCED),
     Row::Starts(FIRST_GLOBAL),
 ];
 
@@ -137,7 +116,7 @@ const ARGUMENTS: &[Row] = &[
     Row::Errs(Message(8, 2, &[Arg::NewId(9), Arg::Object(0)]), 1, 1),
 ];
 
-/// A new id that is in use goes before what isn't served and before the request's own errors.
+/// A new id that is in use goes before the request's own errors.
 const NEW_IDS: &[Row] = &[
     Row::Errs(Message(3, 0, &[Arg::NewId(2)]), 1, 0),
     Row::Errs(Message(7, 1, &[Arg::NewId(2)]), 1, 0),
@@ -153,22 +132,6 @@ const KEYBOARD: &[Row] = &[
     Row::Errs(Message(7, 1, &[Arg::NewId(9)]), 7, 0),
     Row::ErrorTold(7, 0, b"missing_capability"),
 ];
-
-/// The xdg_popup 15 of the surface 10, on the toplevel 14, by the xdg_positioner 9.
-const POPUP: &[Row] = &[
-    Row::Sends(Message(8, 1, &[Arg::NewId(9)])),
-    Row::Sends(Message(9, 1, &[Arg::Int(1), Arg::Int(1)])),
-    Row::Sends(Message(9, 2, &[Arg::Int(0), Arg::Int(0), Arg::Int(1), Arg::Int(1)])),
-    Row::Sends(Message(3, 0, &[Arg::NewId(10)])),
-    Row::Sends(Message(8, 2, &[Arg::NewId(11), Arg::Object(10)])),
-    Row::Sends(Message(3, 0, &[Arg::NewId(12)])),
-    Row::Sends(Message(8, 2, &[Arg::NewId(13), Arg::Object(12)])),
-    Row::Sends(Message(13, 1, &[Arg::NewId(14)])),
-    Row::Sends(Message(11, 2, &[Arg::NewId(15), Arg::Object(13), Arg::Object(9)])),
-];
-
-/// xdg_popup.grab.
-const NOT_SERVED: &[Row] = &[Row::Errs(Message(15, 1, &[Arg::Object(7), Arg::Uint(1)]), 1, 3)];
 
 /// The wl_surface 9 becomes a subsurface of 10.
 const SUBSURFACE: &[Row] = &[
@@ -408,13 +371,6 @@ const ROWS: &[(Case, &[Row])] = &[
             &[REGISTRY, ALL_GLOBALS],
         ),
         KEYBOARD_AND_TOUCH,
-    ),
-    (
-        (
-            "what is not served is refused as a limit",
-            &[REGISTRY, ALL_GLOBALS, POPUP],
-        ),
-        NOT_SERVED,
     ),
     (
         (

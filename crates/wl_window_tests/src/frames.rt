@@ -2,7 +2,7 @@
 
 use session_rows::begun::{
     ACKNOWLEDGES, ATTACH_NONE, BUFFERS, COMMIT, CONFIGURED, CONFIGURES, GLOBALS, GREEN, MADE, MAPS,
-    RED, RED_10, missed_after_buffers,
+    RED, RED_10, SECOND, missed_after_buffers,
 };
 use session_rows::rows::{
     Case, Fault, Message, Pixel, REGISTRY, Row, bytes_of, first_missed_case, is_pixel, play_after,
@@ -224,58 +224,6 @@ const ID_USED_AGAIN: &[Row] = &[
     Row::Fills(1, 1, 6400, 1600, GREEN),
     Row::Sends(COMMIT),
     Row::Shows(0, 0, &[Pixel(0, 0, 255, 0, 0), Pixel(39, 39, 255, 0, 0)]),
-];
-
-/// The client 2 has the registry 2, the wl_compositor 3, the wl_shm 4 and the xdg_wm_base 5, and a toplevel that was configured.
-pub(crate) const SECOND: &[Row] = &[
-    Row::Calls(Step::Connect, Done::Connect(Ok(2))),
-    Row::From(2, Message(1, 1, &[Arg::NewId(2)])),
-    Row::From(
-        2,
-        Message(
-            2,
-            0,
-            &[
-                Arg::Uint(1),
-                Arg::Str(b"wl_compositor"),
-                Arg::Uint(2),
-                Arg::NewId(3),
-            ],
-        ),
-    ),
-    Row::From(
-        2,
-        Message(
-            2,
-            0,
-            &[
-                Arg::Uint(3),
-                Arg::Str(b"wl_shm"),
-                Arg::Uint(1),
-                Arg::NewId(4),
-            ],
-        ),
-    ),
-    Row::From(
-        2,
-        Message(
-            2,
-            0,
-            &[
-                Arg::Uint(6),
-                Arg::Str(b"xdg_wm_base"),
-                Arg::Uint(1),
-                Arg::NewId(5),
-            ],
-        ),
-    ),
-    Row::From(2, Message(3, 0, &[Arg::NewId(6)])),
-    Row::From(2, Message(5, 2, &[Arg::NewId(7), Arg::Object(6)])),
-    Row::From(2, Message(7, 1, &[Arg::NewId(8)])),
-    Row::From(2, COMMIT),
-    Row::From(2, Message(7, 4, &[Arg::Uint(1)])),
-    Row::From(2, Message(4, 0, &[Arg::NewId(9), Arg::Int(6400)])),
-    Row::TakesOf(2),
 ];
 
 /// A buffer 10 of 40 by 40 pixels with alpha, half red, is mapped.

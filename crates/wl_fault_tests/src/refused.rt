@@ -5,8 +5,9 @@ use crate::acts::{
     Act, Layer, OUTPUT, Part, Places, Plan, Planned, is_painted, place_of, plan_of, step_of,
     steps_of,
 };
-use crate::menus::MENU;
+use crate::menus::{GRAB, MENU};
 use crate::recorded::{SHOWN_TWICE, SUBSURFACE, TWO_WINDOWS};
+use crate::settling::{ENTERED_ANEW, LEFT_BELOW};
 use std::alloc::{Allocator, Global};
 use test_support::Refusing;
 use wl_session::{Cause, ConnectError, Fed, FrameError, RunError, Session, Shot, Step, Stored};
@@ -16,12 +17,14 @@ const MANY: u64 = 2000;
 
 const NO_MEMORY: Fed = Fed::Ended(Cause::Memory);
 
-/// How far a session came: the clients that live, where their toplevels stand, how many were mapped, and what the last frame showed.
+/// How far a session came: the clients that live, where their toplevels stand, how many were mapped, how many ended by what another one sent, and what the
+/// last frame showed.
 #[derive(Clone, Copy)]
 struct Progress<'a> {
     lives: [bool; 2],
     places: Places,
     mappings: usize,
+    struck: usize,
     shown: &'a [Layer],
 }
 
@@ -29,6 +32,7 @@ const BEGUN: Progress = Progress {
     lives: [false; 2],
     places: [None; 2],
     mappings: 0,
+    struck: 0,
     shown: &[],
 };
 
@@ -39,8 +43,8 @@ enum Outcome {
     NoSession,
     /// A client didn't connect, and nothing more was done.
     Stopped,
-    /// All was done, and so many clients live.
-    Played(usize),
+    /// All was done. So many clients live, and so many ended by what another one sent.
+    Played { left: usize, struck: usize },
     /// The step at this place was answered otherwise than it may be.
     Wrong(usize),
 }
@@ -119,6 +123,20 @@ fn send<A: Allocator + Copy>(session: &mut Session<A>, client: u32, told: &[u8])
     session.out(client).unwrap_or(&[]).starts_with(told) && session.sent(client, told.len())
 }
 
+/// All that waits for a client is the first of these parts or, where the other client has ended, any of them. It is taken.
+fn send_any<A: Allocator + Copy>(
+    session: &mut Session<A>,
+    plan: &Plan,
+    (client, first, second, third): (u32, Part, Part, Part),
+    are_both_there: bool,
+) -> bool {
+    let out = session.out(client).unwrap_or(&[]);
+    let count = out.len();
+    let is_first = out == plan.part(first);
+    let is_other = out == plan.part(second) || out == plan.part(third);
+    (is_first || (is_other && !are_both_there)) && session.sent(client, count)
+}
+
 fn is_silent<A: Allocator + Copy>(session: &Session<A>, client: u32) -> bool {
     match session.out(client) {
         Some(out) => out.is_empty(),
@@ -143,7 +161,22 @@ fn feed<A: Allocator + Copy>(
     if maps {
         progress.map(client);
     }
-    is_right
+    let before = progress.count();
+    let are_others_right = are_left(session, progress);
+    progress.struck = progress
+        .struck
+        .saturating_add(before.saturating_sub(progress.count()));
+    is_right && are_others_right
+}
+
+/// Each client lives on, or has ended for want of memory, after the pointer did something or was settled anew.
+fn are_left<A: Allocator + Copy>(session: &Session<A>, progress: &mut Progress) -> bool {
+    for client in [1, 2] {
+        if progress.has(client) && !progress.is_fed(client, session.status(client)) {
+            return false;
+        }
+    }
+    true
 }
 
 fn store<A: Allocator + Copy>(
@@ -179,7 +212,20 @@ fn take<'a, A: Allocator + Copy>(
         Planned::Sent(client, part) => {
             done_if(!progress.has(client) || send(session, client, plan.part(part)))
         }
+        Planned::SentAny(client, first, second, third) => {
+            let are_both_there = progress.count() == 2;
+            let wanted = (client, first, second, third);
+            done_if(!progress.has(client) || send_any(session, plan, wanted, are_both_there))
+        }
         Planned::Silent(client) => done_if(!progress.has(client) || is_silent(session, client)),
+        Planned::Motion(x, y) => {
+            session.motion(1, x, y);
+            done_if(are_left(session, progress))
+        }
+        Planned::Button(pressed) => {
+            session.button(2, 272, pressed);
+            done_if(are_left(session, progress))
+        }
         Planned::Tick(layers) => {
             progress.shown = layers;
             done_if(shows(session, layers, progress.places))
@@ -203,7 +249,10 @@ fn play<A: Allocator + Copy>(session: &mut Session<A>, plan: &Plan) -> Outcome {
             Taken::Wrong => return Outcome::Wrong(place),
         }
     }
-    Outcome::Played(progress.count())
+    Outcome::Played {
+        left: progress.count(),
+        struck: progress.struck,
+    }
 }
 
 /// A heap that refuses one allocation, or that and all after it.
@@ -236,16 +285,27 @@ struct Tally {
     /// In so many one was left, and in so many two.
     one: u32,
     two: u32,
+    /// In so many a client ended by what another one sent.
+    struck: u32,
 }
 
 impl Tally {
     fn count(&mut self, outcome: Outcome) {
         match outcome {
             Outcome::Stopped => self.stopped = self.stopped.saturating_add(1),
-            Outcome::Played(0) => self.none = self.none.saturating_add(1),
-            Outcome::Played(1) => self.one = self.one.saturating_add(1),
-            Outcome::Played(_) => self.two = self.two.saturating_add(1),
+            Outcome::Played { left, struck } => self.count_played(left, struck),
             Outcome::NoSession | Outcome::Wrong(_) => {}
+        }
+    }
+
+    fn count_played(&mut self, left: usize, struck: usize) {
+        match left {
+            0 => self.none = self.none.saturating_add(1),
+            1 => self.one = self.one.saturating_add(1),
+            _ => self.two = self.two.saturating_add(1),
+        }
+        if struck > 0 {
+            self.struck = self.struck.saturating_add(1);
         }
     }
 }
@@ -255,6 +315,7 @@ const UNCOUNTED: Tally = Tally {
     none: 0,
     one: 0,
     two: 0,
+    struck: 0,
 };
 
 /// Plays a plan with ever more allocations served, until none is refused. None where something happened that may not.
@@ -309,6 +370,41 @@ fn a_popup_without_memory(rt: HostRuntime) {
     };
     assert!(rt; all.none > 30 && all.one > 0, "{all:?}");
     assert!(rt; alone.none > 30 && alone.one > 0, "{alone:?}");
+}
+
+#[test]
+fn a_grab_without_memory(rt: HostRuntime) {
+    let Some((all, alone)) = tallies_of(rt.alloc(), GRAB) else {
+        panic!(rt; "something happened that may not")
+    };
+    assert!(rt; all.none > 30 && all.one > 0, "{all:?}");
+    assert!(rt; alone.none > 30 && alone.one > 0, "{alone:?}");
+}
+
+/// Who can't be told that another's window hides its own from the pointer ends, and the other is settled on and lives.
+#[test]
+fn a_window_below_another_without_memory(rt: HostRuntime) {
+    let Some((all, alone)) = tallies_of(rt.alloc(), LEFT_BELOW) else {
+        panic!(rt; "something happened that may not")
+    };
+    assert!(rt; all.one > 10 && all.two > 0 && all.struck > 0, "{all:?}");
+    assert!(rt;
+        alone.one > 20 && alone.two > 0 && alone.struck > 0,
+        "{alone:?}"
+    );
+}
+
+/// Who can't be told that the pointer enters its window as another's goes ends, and its window goes.
+#[test]
+fn a_window_that_comes_out_without_memory(rt: HostRuntime) {
+    let Some((all, alone)) = tallies_of(rt.alloc(), ENTERED_ANEW) else {
+        panic!(rt; "something happened that may not")
+    };
+    assert!(rt; all.none > 10 && all.one > 0 && all.struck > 2, "{all:?}");
+    assert!(rt;
+        alone.one > 20 && alone.two > 0 && alone.struck > 0,
+        "{alone:?}"
+    );
 }
 
 #[test]
@@ -522,6 +618,14 @@ fn a_run_with_a_subsurface_stops_where_memory_is_refused(rt: HostRuntime) {
 #[test]
 fn a_run_with_a_popup_stops_where_memory_is_refused(rt: HostRuntime) {
     let Some((all, alone)) = all_stops_of(rt.alloc(), MENU) else {
+        panic!(rt; "something happened that may not")
+    };
+    assert!(rt; all.at_tick > 10 && alone.at_tick > 5, "{all:?} {alone:?}");
+}
+
+#[test]
+fn a_run_with_a_grab_stops_where_memory_is_refused(rt: HostRuntime) {
+    let Some((all, alone)) = all_stops_of(rt.alloc(), GRAB) else {
         panic!(rt; "something happened that may not")
     };
     assert!(rt; all.at_tick > 10 && alone.at_tick > 5, "{all:?} {alone:?}");

@@ -1,8 +1,9 @@
 //! Worked sessions as acts: two clients whose windows overlap, one with a subsurface, and one whose buffer two surfaces show.
 
 use crate::acts::{Act, Layer};
-use crate::registry::GLOBALS;
-use session_rows::begun::{ATTACH_10, BUFFER_10, BUFFER_11, COMMIT, CONFIGURED, POOL_12800};
+use session_rows::begun::{
+    ANNOUNCED, ATTACH_10, BUFFER_10, BUFFER_11, COMMIT, CONFIGURED, POOL_12800,
+};
 use session_rows::rows::Message;
 use wl_wire::Arg;
 
@@ -161,7 +162,7 @@ const RELEASED_10: &[Message] = &[Message(10, 0, &[])];
 pub(crate) const TWO_WINDOWS: &[Act] = &[
     Act::Connects(1),
     Act::Sends(1, BEGINS),
-    Act::Told(1, GLOBALS),
+    Act::Told(1, ANNOUNCED),
     Act::Told(1, BEGUN),
     Act::Sends(1, WIDE_BUFFERS),
     Act::Stores(1, 1, 11804, THREE_RED),
@@ -171,7 +172,7 @@ pub(crate) const TWO_WINDOWS: &[Act] = &[
     Act::Shows(&[WIDE]),
     Act::Connects(2),
     Act::Sends(2, BEGINS),
-    Act::Told(2, GLOBALS),
+    Act::Told(2, ANNOUNCED),
     Act::Told(2, BEGUN),
     Act::Sends(2, SMALL_BUFFERS),
     Act::Fills(2, 1, 0, 256, 128),
@@ -303,7 +304,7 @@ const LAST: Layer = Layer {
 pub(crate) const SUBSURFACE: &[Act] = &[
     Act::Connects(1),
     Act::Sends(1, BEGINS),
-    Act::Told(1, GLOBALS),
+    Act::Told(1, ANNOUNCED),
     Act::Told(1, BEGUN),
     Act::Sends(1, WIDE_BUFFERS),
     Act::Fills(1, 1, 0, 6400, 128),
@@ -352,7 +353,7 @@ const NONE_FOR_14: &[Message] = &[
 pub(crate) const SHOWN_TWICE: &[Act] = &[
     Act::Connects(1),
     Act::Sends(1, BEGINS),
-    Act::Told(1, GLOBALS),
+    Act::Told(1, ANNOUNCED),
     Act::Told(1, BEGUN),
     Act::Sends(1, WIDE_BUFFERS),
     Act::Fills(1, 1, 0, 6400, 128),

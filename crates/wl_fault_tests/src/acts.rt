@@ -47,8 +47,14 @@ pub(crate) enum Act<'a> {
     Fills(u32, u32, u32, usize, u8),
     /// What waits for a client begins with these messages, and they are taken.
     Told(u32, &'a [Message<'a>]),
+    /// All that waits for a client is the first of these lists of messages or, where the other client has ended, any of them. It is taken.
+    ToldAny(u32, &'a [Message<'a>], &'a [Message<'a>], &'a [Message<'a>]),
     /// Nothing waits for a client.
     Silent(u32),
+    /// The pointer goes to a point.
+    Points(i32, i32),
+    /// The left button is pressed, or released.
+    Presses(bool),
     /// A tick, and what is shown from bottom to top. The windows of clients that ended are left out.
     Shows(&'a [Layer]),
 }
@@ -69,7 +75,10 @@ pub(crate) enum Planned<'a> {
     Store(u32, u32, u32, Part),
     /// What a client was told is sent.
     Sent(u32, Part),
+    SentAny(u32, Part, Part, Part),
     Silent(u32),
+    Motion(i32, i32),
+    Button(bool),
     Tick(&'a [Layer]),
 }
 
@@ -133,12 +142,30 @@ impl<'a> Plan<'a> {
         self.part_from(from)
     }
 
-    fn add_told(&mut self, client: u32, messages: &[Message]) {
+    fn add_part(&mut self, messages: &[Message]) -> Part {
         let from = self.bytes.len();
         for message in messages {
             self.put_message(*message);
         }
-        self.add(Planned::Sent(client, self.part_from(from)));
+        self.part_from(from)
+    }
+
+    fn add_told(&mut self, client: u32, messages: &[Message]) {
+        let part = self.add_part(messages);
+        self.add(Planned::Sent(client, part));
+    }
+
+    fn add_told_any(
+        &mut self,
+        client: u32,
+        first: &[Message],
+        second: &[Message],
+        third: &[Message],
+    ) {
+        let first = self.add_part(first);
+        let second = self.add_part(second);
+        let third = self.add_part(third);
+        self.add(Planned::SentAny(client, first, second, third));
     }
 
     fn add_act(&mut self, act: Act<'a>) {
@@ -155,7 +182,12 @@ impl<'a> Plan<'a> {
                 self.add(Planned::Store(client, store, at, part));
             }
             Act::Told(client, messages) => self.add_told(client, messages),
+            Act::ToldAny(client, first, second, third) => {
+                self.add_told_any(client, first, second, third)
+            }
             Act::Silent(client) => self.add(Planned::Silent(client)),
+            Act::Points(x, y) => self.add(Planned::Motion(x, y)),
+            Act::Presses(pressed) => self.add(Planned::Button(pressed)),
             Act::Shows(layers) => self.add(Planned::Tick(layers)),
         }
     }
@@ -174,6 +206,14 @@ pub(crate) fn plan_of<'a>(alloc: Global, acts: &'a [Act<'a>]) -> Option<Plan<'a>
     if plan.failed { None } else { Some(plan) }
 }
 
+/// As many bytes as a part has are sent to a client.
+fn sent_step<'a>(client: u32, part: Part) -> Step<'a> {
+    Step::Sent {
+        client,
+        count: part.past.saturating_sub(part.from),
+    }
+}
+
 /// A plan's step of a session. To look whether nothing waits is one that does nothing.
 pub(crate) fn step_of<'a>(plan: &'a Plan, planned: Planned) -> Step<'a> {
     match planned {
@@ -188,11 +228,15 @@ pub(crate) fn step_of<'a>(plan: &'a Plan, planned: Planned) -> Step<'a> {
             at,
             bytes: plan.part(part),
         },
-        Planned::Sent(client, part) => Step::Sent {
-            client,
-            count: part.past.saturating_sub(part.from),
-        },
+        Planned::Sent(client, part) => sent_step(client, part),
+        Planned::SentAny(client, first, _, _) => sent_step(client, first),
         Planned::Silent(client) => Step::Sent { client, count: 0 },
+        Planned::Motion(x, y) => Step::Motion { time: 1, x, y },
+        Planned::Button(pressed) => Step::Button {
+            time: 2,
+            button: 272,
+            pressed,
+        },
         Planned::Tick(_) => Step::Tick { time: 0 },
     }
 }

@@ -1,11 +1,11 @@
-//! A worked session with a popup as acts: it is placed and shown, goes along with its parent, and is dismissed with it.
+//! Worked sessions with a popup as acts: it is placed and shown, goes along with its parent, and is dismissed with it; or it grabs, and is dismissed by a
+//! press.
 
 use crate::acts::{Act, Layer};
 use crate::recorded::{BEGINS, BEGUN, MAPS_WIDE, PARENT, WIDE_BUFFERS};
-use crate::registry::GLOBALS;
-use session_rows::begun::COMMIT;
+use session_rows::begun::{ANNOUNCED, COMMIT};
 use session_rows::rows::Message;
-use wl_wire::Arg;
+use wl_wire::{Arg, Fixed};
 
 const COMMIT_14: Message = Message(14, 6, &[]);
 
@@ -91,7 +91,7 @@ const MOVED: Layer = Layer {
 pub(crate) const MENU: &[Act] = &[
     Act::Connects(1),
     Act::Sends(1, BEGINS),
-    Act::Told(1, GLOBALS),
+    Act::Told(1, ANNOUNCED),
     Act::Told(1, BEGUN),
     Act::Sends(1, WIDE_BUFFERS),
     Act::Fills(1, 1, 0, 6400, 128),
@@ -107,5 +107,101 @@ pub(crate) const MENU: &[Act] = &[
     Act::Sends(1, ENDS_TOPLEVEL),
     Act::Told(1, DISMISSED),
     Act::Shows(&[]),
+    Act::Silent(1),
+];
+
+/// The wl_seat 12, and its wl_pointer 13.
+pub(crate) const SEAT: &[Message] = &[
+    Message(
+        2,
+        0,
+        &[
+            Arg::Uint(5),
+            Arg::Str(b"wl_seat"),
+            Arg::Uint(1),
+            Arg::NewId(12),
+        ],
+    ),
+    Message(12, 0, &[Arg::NewId(13)]),
+];
+
+pub(crate) const CAPABLE: &[Message] = &[Message(12, 0, &[Arg::Uint(1)])];
+
+/// The pointer enters the toplevel at (5, 4) with the serial 3, and the button is pressed there with the serial 4, and released with 5.
+const ENTERED: &[Message] = &[Message(
+    13,
+    0,
+    &[
+        Arg::Uint(3),
+        Arg::Object(6),
+        Arg::Fixed(Fixed(1280)),
+        Arg::Fixed(Fixed(1024)),
+    ],
+)];
+
+const PRESSED: &[Message] = &[Message(
+    13,
+    3,
+    &[Arg::Uint(4), Arg::Uint(2), Arg::Uint(272), Arg::Uint(1)],
+)];
+
+const RELEASED: &[Message] = &[Message(
+    13,
+    3,
+    &[Arg::Uint(5), Arg::Uint(2), Arg::Uint(272), Arg::Uint(0)],
+)];
+
+/// The popup grabs with the serial of the press before it is mapped.
+const GRABS: &[Message] = &[
+    Message(15, 4, &[Arg::Uint(2)]),
+    Message(17, 1, &[Arg::Object(12), Arg::Uint(4)]),
+    Message(
+        9,
+        0,
+        &[
+            Arg::NewId(18),
+            Arg::Int(6400),
+            Arg::Int(8),
+            Arg::Int(8),
+            Arg::Int(32),
+            Arg::Uint(1),
+        ],
+    ),
+    Message(14, 1, &[Arg::Object(18), Arg::Int(0), Arg::Int(0)]),
+    COMMIT_14,
+];
+
+const LEFT: &[Message] = &[Message(13, 1, &[Arg::Uint(6), Arg::Object(6)])];
+
+const DONE: &[Message] = &[Message(17, 1, &[])];
+
+/// A window has a popup that grabs, and which a press where nothing is dismisses.
+pub(crate) const GRAB: &[Act] = &[
+    Act::Connects(1),
+    Act::Sends(1, BEGINS),
+    Act::Told(1, ANNOUNCED),
+    Act::Told(1, BEGUN),
+    Act::Sends(1, WIDE_BUFFERS),
+    Act::Fills(1, 1, 0, 6400, 128),
+    Act::Maps(1, MAPS_WIDE),
+    Act::Shows(&[PARENT]),
+    Act::Sends(1, MAKES_POPUP),
+    Act::Told(1, PLACED),
+    Act::Sends(1, SEAT),
+    Act::Told(1, CAPABLE),
+    Act::Points(5, 4),
+    Act::Told(1, ENTERED),
+    Act::Presses(true),
+    Act::Told(1, PRESSED),
+    Act::Sends(1, GRABS),
+    Act::Silent(1),
+    Act::Shows(&[PARENT, POPUP]),
+    Act::Presses(false),
+    Act::Told(1, RELEASED),
+    Act::Points(60, 4),
+    Act::Told(1, LEFT),
+    Act::Presses(true),
+    Act::Told(1, DONE),
+    Act::Shows(&[PARENT]),
     Act::Silent(1),
 ];

@@ -1,7 +1,7 @@
 //! Windows far away, and what a client spoils that draws into what it shows.
 
-use crate::frames::{GREEN_SQUARE, NINE_RED, SECOND, SHOWS_BLACK};
-use session_rows::begun::{COMMIT, MAPS, RED, RED_10, missed_after_buffers};
+use crate::frames::{GREEN_SQUARE, NINE_RED, SHOWS_BLACK};
+use session_rows::begun::{COMMIT, MAPS, RED, RED_10, SECOND, missed_after_buffers};
 use session_rows::rows::{Case, Message, Pixel, Row, Span};
 use wl_wire::Arg;
 

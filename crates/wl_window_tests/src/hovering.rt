@@ -1,17 +1,10 @@
 //! The pointer over a window (wayland.xml, wl_pointer): what its client is told; and who can't be told that it is entered ends, and its window
 //! goes.
 
-use session_rows::begun::{MAPS, RED_10, missed_after_buffers};
+use session_rows::begun::{MAPS, RED_10, SEATED, missed_after_buffers};
 use session_rows::rows::{Case, Message, Pixel, Row};
 use wl_session::{Cause, Done, Fed, Step};
 use wl_wire::{Arg, Fixed};
-
-/// The wl_seat 12, and its wl_pointer 13.
-pub(crate) const SEATED: &[Row] = &[
-    Row::Binds(5, b"wl_seat", 1, 12, Fed::Alive),
-    Row::Takes,
-    Row::Sends(Message(12, 0, &[Arg::NewId(13)])),
-];
 
 /// The pointer goes to (5, 4), over the window.
 pub(crate) const COMES: Row = Row::Calls(

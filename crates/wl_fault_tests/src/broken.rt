@@ -1,7 +1,7 @@
 //! Streams that break off, come byte by byte, or have a word replaced, beside a client that has a window: what that one keeps.
 
 use crate::acts::{Act, Layer, OUTPUT, is_painted, plan_of, step_of, stream_of};
-use crate::menus::MENU;
+use crate::menus::{GRAB, MENU};
 use crate::recorded::{BEGINS, MAPS_WIDE, SUBSURFACE, TWO_WINDOWS, WIDE_BUFFERS};
 use std::alloc::Global;
 use wl_session::{Cause, Fed, Session};
@@ -266,6 +266,12 @@ fn broken_streams_with_a_popup(rt: HostRuntime) {
     assert_eq!(rt; broken(rt.alloc(), MENU, 1), Ok(()));
 }
 
+/// Nobody pressed a button here, so the grab is refused.
+#[test]
+fn broken_streams_with_a_grab(rt: HostRuntime) {
+    assert_eq!(rt; broken(rt.alloc(), GRAB, 1), Ok(()));
+}
+
 /// Whether the client 2 lives after each byte of a stream.
 fn drips(session: &mut Session<Global>, stream: &[u8]) -> bool {
     for byte in stream {
@@ -319,6 +325,7 @@ fn are_dripped(alloc: Global) -> bool {
         && dripped(alloc, TWO_WINDOWS, 2)
         && dripped(alloc, SUBSURFACE, 1)
         && dripped(alloc, MENU, 1)
+        && dripped(alloc, GRAB, 1)
 }
 
 #[test]

@@ -1,10 +1,10 @@
 //! Buttons of the pointer over windows (wayland.xml, wl_pointer.button, and xdg-shell.xml, xdg_toplevel.move): what a client is told, which window
 //! is raised, and how one is moved.
 
-use crate::frames::{CHANGES_NINE, GREEN_SQUARE, NINE_RED, SECOND, SHOWS_BLACK, SHOWS_THREE_RED};
-use crate::hovering::{COMES, ENTERED, SEATED};
+use crate::frames::{CHANGES_NINE, GREEN_SQUARE, NINE_RED, SHOWS_BLACK, SHOWS_THREE_RED};
+use crate::hovering::{COMES, ENTERED};
 use session_rows::begun::{
-    ATTACH_NONE, COMMIT, CONFIGURED, GREEN, MAPS, RED_10, missed_after_buffers,
+    ATTACH_NONE, COMMIT, CONFIGURED, GREEN, MAPS, RED_10, SEATED, SECOND, missed_after_buffers,
 };
 use session_rows::rows::{Case, Message, Pixel, Row};
 use wl_session::{Cause, Done, Fed, Step};
@@ -309,17 +309,33 @@ const TOO_SLOW: &[Row] = &[
     Row::Shows(1600, 1600, &[Pixel(0, 0, 0, 0, 0)]),
 ];
 
-/// Each begins with a toplevel that can show the buffer 10.
-const CASES: &[Case] = &[
+/// Each case begins with a toplevel that can show the buffer 10.
+const TOLD: &[Case] = &[
     ("held and let go", &[RED_10, MAPS, SEATED, HOLDS, HELD]),
     (
         "pressed twice, released twice",
         &[RED_10, MAPS, SEATED, HOLDS, IGNORED],
     ),
     (
+        "who is too slow",
+        &[RED_10, MAPS, SHOWS_RED, SEATED, TOO_SLOW],
+    ),
+];
+
+const MOVES: &[Case] = &[
+    (
         "a window is moved",
         &[RED_10, MAPS, SHOWS_RED, SEATED, HOLDS, MOVED],
     ),
+    (
+        "unmapped while it is moved",
+        &[
+            RED_10, MAPS, SHOWS_RED, SEATED, HOLDS, UNMAPPED, MAPS, STAYS,
+        ],
+    ),
+];
+
+const REFUSED_MOVES: &[Case] = &[
     (
         "moved with another serial",
         &[RED_10, MAPS, SHOWS_RED, SEATED, HOLDS, ANOTHER_SERIAL],
@@ -332,12 +348,9 @@ const CASES: &[Case] = &[
         "moved after the release",
         &[RED_10, MAPS, SHOWS_RED, SEATED, HOLDS, TOO_LATE],
     ),
-    (
-        "unmapped while it is moved",
-        &[
-            RED_10, MAPS, SHOWS_RED, SEATED, HOLDS, UNMAPPED, MAPS, STAYS,
-        ],
-    ),
+];
+
+const RAISES: &[Case] = &[
     (
         "a window is raised",
         &[RED_10, MAPS, SEATED, SECOND_WINDOW, RAISED],
@@ -356,13 +369,24 @@ const CASES: &[Case] = &[
             RAISED_ABOVE_ANOTHER,
         ],
     ),
-    (
-        "who is too slow",
-        &[RED_10, MAPS, SHOWS_RED, SEATED, TOO_SLOW],
-    ),
 ];
 
 #[test]
-fn buttons_raise_and_move_windows(rt: HostRuntime) {
-    assert_eq!(rt; missed_after_buffers(rt.alloc(), CASES), None);
+fn buttons_are_told(rt: HostRuntime) {
+    assert_eq!(rt; missed_after_buffers(rt.alloc(), TOLD), None);
+}
+
+#[test]
+fn windows_are_moved(rt: HostRuntime) {
+    assert_eq!(rt; missed_after_buffers(rt.alloc(), MOVES), None);
+}
+
+#[test]
+fn windows_are_not_moved_otherwise(rt: HostRuntime) {
+    assert_eq!(rt; missed_after_buffers(rt.alloc(), REFUSED_MOVES), None);
+}
+
+#[test]
+fn windows_are_raised(rt: HostRuntime) {
+    assert_eq!(rt; missed_after_buffers(rt.alloc(), RAISES), None);
 }

@@ -1,0 +1,19 @@
+//! Tests of a session where memory is refused and where streams are broken: what was done is told, and nobody else is hurt.
+#![tactic(auto)]
+
+#[cfg(test)]
+mod acts;
+#[cfg(test)]
+mod broken;
+#[cfg(test)]
+mod memory;
+#[cfg(test)]
+mod menus;
+#[cfg(test)]
+mod recorded;
+#[cfg(test)]
+mod refused;
+#[cfg(test)]
+mod settling;
+#[cfg(test)]
+mod slow;
