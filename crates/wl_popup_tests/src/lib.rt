@@ -1,11 +1,19 @@
 //! Tests of popups in a session, by tables of what is done in one and what is wanted of it: where they stand, what is painted again as they come,
-//! change and go, what is told of them, and how their requests are refused.
+//! change and go, what is told of them, how their requests are refused, and how they grab and are dismissed.
 #![tactic(auto)]
 
+#[cfg(test)]
+mod grabs;
+#[cfg(test)]
+mod outside;
+#[cfg(test)]
+mod pointing;
 #[cfg(test)]
 mod popups;
 #[cfg(test)]
 mod refused;
+#[cfg(test)]
+mod rivals;
 #[cfg(test)]
 mod submenus;
 #[cfg(test)]

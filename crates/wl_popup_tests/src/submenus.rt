@@ -12,7 +12,7 @@ use wl_wire::Arg;
 const MENU: &[Row] = &[Row::Shows(64, 64, &[])];
 
 /// The positioner 21 places a popup of 4 by 4 pixels 8 pixels to the left and up of its parent.
-const POSITIONER_21: &[Row] = &[
+pub(crate) const POSITIONER_21: &[Row] = &[
     Row::Sends(Message(5, 1, &[Arg::NewId(21)])),
     Row::Sends(Message(21, 1, &[Arg::Int(4), Arg::Int(4)])),
     Row::Sends(Message(21, 2, &[Arg::Int(0), Arg::Int(0), Arg::Int(1), Arg::Int(1)])),
@@ -21,7 +21,7 @@ const POSITIONER_21: &[Row] = &[
     Row::Sends(Message(21, 6, &[Arg::Int(-8), Arg::Int(-8)])),
 ];
 
-const COMMIT_22: Message = Message(22, 6, &[]);
+pub(crate) const COMMIT_22: Message = Message(22, 6, &[]);
 
 /// The surface 22 with its xdg_surface 23 has the popup 24 on that of the surface 14.
 const SUBMENU: &[Row] = &[
@@ -42,7 +42,7 @@ const SUBMENU: &[Row] = &[
 ];
 
 /// wl_surface.attach of the surface 22 of the buffer 25, of 4 by 4 pixels at the start of the pool 9.
-const ATTACH_25: Message = Message(22, 1, &[Arg::Object(25), Arg::Int(0), Arg::Int(0)]);
+pub(crate) const ATTACH_25: Message = Message(22, 1, &[Arg::Object(25), Arg::Int(0), Arg::Int(0)]);
 
 /// It is mapped and shown at (32, 32), above the toplevel.
 const SUBMENU_MAPS: &[Row] = &[

@@ -3,6 +3,7 @@
 mod cursors;
 mod faults;
 mod files;
+mod grabbing;
 mod hovering;
 mod limits;
 mod pools;
