@@ -1,0 +1,34 @@
+//! Tests of the session by chance: random lists of steps of clients, the pointer and the server, of which a viewer that copies only what each frame painted
+//! sees what a slow painter paints, by a second reading of what clients asked for.
+#![tactic(auto)]
+
+#[cfg(test)]
+mod acting;
+#[cfg(test)]
+mod desktop;
+#[cfg(test)]
+mod drawing;
+#[cfg(test)]
+mod joining;
+#[cfg(test)]
+mod links;
+#[cfg(test)]
+mod opening;
+#[cfg(test)]
+mod painter;
+#[cfg(test)]
+mod plays;
+#[cfg(test)]
+mod pointing;
+#[cfg(test)]
+mod popups;
+#[cfg(test)]
+mod requests;
+#[cfg(test)]
+mod serving;
+#[cfg(test)]
+mod tally;
+#[cfg(test)]
+mod telling;
+#[cfg(test)]
+mod viewer;
