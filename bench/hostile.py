@@ -2,6 +2,7 @@
 
 A kind is a generator of what a connection sends, piece by piece, and of how many requests a piece is meant to be. It may go on for ever: the
 server ends most. Each connection asks for POOLS bytes of pools at most, but that of one place of the crowd, which may ask for as many as there are.
+The SLOW kinds can hold up the others for longer than a good client may wait; docs/PROMISES.md tells by what.
 """
 import contextlib
 import functools
@@ -51,10 +52,32 @@ def recorded():
 
 
 class Hostile:
-    """What a kind knows of its connection: its chances, its number among the server's connections, and the folder of side files."""
+    """What a kind knows of its connection: its chances, its number among the server's connections, the folder of side files, and what it was told.
+
+    It may say that the connection is to close one half of itself, once all before it is sent (`closes`: SHUT_RD or SHUT_WR), or to tell it of serials
+    (`told`, empty bytes at first): the latest of each object that had a configure, and that of the latest press or release.
+    """
 
     def __init__(self, chance, number, folder):
         self.chance, self.number, self.folder, self.files = chance, number, folder, []
+        self.closes, self.told, self.configures, self.pressed = None, None, {}, 0
+
+    def hear(self, data):
+        """Keeps the serials of what it is told. Callbacks look like configures of ids that have none."""
+        if self.told is None:
+            return
+        self.told += data
+        at = 0
+        while len(self.told) >= at + wayland_wire.HEADER:
+            target, opcode, size = wayland_wire.header(self.told, at)
+            if len(self.told) < at + size:
+                break
+            if (opcode, size) == (0, 12):
+                self.configures[target] = struct.unpack_from("<I", self.told, at + wayland_wire.HEADER)[0]
+            elif (opcode, size) == (3, 24):
+                self.pressed = struct.unpack_from("<I", self.told, at + wayland_wire.HEADER)[0]
+            at += size
+        self.told = self.told[at:]
 
     def put_file(self, pool, size=None):
         """The memory of its pool of this number is there from now on: random bytes, or so many zeros. Without a folder there is none."""
@@ -279,6 +302,101 @@ def pointers(mine):
         yield b"", 0
 
 
+def halves(mine):
+    """A connection that closes one half of itself: then it asks and can't be answered, or reads what it asked before."""
+    yield BEGIN, BEGUN
+    for _ in range(mine.chance.randint(0, 200)):
+        yield message(1, 0, FIRST), 1
+    half = mine.closes = mine.chance.choice([socket.SHUT_RD, socket.SHUT_WR])
+    for _ in range(mine.chance.randint(1, 200)):
+        yield (message(1, 0, FIRST), 1) if half == socket.SHUT_RD else (b"", 0)
+
+
+class Menus:
+    """A client with toplevels, and with popups on them and on each other, of which it closes the newest first."""
+
+    def __init__(self, mine):
+        self.mine, self.ids = mine, itertools.count(FIRST)
+        self.pool, self.buffer, self.pointer, self.positioner = (next(self.ids) for _ in range(4))
+        self.roots, self.popups, self.mapped = [], [], set()
+
+    def begin(self):
+        """The requests for its pool, its wl_pointer and a positioner."""
+        self.mine.put_file(1)
+        side, chance = 2 * SIDE, self.mine.chance
+        made = message(SHM, 0, self.pool, 4 * side * side) + message(self.pool, 0, self.buffer, 0, side, side, 4 * side, chance.randrange(2))
+        sized = message(self.positioner, 1, side, side) + message(self.positioner, 2, 0, 0, side, side)
+        return BEGIN + made + message(SEAT, 0, self.pointer) + message(BASE, 1, self.positioner) + sized
+
+    def open_toplevel(self):
+        self.roots.append([next(self.ids) for _ in range(3)])
+        return shown(self.roots[-1][0], 0) + message(self.roots[-1][0], 6)
+
+    def open_popup(self):
+        """A popup of a toplevel or of the newest popup, in most cases with the grab by the serial of the latest press or release."""
+        chance = self.mine.chance
+        surface, shell, popup = (next(self.ids) for _ in range(3))
+        parent = self.popups[-1] if self.popups and chance.random() < 0.7 else chance.choice(self.roots)
+        self.popups.append([surface, shell, popup])
+        made = message(COMPOSITOR, 0, surface) + message(BASE, 2, shell, surface) + message(shell, 2, popup, parent[1], self.positioner)
+        moved = message(self.positioner, chance.randint(3, 4), chance.randint(0, 8)) + message(self.positioner, 6, *bounds(chance)[:2])
+        return moved + made + message(popup, 1, SEAT, self.mine.pressed) * (chance.random() < 0.8) + message(surface, 6)
+
+    def show_all(self):
+        """Maps what was configured and isn't mapped."""
+        requests = b""
+        for surface, shell, _ in self.roots + self.popups:
+            serial = self.mine.configures.pop(shell, None)
+            if serial is not None:
+                requests += message(shell, 4, serial) + message(surface, 1, self.buffer, 0, 0) + message(surface, 2, *bounds(self.mine.chance)) + message(surface, 6)
+                self.mapped.add(surface)
+        return requests
+
+    def close(self, one):
+        """Destroys a toplevel or a popup with its surface."""
+        surface, shell, role = one
+        self.mapped.discard(surface)
+        return message(role, 0) + message(shell, 0) + message(surface, 0)
+
+    def hide(self):
+        """Takes the buffer from something that is mapped, which may then be configured anew."""
+        if not self.mapped:
+            return b""
+        surface = self.mine.chance.choice(sorted(self.mapped))
+        self.mapped.discard(surface)
+        return message(surface, 1, 0, 0, 0) + message(surface, 6) * self.mine.chance.randint(1, 2)
+
+    def step(self):
+        """What comes next, as requests."""
+        chance = self.mine.chance
+        match chance.randrange(10):
+            case 0 | 1 | 2 if len(self.popups) < 40:
+                return self.open_popup()
+            case 3 | 4 if self.popups:
+                return self.close(self.popups.pop())
+            case 5:
+                return message(chance.choice(self.roots)[2], 5, SEAT, self.mine.pressed)
+            case 6:
+                return self.hide()
+            case 7 if chance.random() < 0.3:
+                return self.open_toplevel() if len(self.roots) < 8 else self.close(self.roots.pop(0))
+            case 8:
+                surface, shell, _ = chance.choice(self.roots + self.popups)
+                return message(shell, 3, *bounds(chance)) * (chance.random() < 0.2) + message(surface, 6) * (surface in self.mapped)
+        return b""
+
+
+def menus(mine):
+    """Popups that take the grab, are dismissed and go in any order; toplevels that move along with the pointer, are hidden and shown again."""
+    mine.told = b""
+    client = Menus(mine)
+    yield client.begin() + client.open_toplevel(), BEGUN + 11
+    for _ in range(mine.chance.randint(20, 500)):
+        yield client.show_all() + client.step(), 3
+        for _ in range(mine.chance.choice([1, 1, 30])):
+            yield b"", 0
+
+
 def regions(mine):
     """Regions of 510 changes that leave as many rectangles as they can, as what a surface takes of the input and has opaque."""
     yield BEGIN + message(COMPOSITOR, 0, FIRST), BEGUN + 1
@@ -289,7 +407,8 @@ def regions(mine):
         yield message(FIRST, 4, region) + message(FIRST, 5, region) + message(FIRST, 6), 3
 
 
-KINDS = {it.__name__: it for it in (noise, mutated, flood, comes, pools, large, titles, windows, pointers, regions)}
+KINDS = {it.__name__: it for it in (noise, mutated, flood, comes, halves, pools, large, titles, windows, menus, pointers, regions)}
+SLOW = "large", "regions"
 
 
 class Place:
@@ -320,6 +439,11 @@ class Place:
         self.mine.end()
         self.crowd.counts[3] += by_server
 
+    def close_half(self):
+        self.socket.shutdown(self.mine.closes)
+        self.reads = self.reads and self.mine.closes != socket.SHUT_RD
+        self.mine.closes = None
+
     def gather(self):
         """Takes pieces until there is enough to send. False where there are no more."""
         while len(self.waiting) < SENT:
@@ -338,9 +462,13 @@ class Place:
             return self.connect()
         has_more = self.gather()
         try:
+            if self.mine.closes is not None and not self.waiting:
+                self.close_half()
             if self.reads:
                 with contextlib.suppress(BlockingIOError):
-                    if not self.socket.recv(TAKEN):
+                    told = self.socket.recv(TAKEN)
+                    self.mine.hear(told)
+                    if not told:
                         self.end(by_server=True)
                         return True
             sent = self.socket.send(self.waiting) if self.waiting else 0
