@@ -35,8 +35,6 @@ CAUSES = {
     ("xdg_surface", "defunct_role_object"): "xdg_surface.destroy",
     ("xdg_popup", "invalid_grab"): "xdg_popup.grab",
 }
-# Requests that the server doesn't serve yet: it refuses them as passing a limit.
-UNSERVED = ("xdg_popup.grab",)
 MAX_CLIENT_ID = 0xFEFFFFFF
 
 
@@ -110,8 +108,6 @@ def first_of_display(waiting, error):
             found = [it for it in waiting if it.lacks_object]
         case "invalid_method":
             found = [it for it in waiting if it.is_bad]
-        case "implementation":
-            found = [it for it in waiting if it.said.name in UNSERVED]
         case _:
             found = []
     if found:

@@ -13,12 +13,10 @@ from wayland_wire import message, spell
 
 # The versions that clients are shown, where the server offers an earlier one.
 SHOWN = {"wl_compositor": 4, "wl_output": 3, "wl_seat": 7, "xdg_wm_base": 2}
-# What a seat can do by the server's word and not yet by its deeds: no popup takes a grab. Once one does, this is 0, and a row is wanted for wl_pointer.frame, which a
-# seat of version 5 and later owes behind what belongs together.
-HIDDEN_CAPABILITIES = INTERFACES["wl_seat"].enums["capability"].values["pointer"]
 # A global of the bridge's own, with a name that no server gives.
 OWN_GLOBAL, OWN_NAME, OWN_VERSION = "wl_data_device_manager", 0xFFFF0000, 3
 SEAT_NAME = "seat0"
+POINTER_EVENTS = ("enter", "leave", "motion", "button")  # those that the server sends
 LARGE = 1 << 26  # bytes of a pool above which the server isn't told of it
 EVERYTHING = (0, 0, 0x7FFFFFFF, 0x7FFFFFFF)
 STATES = INTERFACES["xdg_toplevel"].enums["state"].values
@@ -68,12 +66,16 @@ def lower_bind(client, said):
     return [request(said.object, "bind", name, (interface, offered[1], made))]
 
 
-def hide_capabilities(client, said):
-    return [event(said.object, "capabilities", said.values[0] & ~HIDDEN_CAPABILITIES)]
-
-
 def name_seat(client, said):
     return [said.data, event(said.object, "name", SEAT_NAME)] if said.object.version >= 2 > said.object.served else None
+
+
+def frame_pointer(client, said):
+    pointer = INTERFACES["wl_pointer"]
+    if said.object.ended and pointer.named("release").since > said.object.served:
+        return []  # the server doesn't know that it was released
+    since = pointer.event_named("frame").since
+    return [said.data, event(said.object, "frame")] if said.object.version >= since > said.object.served else None
 
 
 def finish_output(client, said):
@@ -152,7 +154,7 @@ REWRITINGS = (
         "event",
         f"shows {', '.join(f'{name} as version {version}' for name, version in SHOWN.items())}, and besides {OWN_GLOBAL}, version {OWN_VERSION}",
         "clients leave where they find less, or bind a later version without looking (foot, wev)",
-        "as exact as the rows below; what versions 6 and 7 of wl_seat and 2 of xdg_wm_base brought is never sent",
+        "as exact as the rows below; what versions 6 and 7 of wl_seat and 2 of xdg_wm_base brought is never sent, nor is a wheel's axis",
         show_global,
     ),
     Rewriting(
@@ -170,14 +172,6 @@ REWRITINGS = (
         "the server refuses a bind of more than it offers",
         "as exact as the rows below",
         lower_bind,
-    ),
-    Rewriting(
-        "wl_seat.capabilities",
-        "event",
-        "takes the pointer off the capabilities",
-        "no popup takes a grab yet, which toolkits ask for where a press opens a menu, and which would end them",
-        "as for a client that nobody points at; one that asks for a pointer all the same is told of motions and buttons as the server tells them, without wl_pointer.frame",
-        hide_capabilities,
     ),
     Rewriting(
         "wl_seat.capabilities",
@@ -202,6 +196,17 @@ REWRITINGS = (
         "it is there since version 3",
         "but for the id, which isn't given back: the client never uses it again",
         swallow,
+    ),
+    *(
+        Rewriting(
+            f"wl_pointer.{name}",
+            "event",
+            "sends frame behind, where version 5 or later was bound; isn't passed on where the client has released the wl_pointer",
+            "frame is there since version 5, and clients do what they are told of the pointer once it comes; of release the server isn't told",
+            "yes: leave and enter have a frame each, and no client may count on one for both",
+            frame_pointer,
+        )
+        for name in POINTER_EVENTS
     ),
     Rewriting(
         "wl_output.mode",

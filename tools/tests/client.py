@@ -147,10 +147,10 @@ class Window:
 
     def __init__(self, client, width, height, compositor_version=4):
         self.client, self.width, self.height = client, width, height
-        registry = client.begin()
-        self.compositor = client.bind(registry, "wl_compositor", compositor_version)
-        self.shm = client.bind(registry, "wl_shm", 1)
-        self.base = client.bind(registry, "xdg_wm_base", 1)
+        self.registry = client.begin()
+        self.compositor = client.bind(self.registry, "wl_compositor", compositor_version)
+        self.shm = client.bind(self.registry, "wl_shm", 1)
+        self.base = client.bind(self.registry, "xdg_wm_base", 1)
         self.memory = Memory(2 * self.size)
         self.pool = client.send(self.shm, "create_pool", 2 * self.size, descriptor=self.memory.descriptor)
         self.buffers = [client.put(self.pool, "create_buffer", at * self.size, width, height, 4 * width, 1) for at in (0, 1)]

@@ -71,10 +71,10 @@ def wait_for(what, why):
 
 
 class Rig:
-    """A folder with a server's socket `server`, a bridge's `wayland`, the folder `pools`, the report and the frames."""
+    """A folder with a server's socket `server`, a bridge's `wayland`, the folder `pools`, the report and the frames; and what the pointer does."""
 
-    def __init__(self, *options, size="64x48", server=True, bridge=True):
-        self.options, self.size, self.begins = options, size, (server, bridge)
+    def __init__(self, *options, size="64x48", pointer="", server=True, bridge=True):
+        self.options, self.size, self.pointer, self.begins = options, size, pointer, (server, bridge)
         self.server = self.bridge = None
 
     def __enter__(self):
@@ -103,6 +103,9 @@ class Rig:
         report = self.stack.enter_context(open(self.room / "report", "w", encoding="ascii"))
         words = ["serve", "--socket", "server", "--dir", folder, "--size", self.size, "--ppm", "frames.ppm"]
         words += ["--rate", str(RATE)] if has_rate() and not turns else ["--turns", str(turns or TURNS)]
+        if self.pointer:
+            (self.room / "pointer").write_text(self.pointer, encoding="ascii")
+            words += ["--pointer", "pointer"]
         self.server = subprocess.Popen([program(), *words], cwd=self.room, stdout=report, preexec_fn=end_with_parent)
         wait_for((self.room / "server").exists, "the server makes no socket")
         if not has_rate() and not turns:

@@ -1,4 +1,5 @@
 """The bridge between a client and the server: what is shown, rewritten, copied and refused."""
+import itertools
 import os
 import pathlib
 import random
@@ -23,11 +24,11 @@ OPAQUE = 0xFF000000
 class WithRig(unittest.TestCase):
     """Tests that share a server and a bridge. Each has clients of its own, which are gone when it ends."""
 
-    options, size = (), "64x48"
+    options, size, pointer = (), "64x48", ""
 
     @classmethod
     def setUpClass(cls):
-        cls.rig = cls.enterClassContext(Rig(*cls.options, size=cls.size))
+        cls.rig = cls.enterClassContext(Rig(*cls.options, size=cls.size, pointer=cls.pointer))
 
     def client(self):
         return self.enterContext(Client(self.rig.wayland))
@@ -50,8 +51,8 @@ class Shown(WithRig):
         return [it for it in client.take() if f"#{bound}." in it]
 
     def test_seat(self):
-        self.assertEqual(self.events_of("wl_seat", 7), ["wl_seat#4.capabilities(0)", 'wl_seat#4.name("seat0")'])
-        self.assertEqual(self.events_of("wl_seat", 1), ["wl_seat#4.capabilities(0)"])
+        self.assertEqual(self.events_of("wl_seat", 7), ["wl_seat#4.capabilities(pointer)", 'wl_seat#4.name("seat0")'])
+        self.assertEqual(self.events_of("wl_seat", 1), ["wl_seat#4.capabilities(pointer)"])
 
     def test_output(self):
         first = ['wl_output#4.geometry(0, 0, 0, 0, unknown, "wlframe", "framebuffer", normal)', "wl_output#4.mode(current+preferred, 64, 48, 0)"]
@@ -92,7 +93,7 @@ class Shown(WithRig):
         client.last = compositor
         client.round_trip()
 
-    def test_pointer_is_silent(self):
+    def test_pointer_that_nothing_moves(self):
         client = self.client()
         registry = client.begin()
         pointer = client.send(client.bind(registry, "wl_seat", 5), "get_pointer")
@@ -261,6 +262,91 @@ class Windows(WithRig):
         pool = self.client.send(self.window.shm, "create_pool", size, descriptor=Memory(size).descriptor)
         self.client.send(pool, "create_buffer", size - 799, 20, 10, 80, 1)
         self.assertIn(f"error(wl_shm_pool#{pool}, 1 invalid_stride", self.client.error())
+
+
+class Pointed(WithRig):
+    """What clients are told of the pointer: again and again it comes over their windows, is clicked there, moves, goes, and is clicked elsewhere."""
+
+    LEFT, STEP = 272, 150  # the button, and the milliseconds from line to line
+    AROUND = ("motion {} 3 2", "button {} 272 1", "button {} 272 0", "motion {} 4 2", "motion {} 60 40", "button {} 272 1", "button {} 272 0")
+    pointer = "\n".join(line.format(at) for at, line in zip(range(0, 300_000, STEP), itertools.cycle(AROUND)))
+    windows = 0
+
+    def window(self, version):
+        """A client with a window, which it moves to the output's corner, and with a wl_pointer of this version."""
+        client = self.client()
+        window = Window(client, 8, 8)
+        place = 32 * (Pointed.windows % 8)  # where the server puts it
+        Pointed.windows += 1
+        client.put(window.surface, "attach", window.buffers[0], -place, -place)
+        client.send(window.surface, "commit")
+        window.seat = client.bind(window.registry, "wl_seat", version)
+        window.pointer = client.send(window.seat, "get_pointer")
+        self.addCleanup(self.leave, client, self.rig.ends())
+        return client, window
+
+    def leave(self, client, ended):
+        client.socket.close()
+        wait_for(lambda: self.rig.ends() > ended, "the server doesn't end the client")
+
+    def released(self, client):
+        """The serial of the first release that a client is told of."""
+        while True:
+            found = [said for said, _ in client.events if said.name == "wl_pointer.button"]
+            if len(found) > 1:
+                self.assertEqual([it.values[2:] for it in found], [[self.LEFT, 1], [self.LEFT, 0]])
+                return found[1].values[0]
+            client.receive()
+
+    def told(self, version):
+        """What a wl_pointer of this version is told from when it is entered on until it is entered again."""
+        client, window = self.window(version)
+        names = []
+        while names.count("enter") < 3:
+            client.receive()
+            names = [said.message.name for said, _ in client.events if said.target == window.pointer]
+        second, third = [at for at, name in enumerate(names) if name == "enter"][1:3]
+        return names[second:third]
+
+    def test_each_event_has_its_frame(self):
+        plain = ["enter", "button", "button", "motion", "leave"]
+        for version in (1, 4):
+            self.assertEqual(self.told(version), plain)
+        for version in (5, 7):
+            self.assertEqual(self.told(version), [it for name in plain for it in (name, "frame")])
+
+    def test_place_and_surface(self):
+        client, window = self.window(5)
+        client.until("wl_pointer.leave")
+        client.take()
+        self.assertEqual(client.until("wl_pointer.enter").values[1:], [window.surface, 3, 2])
+
+    def test_pointer_that_is_released_is_told_nothing_more(self):
+        client, window = self.window(5)
+        other = client.send(window.seat, "get_pointer")
+        client.until("wl_pointer.button", other)
+        client.send(window.pointer, "release")
+        client.round_trip()
+        client.take()
+        client.until("wl_pointer.leave", other)
+        self.assertEqual([said.target for said, _ in client.events if said.name.startswith("wl_pointer.") and said.target != other], [])
+
+    def test_menu_that_a_press_elsewhere_dismisses(self):
+        client, window = self.window(7)
+        serial = self.released(client)
+        place = client.put(window.base, "create_positioner")
+        client.put(place, "set_size", 8, 8)
+        client.put(place, "set_anchor_rect", 0, 0, 8, 8)
+        surface = client.put(window.compositor, "create_surface")
+        shell = client.put(window.base, "get_xdg_surface", surface)
+        menu = client.put(shell, "get_popup", window.shell, place)
+        client.put(menu, "grab", window.seat, serial)
+        client.send(surface, "commit")
+        # without the grab it would be dismissed before it is configured
+        client.send(shell, "ack_configure", client.until("xdg_surface.configure", shell).values[0])
+        client.put(surface, "attach", window.buffers[1], 0, 0)
+        client.send(surface, "commit")
+        client.until("xdg_popup.popup_done", menu)
 
 
 def random_value(argument, client, chance):
@@ -525,7 +611,7 @@ class Told(WithRig):
         trace = (self.rig.room / "trace").read_text(encoding="utf-8").splitlines()
         at = trace.index("client 2 -> wl_registry#2.bind(5, new wl_seat#4 of version 5)")
         self.assertEqual(trace[at + 1], "client 2    passed on as: wl_registry#2.bind(5, new wl_seat#4 of version 1)")
-        self.assertIn('client 2    passed on as: wl_seat#4.capabilities(0); wl_seat#4.name("seat0")', trace)
+        self.assertIn('client 2    passed on as: wl_seat#4.capabilities(pointer); wl_seat#4.name("seat0")', trace)
 
 
 class Table(unittest.TestCase):

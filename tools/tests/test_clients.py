@@ -52,6 +52,18 @@ class Clients(unittest.TestCase):
         self.assertEqual((found.binds, found.frames, found.ended, found.runs), ([], 0, "left by itself with status 3: no display", False))
         self.assertEqual(found.row(), "| `sh -c 'echo no display >&2; exit 3'` | a-package | nothing | 0 | left by itself with status 3: no display |")
 
+    def test_one_that_is_pointed_at(self):
+        """It has to be entered and pressed, and to open a popup."""
+        client = self.clients.Client("--pointer={top}/a.pointer a-client", "a-package", 5)
+        self.assertEqual((client.is_pointed_at, client.words, client.shown), (True, ["a-client"], "--pointer=a.pointer a-client"))
+        told = ["<- wl_pointer#3.enter(1, wl_surface#4, 5, 6)", "<- wl_pointer#3.button(2, 7, 272, pressed)", "<- wl_pointer#3.button(3, 8, 272, released)"]
+        opened = ["-> xdg_popup#9.grab(wl_seat#2, 2)", "<- xdg_popup#9.configure(0, 0, 5, 5)"]
+        counts = "ran until it was stopped; entered: 1, pressed: 1, popups placed: {0}, grabs asked for: {0}"
+        for lines, opens in ((told, 0), (told + opened, 1)):
+            trace = "".join(f"client 2 {line}\n" for line in lines)
+            found = self.clients.outcome_of(client, self.clients.TIME_OVER, "frame 1 1\n", trace, "")
+            self.assertEqual((found.ended, found.runs), (counts.format(opens), bool(opens)))
+
     def test_page(self):
         """Those that run stand before those that don't, and those that aren't installed behind."""
         client = self.clients.Client("a-client", "a-package", 5)
@@ -59,6 +71,7 @@ class Clients(unittest.TestCase):
         fails = self.clients.Outcome(client, [], 0, "was refused", False)
         lines = self.clients.page([fails, runs], [self.clients.Client("b-client", "b-package", 5)]).splitlines()
         order = [
+            self.clients.program_in_words(),
             "1 of 2 run.",
             "## Those that run",
             "| `a-client` | a-package | wl_shm 1 | 7 | left by itself |",
@@ -68,11 +81,18 @@ class Clients(unittest.TestCase):
         ]
         self.assertEqual([it for it in lines if it in order], order)
 
+    def test_program_of_the_page(self):
+        """The page tells whether the program is the one that is proved."""
+        self.clients.BUILT = program()
+        self.assertIn("proves and builds.", self.clients.program_in_words())
+        self.clients.BUILT = pathlib.Path("/nowhere")
+        self.assertIn("another program", self.clients.program_in_words())
+
     def test_rows(self):
         """Each row of the list can be read, and what it names of this repository is there."""
         for client in self.clients.read_clients():
             self.assertTrue(client.words and client.package and client.seconds > 0)
-            for word in client.words:
+            for word in [*client.words, *(it.partition("=")[2] for it in client.split()[1])]:
                 if word.startswith("{top}"):
                     self.assertTrue(pathlib.Path(word.format(top=TOOLS.parent, folder="")).exists(), word)
 
