@@ -1,8 +1,7 @@
 -- What a call tells of the surfaces that it applies is the damage that is applied to them (wayland.xml, wl_surface.damage and
 -- wl_subsurface).
-use Rattle.std.specs.Prelude.{ℕ, ◌≡◌, ◌≤◌, ◌<◌, ◌==◌, ◌&&◌, Bool, false, take, Option, Some, None, List}
+use Rattle.std.specs.Prelude.{ℕ, ◌≡◌, ◌≤◌, ◌==◌, ◌&&◌, Bool, false, Option, Some, None, List}
 use Rattle.std.specs.List.{list_any}
-use Rattle.wl_geom.specs.declared.rect.Rect.{Rect}
 use Rattle.wl_linked.specs.Linked.{IsLink}
 use Rattle.wl_linked.specs.Tree.{IsCommitTold, IsDesyncTold, IsEndTold, IsTold}
 use Rattle.wl_plain.specs.Moments.{is_applied_by}
@@ -13,13 +12,6 @@ use Rattle.wl_surface.specs.Trees.{committed_in, depth, desynchronised_in, destr
 use Rattle.wl_tree_laws.specs.Hanging.{AreNumbered}
 use Rattle.wl_tree_laws.specs.Laws.{AreOnceLinked}
 
--- More than 1,024 rectangles damage all of a surface, so the first of them, where these are more than 1,024 too, say as much as all
--- (wayland.xml, wl_surface.damage).
-abbrev pub FirstSayAll : Type 0
-FirstSayAll =
-    (rects : List Rect) (count : ℕ) → 1024 < count → (width height x y : ℕ)
-    → is_damaged width height (take count rects) x y ≡ is_damaged width height rects x y
-
 -- The changes tell that this point is damaged of the surface, whose size this is.
 abbrev pub is_told_at : {A : Type 0} → List (Change A) → ℕ → ℕ → ℕ → ℕ → ℕ → Bool
 is_told_at changes surface width height x y =
@@ -29,7 +21,8 @@ is_told_at changes surface width height x y =
 abbrev pub is_told_of : {A : Type 0} → List (Change A) → ℕ → Option History → ℕ → ℕ → Bool
 is_told_of changes surface None x y = false
 is_told_of changes surface (Some h) x y =
-    is_told_at changes surface (width_of (applied h).buffer (applied h).transform) (height_of (applied h).buffer (applied h).transform) x y
+    let v = applied h in
+    is_told_at changes surface (width_of v.buffer v.transform v.scale) (height_of v.buffer v.transform v.scale) x y
 
 -- Of each surface the changes tell the very damage that was applied to it as the old surfaces became the new ones.
 abbrev pub TellsApplied : {A : Type 0} → List (Change A) → Surfaces → Surfaces → Type 0

@@ -16,5 +16,5 @@ pub use renamed_windows::{
 };
 pub use told::{
     between_is_applied, commit_tells_applied, desync_tells_applied, end_tells_applied,
-    first_say_all, link_end_tells_applied, tells_windows, unlink_tells_applied,
+    link_end_tells_applied, tells_windows, unlink_tells_applied,
 };

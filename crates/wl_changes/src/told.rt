@@ -1,15 +1,10 @@
 //! The laws of what is told of surfaces: the damage that a call tells of is exactly the damage that it applies (wayland.xml, wl_surface.damage
 //! and wl_subsurface). Each law is a function that promises it.
 
-ghost use Rattle.wl_changes.specs.ToldLaws.{CommitTellsApplied, DesyncTellsApplied, EndTellsApplied, FirstSayAll, LinkEndTellsApplied, UnlinkTellsApplied};
+ghost use Rattle.wl_changes.specs.ToldLaws.{CommitTellsApplied, DesyncTellsApplied, EndTellsApplied, LinkEndTellsApplied, UnlinkTellsApplied};
 ghost use Rattle.wl_changes.specs.ToldWindows.{BetweenIsApplied, TellsWindows};
 
 use std::alloc::Allocator;
-
-/// Of more than 1,024 rectangles the first say as much as all, where these are more than 1,024 too: the whole surface is damaged.
-pub fn first_say_all()
-    ensures { FirstSayAll }
-{}
 
 /// What a commit tells of each surface is the damage that it applies to it, and of one that it doesn't apply nothing.
 pub fn commit_tells_applied<A: Allocator>()

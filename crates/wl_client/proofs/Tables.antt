@@ -197,6 +197,11 @@ keeps-positioner old new action object was (xdg_positioner_requests.SetGravity g
 keeps-positioner old new action object was (xdg_positioner_requests.SetConstraintAdjustment adjustment) there another is changes =
     keeps-set old new action object (settings.Adjustment adjustment) is changes
 keeps-positioner old new action object was (xdg_positioner_requests.SetOffset x y) there another is changes = keeps-set old new action object (settings.Offset x y) is changes
+keeps-positioner old new action object was xdg_positioner_requests.SetReactive there another is changes = keeps-set old new action object settings.Reactive is changes
+keeps-positioner old new action object was (xdg_positioner_requests.SetParentSize width height) there another is changes =
+    keeps-set old new action object (settings.ParentSize width height) is changes
+keeps-positioner old new action object was (xdg_positioner_requests.SetParentConfigure serial) there another is changes =
+    keeps-set old new action object (settings.ParentConfigure serial) is changes
 
 -- ---- by requests
 
@@ -235,6 +240,8 @@ of-wl_surface (wl_surface_requests.SetOpaqueRegion region) = refl
 of-wl_surface (wl_surface_requests.SetInputRegion region) = refl
 of-wl_surface wl_surface_requests.Commit = refl
 of-wl_surface (wl_surface_requests.SetBufferTransform transform) = refl
+of-wl_surface (wl_surface_requests.SetBufferScale scale) = refl
+of-wl_surface (wl_surface_requests.DamageBuffer x y width height) = refl
 
 of-wl_subcompositor : (request : WlSubcompositorRequest) → (wl_subcompositor_request request).interface ≡ WlSubcompositor
 of-wl_subcompositor wl_subcompositor_requests.Destroy = refl
@@ -288,6 +295,7 @@ of-xdg_toplevel xdg_toplevel_requests.SetMinimized = refl
 of-xdg_popup : (request : XdgPopupRequest) → (xdg_popup_request request).interface ≡ XdgPopup
 of-xdg_popup xdg_popup_requests.Destroy = refl
 of-xdg_popup (xdg_popup_requests.Grab seat serial) = refl
+of-xdg_popup (xdg_popup_requests.Reposition positioner token) = refl
 
 -- an accepted request of one of a client's own interfaces
 pub keeps-surfaces : (old new : Held) (known : Known) (object version target : ℕ) (action : Action) (request : Request)
@@ -337,6 +345,12 @@ keeps-surfaces old new known object version target action (requests.XdgPositione
     keeps-positioner old new action object _ (xdg_positioner_requests.SetConstraintAdjustment adjustment) there refl is changes
 keeps-surfaces old new known object version target action (requests.XdgPositioner (xdg_positioner_requests.SetOffset x y)) there free own is changes =
     keeps-positioner old new action object _ (xdg_positioner_requests.SetOffset x y) there refl is changes
+keeps-surfaces old new known object version target action (requests.XdgPositioner xdg_positioner_requests.SetReactive) there free own is changes =
+    keeps-positioner old new action object _ xdg_positioner_requests.SetReactive there refl is changes
+keeps-surfaces old new known object version target action (requests.XdgPositioner (xdg_positioner_requests.SetParentSize width height)) there free own is changes =
+    keeps-positioner old new action object _ (xdg_positioner_requests.SetParentSize width height) there refl is changes
+keeps-surfaces old new known object version target action (requests.XdgPositioner (xdg_positioner_requests.SetParentConfigure serial)) there free own is changes =
+    keeps-positioner old new action object _ (xdg_positioner_requests.SetParentConfigure serial) there refl is changes
 keeps-surfaces old new known object version target action (requests.XdgSurface request) there free own is changes = foreign XdgSurface (of-xdg_surface request) refl own
 keeps-surfaces old new known object version target action (requests.XdgToplevel request) there free own is changes = foreign XdgToplevel (of-xdg_toplevel request) refl own
 keeps-surfaces old new known object version target action (requests.XdgPopup request) there free own is changes = foreign XdgPopup (of-xdg_popup request) refl own

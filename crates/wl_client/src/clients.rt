@@ -19,7 +19,7 @@ use std::marker::Model;
 use wl_geom::Region;
 use wl_peer::{Action, Cause, ErrorCode, Refusal, ShmBuffer};
 use wl_proto::{Event, Interface, encoded_size};
-use wl_store::{Layout, Picture, StoreError, StoreNo, Stores, Transform};
+use wl_store::{Layout, Picture, Scale, StoreError, StoreNo, Stores, Transform};
 use wl_table::{Entry, Objects};
 use wl_wire::PutError;
 use wl_xdg_state::Positioner;
@@ -474,16 +474,17 @@ impl<A: Allocator + Copy> Client<A> {
         self.stores.next_after(number)
     }
 
-    /// Lends the bytes of a store as the content of a surface that is turned so; None where the store isn't live or the layout passes its
-    /// end.
+    /// Lends the bytes of a store as the content of a surface that is turned so and has this scale; None where the store isn't live or the
+    /// layout passes its end.
     pub fn picture(
         &self,
         store: StoreNo,
         layout: &Layout,
         transform: Transform,
+        scale: Scale,
     ) -> Option<Picture<'_>>
-        ensures { result ≡ picture_turned store layout.now transform self.now.stores }
+        ensures { result ≡ picture_turned store layout.now transform scale.number self.now.stores }
     {
-        self.stores.picture_turned(store, layout, transform)
+        self.stores.picture_turned(store, layout, transform, scale)
     }
 }

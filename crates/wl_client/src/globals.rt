@@ -57,12 +57,12 @@ fn globals() -> [Global; 6]
     ensures { map global_of result ≡ globals }
 {
     [
-        Global::new(1, Interface::WlCompositor, b"wl_compositor", 2),
+        Global::new(1, Interface::WlCompositor, b"wl_compositor", 4),
         Global::new(2, Interface::WlSubcompositor, b"wl_subcompositor", 1),
         Global::new(3, Interface::WlShm, b"wl_shm", 1),
         Global::new(4, Interface::WlOutput, b"wl_output", 1),
         Global::new(5, Interface::WlSeat, b"wl_seat", 1),
-        Global::new(6, Interface::XdgWmBase, b"xdg_wm_base", 1),
+        Global::new(6, Interface::XdgWmBase, b"xdg_wm_base", 3),
     ]
 }
 

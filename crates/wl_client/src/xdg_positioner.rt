@@ -32,6 +32,14 @@ pub(crate) fn action(object: u32, request: &XdgPositionerRequest) -> Result<Acti
             constraint_adjustment,
         } => set(object, Setting::Adjustment(constraint_adjustment)),
         XdgPositionerRequest::SetOffset { x, y } => set(object, Setting::Offset(x, y)),
+        XdgPositionerRequest::SetReactive => set(object, Setting::Reactive),
+        XdgPositionerRequest::SetParentSize {
+            parent_width,
+            parent_height,
+        } => set(object, Setting::ParentSize(parent_width, parent_height)),
+        XdgPositionerRequest::SetParentConfigure { serial } => {
+            set(object, Setting::ParentConfigure(serial))
+        }
     }
 }
 

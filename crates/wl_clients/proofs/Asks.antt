@@ -39,10 +39,10 @@ seat-of None p id seat E same h new lacks = let clash : Nothing ≡ NewPointer i
 seat-of (Some got) p id seat E same h new lacks = h id (sym same ∙ new) lacks
 
 -- where there is no whole message, nothing is taken and nothing is asked
-pub none-served : (t : Taken) → t ≡ record { served = served.More; pointer = Nothing } → t.served ≡ served.More
+pub none-served : (t : Taken) → t ≡ record { served = served.More; pointer = Nothing; touches_windows = false } → t.served ≡ served.More
 none-served t e = ap (λ (t : Taken). t.served) e
 
-pub none-asks : (t : Taken) → t ≡ record { served = served.More; pointer = Nothing } → (id : ℕ) → t.pointer ≡ NewPointer id → ⊥
+pub none-asks : (t : Taken) → t ≡ record { served = served.More; pointer = Nothing; touches_windows = false } → (id : ℕ) → t.pointer ≡ NewPointer id → ⊥
 none-asks t e id new = let clash : Nothing ≡ NewPointer id = sym (ap (λ (t : Taken). t.pointer) e) ∙ new in absurd (cc)
 
 -- a client that ended has on the desktop

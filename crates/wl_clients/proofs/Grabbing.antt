@@ -16,6 +16,7 @@ use Rattle.wl_clients.specs.declared.grabs.Latest.{Latest}
 allowed-for : (g : Grabbing) (k : Kind) (c : ℕ) (r : Resident) (d : Desktop) → (is_grab_of k ≡ true → IsGrabbing g c r d) → IsGrabbingFor g k c r d
 allowed-for g (kind.Popup (popup.Grab seat serial)) c r d h = h refl
 allowed-for g (kind.Popup popup.Destroy) c r d h = tt
+allowed-for g (kind.Popup (popup.Reposition positioner token)) c r d h = tt
 allowed-for g (kind.Compositor request) c r d h = tt
 allowed-for g (kind.Subcompositor request) c r d h = tt
 allowed-for g (kind.Subsurface request) c r d h = tt

@@ -28,4 +28,5 @@ pub mod Leading
 pub mod Rests
 pub mod Released
 pub mod Restacked
+pub mod Untouched
 pub use Rattle.wl_resident.proofs.Pressed

@@ -1,8 +1,8 @@
 -- What a desk keeps is painted as each desktop that agrees.
-use Rattle.std.proofs.Common.{◌≡◌, List, Option, subst, sym}
+use Rattle.std.proofs.Common.{◌≡◌, List, [], Option, subst, sym}
 use Rattle.std.specs.Prelude.{ℤ}
 use Rattle.wl_blend.specs.declared.color.Rgb.{Rgb}
-use Rattle.wl_geom.specs.Region.{Area}
+use Rattle.wl_geom.specs.Region.{Area, Stands as Covers}
 use Rattle.wl_client.specs.declared.outputs.Output.{Output}
 use Rattle.wl_paint.specs.Window.{AreOpaqueAsSaid, scratch as painted}
 use Rattle.wl_stacked.specs.declared.stacked.Stacked.{Stacked}
@@ -35,6 +35,6 @@ module _ {A : Type 0} (output : Output) (rs ws : List (Option (Kept A))) (pile :
   desk-painted background color =
       paints_the_desktop background nowhere (client_lent (client_views ws)) (slots_lent (owned_views ws)) (numbers_in (client_views rs)) stacked d x y color all-lent
 
-  pub desk-said : IsOpaqueAsSaid d x y → AreOpaqueAsSaid x y (windows_lent (client_lent (client_views ws)) (slots_lent (owned_views ws)) nowhere stacked)
-  desk-said said =
-      lends_opaque_as_said nowhere (client_lent (client_views ws)) (slots_lent (owned_views ws)) (numbers_in (client_views rs)) stacked d x y all-lent said
+  pub desk-said : Covers nowhere [] → IsOpaqueAsSaid d x y → AreOpaqueAsSaid x y (windows_lent (client_lent (client_views ws)) (slots_lent (owned_views ws)) nowhere stacked)
+  desk-said empty said =
+      lends_opaque_as_said nowhere (client_lent (client_views ws)) (slots_lent (owned_views ws)) (numbers_in (client_views rs)) stacked d x y empty all-lent said

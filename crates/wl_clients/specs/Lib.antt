@@ -9,6 +9,7 @@ pub mod Midway
 pub mod NextStore
 pub mod Pointing
 pub mod Residents
+pub mod Touching
 pub use Rattle.wl_resident.specs.Agreement
 pub use Rattle.wl_resident.specs.Marking
 pub use Rattle.wl_resident.specs.Moving

@@ -15,9 +15,11 @@ ghost use Rattle.wl_marking.specs.Marking.{IsAsLarge};
 ghost use Rattle.wl_clients.specs.Framing.{MarksIfEnds, WasTold};
 ghost use Rattle.wl_clients.specs.Leading.{LeadsBy, LeadsQuietly, Led};
 ghost use Rattle.wl_clients.specs.Pointing.{AsksOfPointer, IsLatest};
+ghost use Rattle.wl_clients.specs.Touching.{ChangesNoWindow};
 ghost use Rattle.wl_clients.specs.Residents.{resident_at};
 ghost use Rattle.wl_pointed.specs.Pointed.{asked};
 ghost use Rattle.wl_resident.specs.Agreement.{numbers_in};
+ghost use Rattle.wl_resident.specs.Screens.{IsTouchedBy};
 ghost use Rattle.wl_lending.specs.Painting.{IsOpaqueAsSaid};
 ghost use Rattle.wl_plain.specs.Scratch.{scratch};
 ghost use Rattle.wl_plain.specs.LeftOut.{nothing_left_out};
@@ -33,8 +35,8 @@ use wl_client::{Cause, Client, Output, Served, StoreNo};
 use wl_geom::Region;
 use wl_paint::{Damage, FrameError, Framebuffer, MAX_SIDE};
 use wl_plain::{ClientNo, ConnectError, Done, Fed, Stored};
-use wl_requests::{PointerAsked, Resident};
-use wl_resident::{Screen, bare};
+use wl_requests::{Asked, PointerAsked, Resident};
+use wl_resident::{Screen, bare, touched_by};
 use wl_subsurfaces::Subsurfaces;
 
 /// How many clients there may be at once.
@@ -48,24 +50,26 @@ pub struct Clients<A: Allocator> {
     output: Output,
     pub(crate) residents: Vec<Option<Resident<A>>, A>,
     pub(crate) screen: Screen<A>,
-    nowhere: Region<A>,
 }
 
-/// What became of a client's first message, and what it asks of the pointer, unless it was refused.
+/// What became of a client's first message, what it asks of the pointer, unless it was refused, and whether it may have changed windows of a
+/// client that lives on.
 #[derive(Clone, Copy, Debug, PartialEq, Eq)]
 pub struct Taken {
     pub served: Served,
     pub pointer: PointerAsked,
+    pub touches_windows: bool,
 }
 
 impl Taken {
     /// No whole message was there.
     fn none() -> Self
-        ensures { result ≡ record { served = Served.More; pointer = PointerAsked.Nothing } }
+        ensures { result ≡ record { served = Served.More; pointer = PointerAsked.Nothing; touches_windows = false } }
     {
         Taken {
             served: Served::More,
             pointer: PointerAsked::Nothing,
+            touches_windows: false,
         }
     }
 }
@@ -122,7 +126,6 @@ impl<A: Allocator + Copy> Clients<A> {
             output,
             residents,
             screen,
-            nowhere: Region::new(alloc),
         })
     }
 
@@ -171,6 +174,7 @@ impl<A: Allocator + Copy> Clients<A> {
     /// Takes the first whole message of what came from a client that lives. `More` where there is none; then nothing is changed, and nothing is
     /// asked of the pointer. What the message changes is marked, and the windows of a client that ends by it. Where there is no seat for a
     /// new wl_pointer, a client that asks for one ends for want of memory. The serials are those that a client which asks for a grab was told.
+    /// Unless it is answered that the message touches windows, all windows stay as they are where its client lives on.
     pub fn take(&mut self, client: ClientNo, has_seat: bool, latest: Latest) -> Taken
         ensures leads { result.served ≢ Served.More → (d : Desktop) → Agrees self.old.desk d → IsLatest latest (client_at client d)
             → Led (Agrees self.new.desk) (Message client) self.old.damage self.new.damage d }
@@ -179,6 +183,7 @@ impl<A: Allocator + Copy> Clients<A> {
             → AsksOfPointer (numbers_in self.old.desk.clients client) (asked nothing_left_out client d) result.pointer }
         ensures seat { (id : ℕ) → result.pointer ≡ PointerAsked.NewPointer id → has_seat ≡ false → (e : Desktop) → Agrees self.new.desk e
             → is_some (status_in client e) ≡ true }
+        ensures untouched { result.served ≢ Served.More → result.touches_windows ≡ false → (d : Desktop) → Agrees self.old.desk d → ChangesNoWindow client d }
         ensures more { result.served ≡ Served.More → (d : Desktop) → Agrees self.old.desk d → Agrees self.new.desk d × IsIdleIn client d }
         ensures rests { result.served ≡ Served.More → self.new.damage ≡ self.old.damage }
         ensures sides { IsAsLarge self.old.damage self.new.damage }
@@ -189,6 +194,7 @@ impl<A: Allocator + Copy> Clients<A> {
             return Taken::none();
         };
         let asked = resident.asked();
+        let touches_windows = touches_windows(resident, &asked);
         let grabbing = self.grabbing(client, &asked, latest);
         let Some(k) = place_of(&self.residents, client) else {
             return Taken::none();
@@ -202,6 +208,7 @@ impl<A: Allocator + Copy> Clients<A> {
         Taken {
             served: served_of(taken.is_some(), resident.client.ended()),
             pointer: taken.unwrap_or(PointerAsked::Nothing),
+            touches_windows,
         }
     }
 
@@ -437,10 +444,11 @@ impl<A: Allocator + Copy> Clients<A> {
         ensures height { framebuffer.new.height ≡ framebuffer.old.height }
         ensures background { framebuffer.new.background ≡ framebuffer.old.background }
     {
+        let nowhere = Region::new(*self.residents.allocator());
         let lent = Lent {
             stacked: self.screen.stacked.windows(),
             residents: &self.residents,
-            nowhere: &self.nowhere,
+            nowhere: &nowhere,
         };
         framebuffer.paint(&self.screen.damage, &lent);
     }
@@ -462,6 +470,13 @@ fn keep_in<A: Allocator + Copy>(resident: &mut Resident<A>, piece: &[u8]) -> Res
         return Ok(());
     }
     resident.client.keep(piece)
+}
+
+/// Whether a message of a client that asks this may change windows. It takes the same time however many there are.
+fn touches_windows<A: Allocator + Copy>(resident: &Resident<A>, asked: &Asked) -> bool
+    ensures { result ≡ false → IsTouchedBy resident.now asked.now None }
+{
+    touched_by(resident, asked).is_some()
 }
 
 /// What became of a client's first message, if there was one, by how the client ended, if it did. That it lacked memory it is told as an error

@@ -3,10 +3,10 @@ use Rattle.std.proofs.Common.{◌≡◌, ◌≢◌, ℕ, List, Bool, true, false
 use Rattle.std.specs.Prelude.{◌&&◌, is_some}
 use Rattle.wl_peer.specs.declared.cause.Cause.{Cause}
 use Rattle.wl_peer.specs.Objects.{ById}
-use Rattle.wl_stacking.specs.Pointer.{Pointer, Target}
+use Rattle.wl_stacking.specs.Pointer.{Pointer, Target, settled}
 use Rattle.wl_stacking.specs.Stacking.{Standing}
 use Rattle.wl_plain.specs.Changing.{is_focus_in, is_serial, kept_move}
-use Rattle.wl_plain.specs.Demand.{Demand, Asks, EndSurface, AskFrame, CommitTree, GetSubsurface, EndSubsurface, SetMode, GetPointer, MakeCursor}
+use Rattle.wl_plain.specs.Demand.{Demand, Asks, EndSurface, AskFrame, CommitTree, GetSubsurface, EndSubsurface, SetMode, GetPointer, MakeCursor, Reposition}
 use Rattle.wl_plain.specs.Demand.{GetPopup, Grab, EndPopup, EndToplevel, Move}
 use Rattle.wl_plain.specs.Desktop.{Desktop, status_in, unpointed}
 use Rattle.wl_plain.specs.LeftOut.{LeftOut, nothing_left_out}
@@ -15,6 +15,7 @@ use Rattle.wl_plain.specs.Stacked.{all_windows}
 use Rattle.wl_plain.specs.Through.{ServesThrough}
 use Rattle.wl_scene.specs.Focus.{unless_of as unless_of_scene}
 use Rattle.wl_laws.proofs.Lists.Keys.{differ}
+use Rattle.wl_laws.specs.Focus.{IsSettled}
 use Rattle.wl_pointed.specs.Pointed.{MovedStands, asked, keeping, pointed, pointer_after, pointer_asked, pointer_for, pointer_if}
 use Rattle.wl_pointed.proofs.Pointers.{keeping-stays}
 use Rattle.wl_requests.specs.declared.pointer_asked.PointerAsked.{PointerAsked}
@@ -25,6 +26,7 @@ use Rattle.wl_desk.specs.declared.moves.Movable.{Movable}
 use Rattle.wl_desk.proofs.Asking.{refused-ends}
 use Rattle.wl_desk.specs.Following.{left_of}
 use Rattle.wl_desk.proofs.Finished.{get-stands, move-lives}
+use Rattle.wl_desk.proofs.Focused.{LooksAs, settled-still}
 use Rattle.wl_desk.proofs.Forgetting.{over-left}
 use Rattle.wl_desk.proofs.Placed.{after-placed}
 
@@ -46,6 +48,7 @@ for-begun (SetMode link synchronised) c d = refl
 for-begun (GetPointer id version) c d = refl
 for-begun (MakeCursor surface) c d = refl
 for-begun (GetPopup id version xdg parent p) c d = refl
+for-begun (Reposition xdg token p) c d = refl
 for-begun (Grab xdg serial) c d = refl
 for-begun (EndPopup id xdg) c d = refl
 for-begun (EndToplevel id xdg surface) c d = refl
@@ -105,6 +108,19 @@ after-life c d path e t leads alive is =
     (λ none. absurd (differ (sym (refused-ends nothing_left_out c d path e none leads) ∙ ap (λ (s : Option Cause). is_some s) alive))) is in
     after-begun nothing_left_out c d e
     ∙ ap₂ (λ (s : Option Cause) (m : Option Target). keeping e.standing (pointer_if s c (begun m d.pointer))) alive (sym same)
+
+begun-looks : (t : Option Target) (standing : List Standing) (p : Pointer) → LooksAs p (keeping standing (begun t p))
+begun-looks None standing p = record { place = refl; buttons = refl; focus = refl }
+begun-looks (Some t) standing p = record { place = refl; buttons = refl; focus = refl }
+
+-- the focus is settled still where the windows are as they were
+pub after-settled : (c : ℕ) (d e : Desktop) → status_in c e ≡ None → IsSettled d → all_windows e ≡ all_windows d → IsSettled (pointed (pointer_after nothing_left_out c d e) e)
+after-settled c d e alive is same =
+    let t : Option Target = to_move (asked nothing_left_out c d) c d in
+    let after : pointer_after nothing_left_out c d e ≡ keeping e.standing (begun t d.pointer) =
+    after-begun nothing_left_out c d e ∙ ap (λ (s : Option Cause). keeping e.standing (pointer_if s c (begun t d.pointer))) alive in
+    subst (λ (p : Pointer). p.focus ≡ settled p (all_windows e)) (sym after)
+    (settled-still d.pointer (keeping e.standing (begun t d.pointer)) (all_windows d) (all_windows e) (begun-looks t e.standing d.pointer) same is)
 
 -- a new wl_pointer leaves the pointer as it is
 pub after-get : (left : LeftOut) (c id version : ℕ) (d : Desktop) (path : List Desktop) (e : Desktop) → MovedStands d → asked left c d ≡ Some (GetPointer id version)

@@ -1,5 +1,5 @@
 -- How the pointer follows a message, by what is kept of the clients, of the wl_pointers, and of the pointer.
-use Rattle.std.proofs.Common.{◌≡◌, ◌≢◌, ◌==◌, ℕ, List, [], ◌∷◌, true, false, Option, Some, None, refl, ap, subst, sym, ◌∙◌, ◌⊎◌, inl, inr}
+use Rattle.std.proofs.Common.{◌≡◌, ◌≢◌, ◌==◌, ℕ, List, [], ◌∷◌, Bool, true, false, Option, Some, None, refl, ap, subst, sym, ◌∙◌, ◌⊎◌, inl, inr}
 use Rattle.std.specs.Prelude.{is_some}
 use Rattle.wl_marking.specs.Marking.{IsAsLarge}
 use Rattle.wl_peer.specs.declared.cause.Cause.{Cause}
@@ -10,12 +10,13 @@ use Rattle.wl_plain.specs.declared.answers.Fed.TheVariants.{Ended}
 use Rattle.wl_plain.specs.Act.{peer_at, status_of}
 use Rattle.wl_plain.specs.Changing.{drawing, has_focus}
 use Rattle.wl_plain.specs.Demand.{GetPointer}
-use Rattle.wl_plain.specs.Desktop.{Desktop, Resident, status_in}
+use Rattle.wl_plain.specs.Desktop.{Desktop, Resident, status_in, unpointed}
 use Rattle.wl_plain.specs.Happenings.{Message}
 use Rattle.wl_plain.specs.LeftOut.{nothing_left_out}
 use Rattle.wl_plain.specs.Replies.{entered_at, focus_window}
 use Rattle.wl_plain.specs.Settling.{Midstep, Strike, Tells, ended_by, pointer_without, unstruck}
 use Rattle.wl_plain.specs.Stacked.{all_windows}
+use Rattle.wl_laws.specs.Focus.{IsSettled}
 use Rattle.wl_laws.proofs.Lists.Keys.{differ}
 use Rattle.wl_pointed.specs.Pointed.{asked, keeping}
 use Rattle.wl_requests.specs.declared.pointer_asked.PointerAsked.{PointerAsked}
@@ -24,6 +25,7 @@ use Rattle.wl_clients.specs.Agreeing.{Agrees as KeptAgrees}
 use Rattle.wl_clients.specs.Agreement.{numbers_in}
 use Rattle.wl_clients.specs.Leading.{Led}
 use Rattle.wl_clients.specs.Marking.{MarksThrough}
+use Rattle.wl_clients.specs.Touching.{ChangesNoWindow}
 use Rattle.wl_clients.specs.declared.grabs.Latest.{Latest}
 use Rattle.wl_clients.specs.View.{DeskView as ClientsView, MarkedDesk as KeptDesk}
 use Rattle.wl_desk.specs.Agreeing.{Agrees}
@@ -64,33 +66,33 @@ other-away c t f apart is = ap (has_focus c) is ∙ apart
 -- what the pointer has of a client, it leaves, and one that doesn't stand any more isn't moved any more
 pub left-whole : (c : ℕ) (request : PointerAsked) (k : KeptDesk) (seats : List (List ℕ)) (latest : List Latest) (p q : Pointer) (mid new : MarkedDesk) → desk_with k seats latest p ≡ mid → (fed : Fed) (why : Cause)
     → ((e : Desktop) → KeptAgrees k.desk e → fed ≡ status_of (peer_at c e)) → fed ≡ Ended why → q ≡ record p { focus = unless_of c p.focus; move = unless_of c p.move }
-    → LetsGo (desk_with k seats latest q) new → (t : Option Target) (old : MarkedDesk) (d : Desktop) → Took c request old mid d → IsToMove (asked nothing_left_out c d) c d t → IsUnsettled (Message c) old new d
+    → LetsGo (desk_with k seats latest q) new → (t : Option Target) (old : MarkedDesk) (d : Desktop) → Took c request old mid d → IsToMove (asked nothing_left_out c d) c d t → IsUnsettled c false old new d
 left-whole c request k seats latest p q mid new view fed why status ended leaves go t old d took to = by (subst (λ (m : MarkedDesk). Took c request old m d) (sym view) took)
   where
-    by : Took c request old (desk_with k seats latest p) d → IsUnsettled (Message c) old new d
+    by : Took c request old (desk_with k seats latest p) d → IsUnsettled c false old new d
     by took =
         let e : Desktop = took.desktop in
         let is : status_in c e ≡ Some why = ended-status c e fed why (status e took.kept) ended in
         let left : q ≡ pointer_without c d.pointer = leaves ∙ forgets c p ∙ ap (pointer_without c) took.pointer in
-        followed c request old (desk_with k seats latest p) new d took
+        followed c false request old (desk_with k seats latest p) new d took (λ yes. absurd (differ (sym yes)))
         (on-ended nothing_left_out c d took.path e took.placed.moved took.leads (ap (λ (s : Option Cause). is_some s) is)) go.kept go.seats go.latest
         (go.pointer e took.kept ∙ ap (keeping e.standing) left ∙ sym (after-end nothing_left_out c why d took.path e took.leads is)) go.damage
 
 stays : (c id version : ℕ) (request : PointerAsked) (old mid : MarkedDesk) (d : Desktop) (took : Took c request old mid d) → status_in c took.desktop ≡ None
-    → asked nothing_left_out c d ≡ Some (GetPointer id version) → has_focus c d.pointer.focus ≡ false → IsUnsettled (Message c) old mid d
+    → asked nothing_left_out c d ≡ Some (GetPointer id version) → has_focus c d.pointer.focus ≡ false → IsUnsettled c true old mid d
 stays c id version request old mid d took alive asks away =
-    followed c request old mid mid d took (on-away nothing_left_out c d took.path took.desktop took.placed.moved (inr away) took.leads) refl refl refl
+    followed c true request old mid mid d took (λ yes. alive) (on-away nothing_left_out c d took.path took.desktop took.placed.moved (inr away) took.leads) refl refl refl
     (took.pointer ∙ sym (after-get nothing_left_out c id version d took.path took.desktop took.placed.moved asks took.leads alive)) refl
 
 -- no wl_pointer was asked for: a toplevel may begin to be moved
 pub unasked-whole : (c : ℕ) (request : PointerAsked) (t : Option Target) (mid begins new : MarkedDesk) (fed : Fed) → ((e : Desktop) → KeptAgrees mid.desk.kept e → fed ≡ status_of (peer_at c e))
     → ((why : Cause) → fed ≢ Ended why) → ((id : ℕ) → request ≢ NewPointer id) → begins.desk.pointer ≡ begun t mid.desk.pointer → begins.desk.kept ≡ mid.desk.kept
     → begins.desk.seats ≡ mid.desk.seats → begins.desk.latest ≡ mid.desk.latest → begins.damage ≡ mid.damage → LetsGo begins new → (old : MarkedDesk) (d : Desktop) → Took c request old mid d → IsToMove (asked nothing_left_out c d) c d t
-    → IsUnsettled (Message c) old new d
+    → IsUnsettled c true old new d
 unasked-whole c request t mid begins new fed status lives never begin kept seats latest damage go old d took to =
     let e : Desktop = took.desktop in
     let alive : status_in c e ≡ None = lives-status c e fed (status e took.kept) lives in
-    followed c request old mid new d took
+    followed c true request old mid new d took (λ yes. alive)
     (on-away nothing_left_out c d took.path e took.placed.moved
     (inl (λ id version asks. absurd (never id (asks-new-pointer (asked nothing_left_out c d) request (numbers_in old.desk.kept.clients c) id version took.asks asks)))) took.leads)
     (go.kept ∙ kept) (go.seats ∙ seats) (go.latest ∙ latest)
@@ -98,22 +100,22 @@ unasked-whole c request t mid begins new fed status lives never begin kept seats
     ∙ ap (keeping e.standing) (begin ∙ ap (begun t) took.pointer) ∙ sym (after-life c d took.path e t took.leads alive to)) (go.damage ∙ damage)
 
 -- a new wl_pointer was asked for by a client that lives
-pub asked-whole : (c id : ℕ) (request : PointerAsked) (mid new : MarkedDesk) (fed : Fed) → ((e : Desktop) → KeptAgrees mid.desk.kept e → fed ≡ status_of (peer_at c e))
+pub asked-whole : (c id : ℕ) (on : Bool) (request : PointerAsked) (mid new : MarkedDesk) (fed : Fed) → ((e : Desktop) → KeptAgrees mid.desk.kept e → fed ≡ status_of (peer_at c e))
     → ((why : Cause) → fed ≢ Ended why) → request ≡ NewPointer id
-    → ((old : MarkedDesk) (d : Desktop) (took : Took c (NewPointer id) old mid d) → status_in c took.desktop ≡ None → IsUnsettled (Message c) old new d)
-    → (t : Option Target) (old : MarkedDesk) (d : Desktop) → Took c request old mid d → IsToMove (asked nothing_left_out c d) c d t → IsUnsettled (Message c) old new d
-asked-whole c id request mid new fed status lives is tells t old d took to = by (subst (λ (r : PointerAsked). Took c r old mid d) is took)
+    → ((old : MarkedDesk) (d : Desktop) (took : Took c (NewPointer id) old mid d) → status_in c took.desktop ≡ None → IsUnsettled c on old new d)
+    → (t : Option Target) (old : MarkedDesk) (d : Desktop) → Took c request old mid d → IsToMove (asked nothing_left_out c d) c d t → IsUnsettled c on old new d
+asked-whole c id on request mid new fed status lives is tells t old d took to = by (subst (λ (r : PointerAsked). Took c r old mid d) is took)
   where
-    by : Took c (NewPointer id) old mid d → IsUnsettled (Message c) old new d
+    by : Took c (NewPointer id) old mid d → IsUnsettled c on old new d
     by took = tells old d took (lives-status c took.desktop fed (status took.desktop took.kept) lives)
 
 -- its client hasn't the focus
 pub away-whole : (c id : ℕ) (mid : MarkedDesk) → has_focus c mid.desk.pointer.focus ≡ false → (old : MarkedDesk) (d : Desktop) (took : Took c (NewPointer id) old mid d)
-    → status_in c took.desktop ≡ None → IsUnsettled (Message c) old mid d
+    → status_in c took.desktop ≡ None → IsUnsettled c true old mid d
 away-whole c id mid away old d took alive =
     by (asks-by (asked nothing_left_out c d) (NewPointer id) (numbers_in old.desk.kept.clients c) id took.asks refl)
   where
-    by : ((asked nothing_left_out c d ≡ None) ⊎ ((version : ℕ) × (asked nothing_left_out c d ≡ Some (GetPointer id version)))) → IsUnsettled (Message c) old mid d
+    by : ((asked nothing_left_out c d ≡ None) ⊎ ((version : ℕ) × (asked nothing_left_out c d ≡ Some (GetPointer id version)))) → IsUnsettled c true old mid d
     by (inl none) =
         absurd (differ (sym (refused-ends nothing_left_out c d took.path took.desktop none took.leads) ∙ ap (λ (s : Option Cause). is_some s) alive))
     by (inr get) = stays c id get.0 (NewPointer id) old mid d took alive get.1 (ap (λ (p : Pointer). has_focus c p.focus) (sym took.pointer) ∙ away)
@@ -139,17 +141,17 @@ module _ (c id : ℕ) (mid : MarkedDesk) (t : Target) (own : t.client ≡ c) (ha
         tells (unstruck (put c id old mid d took alive t focus-is own)) (put-midway c id old mid d took alive t focus-is own).telling
         (put-stacked c id old mid d took alive t focus-is own) (put-placed c id old mid d took alive t focus-is own)
 
-    pub told-whole : ((n : Midstep) → IsTelling told.desk n → n.struck ≡ []) → IsUnsettled (Message c) old told d
+    pub told-whole : ((n : Midstep) → IsTelling told.desk n → n.struck ≡ []) → IsUnsettled c true old told d
     told-whole nobody =
         followed-told c id old mid d took alive t focus-is own told-so.0 told-so.1 told told-so.2 pointer damage (nobody told-so.0 told-so.2)
 
     pub ended-whole : (new : MarkedDesk) → ((n : Midstep) → IsTelling told.desk n → n.struck ≢ [])
         → ((s : Strike) (ss : List Strike) (m : Midstep) → s.client ≡ c → m.struck ≡ s ∷ ss → IsMidway told.desk m → IsMidway new.desk (record { desktop = ended_by s m.desktop; struck = ss }))
         → ((s : Strike) (ss : List Strike) (m : Midstep) → s.client ≡ c → m.struck ≡ s ∷ ss → IsMidway told.desk m → MarksThrough m.desktop (ended_by s m.desktop ∷ []) told.damage new.damage)
-        → IsAsLarge told.damage new.damage → IsUnsettled (Message c) old new d
+        → IsAsLarge told.damage new.damage → IsUnsettled c false old new d
     ended-whole new refused ends marks large = by (to-end c id old mid d took alive t focus-is own told-so.0 told-so.1 told told-so.2 pointer damage)
       where
-        by : (told-so.0.struck ≡ []) ⊎ ((s : Strike) × (s.client ≡ t.client) × (told-so.0.struck ≡ s ∷ [])) → IsUnsettled (Message c) old new d
+        by : (told-so.0.struck ≡ []) ⊎ ((s : Strike) × (s.client ≡ t.client) × (told-so.0.struck ≡ s ∷ [])) → IsUnsettled c false old new d
         by (inl none) = absurd (refused told-so.0 told-so.2 none)
         by (inr one) =
             let midway = told-midway c id old mid d took alive t focus-is own told-so.0 told-so.1 told told-so.2 pointer damage in
@@ -158,15 +160,16 @@ module _ (c id : ℕ) (mid : MarkedDesk) (t : Target) (own : t.client ≡ c) (ha
 
 -- ---- and then the focus is settled
 
-pub served-whole : (c : ℕ) (request : PointerAsked) (movable : Option Movable) (t : Option Target) (old mid next new : MarkedDesk)
+pub served-whole : (c : ℕ) (on touches : Bool) (request : PointerAsked) (movable : Option Movable) (t : Option Target) (old mid next new : MarkedDesk)
     → ((d : Desktop) → Agrees old.desk d → IsMovable (numbers_in old.desk.kept.clients c) c d movable) → t ≡ chosen_by movable request
     → ((d : Desktop) → Agrees old.desk d → Took c request old mid d)
-    → ((was : MarkedDesk) (d : Desktop) → Took c request was mid d → IsToMove (asked nothing_left_out c d) c d t → IsUnsettled (Message c) was next d)
-    → ((m : Midstep) → IsMidway next.desk m → SettlesDown next new m) → (d : Desktop) → Agrees old.desk d → Led (Agrees new.desk) (Message c) old.damage new.damage d
-served-whole c request movable t old mid next new may is took follows settles d a =
+    → ((was : MarkedDesk) (d : Desktop) → Took c request was mid d → IsToMove (asked nothing_left_out c d) c d t → IsUnsettled c on was next d)
+    → (touches ≡ false → (d : Desktop) → Agrees old.desk d → ChangesNoWindow c (unpointed d))
+    → ((m : Midstep) → IsMidway next.desk m → m.struck ≡ [] → (on ≡ true → touches ≡ false → IsSettled m.desktop) → SettlesDown next new m) → (d : Desktop) → Agrees old.desk d → Led (Agrees new.desk) (Message c) old.damage new.damage d
+served-whole c on touches request movable t old mid next new may is took follows untouched settles d a =
     let it = took d a in
     let to : IsToMove (asked nothing_left_out c d) c d t =
     subst (λ (x : Option Target). IsToMove (asked nothing_left_out c d) c d x) (sym is)
     (asks-move (numbers_in old.desk.kept.clients c) (asked nothing_left_out c d) c d request movable it.asks (may d a)) in
     let u = follows old d it to in
-    settled-down c d old next new u (settles (unstruck u.start) u.midway)
+    settled-down c on d old next new u (settles (unstruck u.start) u.midway refl (λ yes none. u.unmoved yes (untouched none d a)))

@@ -1,5 +1,5 @@
 -- From a message that was taken with the pointer put aside to where the focus is settled.
-use Rattle.std.proofs.Common.{◌≡◌, ◌≢◌, ℕ, List, [], ◌∷◌, ◌++◌, map, true, Option, Some, None, refl, ap, subst, sym, ◌∙◌, append_assoc, ◌⊎◌, inl, inr, eq-eqb}
+use Rattle.std.proofs.Common.{◌≡◌, ◌≢◌, ℕ, List, [], ◌∷◌, ◌++◌, map, Bool, true, false, Option, Some, None, refl, ap, subst, sym, ◌∙◌, append_assoc, ◌⊎◌, inl, inr, eq-eqb}
 use Rattle.std.specs.Prelude.{is_some}
 use Rattle.wl_marking.specs.Marking.{IsAsLarge}
 use Rattle.wl_paint.specs.Damage.{Damaged}
@@ -9,7 +9,7 @@ use Rattle.wl_stacking.specs.Windows.{Window}
 use Rattle.wl_plain.specs.Changing.{drawing, has_focus}
 use Rattle.wl_plain.specs.Demand.{GetPointer}
 use Rattle.wl_plain.specs.Desktop.{Desktop, Resident, status_in, unpointed}
-use Rattle.wl_plain.specs.Happenings.{Happening, Leads, Message}
+use Rattle.wl_plain.specs.Happenings.{Leads, Message}
 use Rattle.wl_plain.specs.LeftOut.{nothing_left_out}
 use Rattle.wl_plain.specs.Marks.{AreDistinct}
 use Rattle.wl_plain.specs.Moments.{marks_at_least_through, marks_at_most_through}
@@ -17,7 +17,9 @@ use Rattle.wl_plain.specs.Replies.{entered_at, focus_window}
 use Rattle.wl_plain.specs.Settling.{Midstep, Strike, Tells, ended_by, unstruck}
 use Rattle.wl_plain.specs.Stacked.{all_windows}
 use Rattle.wl_plain.specs.Through.{ServesThrough}
+use Rattle.wl_laws.specs.Focus.{IsSettled}
 use Rattle.wl_laws.proofs.Lists.Keys.{differ}
+use Rattle.wl_laws.proofs.Runs.Settled.{same-windows}
 use Rattle.wl_pointed.specs.Apart.{SettlesOn}
 use Rattle.wl_pointed.specs.Entering.{TellsNew, new_entered}
 use Rattle.wl_pointed.specs.Pointed.{asked, pointed, pointer_after, put_back}
@@ -30,6 +32,7 @@ use Rattle.wl_clients.specs.Agreeing.{Agrees as KeptAgrees}
 use Rattle.wl_clients.specs.Agreement.{numbers_in}
 use Rattle.wl_clients.specs.Leading.{Led}
 use Rattle.wl_clients.specs.Marking.{MarksThrough}
+use Rattle.wl_clients.specs.Touching.{ChangesNoWindow}
 use Rattle.wl_clients.specs.declared.grabs.Latest.{Latest}
 use Rattle.wl_clients.specs.View.{DeskView as ClientsView}
 use Rattle.wl_clients.proofs.Agreed.{agrees-apart}
@@ -39,8 +42,8 @@ use Rattle.wl_desk.specs.Following.{IsUnsettled, Took}
 use Rattle.wl_desk.specs.Midway.{IsMidway, IsTelling, SettlesDown}
 use Rattle.wl_desk.specs.View.{DeskView, MarkedDesk}
 use Rattle.wl_desk.proofs.Asking.{on-queued, on-refused, refused-ends, told-marks, told-still}
-use Rattle.wl_desk.proofs.Begun.{after-get, back-placed}
-use Rattle.wl_desk.proofs.Focused.{focus-placed, focus-stacked}
+use Rattle.wl_desk.proofs.Begun.{after-get, after-settled, back-placed}
+use Rattle.wl_desk.proofs.Focused.{focus-placed, focus-stacked, settled-still}
 use Rattle.wl_desk.proofs.Leading.{kept-aside, midway-agrees}
 use Rattle.wl_desk.proofs.Onward.{last-at, marks-as, marks-then, marks-to, none-more}
 use Rattle.wl_desk.proofs.Placed.{placed-as}
@@ -50,9 +53,9 @@ use Rattle.wl_desk.proofs.Tells.{tells-shows}
 -- ---- the rounds that follow
 
 -- from where the focus isn't settled the rounds lead on to where it is
-pub settled-down : (c : ℕ) (d : Desktop) (old mid new : MarkedDesk) (u : IsUnsettled (Message c) old mid d) → SettlesDown mid new (unstruck u.start)
+pub settled-down : (c : ℕ) (lives : Bool) (d : Desktop) (old mid new : MarkedDesk) (u : IsUnsettled c lives old mid d) → SettlesDown mid new (unstruck u.start)
     → Led (Agrees new.desk) (Message c) old.damage new.damage d
-settled-down c d old mid new u down =
+settled-down c lives d old mid new u down =
     let start : Desktop = u.start in
     let settles = rounds-settle down.count 33 (unstruck start) down.mid down.last down.rounds down.few down.each down.settles down.over in
     let later : List Desktop = down.rounds ++ down.last.desktop ∷ [] in
@@ -82,10 +85,11 @@ midway-at v e p kept seats latest is placed =
       placed = placed;
     }
 
-pub from-aside : (h : Happening) (p : Desktop → Pointer) (d e : Desktop) (aside : List Desktop) (old new : MarkedDesk)
-    → SettlesOn (λ a. pointed (p a) a) (Leads nothing_left_out h d) aside e → AreDistinct (all_windows e) → MarksThrough (unpointed d) aside old.damage new.damage
-    → IsAsLarge old.damage new.damage → IsMidway new.desk (unstruck (pointed (p e) e)) → IsUnsettled h old new d
-from-aside h p d e aside old new on apart marks sides midway =
+pub from-aside : (c : ℕ) (lives : Bool) (p : Desktop → Pointer) (d e : Desktop) (aside : List Desktop) (old new : MarkedDesk)
+    → SettlesOn (λ a. pointed (p a) a) (Leads nothing_left_out (Message c) d) aside e → AreDistinct (all_windows e) → MarksThrough (unpointed d) aside old.damage new.damage
+    → IsAsLarge old.damage new.damage → IsMidway new.desk (unstruck (pointed (p e) e))
+    → (lives ≡ true → ChangesNoWindow c (unpointed d) → IsSettled (pointed (p e) e)) → IsUnsettled c lives old new d
+from-aside c lives p d e aside old new on apart marks sides midway unmoved =
     let before : List Desktop = map (λ a. pointed (p a) a) on.0 in
     let start : Desktop = pointed (p e) e in
     record {
@@ -93,8 +97,9 @@ from-aside h p d e aside old new on apart marks sides midway =
       start = start;
       last = last-at d start before;
       leads = λ later last settles.
-          subst (λ (way : List Desktop). Leads nothing_left_out h d way last) (sym (append_assoc before (start ∷ []) later)) (on.2 later last settles);
+          subst (λ (way : List Desktop). Leads nothing_left_out (Message c) d way last) (sym (append_assoc before (start ∷ []) later)) (on.2 later last settles);
       midway = midway;
+      unmoved = unmoved;
       sides = sides;
       marks = marks-as d (unpointed d) (before ++ start ∷ []) aside old.damage new.damage
           (λ x y.
@@ -111,17 +116,18 @@ larger old mid new first next = record { width = next.width ∙ first.width; hei
 
 -- ---- nobody is told
 
-pub followed : (c : ℕ) (request : PointerAsked) (old mid new : MarkedDesk) (d : Desktop) (took : Took c request old mid d)
-    → SettlesOn (put_back nothing_left_out c d) (ServesThrough nothing_left_out c d) took.path took.desktop → new.desk.kept ≡ mid.desk.kept → new.desk.seats ≡ mid.desk.seats
-    → new.desk.latest ≡ mid.desk.latest → new.desk.pointer ≡ pointer_after nothing_left_out c d took.desktop → new.damage ≡ mid.damage → IsUnsettled (Message c) old new d
-followed c request old mid new d took on kept seats latest pointer damage =
+pub followed : (c : ℕ) (lives : Bool) (request : PointerAsked) (old mid new : MarkedDesk) (d : Desktop) (took : Took c request old mid d)
+    → (lives ≡ true → status_in c took.desktop ≡ None) → SettlesOn (put_back nothing_left_out c d) (ServesThrough nothing_left_out c d) took.path took.desktop → new.desk.kept ≡ mid.desk.kept → new.desk.seats ≡ mid.desk.seats
+    → new.desk.latest ≡ mid.desk.latest → new.desk.pointer ≡ pointer_after nothing_left_out c d took.desktop → new.damage ≡ mid.damage → IsUnsettled c lives old new d
+followed c lives request old mid new d took alive on kept seats latest pointer damage =
     let e : Desktop = took.desktop in
-    from-aside (Message c) (pointer_after nothing_left_out c d) d e took.path old new on (agrees-apart mid.desk.kept e took.kept)
+    from-aside c lives (pointer_after nothing_left_out c d) d e took.path old new on (agrees-apart mid.desk.kept e took.kept)
     (marks-to (unpointed d) took.path old.damage mid.damage new.damage damage took.marks)
     (subst (λ (v : Damaged). IsAsLarge old.damage v) (sym damage) took.sides)
     (midway-at new.desk e (pointer_after nothing_left_out c d e) (subst (λ (k : ClientsView). KeptAgrees k e) (sym kept) took.kept)
     (subst (λ (s : List (List ℕ)). AreSeats s e) (sym seats) took.seats)
     (subst (λ (l : List Latest). AreLatest l (unstruck e)) (sym latest) took.latest) pointer (back-placed nothing_left_out c d e took.placed))
+    (λ yes untouched. after-settled c d e (alive yes) took.settled (untouched took.path e took.leads (alive yes)))
 
 -- ---- a new wl_pointer is told
 
@@ -191,7 +197,7 @@ module _ (c id : ℕ) (old mid : MarkedDesk) (d : Desktop) (took : Took c (NewPo
     sides : IsAsLarge old.damage told.damage
     sides = subst (λ (v : Damaged). IsAsLarge old.damage v) (sym damage) took.sides
 
-    pub followed-told : n.struck ≡ [] → IsUnsettled (Message c) old told d
+    pub followed-told : n.struck ≡ [] → IsUnsettled c true old told d
     followed-told none = record {
       path = n.desktop ∷ [];
       start = n.desktop;
@@ -201,10 +207,16 @@ module _ (c id : ℕ) (old mid : MarkedDesk) (d : Desktop) (took : Took c (NewPo
       midway = subst (λ (ss : List Strike). IsMidway told.desk (record { desktop = n.desktop; struck = ss })) none told-midway;
       marks = first;
       sides = sides;
+      unmoved = λ yes untouched.
+          settled-still d.pointer n.desktop.pointer (all_windows d) (all_windows n.desktop)
+          (record { place = ap (λ (p : Pointer). p.place) still; buttons = ap (λ (p : Pointer). p.buttons) still; focus = ap (λ (p : Pointer). p.focus) still })
+          (same-windows put n.desktop
+          (tells-shows (drawing true) (λ (r : Resident). entered_at id r.peer.serial put.pointer.place (focus_window (Some t) (all_windows put))) (λ r. refl) t.client (unstruck put) n tells)
+          ∙ untouched took.path took.desktop took.leads alive) took.settled;
     }
 
     pub followed-ended : (new : MarkedDesk) (s : Strike) → n.struck ≡ s ∷ [] → IsMidway new.desk (unstruck (ended_by s n.desktop))
-        → MarksThrough n.desktop (ended_by s n.desktop ∷ []) told.damage new.damage → IsAsLarge told.damage new.damage → IsUnsettled (Message c) old new d
+        → MarksThrough n.desktop (ended_by s n.desktop ∷ []) told.damage new.damage → IsAsLarge told.damage new.damage → IsUnsettled c false old new d
     followed-ended new s one midway marks large = record {
       path = n.desktop ∷ ended_by s n.desktop ∷ [];
       start = ended_by s n.desktop;
@@ -214,4 +226,5 @@ module _ (c id : ℕ) (old mid : MarkedDesk) (d : Desktop) (took : Took c (NewPo
       midway = midway;
       marks = marks-then d n.desktop (n.desktop ∷ []) (ended_by s n.desktop ∷ []) old.damage told.damage new.damage sides refl first marks;
       sides = larger old.damage told.damage new.damage sides large;
+      unmoved = λ yes. absurd (differ (sym yes));
     }

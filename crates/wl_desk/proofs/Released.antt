@@ -1,5 +1,5 @@
 -- What a press dismisses, as the desk does it.
-use Rattle.std.proofs.Common.{◌≡◌, ℕ, Option, Some, None, ap, inl}
+use Rattle.std.proofs.Common.{ℕ, Option, Some, None, ap, inl}
 use Rattle.wl_plain.specs.Desktop.{unpointed}
 use Rattle.wl_plain.specs.Settling.{Midstep}
 use Rattle.wl_clients.proofs.Pressed.{Dismissed, dismissed-told}

@@ -13,12 +13,13 @@ use Rattle.wl_plain.specs.Marks.{AreDistinct}
 use Rattle.wl_plain.specs.Moments.{marks_at_least_of, marks_at_least_through, marks_at_most_of, marks_at_most_through}
 use Rattle.wl_plain.specs.Settling.{Applies, AppliesAll, Midstep, Settles, Strike, Tells, TellsAt, TellsUnless, ended_at, ended_by}
 use Rattle.wl_plain.specs.Stacked.{all_windows}
+use Rattle.wl_laws.specs.Focus.{IsSettled}
 use Rattle.wl_laws.proofs.Marks.Stacks.{Each}
 use Rattle.wl_laws.proofs.Runs.Fates.{number-long}
 use Rattle.wl_laws.proofs.Runs.Focus.{settles-keeps}
 use Rattle.wl_laws.proofs.Runs.Settled.{HasFocus, has-settled}
 use Rattle.wl_pointed.specs.Rounds.{AreRounds, IsRound}
-use Rattle.wl_pointed.proofs.Rounds.{rounds-are-few}
+use Rattle.wl_pointed.proofs.Rounds.{rounds-are-few, settles-idly}
 use Rattle.wl_pointed.proofs.Marking.{rounds-mark-in-turn}
 use Rattle.wl_clients.specs.Marking.{MarksThrough}
 use Rattle.wl_clients.proofs.Agreed.{agrees-apart}
@@ -234,6 +235,23 @@ settles-down k old now new m last done few settles over midway same =
       midway = midway;
       marks = subst (λ (dmg : Damaged). MarksThrough m.desktop done.rounds old.damage dmg) (sym same) done.marks;
       distinct = midway-apart now.desk done.mid done.midway;
+    }
+
+-- where the focus is settled, and nobody is to end, nothing is done
+pub still-down : (old : MarkedDesk) (m : Midstep) → IsMidway old.desk m → m.struck ≡ [] → IsSettled m.desktop → SettlesDown old old m
+still-down old m midway none is =
+    record {
+      count = 0;
+      few = omega arith;
+      rounds = [];
+      mid = m;
+      last = m;
+      each = (refl, refl);
+      settles = (settles-idly m is).0;
+      over = none;
+      midway = midway;
+      marks = marks-none m.desktop old.damage;
+      distinct = midway-apart old.desk m midway;
     }
 
 -- ---- the loop

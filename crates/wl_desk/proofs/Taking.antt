@@ -21,6 +21,7 @@ use Rattle.wl_clients.specs.Agreement.{numbers_in}
 use Rattle.wl_clients.specs.Feeding.{IsIdleIn}
 use Rattle.wl_clients.specs.Leading.{Led}
 use Rattle.wl_clients.specs.Pointing.{AsksOfPointer, IsLatest}
+use Rattle.wl_clients.specs.Touching.{ChangesNoWindow}
 use Rattle.wl_clients.specs.declared.grabs.Latest.{Latest}
 use Rattle.wl_clients.specs.View.{MarkedDesk as KeptDesk}
 use Rattle.wl_desk.specs.Agreeing.{Agrees, AreLatest, AreSeats}
@@ -87,6 +88,11 @@ took-whole c request room k now seats is latest p old view same placed told seri
     let was : Agrees (desk_with k seats latest p).desk d = subst (λ (m : MarkedDesk). Agrees m.desk d) (sym view) a in
     subst (λ (m : MarkedDesk). Took c request m (desk_with now is latest p) d) view
     (taken c request room (desk_with k seats latest p) (desk_with now is latest p) d was (leads (unpointed d) was.kept (serials d was)) (asks (unpointed d) was.kept) no_room large placed same refl refl)
+
+-- what is said of the clients' windows is said of the desktop's
+pub untouched-whole : (c : ℕ) (k : KeptDesk) (seats : List (List ℕ)) (latest : List Latest) (p : Pointer) (old : MarkedDesk) → desk_with k seats latest p ≡ old
+    → ((d : Desktop) → KeptAgrees k.desk d → ChangesNoWindow c d) → (d : Desktop) → Agrees old.desk d → ChangesNoWindow c (unpointed d)
+untouched-whole c k seats latest p old view untouched d a = untouched (unpointed d) (subst (λ (m : MarkedDesk). Agrees m.desk d) (sym view) a).kept
 
 -- what was written to the wl_pointers of all is there
 pub written : {V Z : Type 0} (v : Vec V Z) (xs now : List V) → length xs ≡ length now → now ≡ v.items → (with_items v xs).items ≡ xs

@@ -1,9 +1,9 @@
 -- What a message does before the focus is settled: it is taken with the pointer put aside, and then the pointer follows it.
-use Rattle.std.specs.Prelude.{ℕ, ◌≡◌, ◌++◌, List, Option, Some, None}
+use Rattle.std.specs.Prelude.{ℕ, ◌≡◌, ◌++◌, Bool, true, List, Option, Some, None}
 use Rattle.wl_marking.specs.Marking.{IsAsLarge}
 use Rattle.wl_stacking.specs.Pointer.{Pointer, Target}
 use Rattle.wl_plain.specs.Desktop.{Desktop, status_in, unpointed}
-use Rattle.wl_plain.specs.Happenings.{Happening, Leads, Message}
+use Rattle.wl_plain.specs.Happenings.{Leads, Message}
 use Rattle.wl_plain.specs.LeftOut.{nothing_left_out}
 use Rattle.wl_plain.specs.Settling.{unstruck}
 use Rattle.wl_plain.specs.Through.{SettlesAllThrough}
@@ -15,6 +15,7 @@ use Rattle.wl_clients.specs.Agreeing.{Agrees as KeptAgrees}
 use Rattle.wl_clients.specs.Agreement.{numbers_in}
 use Rattle.wl_clients.specs.Marking.{MarksThrough}
 use Rattle.wl_clients.specs.Pointing.{AsksOfPointer}
+use Rattle.wl_clients.specs.Touching.{ChangesNoWindow}
 use Rattle.wl_desk.specs.Agreeing.{AreLatest, AreSeats, IsPlaced}
 use Rattle.wl_desk.specs.Midway.{IsMidway}
 use Rattle.wl_desk.specs.View.{MarkedDesk}
@@ -35,16 +36,18 @@ pub record Took (c : ℕ) (request : PointerAsked) (old new : MarkedDesk) (d : D
   pub placed : IsPlaced d
   pub settled : IsSettled d
 
--- What happens led through these desktops to the last of them, and on to wherever the focus is settled from there. The desk agrees with that
--- one, and what was marked is what is to be marked on the way.
-pub record IsUnsettled (h : Happening) (old new : MarkedDesk) (d : Desktop) : Type 0 where
+-- A message of this client led through these desktops to the last of them, and on to wherever the focus is settled from there. The desk
+-- agrees with that one, and what was marked is what is to be marked on the way. Where the client lives on and no window changed, the focus is
+-- settled there still.
+pub record IsUnsettled (c : ℕ) (lives : Bool) (old new : MarkedDesk) (d : Desktop) : Type 0 where
   pub path : List Desktop
   pub start : Desktop
   pub last : last_of d path ≡ start
-  pub leads : (later : List Desktop) (e : Desktop) → SettlesAllThrough 33 (unstruck start) later e → Leads nothing_left_out h d (path ++ later) e
+  pub leads : (later : List Desktop) (e : Desktop) → SettlesAllThrough 33 (unstruck start) later e → Leads nothing_left_out (Message c) d (path ++ later) e
   pub midway : IsMidway new.desk (unstruck start)
   pub marks : MarksThrough d path old.damage new.damage
   pub sides : IsAsLarge old.damage new.damage
+  pub unmoved : lives ≡ true → ChangesNoWindow c (unpointed d) → IsSettled start
 
 -- The pointer where it has left the client of this surface, if that ended.
 abbrev pub left_of : Option Target → Desktop → Pointer → Pointer

@@ -1,5 +1,5 @@
 -- How a press and a motion change the stack of toplevels.
-use Rattle.std.specs.Prelude.{ℕ, ◌≡◌, is_some, true, Option, Some, None, List, [], ◌∷◌}
+use Rattle.std.specs.Prelude.{◌≡◌, is_some, true, Option, Some, None, List, [], ◌∷◌}
 use Rattle.wl_stacking.specs.Pointer.{Target}
 use Rattle.wl_stacking.specs.PointerActions.{PointerAction, MoveWindow}
 use Rattle.wl_stacking.specs.Stacking.{Standing}

@@ -9,7 +9,7 @@ ghost use Rattle.wl_marking.specs.Marking.{IsAsLarge};
 ghost use Rattle.wl_scene.specs.Focus.{target_or_none};
 ghost use Rattle.wl_lending.specs.Painting.{IsOpaqueAsSaid};
 ghost use Rattle.wl_plain.specs.Act.{Connect, Store, Leave, Tick, Send, Close, peer_at, unsent_of, status_of, store_size_of};
-ghost use Rattle.wl_plain.specs.Desktop.{Desktop, client_at, empty, status_in};
+ghost use Rattle.wl_plain.specs.Desktop.{Desktop, client_at, empty, status_in, unpointed};
 ghost use Rattle.wl_plain.specs.Happenings.{Message, Single, Starve};
 ghost use Rattle.wl_plain.specs.Scratch.{scratch};
 ghost use Rattle.wl_plain.specs.LeftOut.{nothing_left_out};
@@ -20,6 +20,7 @@ ghost use Rattle.wl_clients.specs.Feeding.{IsIdleIn, kept_at, rest_in, served_of
 ghost use Rattle.wl_clients.specs.Leading.{Led};
 ghost use Rattle.wl_clients.specs.NextStore.{next_store_of};
 ghost use Rattle.wl_clients.specs.Pointing.{IsLatest};
+ghost use Rattle.wl_clients.specs.Touching.{ChangesNoWindow};
 ghost use Rattle.wl_desk.specs.Agreeing.{Agrees, LeadsBy, LeadsQuietly, MarksNothing};
 ghost use Rattle.wl_desk.specs.Beginning.{IsToMove};
 ghost use Rattle.wl_desk.specs.Following.{IsUnsettled, Took, left_of};
@@ -141,7 +142,8 @@ impl<A: Allocator + Copy> Desk<A> {
     }
 
     /// Takes the first whole message of what came from a client that lives, and settles the focus of the pointer. `More` where there is none;
-    /// then nothing is changed. What the message changes is marked, and the windows of each client that ends.
+    /// then nothing is changed. What the message changes is marked, and the windows of each client that ends. Where the message touches no
+    /// windows and its client lives on, the focus is settled still, and nothing is done for it.
     pub fn serve(&mut self, client: ClientNo) -> Served
         ensures leads { result ≢ Served.More → LeadsBy (Message client) self.old self.new }
         ensures told { result ≢ Served.More → (d : Desktop) → Agrees self.new.desk d → result ≡ served_of (status_of (peer_at client d)) }
@@ -156,14 +158,16 @@ impl<A: Allocator + Copy> Desk<A> {
         if taken.served == Served::More {
             return Served::More;
         }
-        self.follow(client, taken.pointer, to_move(movable, taken.pointer));
-        self.settle();
+        let lives = self.follow(client, taken.pointer, to_move(movable, taken.pointer));
+        self.settle_after(lives, taken.touches_windows);
         served_of(self.clients.status(client))
     }
 
     /// Takes the first whole message of what came from a client that lives; a wl_pointer that it asks for is kept. The pointer stays as it is.
     fn take(&mut self, client: ClientNo) -> Taken
         ensures took { result.served ≢ Served.More → (d : Desktop) → Agrees self.old.desk d → Took client result.pointer self.old self.new d }
+        ensures untouched { result.served ≢ Served.More → result.touches_windows ≡ false → (d : Desktop) → Agrees self.old.desk d
+            → ChangesNoWindow client (unpointed d) }
         ensures more { result.served ≡ Served.More → (d : Desktop) → Agrees self.old.desk d → Agrees self.new.desk d × IsIdleIn client d }
         ensures rests { result.served ≡ Served.More → self.new.damage ≡ self.old.damage }
         ensures sides { IsAsLarge self.old.damage self.new.damage }
@@ -192,10 +196,10 @@ impl<A: Allocator + Copy> Desk<A> {
 
     /// The pointer leaves a client that ended by a message. Where the message asked for a wl_pointer, that one is told of the focus where its
     /// client has it (wayland.xml, wl_pointer.enter). Where it begins to move a toplevel, motions move that one from now on; and one that
-    /// doesn't stand any more isn't moved any more.
-    fn follow(&mut self, client: ClientNo, request: PointerAsked, toplevel: Option<Target>)
+    /// doesn't stand any more isn't moved any more. True where the client lives on.
+    fn follow(&mut self, client: ClientNo, request: PointerAsked, toplevel: Option<Target>) -> bool
         ensures follows { (old : MarkedDesk) (d : Desktop) → Took client request old self.old d → IsToMove (asked nothing_left_out client d) client d (target_or_none toplevel)
-            → IsUnsettled (Message client) old self.new d }
+            → IsUnsettled client result old self.new d }
         ensures sides { IsAsLarge self.old.damage self.new.damage }
         ensures rests { (c : ℕ) → length (rest_in c self.new.desk.kept) ≤ length (rest_in c self.old.desk.kept) }
         ensures output { self.new.desk.kept.output ≡ self.old.desk.kept.output }
@@ -203,34 +207,36 @@ impl<A: Allocator + Copy> Desk<A> {
         if let Fed::Ended(_) = self.clients.status(client) {
             self.pointer.forget(client);
             self.let_go();
-            return;
+            return false;
         }
         let PointerAsked::NewPointer(id) = request else {
             self.begin_move(toplevel);
             self.let_go();
-            return;
+            return true;
         };
-        self.tell_new(client, id);
+        self.tell_new(client, id)
     }
 
-    /// A new wl_pointer of a client that lives is told of the focus, where its client has it. The client ends where that isn't queued.
-    fn tell_new(&mut self, client: ClientNo, id: u32)
+    /// A new wl_pointer of a client that lives is told of the focus, where its client has it. The client ends where that isn't queued; true
+    /// where it lives on.
+    fn tell_new(&mut self, client: ClientNo, id: u32) -> bool
         ensures tells { (old : MarkedDesk) (d : Desktop) → (took : Took client (PointerAsked.NewPointer id) old self.old d)
-            → status_in client took.desktop ≡ None → IsUnsettled (Message client) old self.new d }
+            → status_in client took.desktop ≡ None → IsUnsettled client result old self.new d }
         ensures sides { IsAsLarge self.old.damage self.new.damage }
         ensures rests { (c : ℕ) → length (rest_in c self.new.desk.kept) ≤ length (rest_in c self.old.desk.kept) }
         ensures output { self.new.desk.kept.output ≡ self.old.desk.kept.output }
     {
         let Some(focus) = self.pointer.focus() else {
-            return;
+            return true;
         };
         if focus.client != client {
-            return;
+            return true;
         }
         if self.enter_new(focus, id) {
-            return;
+            return true;
         }
         self.end_refused(client);
+        false
     }
 
     /// Memory is wanting for a client that lives, and it ends by that; the focus of the pointer is settled. The windows of each client that

@@ -15,6 +15,7 @@ ghost use Rattle.wl_plain.specs.Settling.{AppliesAll, Midstep, Settles, Strike, 
 ghost use Rattle.wl_plain.specs.Stacked.{all_windows};
 ghost use Rattle.wl_lending.specs.Hit.{IsStackedOrNone};
 ghost use Rattle.wl_laws.proofs.Marks.Stacks.{Each};
+ghost use Rattle.wl_laws.specs.Focus.{IsSettled};
 ghost use Rattle.wl_clients.specs.Agreement.{numbers_in};
 ghost use Rattle.wl_clients.specs.Marking.{MarksThrough};
 ghost use Rattle.wl_clients.specs.Feeding.{rest_in};
@@ -349,6 +350,21 @@ impl<A: Allocator + Copy> Desk<A> {
             };
             self.end_refused(client);
         }
+    }
+
+    /// The focus is settled after a message, where nobody is to end yet. Where the client lives on and no windows were touched it is settled
+    /// still, and nothing is done.
+    pub(crate) fn settle_after(&mut self, lives: bool, touches_windows: bool)
+        ensures settles { (m : Midstep) → IsMidway self.old.desk m → m.struck ≡ []
+            → (lives ≡ true → touches_windows ≡ false → IsSettled m.desktop) → SettlesDown self.old self.new m }
+        ensures sides { IsAsLarge self.old.damage self.new.damage }
+        ensures rests { (c : ℕ) → length (rest_in c self.new.desk.kept) ≤ length (rest_in c self.old.desk.kept) }
+        ensures output { self.new.desk.kept.output ≡ self.old.desk.kept.output }
+    {
+        if lives && !touches_windows {
+            return;
+        }
+        self.settle();
     }
 
     /// The least number of a client that is to end since an event for it wasn't queued.

@@ -42,6 +42,7 @@ popup parent number grabs =
       parent = Some parent;
       positioner = first_positioner;
       placement = Some (record { x = pos 8; y = pos 0; w = pos 4; h = pos 4 });
+      waiting = None;
       is_dismissed = false;
       has_grab = grabs;
       number = number;

@@ -3,14 +3,16 @@ use Rattle.std.proofs.Common.{◌≡◌, ℕ, Bool, true, false, List, [], ◌�
 use Rattle.std.specs.Prelude.{◌==◌, not}
 use Rattle.std.specs.Option.{option_map}
 use Rattle.wl_xdg_state.specs.Popups.{Popped, dismiss, dismissed_among, dismissed_with, dismissing, is_among, is_parent_of, orphan, orphaning, placing, popup_changed, with_effect, with_grab}
-use Rattle.wl_xdg_state.specs.Popups.{with_popup, with_popup_role, without_grab}
+use Rattle.wl_xdg_state.specs.Popups.{with_popup, with_popup_role, arrive, arriving, copying, is_configured, popup_at, repositioning, unmapped, waiting_in}
 use Rattle.wl_xdg_state.specs.Positioner.{Placed, Positioner}
 use Rattle.wl_xdg_state.specs.declared.stage.Stage.{Stage}
 use Rattle.wl_xdg_state.specs.Shell.{Effect, Stays, Unconfigured, Configures, Maps, Unmaps, Fresh, Waiting, Mapped, Kind, Toplevel, IsPopup, Popup, RoleObject, Shell, XdgSurface as Xdg}
 use Rattle.wl_xdg_state.specs.Shell.{acknowledging, at_stage, configuring, in_stage, new_toplevel, role_acknowledged, unmapping, with_change, with_new, without_role, without_xdg, xdg_at, xdg_of}
+use Rattle.wl_xdg_state.specs.Shell.{Configure, awaiting, latest_placement, up_to}
 use Rattle.wl_plain.specs.Ask.{Ask, Own, CreateSurface, AskSurface, EndObject, GetXdgSurface, DestroyXdgSurface, GetToplevel, Acknowledge, ConfigureAgain, Ignore}
 use Rattle.wl_plain.specs.Changing.{Placing, changed_for, drawing, effect_placing, grab_allowed, grabbed, has_focus, in_rising_order, is_configure, mode_set, placement_now, popup_given_to, tree_committed}
-use Rattle.wl_plain.specs.Demand.{Demand, Asks, EndSurface, AskFrame, CommitTree, GetSubsurface, EndSubsurface, SetMode, GetPointer, MakeCursor}
+use Rattle.wl_plain.specs.Changing.{popup_repositioned}
+use Rattle.wl_plain.specs.Demand.{Demand, Asks, EndSurface, AskFrame, CommitTree, GetSubsurface, EndSubsurface, SetMode, GetPointer, MakeCursor, Reposition}
 use Rattle.wl_plain.specs.Demand.{GetPopup, Grab, EndPopup, EndToplevel, Move}
 use Rattle.wl_plain.specs.Demanding.{effect_of_commit}
 use Rattle.wl_plain.specs.Desktop.{Desktop, Resident}
@@ -33,14 +35,15 @@ OfEach P (x ∷ xs) = OfRole P x.role × OfEach P xs
 
 -- it goes by nothing that changes of a popup, but for a grab that it is given, and that it is dismissed
 pub record IsSteadyOf (P : ℕ → Popup → Type 0) : Type 0 where
-  pub placed : (where_to : Popup → Option Placed) (id : ℕ) (p : Popup) → P id p → P id (placing where_to p)
-  pub ungrabbed : (id : ℕ) (p : Popup) → P id p → P id (without_grab p)
+  pub placed : (positioner : Positioner) (placement waiting : Option Placed) (id : ℕ) (p : Popup) → P id p
+      → P id (record p { positioner = positioner; placement = placement; waiting = waiting })
+  pub ungrabbed : (id : ℕ) (p : Popup) → P id p → P id (record p { has_grab = false })
   pub orphaned : (xdg id : ℕ) (p : Popup) → P id p → P id (orphan xdg p)
 
 -- the popup that is made
 abbrev pub popup_of : ℕ → Positioner → ℕ → Popup
 popup_of parent positioner number =
-    record { parent = Some parent; positioner = positioner; placement = None; is_dismissed = false; has_grab = false; number = number }
+    record { parent = Some parent; positioner = positioner; placement = None; waiting = None; is_dismissed = false; has_grab = false; number = number }
 
 module _ (P : ℕ → Popup → Type 0) where
   -- ---- one xdg_surface
@@ -57,9 +60,15 @@ module _ (P : ℕ → Popup → Type 0) where
   role-stage stage None of = tt
   role-stage stage (Some object) of = of
 
-  role-acknowledged : (o : Option RoleObject) → OfRole P o → OfRole P (option_map role_acknowledged o)
-  role-acknowledged None of = tt
-  role-acknowledged (Some object) of = of
+  -- the latest placement of these configures waits
+  role-acknowledged : ((waiting : Option Placed) (id : ℕ) (p : Popup) → P id p → P id (record p { waiting = waiting })) → (configures : List Configure) (o : Option RoleObject)
+      → OfRole P o → OfRole P (option_map (role_acknowledged configures) o)
+  role-acknowledged keeps configures None of = tt
+  role-acknowledged keeps configures (Some object) of = at object.kind of
+    where
+      at : (k : Kind) → OfKind P object.id k → OfKind P object.id (awaiting configures k)
+      at Toplevel of = tt
+      at (IsPopup popup) of = keeps (latest_placement popup.waiting configures) object.id popup of
 
   abbrev Keeps : (Xdg → Xdg) → Type 0
   Keeps f = (x : Xdg) → OfRole P x.role → OfRole P (f x).role
@@ -92,12 +101,30 @@ module _ (P : ℕ → Popup → Type 0) where
   -- ---- what is demanded
 
   module _ (steady : IsSteadyOf P) where
+    waits : (waiting : Option Placed) (id : ℕ) (p : Popup) → P id p → P id (record p { waiting = waiting })
+    waits waiting id p of = steady.placed p.positioner p.placement waiting id p of
+
+    -- a placement that waits comes into force
+    arrived-keeps : Keeps (λ x. arriving (waiting_in x.role) x)
+    arrived-keeps x of = at (waiting_in x.role)
+      where
+        at : (o : Option Placed) → OfRole P (arriving o x).role
+        at None = of
+        at (Some placed) = role-popup (arrive placed) (λ id p k. steady.placed p.positioner (Some placed) None id p k) x.role of
+
+    unmapped-keeps : (id : ℕ) (p : Popup) → P id p → P id (unmapped p)
+    unmapped-keeps id p of = waits None id (record p { has_grab = false }) (steady.ungrabbed id p of)
+
+    repositioned-keeps : (b : Bool) (serial : ℕ) (placement : Option Placed) (positioner : Positioner) → Keeps (repositioning b serial placement positioner)
+    repositioned-keeps true serial placement positioner x of = role-popup (copying positioner) (λ id p k. steady.placed positioner p.placement p.waiting id p k) x.role of
+    repositioned-keeps false serial placement positioner x of = role-popup (copying positioner) (λ id p k. steady.placed positioner p.placement p.waiting id p k) x.role of
+
     effect-keeps : (serial since : ℕ) (where_to : Popup → Option Placed) (effect : Effect) → Keeps (with_effect serial since where_to effect)
-    effect-keeps serial since where_to Stays x of = of
+    effect-keeps serial since where_to Stays x of = arrived-keeps x of
     effect-keeps serial since where_to Unconfigured x of = of
-    effect-keeps serial since where_to Configures x of = role-popup (placing where_to) (steady.placed where_to) (in_stage Waiting x).role (role-stage Waiting x.role of)
-    effect-keeps serial since where_to Maps x of = role-stage Mapped x.role of
-    effect-keeps serial since where_to Unmaps x of = role-popup without_grab steady.ungrabbed (unmapping since x).role (role-stage Fresh x.role of)
+    effect-keeps serial since where_to Configures x of = role-popup (placing where_to) (λ id p k. steady.placed p.positioner (where_to p) p.waiting id p k) (in_stage Waiting x).role (role-stage Waiting x.role of)
+    effect-keeps serial since where_to Maps x of = role-stage Mapped (arriving (waiting_in x.role) x).role (arrived-keeps x of)
+    effect-keeps serial since where_to Unmaps x of = role-popup unmapped unmapped-keeps (unmapping since x).role (role-stage Fresh x.role of)
 
     abbrev KeptDismissed : Type 0
     KeptDismissed = (id : ℕ) (p : Popup) → P id p → P id (dismiss p)
@@ -133,7 +160,7 @@ module _ (P : ℕ → Popup → Type 0) where
     of-asked (GetXdgSurface id version base surface) r of = of-new id base surface r.owned.shell of
     of-asked (DestroyXdgSurface id) r of = of-without id r.owned.shell of
     of-asked (GetToplevel id version xdg) r of = of-toplevel id xdg (xdg_at xdg r.owned.shell) r of
-    of-asked (Acknowledge xdg serial) r of = of-change xdg (acknowledging serial) (λ x k. role-acknowledged x.role k) r.owned.shell of
+    of-asked (Acknowledge xdg serial) r of = of-change xdg (acknowledging serial) (λ x k. role-acknowledged waits (up_to serial x.configures) x.role k) r.owned.shell of
     of-asked (ConfigureAgain xdg) r of = of-change xdg (configuring r.peer.serial) (λ x k. k) r.owned.shell of
     of-asked Ignore r of = of
 
@@ -145,6 +172,13 @@ module _ (P : ℕ → Popup → Type 0) where
         → OfEach P (popup_given_to id xdg parent positioner o r).owned.shell
     of-popup id xdg parent positioner None r new of = of
     of-popup id xdg parent positioner (Some x) r new of = of-change xdg _ (λ y k. new) r.owned.shell of
+
+    of-repositioned : (where_to : Placing) (p : Positioner) (o : Option Popped) (r : Resident) → OfEach P r.owned.shell → OfEach P (popup_repositioned where_to p o r).owned.shell
+    of-repositioned where_to p None r of = of
+    of-repositioned where_to p (Some q) r of =
+        let step = repositioning (is_configured q) r.peer.serial (where_to (copying p q.popup)) p in
+        of-drawn (is_configured q) (xdg_changed q.xdg.id step r)
+        (of-change q.xdg.id step (repositioned-keeps (is_configured q) r.peer.serial (where_to (copying p q.popup)) p) r.owned.shell of)
 
     of-grabbed : KeptDismissed → (b : Bool) (xdg : ℕ) (r : Resident) → (b ≡ true → (id : ℕ) (p : Popup) → P id p → P id (with_grab p)) → OfEach P r.owned.shell
         → OfEach P (grabbed b xdg r).owned.shell
@@ -168,6 +202,7 @@ module _ (P : ℕ → Popup → Type 0) where
         of-drawn (has_focus c d.pointer.focus) (record r { pointers = in_rising_order id r.pointers }) of
     each-stays c (MakeCursor surface) r d new grabs gone of = of
     each-stays c (GetPopup id version xdg parent p) r d new grabs gone of = of-popup id xdg parent p (xdg_at xdg r.owned.shell) r (new id parent p) of
+    each-stays c (Reposition xdg token p) r d new grabs gone of = of-repositioned (placement_now c r d) p (popup_at xdg r.owned.shell) r of
     each-stays c (Grab xdg serial) r d new grabs gone of = of-grabbed (gone refl) (grab_allowed c xdg serial r d) xdg r (grabs xdg serial) of
     each-stays c (EndPopup id xdg) r d new grabs gone of = of-change xdg without_role (λ x k. tt) r.owned.shell of
     each-stays c (EndToplevel id xdg top) r d new grabs gone of =

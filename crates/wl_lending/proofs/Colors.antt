@@ -35,7 +35,7 @@ zeros (suc (suc (suc zero))) = refl
 zeros (suc (suc (suc (suc n)))) = refl
 
 pub transparent-color : (i j : ℕ) → color_at transparent i j ≡ no_color
-transparent-color i j = rw (zeros (0 + j * 4 + 4 * i + 3), zeros (0 + j * 4 + 4 * i + 2), zeros (0 + j * 4 + 4 * i + 1), zeros (0 + j * 4 + 4 * i)) refl
+transparent-color i j = simp zeros
 
 -- what isn't seen, wherever it is
 pub clear-over : (inside : Bool) (under : Rgb) (c : Argb) → c ≡ no_color → IsColor under → cond inside (blended under c) under ≡ under

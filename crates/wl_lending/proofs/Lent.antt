@@ -4,7 +4,7 @@ use Rattle.std.specs.Prelude.{fold}
 use Rattle.std.specs.List.{AllByRecursion as Each}
 use Rattle.std.specs.Option.{option_map}
 use Rattle.std.proofs.lemmas.List.Elements.{All-from_recursion, recursion_from_All}
-use Rattle.wl_geom.specs.Region.{Area}
+use Rattle.wl_geom.specs.Region.{Area, Stands as Covers}
 use Rattle.wl_blend.specs.declared.color.Rgb.{Rgb}
 use Rattle.wl_state.specs.Kept.{Kept, Stands, counting_of}
 use Rattle.wl_state.specs.State.{History}
@@ -79,13 +79,13 @@ module _ (x y : ℤ) (nowhere : Area) (clients : ℕ → Option ClientView) (slo
     over-window : (under : Rgb) → IsColor under → over-one x y under (lent_of s) ≡ over d x y under w
     over-window under color =
         ap (λ (l : Lent). over-one x y under l) lent-kept
-        ∙ over-kept x y d (clients c) w.owner w.surface (lent.stores c) nowhere s.window w.corner kept.slot shown.history w.buffer under at-x at-y kept.stands shown.buffer color
+        ∙ over-kept x y nowhere d (clients c) w.owner w.surface (lent.stores c) s.window w.corner kept.slot shown.history w.buffer under at-x at-y kept.stands shown.buffer color
         ∙ ap (λ (v : Window). over d x y under v) (sym shown.shows)
 
-    so-window : IsSo d x y w → IsLentSo x y (lent_of s)
-    so-window so =
+    so-window : Covers nowhere [] → IsSo d x y w → IsLentSo x y (lent_of s)
+    so-window empty so =
         subst (λ (l : Lent). IsLentSo x y l) (sym lent-kept)
-        (said-kept x y d (clients c) w.owner w.surface (lent.stores c) nowhere s.window w.corner kept.slot shown.history w.buffer at-x at-y kept.stands shown.buffer
+        (said-kept x y nowhere empty d (clients c) w.owner w.surface (lent.stores c) s.window w.corner kept.slot shown.history w.buffer at-x at-y kept.stands shown.buffer
         (subst (λ (v : Window). IsSo d x y v) shown.shows so))
 
   all-painted : (ss : List Stacked) (ws : List Window) → AreStacked numbers ss ws → Each IsOfDesktop ws → (under : Rgb) → IsColor under
@@ -97,18 +97,18 @@ module _ (x y : ℤ) (nowhere : Area) (clients : ℕ → Option ClientView) (slo
       all-painted ss ws are.1 shown.1 (over-one x y under (lent_of s)) (color-over _ under _ color)
       ∙ ap (λ (u : Rgb). fold (over d x y) u ws) (over-window s w are.0 shown.0 under color)
 
-  all-said : (ss : List Stacked) (ws : List Window) → AreStacked numbers ss ws → Each IsOfDesktop ws → Each (IsSo d x y) ws → Each (IsLentSo x y) (windows_lent clients slots nowhere ss)
-  all-said [] [] are shown so = tt
-  all-said [] (w ∷ ws) are shown so = absurd are
-  all-said (s ∷ ss) [] are shown so = absurd are
-  all-said (s ∷ ss) (w ∷ ws) are shown so = (so-window s w are.0 shown.0 so.0, all-said ss ws are.1 shown.1 so.1)
+  all-said : Covers nowhere [] → (ss : List Stacked) (ws : List Window) → AreStacked numbers ss ws → Each IsOfDesktop ws → Each (IsSo d x y) ws → Each (IsLentSo x y) (windows_lent clients slots nowhere ss)
+  all-said empty [] [] are shown so = tt
+  all-said empty [] (w ∷ ws) are shown so = absurd are
+  all-said empty (s ∷ ss) [] are shown so = absurd are
+  all-said empty (s ∷ ss) (w ∷ ws) are shown so = (so-window s w are.0 shown.0 empty so.0, all-said empty ss ws are.1 shown.1 so.1)
 
 pub paints_the_desktop : PaintsTheDesktop
 paints_the_desktop background nowhere clients slots numbers stacked d x y color lent =
     all-painted x y nowhere clients slots numbers stacked d lent stacked (all_windows d) lent.windows (all-shown d) background color
 
 pub lends_opaque_as_said : LendsOpaqueAsSaid
-lends_opaque_as_said nowhere clients slots numbers stacked d x y lent so =
+lends_opaque_as_said nowhere clients slots numbers stacked d x y empty lent so =
     All-from_recursion (IsLentSo x y) (windows_lent clients slots nowhere stacked)
-    (all-said x y nowhere clients slots numbers stacked d lent stacked (all_windows d) lent.windows (all-shown d)
+    (all-said x y nowhere clients slots numbers stacked d lent empty stacked (all_windows d) lent.windows (all-shown d)
     (recursion_from_All (IsSo d x y) (all_windows d) so))

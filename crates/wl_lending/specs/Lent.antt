@@ -18,29 +18,25 @@ abbrev pub slots_or_none : Option Slots → Slots
 slots_or_none None = no_slots
 slots_or_none (Some slots) = slots
 
--- the picture of a buffer of a client's, turned so: none where the client, the buffer or its store isn't there, or it passes the store's
--- end
-abbrev pub picture_shown : Option ClientView → Transform → Option Attached → Option Shown
-picture_shown None transform buffer = None
-picture_shown (Some client) transform None = None
-picture_shown (Some client) transform (Some a) = picture_turned a.store a.layout transform client.stores
+-- the picture of a buffer of a client's, turned and scaled so: none where the client, the buffer or its store isn't there, or it passes the
+-- store's end
+abbrev pub picture_shown : Option ClientView → Transform → ℕ → Option Attached → Option Shown
+picture_shown None transform scale buffer = None
+picture_shown (Some client) transform scale None = None
+picture_shown (Some client) transform scale (Some a) = picture_turned a.store a.layout transform scale client.stores
 
-abbrev pub or_transparent : Option Shown → Shown
-or_transparent None = transparent
-or_transparent (Some picture) = picture
+-- A picture with an opaque region, at the window's corner. Where there is no picture, it is one pixel that leaves what is below it as it is, and
+-- nothing of that is said to be opaque.
+abbrev pub window_showing : Area → TreeWindow → Area → Option Shown → Window
+window_showing nowhere window opaque None = record { x = window.x; y = window.y; picture = transparent; opaque = nowhere }
+window_showing nowhere window opaque (Some picture) = record { x = window.x; y = window.y; picture = picture; opaque = opaque }
 
--- The window that is lent of one of a tree: what counts of its surface, at the window's corner. Where there is no picture, it is one pixel
--- that leaves what is below it as it is; where there is no surface, nothing of that is said to be opaque (wayland.xml,
+-- The window that is lent of one of a tree: what counts of its surface, if there is one, at the window's corner (wayland.xml,
 -- wl_surface.set_opaque_region).
 abbrev pub window_kept : Option ClientView → Area → TreeWindow → Option Counting → Window
-window_kept client nowhere window None = record { x = window.x; y = window.y; picture = transparent; opaque = nowhere }
+window_kept client nowhere window None = window_showing nowhere window nowhere None
 window_kept client nowhere window (Some k) =
-    record {
-      x = window.x;
-      y = window.y;
-      picture = or_transparent (picture_shown client k.transform k.buffer);
-      opaque = k.opaque;
-    }
+    window_showing nowhere window k.opaque (picture_shown client k.transform k.scale.number k.buffer)
 
 -- that of a window of the output, by the clients and what is kept of their surfaces
 abbrev pub window_lent : (ℕ → Option ClientView) → (ℕ → Slots) → Area → Stacked → Window

@@ -1,8 +1,8 @@
 -- Painting what is lent of the windows of the output is painting the desktop from nothing.
-use Rattle.std.specs.Prelude.{ℕ, ◌≡◌, ◌≤◌, ℤ, ◌-ℤ◌, ◌&&◌, true, List, Option, find}
+use Rattle.std.specs.Prelude.{ℕ, ◌≡◌, ◌≤◌, ℤ, ◌-ℤ◌, ◌&&◌, true, List, [], Option, find}
 use Rattle.std.specs.List.{All}
 use Rattle.std.specs.Option.{option_map}
-use Rattle.wl_geom.specs.Region.{Area, holds}
+use Rattle.wl_geom.specs.Region.{Area, Stands as Covers, holds}
 use Rattle.wl_blend.specs.declared.color.Rgb.{Rgb}
 use Rattle.wl_surface.specs.Slots.{Numbered, Slots, StandForAll}
 use Rattle.wl_surface.specs.Surfaces.{Surfaces}
@@ -53,9 +53,9 @@ abbrev pub IsOpaqueAsSaid : Desktop → ℤ → ℤ → Type 0
 IsOpaqueAsSaid d x y =
     All (λ w. (contains w x y && holds (x -ℤ w.corner.x) (y -ℤ w.corner.y) w.opaque) ≡ true → (color_in d w x y).a ≡ 255) (all_windows d)
 
--- What is said opaque of the desktop's windows and is, is so of those that are lent.
+-- What is said opaque of the desktop's windows and is, is so of those that are lent, with the empty region where there is no picture.
 abbrev pub LendsOpaqueAsSaid : Type 0
 LendsOpaqueAsSaid =
     (nowhere : Area) (clients : ℕ → Option ClientView) (slots : ℕ → Slots) (numbers : ℕ → ById ℕ) (stacked : List Stacked) (d : Desktop)
     (x y : ℤ)
-    → AreLent clients slots numbers stacked d → IsOpaqueAsSaid d x y → AreOpaqueAsSaid x y (windows_lent clients slots nowhere stacked)
+    → Covers nowhere [] → AreLent clients slots numbers stacked d → IsOpaqueAsSaid d x y → AreOpaqueAsSaid x y (windows_lent clients slots nowhere stacked)

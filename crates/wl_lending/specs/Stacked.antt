@@ -36,8 +36,8 @@ abbrev pub has_toplevel : ℕ → ℕ → Window → Bool
 has_toplevel client toplevel w = (client == w.owner.client) && (toplevel == w.owner.toplevel)
 
 -- A window that is kept stands for one of the desktop: both are of one client, the toplevel that it is stacked with, the root of its tree and
--- its surface go by their numbers, and it tells where the window stands, how large it is, and how its buffer is turned (wayland.xml,
--- wl_surface.set_buffer_transform).
+-- its surface go by their numbers, and it tells where the window stands, how large it is, and how its buffer is turned and scaled (wayland.xml,
+-- wl_surface.set_buffer_transform, set_buffer_scale).
 pub record IsStacked (numbers : ℕ → ById ℕ) (s : Stacked) (w : Window) : Type 0 where
   pub client : s.client ≡ w.owner.client
   pub toplevel : numbers s.client w.owner.toplevel ≡ Some s.toplevel

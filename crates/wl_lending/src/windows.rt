@@ -1,43 +1,48 @@
 //! One window of the output, lent to be painted.
 
-ghost use Rattle.std.specs.Prelude.{◌≡◌, option_copied};
+ghost use Rattle.std.specs.Prelude.{◌≡◌, None, option_copied};
 ghost use Rattle.std.specs.Option.{option_map};
 ghost use Rattle.wl_state.specs.Kept.{counting_in, counting_of};
 ghost use Rattle.wl_surface.specs.Slots.{kept_at};
 ghost use Rattle.wl_paint.specs.Painting.{window_of};
-ghost use Rattle.wl_lending.specs.Lent.{or_transparent, picture_shown, slots_or_none, window_kept};
+ghost use Rattle.wl_lending.specs.Lent.{picture_shown, slots_or_none, window_kept, window_showing};
 
 use std::alloc::Allocator;
 use wl_client::Client;
 use wl_geom::Region;
 use wl_paint::Painted;
 use wl_stacked::Stacked;
-use wl_store::{Picture, Transform};
+use wl_store::{Picture, Scale, Transform};
 use wl_surface::{Attached, Current, SurfaceNo, Surfaces};
+use wl_windows::TreeWindow;
 
 /// The picture of a buffer, if it can be shown.
 fn picture_of<'a, A: Allocator + Copy>(
     client: Option<&'a Client<A>>,
     transform: Transform,
+    scale: Scale,
     buffer: &Option<Attached>,
 ) -> Option<Picture<'a>>
-    ensures { result ≡ picture_shown (option_copied client.entry) transform buffer.now }
+    ensures { result ≡ picture_shown (option_copied client.entry) transform scale.number buffer.now }
 {
     let Some(client) = client else {
         return None;
     };
     match buffer {
-        Some(attached) => client.picture(attached.store, &attached.layout, transform),
+        Some(attached) => client.picture(attached.store, &attached.layout, transform, scale),
         None => None,
     }
 }
 
-fn or_transparent(picture: Option<Picture<'_>>) -> Picture<'_>
-    ensures { result ≡ or_transparent picture.entry }
+/// A window at whose corner there is nothing to see: one transparent pixel, of which nothing is said to be opaque.
+fn unseen<'a, A: Allocator>(window: &TreeWindow, nowhere: &'a Region<A>) -> Painted<'a, A>
+    ensures { window_of result ≡ window_showing nowhere.now window.now nowhere.now None }
 {
-    match picture {
-        Some(picture) => picture,
-        None => Picture::transparent(),
+    Painted {
+        x: window.x,
+        y: window.y,
+        picture: Picture::transparent(),
+        opaque: nowhere,
     }
 }
 
@@ -54,9 +59,10 @@ pub(crate) fn current_of<A: Allocator>(
     }
 }
 
-/// The window that is lent of one of the output, by its client and the client's surfaces: its surface's buffer as a picture, turned, with
-/// its applied opaque region, at the window's corner (wayland.xml, wl_surface.attach, set_buffer_transform and set_opaque_region). It is one
-/// transparent pixel there where the client or the surface isn't there, or its buffer can't be shown.
+/// The window that is lent of one of the output, by its client and the client's surfaces: its surface's buffer as a picture, turned and
+/// scaled, with its applied opaque region, at the window's corner (wayland.xml, wl_surface.attach, set_buffer_transform, set_buffer_scale and
+/// set_opaque_region). It is one transparent pixel there, with the region `nowhere`, where the client or the surface isn't there, or its buffer
+/// can't be shown.
 pub fn lend<'a, A: Allocator + Copy>(
     stacked: &Stacked,
     client: Option<&'a Client<A>>,
@@ -68,17 +74,15 @@ pub fn lend<'a, A: Allocator + Copy>(
 {
     let window = &stacked.window;
     let Some(current) = current_of(surfaces, window.surface) else {
-        return Painted {
+        return unseen(window, nowhere);
+    };
+    match picture_of(client, current.transform, current.scale, &current.buffer) {
+        Some(picture) => Painted {
             x: window.x,
             y: window.y,
-            picture: Picture::transparent(),
-            opaque: nowhere,
-        };
-    };
-    Painted {
-        x: window.x,
-        y: window.y,
-        picture: or_transparent(picture_of(client, current.transform, &current.buffer)),
-        opaque: current.opaque,
+            picture,
+            opaque: current.opaque,
+        },
+        None => unseen(window, nowhere),
     }
 }

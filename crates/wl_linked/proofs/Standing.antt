@@ -8,11 +8,12 @@ use Rattle.wl_children.specs.declared.placed.Placed.{Placed}
 use Rattle.wl_children.specs.Stacks.{Stacks, added}
 use Rattle.wl_family.specs.Family.{Links, Tied, at_parent, changed_at as stacks_changed_at, is_there, joined, links_in, member_of, pending_as, stacks_in, untied}
 use Rattle.wl_state.specs.Kept.{Kept}
-use Rattle.wl_state.specs.Request.{Request, AddChild, Attach, Commit, Damage, Frame, PlaceAbove, PlaceBelow, SetBufferTransform, SetInputRegion, SetOpaqueRegion, SetPosition, SetWindowGeometry}
+use Rattle.wl_state.specs.Request.{Request, AddChild, Attach, Commit, Damage, DamageBuffer, Frame, PlaceAbove, PlaceBelow, SetBufferScale, SetBufferTransform}
+use Rattle.wl_state.specs.Request.{SetInputRegion, SetOpaqueRegion, SetPosition, SetWindowGeometry}
 use Rattle.wl_state.specs.declared.role.Role.TheVariants.{Subsurface}
 use Rattle.wl_state.specs.State.{History}
 use Rattle.wl_state.specs.Surface.{Surface, asking, with_role}
-use Rattle.wl_state.proofs.Records.{For-asked, still, undamaged}
+use Rattle.wl_state.proofs.Records.{For-unseen}
 use Rattle.wl_surface.specs.Slots.{Changes, Numbered, Slots, StandForAll, StandsAt, changed_at, kept_at, nobody}
 use Rattle.wl_surface.specs.Surfaces.{Link, Surfaces, history_in, link_at, no_surfaces, surface_at, with_change}
 use Rattle.wl_trees.specs.declared.trees.Place.{Place}
@@ -75,24 +76,18 @@ unseen-at : (r : Request) → is_about_children r ≡ true → (slot : Option Ke
 unseen-at r about None None t = tt
 unseen-at r about (Some k) None t = absurd t
 unseen-at r about None (Some s) t = absurd t
-unseen-at (AddChild l) about (Some k) (Some s) t =
-    For-asked k s (AddChild l) k.pending_buffer k.pending_transform k.pending_opaque k.pending_input k.pending_offset k.pending_damage refl t t.history.pending (still k s.history t.history)
-    (undamaged k s.history (AddChild l) refl t.history)
-unseen-at (SetPosition l x y) about (Some k) (Some s) t =
-    For-asked k s (SetPosition l x y) k.pending_buffer k.pending_transform k.pending_opaque k.pending_input k.pending_offset k.pending_damage refl t t.history.pending
-    (still k s.history t.history) (undamaged k s.history (SetPosition l x y) refl t.history)
-unseen-at (PlaceAbove l m) about (Some k) (Some s) t =
-    For-asked k s (PlaceAbove l m) k.pending_buffer k.pending_transform k.pending_opaque k.pending_input k.pending_offset k.pending_damage refl t t.history.pending
-    (still k s.history t.history) (undamaged k s.history (PlaceAbove l m) refl t.history)
-unseen-at (PlaceBelow l m) about (Some k) (Some s) t =
-    For-asked k s (PlaceBelow l m) k.pending_buffer k.pending_transform k.pending_opaque k.pending_input k.pending_offset k.pending_damage refl t t.history.pending
-    (still k s.history t.history) (undamaged k s.history (PlaceBelow l m) refl t.history)
+unseen-at (AddChild l) about (Some k) (Some s) t = For-unseen k s (AddChild l) refl refl refl refl refl t
+unseen-at (SetPosition l x y) about (Some k) (Some s) t = For-unseen k s (SetPosition l x y) refl refl refl refl refl t
+unseen-at (PlaceAbove l m) about (Some k) (Some s) t = For-unseen k s (PlaceAbove l m) refl refl refl refl refl t
+unseen-at (PlaceBelow l m) about (Some k) (Some s) t = For-unseen k s (PlaceBelow l m) refl refl refl refl refl t
 unseen-at (Attach b x y) about (Some k) (Some s) t = absurd (cc)
 unseen-at (Damage rect) about (Some k) (Some s) t = absurd (cc)
+unseen-at (DamageBuffer rect) about (Some k) (Some s) t = absurd (cc)
 unseen-at (Frame n) about (Some k) (Some s) t = absurd (cc)
 unseen-at (SetOpaqueRegion o) about (Some k) (Some s) t = absurd (cc)
 unseen-at (SetInputRegion o) about (Some k) (Some s) t = absurd (cc)
 unseen-at (SetBufferTransform n) about (Some k) (Some s) t = absurd (cc)
+unseen-at (SetBufferScale n) about (Some k) (Some s) t = absurd (cc)
 unseen-at (SetWindowGeometry rect) about (Some k) (Some s) t = absurd (cc)
 unseen-at Commit about (Some k) (Some s) t = absurd (cc)
 

@@ -1,6 +1,6 @@
 //! Commits, the modes of links and their ends, and the trees that these apply.
 
-ghost use Rattle.std.specs.Prelude.{ℕ, [], ◌≡◌, ◌==◌, ◌&&◌, not, cond, Bool, List, None, count_by, filter, map, IfErr, IfOk, OnErr, OnOk};
+ghost use Rattle.std.specs.Prelude.{ℕ, [], ◌≡◌, ◌==◌, ◌&&◌, not, cond, Bool, List, None, Err, count_by, filter, map, IfErr, IfOk, MatchBool, OnErr, OnOk};
 ghost use Rattle.wl_family.specs.Family.{HangTogether, links_in, parents_of, stacks_in};
 ghost use Rattle.wl_linked.specs.Linked.{IsLink, Stand, numbered};
 ghost use Rattle.wl_linked.specs.Room.{HasRoom};
@@ -9,7 +9,7 @@ ghost use Rattle.wl_state.specs.Kept.{buffer_of};
 ghost use Rattle.wl_state.specs.Request.{Commit};
 ghost use Rattle.wl_state.specs.Surface.{asking};
 ghost use Rattle.wl_surface.specs.Applied.{AreFreed, AreGone, is_shown_at};
-ghost use Rattle.wl_surface.specs.Slots.{IsAny, Numbered, StandForAll, shows_at};
+ghost use Rattle.wl_surface.specs.Slots.{IsAny, Numbered, StandForAll, is_whole_at, shows_at};
 ghost use Rattle.wl_surface.specs.Surfaces.{Link, Surfaces as Asked, surface_at, with_change};
 ghost use Rattle.wl_surface.specs.Trees.{applied_tree, committed_in, descends_from, destroyed_in, desynchronised_in, ended_in, ending, levels, with_link};
 ghost use Rattle.wl_surface.specs.Waiting.{AreWaiting, Callback, frames_at, is_in};
@@ -40,7 +40,11 @@ pub(crate) struct Room<A: Allocator> {
 
 impl<A: Allocator + Copy> Linked<A> {
     /// wl_surface.commit: what is pending is held and, unless the surface behaves synchronised, applied with what descends from it. What that
-    /// changes is told, and which buffers were shown before. Without memory nothing changes.
+    /// changes is told, and which buffers were shown before.
+    ///
+    /// # Errors
+    ///
+    /// `Size` where the sides of the buffer that it would show are no multiples of the scale, and else `Memory`. Nothing changes then.
     pub fn commit(&mut self, surface: SurfaceNo) -> Result<Told<A>, SurfaceError>
         ensures ok { OnOk result ((all : Asked) → Stand self.old.surfaces self.old.family all → Stand self.new.surfaces self.new.family (committed_in surface all)) }
         ensures waits { OnOk result ((all : Asked) (cs : List Callback) → Stand self.old.surfaces self.old.family all → AreWaiting self.old.surfaces.frames (numbered all) cs
@@ -53,8 +57,11 @@ impl<A: Allocator + Copy> Linked<A> {
         ensures among { IfOk result (λ told. AreAmong told.applied.freed.items (map buffer_of told.shown.items)) }
         ensures callbacks { IfOk result (λ told. told.applied.callbacks.items ≡ []) }
         ensures err { OnErr result (self.new ≡ self.old) }
-        ensures cause { IfErr result (λ e. e ≡ SurfaceError.Memory) }
+        ensures cause { (all : Asked) → Stand self.old.surfaces self.old.family all → MatchBool (is_whole_at (surface_at surface all)) (IfErr result (λ e. e ≡ SurfaceError.Memory)) (result ≡ Err SurfaceError.Size) }
     {
+        if !self.surfaces.is_whole(surface) {
+            return Err(SurfaceError::Size);
+        }
         if self.family.behaves_synchronised(surface) {
             return self.hold(surface);
         }

@@ -8,7 +8,8 @@ use crate::span::{side_on_output, span_on_output};
 use wl_geom::Rect;
 use wl_store::Transform;
 
-/// The record of a window: where the corner of its surface is on the output, its size in pixels, and how its buffer is turned.
+/// The record of a window: where the corner of its surface is on the output, its size in pixels, and how its buffer is turned and
+/// scaled (wayland.xml, wl_surface.set_buffer_transform, set_buffer_scale).
 #[derive(Clone, Copy)]
 pub struct WindowRecord {
     pub x: i32,
@@ -16,6 +17,7 @@ pub struct WindowRecord {
     pub w: u32,
     pub h: u32,
     pub transform: Transform,
+    pub scale: u32,
 }
 
 impl WindowRecord {

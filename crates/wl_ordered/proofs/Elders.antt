@@ -5,11 +5,13 @@ use Rattle.std.specs.Option.{option_and_then, option_map}
 use Rattle.std.proofs.lemmas.Bool.{eqb-true}
 use Rattle.std.proofs.lemmas.Bool.Decides.{nat_tests}
 use Rattle.wl_xdg_state.specs.Popups.{dismiss, dismissed_among, dismissed_with, first_popup, kind_popup, is_among, is_parent_of, new_popup, orphan, orphaning, placing, popup_changed, popup_in}
-use Rattle.wl_xdg_state.specs.Popups.{first_of, popped_kind, popped_of, popped_role, popup_at, with_effect, Popped, with_grab, with_popup, with_popup_role, without_grab}
+use Rattle.wl_xdg_state.specs.Popups.{first_of, popped_kind, popped_of, popped_role, popup_at, with_effect, Popped, with_grab, with_popup, with_popup_role}
+use Rattle.wl_xdg_state.specs.Popups.{arrive, arriving, copying, repositioning, unmapped, waiting_in}
 use Rattle.wl_xdg_state.specs.Positioner.{Placed, Positioner}
 use Rattle.wl_xdg_state.specs.declared.stage.Stage.{Stage}
 use Rattle.wl_xdg_state.specs.Shell.{Effect, Stays, Unconfigured, Configures, Maps, Unmaps, Fresh, Waiting, Mapped, Kind, Toplevel, IsPopup, Popup, RoleObject, Shell, XdgSurface as Xdg}
 use Rattle.wl_xdg_state.specs.Shell.{acknowledging, at_stage, configuring, in_stage, new_toplevel, role_acknowledged, unmapping, with_change, with_new, without_role, without_xdg, xdg_at}
+use Rattle.wl_xdg_state.specs.Shell.{Configure, acknowledged, awaiting, configuring_with, later_than, latest_placement, up_to}
 use Rattle.wl_plain.specs.XdgPopup.{may_be_parent}
 use Rattle.wl_laws.specs.Apart.{AreApartBy}
 use Rattle.wl_laws.proofs.Lists.Keys.{differ, found-map, found-passes}
@@ -129,8 +131,55 @@ role-gentle f change ids surfaces roles kinds = record {
 stage-gentle : (stage : Stage) → IsGentle (in_stage stage)
 stage-gentle stage = role-gentle (in_stage stage) (at_stage stage) (λ x. refl) (λ x. refl) (λ x. refl) (λ object. refl)
 
+-- one that is chosen by the xdg_surface
+chosen-gentle : {K : Type 0} (f : K → Xdg → Xdg) (choice : Xdg → K) → ((k : K) → IsGentle (f k)) → IsGentle (λ x. f (choice x) x)
+chosen-gentle f choice all = record {
+  id = λ x. (all (choice x)).id x;
+  surface = λ x. (all (choice x)).surface x;
+  age = λ x. (all (choice x)).age x;
+  elder = λ shell x is. (all (choice x)).elder shell x is;
+  released = λ x is. (all (choice x)).released x is;
+}
+
+-- where these configures are acknowledged, the latest placement of theirs waits
+abbrev awaiting_those : List Configure → Popup → Popup
+awaiting_those configures p = record p { waiting = latest_placement p.waiting configures }
+
+awaited-gentle : (configures : List Configure) → IsGentleOf (awaiting_those configures)
+awaited-gentle configures = record { number = λ p. refl; parent = λ xdg p is. is; grab = λ p so. so }
+
+abbrev acknowledging_those : ℕ → List Configure → Xdg → Xdg
+acknowledging_those serial configures x = record x { role = option_map (role_acknowledged configures) x.role; configures = later_than serial x.configures }
+
+acknowledged-those : (serial : ℕ) (configures : List Configure) → IsGentle (acknowledging_those serial configures)
+acknowledged-those serial configures = record {
+  id = λ x. refl;
+  surface = λ x. refl;
+  age = λ x. age x.role;
+  elder = λ shell x. each (HasElder shell) (λ p has. kept-elder (awaiting_those configures) (awaited-gentle configures) shell p has) x.role;
+  released = λ x. each IsReleased (λ p so. so) x.role;
+}
+  where
+    age : (o : Option RoleObject) → age_in (option_map (role_acknowledged configures) o) ≡ age_in o
+    age None = refl
+    age (Some object) = ap (λ (n : ℕ). Some n) (kind object.kind)
+      where
+        kind : (k : Kind) → age_of (awaiting configures k) ≡ age_of k
+        kind Toplevel = refl
+        kind (IsPopup popup) = refl
+
+    each : (P : Popup → Type 0) → ((p : Popup) → P p → P (awaiting_those configures p)) → (o : Option RoleObject) → IfSome (popup_in o) P
+        → IfSome (popup_in (option_map (role_acknowledged configures) o)) P
+    each P so None is = tt
+    each P so (Some object) is = kind object object.kind is
+      where
+        kind : (object : RoleObject) (k : Kind) → IfSome (popup_in (Some (record object { kind = k }))) P
+            → IfSome (popup_in (Some (record object { kind = awaiting configures k; stage = acknowledged object.stage }))) P
+        kind object Toplevel is = tt
+        kind object (IsPopup popup) is = so popup is
+
 pub acknowledged-gentle : (serial : ℕ) → IsGentle (acknowledging serial)
-acknowledged-gentle serial = role-gentle (acknowledging serial) role_acknowledged (λ x. refl) (λ x. refl) (λ x. refl) (λ object. refl)
+acknowledged-gentle serial = chosen-gentle (acknowledging_those serial) (λ x. up_to serial x.configures) (λ configures. acknowledged-those serial configures)
 
 pub configured-gentle : (serial : ℕ) → IsGentle (configuring serial)
 configured-gentle serial =
@@ -142,8 +191,29 @@ unmapped-gentle since = role-gentle (unmapping since) (at_stage Fresh) (λ x. re
 placed-gentle : (where_to : Popup → Option Placed) → IsGentleOf (placing where_to)
 placed-gentle where_to = record { number = λ p. refl; parent = λ xdg p is. is; grab = λ p so. so }
 
-ungrabbed-gentle : IsGentleOf without_grab
+ungrabbed-gentle : IsGentleOf unmapped
 ungrabbed-gentle = record { number = λ p. refl; parent = λ xdg p is. is; grab = λ p so gone. refl }
+
+copied-gentle : (positioner : Positioner) → IsGentleOf (copying positioner)
+copied-gentle positioner = record { number = λ p. refl; parent = λ xdg p is. is; grab = λ p so. so }
+
+arrived-gentle : (placed : Placed) → IsGentleOf (arrive placed)
+arrived-gentle placed = record { number = λ p. refl; parent = λ xdg p is. is; grab = λ p so. so }
+
+-- a placement that waits comes into force
+arriving-gentle : IsGentle (λ x. arriving (waiting_in x.role) x)
+arriving-gentle = chosen-gentle arriving (λ x. waiting_in x.role) at
+  where
+    at : (o : Option Placed) → IsGentle (arriving o)
+    at None = same-gentle
+    at (Some placed) = popup-gentle (arrive placed) (arrived-gentle placed)
+
+-- a popup is placed anew
+pub repositioned-gentle : (b : Bool) (serial : ℕ) (placement : Option Placed) (positioner : Positioner) → IsGentle (repositioning b serial placement positioner)
+repositioned-gentle false serial placement positioner = popup-gentle (copying positioner) (copied-gentle positioner)
+repositioned-gentle true serial placement positioner =
+    then-gentle (popup_changed (copying positioner)) (configuring_with serial placement) (popup-gentle (copying positioner) (copied-gentle positioner))
+    (record { id = λ x. refl; surface = λ x. refl; age = λ x. refl; elder = λ shell x is. is; released = λ x is. is })
 
 dismissed-gentle : IsGentleOf dismiss
 dismissed-gentle = record { number = λ p. refl; parent = λ xdg p is. is; grab = λ p so gone. refl }
@@ -239,14 +309,14 @@ taken xdg shell apart living = at (xdg_at xdg shell) refl living
         (λ y so. one y (y.id == xdg) so) shell (each-only (OfPopup IsLiving) xdg x shell apart found (living-of x is)))
 
 pub effect-gentle : (serial since : ℕ) (where_to : Popup → Option Placed) (effect : Effect) → IsGentle (with_effect serial since where_to effect)
-effect-gentle serial since where_to Stays = same-gentle
+effect-gentle serial since where_to Stays = arriving-gentle
 effect-gentle serial since where_to Unconfigured = same-gentle
 effect-gentle serial since where_to Configures =
     then-gentle (λ x. popup_changed (placing where_to) (in_stage Waiting x)) (configuring serial)
     (then-gentle (in_stage Waiting) (popup_changed (placing where_to)) (stage-gentle Waiting) (popup-gentle (placing where_to) (placed-gentle where_to))) (configured-gentle serial)
-effect-gentle serial since where_to Maps = stage-gentle Mapped
+effect-gentle serial since where_to Maps = then-gentle (λ x. arriving (waiting_in x.role) x) (in_stage Mapped) arriving-gentle (stage-gentle Mapped)
 effect-gentle serial since where_to Unmaps =
-    then-gentle (unmapping since) (popup_changed without_grab) (unmapped-gentle since) (popup-gentle without_grab ungrabbed-gentle)
+    then-gentle (unmapping since) (popup_changed unmapped) (unmapped-gentle since) (popup-gentle unmapped ungrabbed-gentle)
 
 pub one-gentle : (id : ℕ) (f : Xdg → Xdg) → IsGentle f → IsGentle (λ x. cond (x.id == id) (f x) x)
 one-gentle id f a = if-gentle (λ x. x.id == id) f a

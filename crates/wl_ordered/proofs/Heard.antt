@@ -34,20 +34,21 @@ use Rattle.wl_peer.specs.ToplevelRequest as toplevel
 use Rattle.wl_state.specs.Request.{Request as Asked, Member, PlaceAbove, PlaceBelow}
 use Rattle.wl_surface.specs.Surfaces.{Link}
 use Rattle.wl_surface.specs.Trees.{is_bad_parent, is_too_deep}
-use Rattle.wl_xdg_state.specs.Popups.{Popped, is_parent, is_popup_mapped, popup_at}
-use Rattle.wl_xdg_state.specs.Positioner.{is_complete}
+use Rattle.wl_xdg_state.specs.Popups.{Popped, is_parent, is_popup_mapped, popup_at, is_configured}
+use Rattle.wl_xdg_state.specs.Positioner.{is_complete, Positioner}
 use Rattle.wl_xdg_state.specs.Shell.{Effect, Stays, Unconfigured, Configures, Maps, Unmaps, XdgSurface as Xdg, answers_states, is_full, is_waiting, stage_of, xdg_at, xdg_of, xdg_with}
 use Rattle.wl_plain.specs.Ask.{Ask, Ignore, CreateSurface, GetXdgSurface, owns}
 use Rattle.wl_plain.specs.Demand.{Demand, Asks}
 use Rattle.wl_plain.specs.Demand.{GetPopup, Grab, EndPopup}
-use Rattle.wl_plain.specs.Demanding.{base_demand, committed_by, demand_by, demand_of, demands, effect_of_commit, judge_all, moved_by_pointer, own_demand, surface_demand, toplevel_asked}
+use Rattle.wl_plain.specs.Demanding.{base_demand, committed_by, demand_by, demand_of, demands, effect_of_commit, judge_all, moved_by_pointer, own_demand, surface_demand, toplevel_asked, if_whole}
 use Rattle.wl_plain.specs.Demanding.{toplevel_destroyed, xdg_asked}
 use Rattle.wl_plain.specs.Desktop.{Resident}
 use Rattle.wl_plain.specs.LeftOut.{nothing_left_out}
 use Rattle.wl_plain.specs.WlPointer.{cursor_set, is_no_cursor}
 use Rattle.wl_plain.specs.WlSubsurface.{beside, demand_by_link, has_subsurface, is_no_subsurface, link_of_subsurface, placed_beside, subsurface_made}
-use Rattle.wl_plain.specs.XdgPopup.{grab_of, is_no_popup, may_be_parent, popup_asked, popup_made, positioner_of}
+use Rattle.wl_plain.specs.XdgPopup.{grab_of, is_no_popup, may_be_parent, popup_asked, popup_made, positioner_of, repositioned_by}
 use Rattle.wl_plain.specs.XdgShell.{geometry_set, has_any, is_foreign, is_no_toplevel, role_of, state_asked}
+use Rattle.wl_plain.specs.WlSurface.{will_be_whole}
 use Rattle.wl_laws.proofs.Soundness.AllowedHeard.{judged-hears, named-second}
 use Rattle.wl_laws.proofs.Soundness.AllowedOwn.{IsHeardBy}
 use Rattle.wl_ordered.proofs.Elders.{HasLiving, IsLiving}
@@ -100,13 +101,22 @@ commit-fits r (Some x) object Configures = either r (is_full x.configures) _ _ (
 commit-fits r (Some x) object Maps = tt
 commit-fits r (Some x) object Unmaps = tt
 
+-- where the buffer is whole, as without that
+whole-fits : (r : Resident) (b : Bool) (object : ℕ) (judged : Result Demand Refusal) → Fits r judged → Fits r (if_whole b object judged)
+whole-fits r true object judged fits = fits
+whole-fits r false object (Ok demand) fits = tt
+whole-fits r false object (Err refusal) fits = tt
+
 surface-fits : (r : Resident) (object version : ℕ) (request : WlSurfaceRequest) → Fits r (surface_demand r object version request)
 surface-fits r object version surface.Destroy = either r (is_some (xdg_of object r.owned.shell)) _ _ (λ there. tt) (λ none. tt)
 surface-fits r object version (surface.Frame callback) = tt
-surface-fits r object version surface.Commit = commit-fits r (xdg_of object r.owned.shell) object (effect_of_commit r object)
+surface-fits r object version surface.Commit =
+    whole-fits r (will_be_whole r object) object _ (commit-fits r (xdg_of object r.owned.shell) object (effect_of_commit r object))
 surface-fits r object version (surface.SetBufferTransform transform) = ask-either r (int_le (pos 0) transform && int_le transform (pos 7)) _ _ (λ some. tt) (λ none. tt)
+surface-fits r object version (surface.SetBufferScale scale) = ask-either r (int_le (pos 1) scale) _ _ (λ some. tt) (λ none. tt)
 surface-fits r object version (surface.Attach buffer x y) = tt
 surface-fits r object version (surface.Damage x y width height) = tt
+surface-fits r object version (surface.DamageBuffer x y width height) = tt
 surface-fits r object version (surface.SetOpaqueRegion region) = tt
 surface-fits r object version (surface.SetInputRegion region) = tt
 
@@ -199,10 +209,17 @@ grab-fits r object serial x (Some p) found =
     either r p.popup.is_dismissed _ _ (λ gone. tt)
     (λ living. either r (is_popup_mapped p) _ _ (λ mapped. tt) (λ e. subst (λ (o : Option Popped). IsSomeAnd o (λ q. IsLiving q.popup)) (sym found) living))
 
+repositioned-fits : (r : Resident) (x : Xdg) (token : ℕ) (p : Positioner) (o : Option Popped) → Fits r (repositioned_by x token p o)
+repositioned-fits r x token p None = tt
+repositioned-fits r x token p (Some q) =
+    either r (is_configured q && is_full x.configures) _ _ (λ full. tt) (λ room. either r (is_complete p) _ _ (λ whole. tt) (λ lacks. tt))
+
 popup-fits : (r : Resident) (object : ℕ) (o : Option Xdg) (request : XdgPopupRequest) → Fits r (popup_asked r object o request)
 popup-fits r object None request = tt
 popup-fits r object (Some x) popup.Destroy = either r (is_parent x.id r.owned.shell) _ _ (λ e. tt) (λ none. none)
 popup-fits r object (Some x) (popup.Grab by serial) = grab-fits r object serial x (popup_at x.id r.owned.shell) refl
+popup-fits r object (Some x) (popup.Reposition positioner token) =
+    repositioned-fits r x token (positioner_of (r.peer.positioners positioner)) (popup_at x.id r.owned.shell)
 
 -- ---- every interface
 

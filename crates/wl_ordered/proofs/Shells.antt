@@ -4,12 +4,14 @@ use Rattle.std.specs.Prelude.{◌==◌, not, IfSome}
 use Rattle.std.specs.Option.{option_map_or}
 use Rattle.std.specs.List.{list_any}
 use Rattle.wl_xdg_state.specs.Popups.{Popped, dismissed_among, dismissed_with, dismissing, is_parent, is_parent_of, new_popup, orphan, orphaning, popup_changed, popup_in, with_effect}
+use Rattle.wl_xdg_state.specs.Popups.{copying, is_configured, popup_at, repositioning}
 use Rattle.wl_xdg_state.specs.Positioner.{Positioner}
 use Rattle.wl_xdg_state.specs.Shell.{Effect, Popup, Shell, XdgSurface as Xdg, acknowledging, configuring, new_toplevel, with_change, with_new, without_role, without_xdg, xdg_at, xdg_of}
 use Rattle.wl_shell.proofs.Reading.{any-popup}
 use Rattle.wl_plain.specs.Ask.{Ask, Own, CreateSurface, AskSurface, EndObject, GetXdgSurface, DestroyXdgSurface, GetToplevel, Acknowledge, ConfigureAgain, Ignore}
 use Rattle.wl_plain.specs.Changing.{Placing, changed_for, drawing, effect_placing, grab_allowed, grabbed, has_focus, in_rising_order, is_configure, mode_set, placement_now, popup_given_to, tree_committed}
-use Rattle.wl_plain.specs.Demand.{Demand, Asks, EndSurface, AskFrame, CommitTree, GetSubsurface, EndSubsurface, SetMode, GetPointer, MakeCursor}
+use Rattle.wl_plain.specs.Changing.{popup_repositioned}
+use Rattle.wl_plain.specs.Demand.{Demand, Asks, EndSurface, AskFrame, CommitTree, GetSubsurface, EndSubsurface, SetMode, GetPointer, MakeCursor, Reposition}
 use Rattle.wl_plain.specs.Demand.{GetPopup, Grab, EndPopup, EndToplevel, Move}
 use Rattle.wl_plain.specs.Demanding.{effect_of_commit}
 use Rattle.wl_plain.specs.Desktop.{Desktop, Resident}
@@ -22,6 +24,7 @@ use Rattle.wl_ordered.specs.Ordered.{HaveElders, OfEach}
 use Rattle.wl_ordered.proofs.Each.{IsReleased, OfPopup, each-left, each-map, each-more}
 use Rattle.wl_ordered.proofs.Elders.{HasLiving, IsGentle, IsNoParent, IsUpTo, acknowledged-gentle, configured-gentle, dismissing-gentle, effect-gentle, elders-bare, elders-left, elders-map, elders-more}
 use Rattle.wl_ordered.proofs.Elders.{elders-popup, elders-toplevel, bare-age, bare-no-parent, one-gentle, orphaned-no-parent, orphaning-gentle, popup-gentle, taken, taking, taking-gentle}
+use Rattle.wl_ordered.proofs.Elders.{repositioned-gentle}
 use Rattle.wl_ordered.proofs.Heard.{IsFit}
 
 -- `P` is said of the surface of each xdg_surface
@@ -164,6 +167,13 @@ module _ (P : ℕ → Type 0) where
       (fine-role xdg (new_popup id parent p (k + 1) since) (λ y. refl) (λ y gone. refl) r.owned.shell
       (elders-popup id xdg parent k since p r.owned.shell up (subst HasNoRole (sym e) bare) may fine.elders) fine)
 
+  fine-repositioned : (where_to : Placing) (p : Positioner) (o : Option Popped) (r : Resident) → Fine r.owned.shell → Fine (popup_repositioned where_to p o r).owned.shell
+  fine-repositioned where_to p None r fine = fine
+  fine-repositioned where_to p (Some q) r fine =
+      let step = repositioning (is_configured q) r.peer.serial (where_to (copying p q.popup)) p in
+      fine-drawn (is_configured q) (xdg_changed q.xdg.id step r)
+      (fine-change q.xdg.id step (repositioned-gentle (is_configured q) r.peer.serial (where_to (copying p q.popup)) p) r.owned.shell fine)
+
   -- a grab is taken by a popup that isn't dismissed, or it is dismissed then
   fine-grabbed : (b : Bool) (xdg : ℕ) (r : Resident) → AreApartBy (λ key x. x.id == key) r.owned.shell → HasLiving xdg r.owned.shell → Fine r.owned.shell → Fine (grabbed b xdg r).owned.shell
   fine-grabbed true xdg r apart living fine =
@@ -184,6 +194,7 @@ module _ (P : ℕ → Type 0) where
   demanded-fine c k (GetPointer id version) r d apart ok fit new next up fine = fine-drawn (has_focus c d.pointer.focus) (record r { pointers = in_rising_order id r.pointers }) fine
   demanded-fine c k (MakeCursor surface) r d apart ok fit new next up fine = fine
   demanded-fine c k (GetPopup id version xdg parent p) r d apart ok fit new next up fine = fine-popup id xdg parent k p (xdg_at xdg r.owned.shell) r next up refl ok.1 fit fine
+  demanded-fine c k (Reposition xdg token p) r d apart ok fit new next up fine = fine-repositioned (placement_now c r d) p (popup_at xdg r.owned.shell) r fine
   demanded-fine c k (Grab xdg serial) r d apart ok fit new next up fine = fine-grabbed (grab_allowed c xdg serial r d) xdg r apart fit fine
   demanded-fine c k (EndPopup id xdg) r d apart ok fit new next up fine = fine-bare xdg r.owned.shell (no-parent xdg r.owned.shell fit) fine
   demanded-fine c k (EndToplevel id xdg top) r d apart ok fit new next up fine = fine-ended xdg r.owned.shell fine

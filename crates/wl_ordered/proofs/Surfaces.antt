@@ -7,10 +7,11 @@ use Rattle.wl_surface.specs.Surfaces.{Surfaces, with_new}
 use Rattle.wl_surface.specs.Trees.{destroyed_in}
 use Rattle.wl_xdg_state.specs.Positioner.{Positioner}
 use Rattle.wl_xdg_state.specs.Shell.{Effect, XdgSurface as Xdg, xdg_at, xdg_of}
+use Rattle.wl_xdg_state.specs.Popups.{Popped, is_configured, popup_at}
 use Rattle.wl_plain.specs.Ask.{Ask, Own, CreateSurface, AskSurface, EndObject, GetXdgSurface, DestroyXdgSurface, GetToplevel, Acknowledge, ConfigureAgain, Ignore}
 use Rattle.wl_plain.specs.Changing.{Placing, changed_for, drawing, effect_placing, grab_allowed, grabbed, has_focus, in_rising_order, is_configure, link_with_id, mode_set, placement_now}
-use Rattle.wl_plain.specs.Changing.{popup_given_to, tree_committed}
-use Rattle.wl_plain.specs.Demand.{Demand, Asks, EndSurface, AskFrame, CommitTree, GetSubsurface, EndSubsurface, SetMode, GetPointer, MakeCursor}
+use Rattle.wl_plain.specs.Changing.{popup_given_to, tree_committed, popup_repositioned}
+use Rattle.wl_plain.specs.Demand.{Demand, Asks, EndSurface, AskFrame, CommitTree, GetSubsurface, EndSubsurface, SetMode, GetPointer, MakeCursor, Reposition}
 use Rattle.wl_plain.specs.Demand.{GetPopup, Grab, EndPopup, EndToplevel, Move}
 use Rattle.wl_plain.specs.Demanding.{effect_of_commit}
 use Rattle.wl_plain.specs.Desktop.{Desktop, Resident}
@@ -43,6 +44,10 @@ toplevel-there id xdg (Some x) r = there-changed x.surface (with_role AsToplevel
 popup-there : (id xdg parent : ℕ) (p : Positioner) (o : Option Xdg) (r : Resident) → There r.owned.surfaces (popup_given_to id xdg parent p o r).owned.surfaces
 popup-there id xdg parent p None r = λ key. refl
 popup-there id xdg parent p (Some x) r = there-changed x.surface (with_role AsPopup) r.owned.surfaces (λ s. refl)
+
+reposition-there : (where_to : Placing) (p : Positioner) (o : Option Popped) (r : Resident) → There r.owned.surfaces (popup_repositioned where_to p o r).owned.surfaces
+reposition-there where_to p None r = λ key. refl
+reposition-there where_to p (Some q) r = drawn-there (is_configured q) r.owned.surfaces _ (λ key. refl)
 
 grabbed-there : (b : Bool) (xdg : ℕ) (r : Resident) → There r.owned.surfaces (grabbed b xdg r).owned.surfaces
 grabbed-there true xdg r = λ key. refl
@@ -78,6 +83,7 @@ demand-there c (GetPointer id version) r d =
     drawn-there (has_focus c d.pointer.focus) r.owned.surfaces (record r { pointers = in_rising_order id r.pointers }) (λ key. refl)
 demand-there c (MakeCursor surface) r d = there-changed surface (with_role AsCursor) r.owned.surfaces (λ s. refl)
 demand-there c (GetPopup id version xdg parent p) r d = popup-there id xdg parent p (xdg_at xdg r.owned.shell) r
+demand-there c (Reposition xdg token p) r d = reposition-there (placement_now c r d) p (popup_at xdg r.owned.shell) r
 demand-there c (Grab xdg serial) r d = grabbed-there (grab_allowed c xdg serial r d) xdg r
 demand-there c (EndPopup id xdg) r d = λ key. refl
 demand-there c (EndToplevel id xdg top) r d = λ key. refl

@@ -10,5 +10,6 @@ pub mod Grabbing
 pub mod Knowing
 pub mod Naming
 pub mod Renamed
+pub mod Repositioning
 pub mod Rows
 pub mod Stepping

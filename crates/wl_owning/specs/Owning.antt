@@ -145,6 +145,7 @@ abbrev pub effect_by : ShellAct → Effect
 effect_by (act.Configure placed) = Configures
 effect_by act.Map = Maps
 effect_by act.Unmap = Unmaps
+effect_by (act.Place placed) = Stays
 effect_by act.Nothing = Stays
 
 -- a configure is sent, or nothing is

@@ -5,6 +5,7 @@ use Rattle.std.specs.Prelude.{List, [], ◌∷◌, ◌++◌, ◌≤◌, length, 
 use Rattle.std.specs.Option.{option_and_then, option_map}
 use Rattle.wl_geom.specs.declared.rect.Rect.{Rect}
 use Rattle.wl_interface.specs.declared.interface.Interface.TheVariants.{XdgPopup, XdgToplevel}
+use Rattle.wl_wire.specs.Wire.{Word}
 use Rattle.wl_proto.specs.Messages.{says}
 use Rattle.wl_peer.specs.Objects.{is_of}
 use Rattle.wl_peer.specs.Told.{Said, said}
@@ -25,7 +26,7 @@ use Rattle.wl_shell.specs.Popups.{IsNewest, dismissible_under, has_child, parent
 use Rattle.wl_xdg_state.specs.declared.acts.ShellAct.{ShellAct}
 use Rattle.wl_xdg_state.specs.declared.acts.ShellAct.TheVariants.{Configure}
 use Rattle.wl_xdg_state.specs.Kept.{Book, Kept, changing, commit_answer, grab_answer, kept_after, kept_changed, kept_grabbing, kept_of}
-use Rattle.wl_xdg_state.specs.Kept.{kept_popup, kept_without_role, popup_answer}
+use Rattle.wl_xdg_state.specs.Kept.{kept_popup, kept_repositioning, kept_without_role, popup_answer, reposition_answer}
 use Rattle.wl_xdg_state.specs.Popups.{Popped, dismiss, dismissing, is_parent_of, orphaning, popup_at, popup_in, popups_of}
 use Rattle.wl_xdg_state.specs.Positioner.{Placed, Positioner}
 use Rattle.wl_xdg_state.specs.Shell.{IsPopup, Kind, Popup, RoleObject, Shell, Toplevel, XdgSurface, is_role, xdg_at, xdg_of, xdg_with}
@@ -33,13 +34,13 @@ use Rattle.wl_stacking.specs.Popups.{parent_corner}
 use Rattle.wl_stacking.specs.Stacking.{Owned}
 use Rattle.wl_stacking.specs.Windows.{Place, Window}
 use Rattle.wl_plain.specs.Ask.{Ignore}
-use Rattle.wl_plain.specs.Changing.{changed_for, grab_allowed, grab_holder, is_held_elsewhere, is_latest, output_rect}
-use Rattle.wl_plain.specs.Demand.{Demand, Asks, CommitTree, GetPopup, Grab, EndPopup, EndToplevel}
+use Rattle.wl_plain.specs.Changing.{changed_for, drawing, grab_allowed, grab_holder, is_held_elsewhere, is_latest, output_rect}
+use Rattle.wl_plain.specs.Demand.{Demand, Asks, CommitTree, GetPopup, Reposition, Grab, EndPopup, EndToplevel}
 use Rattle.wl_plain.specs.Desktop.{Desktop, Resident}
-use Rattle.wl_plain.specs.Replies.{own_answers, popup_told, popups_done}
+use Rattle.wl_plain.specs.Replies.{own_answers, popup_configured, popup_told, popups_done}
 use Rattle.wl_plain.specs.Step.{toplevel_configured, xdg_configured}
 use Rattle.wl_plain.specs.WlSurface.{will_show}
-use Rattle.wl_plain.specs.XdgPopup.{grab_of, is_no_popup, may_be_parent, popup_destroyed, popup_made}
+use Rattle.wl_plain.specs.XdgPopup.{grab_of, is_no_popup, may_be_parent, popup_destroyed, popup_made, repositioned_by}
 use Rattle.wl_plain.specs.XdgShell.{role_of}
 use Rattle.wl_laws.specs.Soundness.{IsNoChild}
 use Rattle.wl_invariants.specs.InOrder.{OwnsInOrder}
@@ -298,10 +299,16 @@ corner_of place = (place.x, place.y)
 abbrev pub popup_of_surface : ℕ → Shell → Option Popup
 popup_of_surface surface shell = option_and_then (λ x. popup_in x.role) (xdg_of surface shell)
 
--- the window geometry of its parent stands there
+-- the popup with this id, if there is one
+abbrev pub popup_with : ℕ → Shell → Option Popup
+popup_with id shell = option_and_then (λ x. popup_in x.role) (xdg_with id shell)
+
+-- the window geometry of the parent of a popup stands there
+abbrev pub IsAtParentOf : Option Popup → ℤ × ℤ → ℕ → Resident → Desktop → Type 0
+IsAtParentOf popup at c r d = IfSome popup (λ popup. at ≡ corner_of (parent_corner d.standing c r.owned popup.parent))
+
 abbrev pub IsAtParent : ℤ × ℤ → ℕ → ℕ → Resident → Desktop → Type 0
-IsAtParent at c surface r d =
-    IfSome (popup_of_surface surface r.owned.shell) (λ popup. at ≡ corner_of (parent_corner d.standing c r.owned popup.parent))
+IsAtParent at c surface r d = IsAtParentOf (popup_of_surface surface r.owned.shell) at c r d
 
 abbrev pub Committed : Type 0
 Committed =
@@ -347,6 +354,58 @@ CommitTold =
 pub record PopupsCommit : Type 0 where
   pub committed : Committed
   pub told : CommitTold
+
+-- ---- xdg_popup.reposition
+
+-- What is asked, or the first error, is what the shell answers.
+abbrev pub RepositionAsked : Type 0
+RepositionAsked =
+    (names : Names) (kept : ℕ → Option Kept) (o : Owned) (number : ℕ) (k : Kept) (x : XdgSurface) (h : History) (object token : ℕ)
+    (p : Popped) (positioner : Positioner) (bounds : Rect) (at : ℤ × ℤ)
+    → IsXdg names kept o number k x h
+    → popup_at x.id o.shell ≡ Some p
+    → repositioned_by x token positioner (popup_at x.id o.shell)
+    ≡ asks_by (λ (placed : Option Placed). Reposition x.id token positioner) (shell_refusal x.base x.id object)
+    (reposition_answer positioner bounds at (kept number))
+
+-- Its popup has the copy. One that was configured before waits to be placed where the shell answers.
+abbrev pub Repositioned : Type 0
+Repositioned =
+    (names : Names) (slots : Slots) (tied : Tied) (kept : ℕ → Option Kept) (r : Resident) (number : ℕ) (k : Kept) (x : XdgSurface)
+    (h : History) (c token : ℕ) (p : Popped) (positioner : Positioner) (bounds : Rect) (at : ℤ × ℤ) (placed : Option Placed) (d : Desktop)
+    (after : ℕ → Option Kept)
+    → IsOwned names slots tied kept r.owned
+    → IsXdg names kept r.owned number k x h
+    → popup_at x.id r.owned.shell ≡ Some p
+    → bounds ≡ output_rect d.output
+    → IsAtParentOf (Some p.popup) at c r d
+    → reposition_answer positioner bounds at (kept number) ≡ Ok placed
+    → after ≡ changing number (kept_repositioning placed r.peer.serial positioner) kept
+    → IsOwned names slots tied after (changed_for c (Reposition x.id token positioner) r d).owned
+
+-- It is told of that with the token, and then its xdg_surface is configured; of one that isn't placed anew nothing is told.
+abbrev pub anew_told : Option Placed → ℕ → ℕ → ℕ → ℕ → List Said
+anew_told None token serial popup xdg = []
+anew_told (Some placed) token serial popup xdg =
+    said popup (says XdgPopup 2 (Word token ∷ [])) ∷ popup_configured popup placed ∷ xdg_configured xdg serial ∷ []
+
+-- Where it is told the next serial is drawn.
+abbrev pub RepositionTold : Type 0
+RepositionTold =
+    (names : Names) (kept : ℕ → Option Kept) (r : Resident) (number : ℕ) (k : Kept) (x : XdgSurface) (h : History) (c token : ℕ)
+    (p : Popped) (positioner : Positioner) (bounds : Rect) (at : ℤ × ℤ) (placed : Option Placed) (d : Desktop) (windows : List Window)
+    → IsXdg names kept r.owned number k x h
+    → popup_at x.id r.owned.shell ≡ Some p
+    → bounds ≡ output_rect d.output
+    → IsAtParentOf (Some p.popup) at c r d
+    → reposition_answer positioner bounds at (kept number) ≡ Ok placed
+    → (own_answers c (Reposition x.id token positioner) r windows d ≡ anew_told placed token r.peer.serial p.object.id x.id)
+    × ((changed_for c (Reposition x.id token positioner) r d).peer ≡ (drawing (is_some placed) r).peer)
+
+pub record PopupsAnew : Type 0 where
+  pub asked : RepositionAsked
+  pub repositioned : Repositioned
+  pub told : RepositionTold
 
 -- ---- xdg_popup.grab
 

@@ -2,7 +2,7 @@
 //! them, its xdg_surfaces, its wl_subsurfaces, and the buffers of these.
 #![tactic(auto)]
 
-ghost use Rattle.wl_owning.specs.Popups.{PopupsAreDismissed, PopupsCome, PopupsCommit, PopupsGo, PopupsGrab, RolesAreKnown, ToplevelsGo};
+ghost use Rattle.wl_owning.specs.Popups.{PopupsAnew, PopupsAreDismissed, PopupsCome, PopupsCommit, PopupsGo, PopupsGrab, RolesAreKnown, ToplevelsGo};
 ghost use Rattle.wl_owning.specs.RoleNames.{RolesAreNamed};
 ghost use Rattle.wl_owning.specs.Twins.{KeptByNumbers};
 
@@ -52,4 +52,10 @@ pub fn popups_commit()
 /// A grab is taken, or its popup is to be dismissed, as the shell answers (xdg-shell.xml, xdg_popup.grab).
 pub fn popups_grab()
     ensures { PopupsGrab }
+{}
+
+/// A popup that is placed anew has a copy of the positioner, and waits to be placed where the shell answers, or that is refused as it answers; it is
+/// told so with the token of the request (xdg-shell.xml, xdg_popup.reposition).
+pub fn popups_are_placed_anew()
+    ensures { PopupsAnew }
 {}

@@ -1,18 +1,17 @@
 -- Windows laid over a run, one after the other.
 use Rattle.std.proofs.Common.{◌≡◌, ℕ, ◌+◌, ◌-◌, ◌*◌, ◌<◌, ◌≤◌, ℤ, pos, ◌-ℤ◌, Bool, ◌&&◌, true, false, List, take, refl, sym, ◌∙◌, ap, arith, inl, inr}
-use Rattle.std.specs.Prelude.{slice_get, slice_index, Some, unsigned_abs, ◌⊎◌, nat_lt, cond, ◌^◌}
+use Rattle.std.specs.Prelude.{slice_get, slice_index, Some, unsigned_abs, ◌/◌, ◌⊎◌, nat_lt, cond, ◌^◌}
 use Rattle.std.proofs.lemmas.Bool.{cases_lt}
 use Rattle.std.proofs.lemmas.Bool.Decides.{nat_tests}
 use Rattle.std.proofs.lemmas.Int.{ints}
+use Rattle.std.proofs.Math.Nat.{div-le_self}
 use Rattle.std.proofs.lemmas.Option.{slice_get_within, get_or_from_slice_get}
 use Rattle.std.proofs.lemmas.List.Sums.{fold_more}
 use Rattle.wl_blend.specs.declared.color.Rgb.{Rgb}
 use Rattle.wl_blend.specs.Blend.{blended, color_of}
 use Rattle.wl_geom.specs.Rect.{count_at, in_span}
-use Rattle.wl_store.specs.declared.place.Layout.{Layout}
-use Rattle.wl_store.specs.declared.transform.Transform.{Transform}
 use Rattle.wl_store.specs.Transform.{is_turned}
-use Rattle.wl_store.specs.Picture.{color_at, surface_height, surface_width}
+use Rattle.wl_store.specs.Picture.{Shown, color_at, surface_height, surface_width}
 use Rattle.wl_paint.specs.Damage.{is_between}
 use Rattle.wl_paint.specs.Painting.{Shows, opaque, pixel_of}
 use Rattle.wl_paint.specs.Window.{AreOpaqueAsSaid, HasAlphaAsSaid, Window, in_window, is_said_opaque, over, scratch}
@@ -30,7 +29,7 @@ pub kept_pixel : (run : List ℕ) (i : ℕ) (color : Rgb) → slice_index run (4
 kept_pixel run i color fourth same = rw (fourth, same) refl
 
 -- a window lets be what is beside it
-pub over-beside : (x y : ℤ) (under : Rgb) (w : Window) → in_span w.x (pos (surface_width w.picture.transform w.picture.layout)) x ≡ false → over x y under w ≡ under
+pub over-beside : (x y : ℤ) (under : Rgb) (w : Window) → in_span w.x (pos (surface_width w.picture)) x ≡ false → over x y under w ≡ under
 over-beside x y under w e = rw e refl
 
 and-false : (a : Bool) → (a && false) ≡ false
@@ -38,20 +37,20 @@ and-false true = refl
 and-false false = refl
 
 -- and what is above or below it
-pub over-above : (x y : ℤ) (under : Rgb) (w : Window) → in_span w.y (pos (surface_height w.picture.transform w.picture.layout)) y ≡ false → over x y under w ≡ under
-over-above x y under w e = rw (e, and-false (in_span w.x (pos (surface_width w.picture.transform w.picture.layout)) x)) refl
+pub over-above : (x y : ℤ) (under : Rgb) (w : Window) → in_span w.y (pos (surface_height w.picture)) y ≡ false → over x y under w ≡ under
+over-above x y under w e = rw (e, and-false (in_span w.x (pos (surface_width w.picture)) x)) refl
 
-over-inside : (x y : ℤ) (under : Rgb) (w : Window) (i j : ℕ) → in_span w.x (pos (surface_width w.picture.transform w.picture.layout)) x ≡ true
-    → in_span w.y (pos (surface_height w.picture.transform w.picture.layout)) y ≡ true → unsigned_abs (x -ℤ w.x) ≡ i → unsigned_abs (y -ℤ w.y) ≡ j
+over-inside : (x y : ℤ) (under : Rgb) (w : Window) (i j : ℕ) → in_span w.x (pos (surface_width w.picture)) x ≡ true
+    → in_span w.y (pos (surface_height w.picture)) y ≡ true → unsigned_abs (x -ℤ w.x) ≡ i → unsigned_abs (y -ℤ w.y) ≡ j
     → over x y under w ≡ blended under (color_at w.picture i j)
 over-inside x y under w i j column row right down = rw (column, row, right, down) refl
 
 -- a run over which the window is laid, of which the pixels from `first` up to `end` lie in the window
 pub laid_pixel : (run now : List ℕ) (w : Window) (x y first end count i j : ℕ)
-    → ((k : ℕ) → k < count → in_span w.x (pos (surface_width w.picture.transform w.picture.layout)) (pos (x + k)) ≡ is_between first end k)
+    → ((k : ℕ) → k < count → in_span w.x (pos (surface_width w.picture)) (pos (x + k)) ≡ is_between first end k)
     → first ≤ end → i ≡ unsigned_abs (pos (x + first) -ℤ w.x)
-    → in_span w.x (pos (surface_width w.picture.transform w.picture.layout)) (pos (x + first)) ≡ true
-    → in_span w.y (pos (surface_height w.picture.transform w.picture.layout)) (pos y) ≡ true → j ≡ unsigned_abs (pos y -ℤ w.y)
+    → in_span w.x (pos (surface_width w.picture)) (pos (x + first)) ≡ true
+    → in_span w.y (pos (surface_height w.picture)) (pos y) ≡ true → j ≡ unsigned_abs (pos y -ℤ w.y)
     → ((k : ℕ) → k < end - first → pixel_of now (first + k) ≡ opaque (blended (color_of run (first + k)) (color_at w.picture (i + k) j)))
     → ((k : ℕ) → (k < first) ⊎ (first + (end - first) ≤ k) → pixel_of now k ≡ pixel_of run k)
     → (k : ℕ) → k < count → slice_index run (4 * k + 3) ≡ 255 → pixel_of now k ≡ opaque (over (pos (x + k)) (pos y) (color_of run k) w)
@@ -64,7 +63,7 @@ laid_pixel run now w x y first end count i j same order is column row down insid
       | inr g ↦ elim (cases_lt k end) [
         | inl to ↦ (
             let at : first + (k - first) ≡ k = omega arith in
-            let place = part_offset w.x (surface_width w.picture.transform w.picture.layout) x i first end count same is column k h g to in
+            let place = part_offset w.x (surface_width w.picture) x i first end count same is column k h g to in
             let shown = over-inside (pos (x + k)) (pos y) (color_of run k) w (i + (k - first)) j place.0 row place.1 (sym down) in
             let e = inside (k - first) (omega arith) in
             (rw at at e) ∙ ap opaque (sym shown))
@@ -74,12 +73,12 @@ laid_pixel run now w x y first end count i j same order is column row down insid
 
 -- a pixel that shows the window's point whatever is below it
 pub hidden_pixel : (pixel : Rgb × ℕ) (promised : Type 0) (w : Window) (x y i j k : ℕ) (under : Rgb)
-    → in_span w.x (pos (surface_width w.picture.transform w.picture.layout)) (pos x) ≡ true → i ≡ unsigned_abs (pos x -ℤ w.x)
-    → in_span w.y (pos (surface_height w.picture.transform w.picture.layout)) (pos y) ≡ true → j ≡ unsigned_abs (pos y -ℤ w.y)
-    → i + k < surface_width w.picture.transform w.picture.layout
+    → in_span w.x (pos (surface_width w.picture)) (pos x) ≡ true → i ≡ unsigned_abs (pos x -ℤ w.x)
+    → in_span w.y (pos (surface_height w.picture)) (pos y) ≡ true → j ≡ unsigned_abs (pos y -ℤ w.y)
+    → i + k < surface_width w.picture
     → pixel ≡ opaque (blended under (color_at w.picture (i + k) j)) → Shows promised (over (pos (x + k)) (pos y) under w) pixel
 hidden_pixel pixel promised w x y i j k under column is row down small e =
-    let place = offset_within w.x (surface_width w.picture.transform w.picture.layout) x i k column is small in
+    let place = offset_within w.x (surface_width w.picture) x i k column is small in
     Shows-always promised _ pixel (e ∙ ap opaque (sym (over-inside (pos (x + k)) (pos y) under w (i + k) j place.0 row place.1 (sym down))))
 
 -- in a span a place is as far from the start as it is counted
@@ -91,8 +90,8 @@ some-counted n h = grind (arith, nat_tests)
 
 -- a point that the opaque region holds has the alpha that was promised
 promised-alpha : (w : Window) (x y i j : ℕ)
-    → in_span w.x (pos (surface_width w.picture.transform w.picture.layout)) (pos x) ≡ true → unsigned_abs (pos x -ℤ w.x) ≡ i
-    → in_span w.y (pos (surface_height w.picture.transform w.picture.layout)) (pos y) ≡ true → unsigned_abs (pos y -ℤ w.y) ≡ j
+    → in_span w.x (pos (surface_width w.picture)) (pos x) ≡ true → unsigned_abs (pos x -ℤ w.x) ≡ i
+    → in_span w.y (pos (surface_height w.picture)) (pos y) ≡ true → unsigned_abs (pos y -ℤ w.y) ≡ j
     → 1 ≤ count_at (pos i) (pos j) w.opaque.rects → HasAlphaAsSaid (pos x) (pos y) w → (color_at w.picture i j).a ≡ 255
 promised-alpha w x y i j column right row down held promise =
     let there : (in_window (pos x) (pos y) w && is_said_opaque (pos x) (pos y) w) ≡ true
@@ -101,26 +100,26 @@ promised-alpha w x y i j column right row down held promise =
 
 -- a pixel that shows the window's point where that is as opaque as was said
 pub said_pixel : (pixel : Rgb × ℕ) (w : Window) (x y i j k : ℕ) (under : Rgb)
-    → in_span w.x (pos (surface_width w.picture.transform w.picture.layout)) (pos x) ≡ true → i ≡ unsigned_abs (pos x -ℤ w.x)
-    → in_span w.y (pos (surface_height w.picture.transform w.picture.layout)) (pos y) ≡ true → j ≡ unsigned_abs (pos y -ℤ w.y)
-    → i + k < surface_width w.picture.transform w.picture.layout → 1 ≤ count_at (pos (i + k)) (pos j) w.opaque.rects
+    → in_span w.x (pos (surface_width w.picture)) (pos x) ≡ true → i ≡ unsigned_abs (pos x -ℤ w.x)
+    → in_span w.y (pos (surface_height w.picture)) (pos y) ≡ true → j ≡ unsigned_abs (pos y -ℤ w.y)
+    → i + k < surface_width w.picture → 1 ≤ count_at (pos (i + k)) (pos j) w.opaque.rects
     → Shows ((color_at w.picture (i + k) j).a ≡ 255) (blended under (color_at w.picture (i + k) j)) pixel
     → Shows (HasAlphaAsSaid (pos (x + k)) (pos y) w) (over (pos (x + k)) (pos y) under w) pixel
 said_pixel pixel w x y i j k under column is row down small held s =
-    let place = offset_within w.x (surface_width w.picture.transform w.picture.layout) x i k column is small in
+    let place = offset_within w.x (surface_width w.picture) x i k column is small in
     Shows-more _ _ _ _ pixel (promised-alpha w (x + k) y (i + k) j place.0 place.1 row (sym down) held)
     (sym (over-inside (pos (x + k)) (pos y) under w (i + k) j place.0 row place.1 (sym down))) s
 
 -- a surface's sides fit 31 bits
-side-fits : (turned : Bool) (m n : ℕ) → m < 2 ^ 31 → n < 2 ^ 31 → cond turned m n < 2 ^ 31
-side-fits true m n h l = h
-side-fits false m n h l = l
+side-fits : (turned : Bool) (m n s : ℕ) → m < 2 ^ 31 → n < 2 ^ 31 → cond turned (m / s) (n / s) < 2 ^ 31
+side-fits true m n s h l = omega (arith, div-le_self m s)
+side-fits false m n s h l = omega (arith, div-le_self n s)
 
-pub width-fits : (t : Transform) (l : Layout) → surface_width t l < 2 ^ 31
-width-fits t l = side-fits (is_turned t) l.h l.w l.height_fits (omega (arith, l.wide_rows, l.stride_fits))
+pub width-fits : (p : Shown) → surface_width p < 2 ^ 31
+width-fits p = side-fits (is_turned p.transform) p.layout.h p.layout.w p.scale p.layout.height_fits (omega (arith, p.layout.wide_rows, p.layout.stride_fits))
 
-pub height-fits : (t : Transform) (l : Layout) → surface_height t l < 2 ^ 31
-height-fits t l = side-fits (is_turned t) l.w l.h (omega (arith, l.wide_rows, l.stride_fits)) l.height_fits
+pub height-fits : (p : Shown) → surface_height p < 2 ^ 31
+height-fits p = side-fits (is_turned p.transform) p.layout.w p.layout.h p.scale (omega (arith, p.layout.wide_rows, p.layout.stride_fits)) p.layout.height_fits
 
 -- what all promise each promises
 pub promise-of : (windows : List Window) (k : ℕ) (w : Window) (x y : ℤ) → slice_get windows k ≡ Some w → AreOpaqueAsSaid x y windows → HasAlphaAsSaid x y w

@@ -1,7 +1,5 @@
 -- Pixels that have their colour where what is promised holds.
-use Rattle.std.proofs.Common.{◌≡◌, ℕ, ℤ, ◌∙◌, ap, sym}
-use Rattle.wl_store.specs.declared.color.Argb.{Argb}
-use Rattle.wl_blend.specs.Blend.{blended}
+use Rattle.std.proofs.Common.{◌≡◌, ℕ, ℤ, ◌∙◌, ap}
 use Rattle.wl_blend.specs.declared.color.Rgb.{Rgb}
 use Rattle.wl_paint.specs.Painting.{Shows, opaque}
 use Rattle.wl_paint.specs.Window.{Window, over}
@@ -26,9 +24,3 @@ Shows-over promised color pixel next x y w e s = record {
   colored = λ h. ap (λ (p : Rgb × ℕ). p.0) e ∙ ap (λ (u : Rgb). over x y u w) (s.colored h);
   fourth = ap (λ (p : Rgb × ℕ). p.1) e;
 }
-
--- a pixel that shows a point's colour without its alpha
-pub Shows-without_alpha : (color : Argb) (shown : Rgb) (pixel : Rgb × ℕ) (under : Rgb) → pixel ≡ opaque shown → (color.a ≡ 255 → (under : Rgb) → blended under color ≡ shown)
-    → Shows (color.a ≡ 255) (blended under color) pixel
-Shows-without_alpha color shown pixel under e hides =
-    record { colored = λ h. ap (λ (p : Rgb × ℕ). p.0) e ∙ sym (hides h under); fourth = ap (λ (p : Rgb × ℕ). p.1) e }

@@ -46,6 +46,14 @@ pub record IsFirstRun (p : ℕ → Bool) (n from : ℕ) (run : ℕ × ℕ) : Typ
   pub inside : (k : ℕ) → run.0 ≤ k → k < run.0 + run.1 → p k ≡ true
   pub after : run.0 + run.1 < n → p (run.0 + run.1) ≡ false
 
+-- a part of the first run at or after `from` that begins with it and lies before `end`
+pub record IsFirstPart (p : ℕ → Bool) (from end : ℕ) (part : ℕ × ℕ) : Type 0 where
+  pub starts : from ≤ part.0
+  pub some : 1 ≤ part.1
+  pub within : part.0 + part.1 ≤ end
+  pub before : (k : ℕ) → from ≤ k → k < part.0 → p k ≡ false
+  pub inside : (k : ℕ) → part.0 ≤ k → k < part.0 + part.1 → p k ≡ true
+
 -- the first run at or after `from`, or none where no number passes the test
 abbrev pub GivesRun : (ℕ → Bool) → ℕ → ℕ → Option (ℕ × ℕ) → Type 0
 GivesRun p n from (Some run) = IsFirstRun p n from run

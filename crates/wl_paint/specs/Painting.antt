@@ -1,10 +1,12 @@
 -- What is seen of a window that is lent, and images of which a part is painted.
-use Rattle.std.specs.Prelude.{◌≡◌, ℕ, ◌+◌, ◌*◌, ◌<◌, ◌≤◌, ℤ, pos, ◌-ℤ◌, unsigned_abs, Bool, true, false, List, slice_index, Option, Some}
+use Rattle.std.specs.Prelude.{◌≡◌, ℕ, ◌+◌, ◌*◌, ◌<◌, ℤ, pos, ◌-ℤ◌, unsigned_abs, ◌&&◌, Bool, true, false, List, slice_index, Option, Some}
 use Rattle.std.specs.Prelude.{None}
 use Rattle.wl_geom.specs.Rect.{in_span}
 use Rattle.wl_blend.specs.declared.color.Rgb.{Rgb}
 use Rattle.wl_blend.specs.Blend.{color_of}
 use Rattle.wl_paint.specs.declared.windows.Painted.{Painted}
+use Rattle.wl_paint.specs.declared.span.Span.{Span}
+use Rattle.wl_paint.specs.Damage.{is_between}
 use Rattle.wl_paint.specs.Window.{Window}
 
 -- the window that is lent
@@ -24,12 +26,15 @@ pub record Shows (promised : Type 0) (color : Rgb) (pixel : Rgb × ℕ) : Type 0
   pub colored : promised → pixel.0 ≡ color
   pub fourth : pixel.1 ≡ 255
 
--- the first rows are painted where they are damaged, and the rest is as it was
-pub record IsPaintedAbove (was now : ℕ → Rgb × ℕ) (promised : ℕ → ℕ → Type 0) (paint : ℕ → ℕ → Rgb) (damaged : ℕ → ℕ
-    → Bool) (width rows : ℕ) : Type 0 where
-  pub painted : (x y : ℕ) → x < width → y < rows → damaged x y ≡ true → Shows (promised x y) (paint x y) (now (y * width + x))
-  pub kept : (x y : ℕ) → x < width → y < rows → damaged x y ≡ false → now (y * width + x) ≡ was (y * width + x)
-  pub below : (x y : ℕ) → x < width → rows ≤ y → now (y * width + x) ≡ was (y * width + x)
+-- the points that pass the test are painted where they are damaged, and all others are as they were
+pub record IsPaintedIn (was now : ℕ → Rgb × ℕ) (promised : ℕ → ℕ → Type 0) (paint : ℕ → ℕ → Rgb) (damaged : ℕ → ℕ → Bool) (width : ℕ) (chosen : ℕ → ℕ
+    → Bool) : Type 0 where
+  pub painted : (x y : ℕ) → x < width → (chosen x y && damaged x y) ≡ true → Shows (promised x y) (paint x y) (now (y * width + x))
+  pub kept : (x y : ℕ) → x < width → (chosen x y && damaged x y) ≡ false → now (y * width + x) ≡ was (y * width + x)
+
+-- the points of these columns and these rows
+abbrev pub is_in : Span → Span → ℕ → ℕ → Bool
+is_in columns rows x y = is_between columns.first columns.end x && is_between rows.first rows.end y
 
 -- how far the place is from the start, where it is one of the len numbers from there on
 abbrev pub OffsetIn : ℤ → ℕ → ℕ → Option ℕ → Type 0

@@ -17,8 +17,8 @@ pub record Window : Type 0 where
 -- the window contains the point (x, y) of the output
 abbrev pub in_window : ℤ → ℤ → Window → Bool
 in_window x y w =
-    in_span w.x (pos (surface_width w.picture.transform w.picture.layout)) x
-    && in_span w.y (pos (surface_height w.picture.transform w.picture.layout)) y
+    in_span w.x (pos (surface_width w.picture)) x
+    && in_span w.y (pos (surface_height w.picture)) y
 
 -- the window's colour at the point, which it contains
 abbrev pub color_in : ℤ → ℤ → Window → Argb

@@ -1,9 +1,9 @@
-ghost use Rattle.std.specs.Prelude.{◌≡◌, ◌<◌, ◌≤◌, ◌||◌, ◌&&◌, ℕ, [], false, pos, length, slice_index_or, IfOk};
+ghost use Rattle.std.specs.Prelude.{◌≡◌, ◌<◌, ◌≤◌, ◌||◌, ◌&&◌, ℕ, [], false, pos, length, slice_index_or, IsTrue, IfOk, IfSome, IfNone};
 ghost use Rattle.wl_geom.specs.Rect.{in_rect};
-ghost use Rattle.wl_paint.specs.Damage.{GivesRun, count_points, has, is_between, marked};
+ghost use Rattle.wl_paint.specs.Damage.{GivesRun, IsFirstPart, count_points, has, is_between, marked};
 
 use crate::row::Row;
-use crate::span::clipped;
+use crate::span::{Span, clipped};
 use std::alloc::{AllocError, Allocator};
 use std::marker::Model;
 use wl_geom::Rect;
@@ -102,6 +102,13 @@ impl<A: Allocator> Damage<A> {
         clear_rows(&mut self.rows);
     }
 
+    /// The width of the output in pixels.
+    pub(crate) fn width(&self) -> u32
+        ensures { result ≡ self.now.width }
+    {
+        self.width
+    }
+
     /// The start and the length of the first damaged run of row `y` at or after column `from`.
     pub fn next_run(&self, y: u32, from: u32) -> Option<(u32, u32)>
         requires { y < self.now.height }
@@ -109,6 +116,49 @@ impl<A: Allocator> Damage<A> {
     {
         self.rows[y as usize].next_run(from)
     }
+}
+
+/// The start and the length of the first damaged run of row `y` at or after column `from`, or of its part before column `end`.
+pub(crate) fn next_part<A: Allocator>(
+    damage: &Damage<A>,
+    y: u32,
+    from: u32,
+    end: u32,
+) -> Option<(u32, u32)>
+    requires row { y < damage.now.height }
+    requires columns { end ≤ damage.now.width }
+    ensures some { IfSome result (λ part. IsFirstPart (λ x. has damage.now x y) from end part) }
+    ensures none { IfNone result ((x : ℕ) → from ≤ x → x < end → has damage.now x y ≡ false) }
+{
+    let (start, len) = damage.next_run(y, from)?;
+    if start >= end {
+        return None;
+    }
+    Some((start, len.min(end - start)))
+}
+
+/// Whether nothing of the row is damaged.
+fn is_clear_row<A: Allocator>(damage: &Damage<A>, y: u32) -> bool
+    requires { y < damage.now.height }
+    ensures { IsTrue result → (x : ℕ) → x < damage.now.width → has damage.now x y ≡ false }
+{
+    match damage.next_run(y, 0) {
+        Some(_) => false,
+        None => true,
+    }
+}
+
+/// Whether nothing of the rows is damaged.
+pub(crate) fn is_clear<A: Allocator>(damage: &Damage<A>, rows: Span) -> bool
+    requires { rows.end ≤ damage.now.height }
+    ensures { IsTrue result → (x y : ℕ) → x < damage.now.width → rows.first ≤ y → y < rows.end → has damage.now x y ≡ false }
+{
+    for y in rows.first..rows.end {
+        if !is_clear_row(damage, y) {
+            return false;
+        }
+    }
+    true
 }
 
 fn clear_rows<A: Allocator>(rows: &mut [Row<A>])

@@ -2,8 +2,6 @@
 ghost use Rattle.std.specs.Prelude.{◌≡◌, ◌-◌, ◌<◌, ◌≤◌, ◌+◌, ◌*◌, ◌/◌, ◌%◌, ◌^◌, ◌⊎◌, ℕ, IsTrue, IfSome, length, pos, slice_index};
 ghost use Rattle.wl_geom.specs.Region.{CoverRun};
 ghost use Rattle.wl_store.specs.Picture.{color_at, surface_height, surface_width};
-ghost use Rattle.wl_store.specs.declared.color.Format.TheVariants.{Argb8888};
-ghost use Rattle.wl_store.specs.Layout.{argb_of};
 ghost use Rattle.wl_blend.specs.Blend.{blended, color_of};
 ghost use Rattle.wl_blend.specs.declared.color.Rgb.{Rgb};
 ghost use Rattle.wl_paint.specs.Painting.{OffsetIn, Shows, opaque, pixel_of, window_of};
@@ -48,6 +46,7 @@ fn is_said_opaque<A: Allocator>(window: &Painted<'_, A>, i: u32, j: u32, count: 
 pub(crate) fn hide<A: Allocator>(run: &mut [u8], x: u32, y: u32, window: &Painted<'_, A>) -> bool
     requires whole { length run.old % 4 ≡ 0 }
     requires fits { x + length run.old < 2 ^ 32 }
+    requires short { length run.old ≤ 4 * STRETCH }
     ensures { IsTrue result → (i : ℕ) → 4 * i < length run.old → (under : Rgb)
         → Shows (HasAlphaAsSaid (pos (x + i)) (pos y) (window_of window.now)) (over (pos (x + i)) (pos y) under (window_of window.now)) (pixel_of run.new i) }
 {
@@ -72,8 +71,8 @@ pub(crate) fn hide<A: Allocator>(run: &mut [u8], x: u32, y: u32, window: &Painte
 fn lay_part(run: &mut [u8], part: Part, picture: &Picture<'_>, i: u32, j: u32)
     requires within { 4 * (part.first + part.count) ≤ length run.old }
     requires short { part.count ≤ STRETCH }
-    requires columns { i + part.count ≤ surface_width picture.now.transform picture.now.layout }
-    requires row { j < surface_height picture.now.transform picture.now.layout }
+    requires columns { i + part.count ≤ surface_width picture.now }
+    requires row { j < surface_height picture.now }
     ensures inside { (k : ℕ) → k < part.count
         → pixel_of run.new (part.first + k) ≡ opaque (blended (color_of run.old (part.first + k)) (color_at picture.now (i + k) j)) }
     ensures outside { (k : ℕ) → (k < part.first) ⊎ (part.first + part.count ≤ k) → pixel_of run.new k ≡ pixel_of run.old k }

@@ -1,15 +1,18 @@
 ghost use Rattle.std.specs.Prelude.{◌≡◌, ◌<◌, ◌≤◌, ◌+◌, ◌*◌, ◌%◌, ◌^◌, ◌⊎◌, ℕ, length, take, pos, true, false};
 ghost use Rattle.wl_paint.specs.Damage.{has};
-ghost use Rattle.wl_paint.specs.Painting.{IsPaintedAbove, Shows, opaque, pixel_of};
+ghost use Rattle.wl_paint.specs.Painting.{IsPaintedIn, Shows, is_in, opaque, pixel_of};
 ghost use Rattle.wl_paint.specs.Window.{AreOpaqueAsSaid, scratch};
 
-use crate::damage::Damage;
+use crate::damage::{Damage, is_clear, next_part};
 use crate::layer::{STRETCH, hide, lay_window};
 use crate::pixel::write_color;
-use crate::span::Part;
+use crate::span::{Part, Span};
 use crate::windows::Windows;
 use std::alloc::Allocator;
 use wl_blend::Rgb;
+
+/// How many rows are painted together: as many as pixels of a buffer lie in one line of a processor's cache.
+const BAND: u32 = 16;
 
 /// What an output shows: a colour, and windows over it.
 #[derive(Drop)]
@@ -33,6 +36,7 @@ fn fill_run(run: &mut [u8], color: Rgb)
 fn paint_lowest<W: Windows>(run: &mut [u8], x: u32, y: u32, layers: &Layers<'_, W>) -> usize
     requires whole { length run.old % 4 ≡ 0 }
     requires fits { x + length run.old < 2 ^ 32 }
+    requires short { length run.old ≤ 4 * STRETCH }
     ensures within { result ≤ length (W.windows layers.now.windows.now) }
     ensures pixels { (i : ℕ) → 4 * i < length run.old
         → Shows (AreOpaqueAsSaid (pos (x + i)) (pos y) (W.windows layers.now.windows.now))
@@ -78,28 +82,38 @@ fn paint_part<W: Windows>(pixels: &mut [u8], part: Part, x: u32, y: u32, layers:
     paint_run(&mut pixels[4 * part.first..4 * end], x, y, layers);
 }
 
-/// Paints the damaged pixels of row `y`, whose first pixel is `base`.
+/// The number of the pixel in column `x` of row `y`.
+fn number_of<A: Allocator>(damage: &Damage<A>, x: u32, y: u32) -> usize
+    requires { damage.now.width ≤ 4096 }
+    ensures { result ≡ y * damage.now.width + x }
+{
+    y as usize * damage.width() as usize + x as usize
+}
+
+/// Paints the damaged pixels of row `y` in these columns.
 fn paint_row<A: Allocator, W: Windows>(
     pixels: &mut [u8],
-    base: usize,
     y: u32,
+    columns: Span,
     damage: &Damage<A>,
     layers: &Layers<'_, W>,
 )
-    requires within { 4 * (base + damage.now.width) ≤ length pixels.old }
+    requires sized { length pixels.old ≡ 4 * (damage.now.width * damage.now.height) }
     requires narrow { damage.now.width ≤ 4096 }
+    requires low { damage.now.height ≤ 4096 }
     requires row { y < damage.now.height }
-    ensures damaged { (x : ℕ) → x < damage.now.width → has damage.now x y ≡ true
-        → Shows (AreOpaqueAsSaid (pos x) (pos y) (W.windows layers.now.windows.now))
-        (scratch layers.now.background (W.windows layers.now.windows.now) (pos x) (pos y)) (pixel_of pixels.new (base + x)) }
-    ensures kept { (x : ℕ) → x < damage.now.width → has damage.now x y ≡ false → pixel_of pixels.new (base + x) ≡ pixel_of pixels.old (base + x) }
-    ensures outside { (k : ℕ) → (k < base) ⊎ (base + damage.now.width ≤ k) → pixel_of pixels.new k ≡ pixel_of pixels.old k }
+    requires order { columns.first ≤ columns.end }
+    requires within { columns.end ≤ damage.now.width }
+    requires short { columns.end ≤ columns.first + STRETCH }
+    ensures { IsPaintedIn (pixel_of pixels.old) (pixel_of pixels.new)
+        (λ x z. AreOpaqueAsSaid (pos x) (pos z) (W.windows layers.now.windows.now))
+        (λ x z. scratch layers.now.background (W.windows layers.now.windows.now) (pos x) (pos z))
+        (has damage.now) damage.now.width (is_in columns (record { first = y; end = y + 1 })) }
 {
-    let mut from = 0;
-    while let Some((start, len)) = damage.next_run(y, from) {
-        let count = len.min(STRETCH as u32);
+    let mut from = columns.first;
+    while let Some((start, count)) = next_part(damage, y, from, columns.end) {
         let part = Part {
-            first: base + start as usize,
+            first: number_of(damage, start, y),
             count: count as usize,
         };
         paint_part(pixels, part, start, y, layers);
@@ -107,7 +121,83 @@ fn paint_row<A: Allocator, W: Windows>(
     }
 }
 
-/// Paints the damaged pixels of an image with these sides.
+/// Paints the damaged pixels of these rows in these columns.
+fn paint_columns<A: Allocator, W: Windows>(
+    pixels: &mut [u8],
+    rows: Span,
+    columns: Span,
+    damage: &Damage<A>,
+    layers: &Layers<'_, W>,
+)
+    requires sized { length pixels.old ≡ 4 * (damage.now.width * damage.now.height) }
+    requires narrow { damage.now.width ≤ 4096 }
+    requires low { damage.now.height ≤ 4096 }
+    requires rows { rows.first ≤ rows.end }
+    requires high { rows.end ≤ damage.now.height }
+    requires order { columns.first ≤ columns.end }
+    requires within { columns.end ≤ damage.now.width }
+    requires short { columns.end ≤ columns.first + STRETCH }
+    ensures { IsPaintedIn (pixel_of pixels.old) (pixel_of pixels.new)
+        (λ x y. AreOpaqueAsSaid (pos x) (pos y) (W.windows layers.now.windows.now))
+        (λ x y. scratch layers.now.background (W.windows layers.now.windows.now) (pos x) (pos y))
+        (has damage.now) damage.now.width (is_in columns rows) }
+{
+    for y in rows.first..rows.end {
+        paint_row(pixels, y, columns, damage, layers);
+    }
+}
+
+/// Paints the damaged pixels of these rows, a stretch of their columns after the other.
+fn paint_strips<A: Allocator, W: Windows>(
+    pixels: &mut [u8],
+    rows: Span,
+    damage: &Damage<A>,
+    layers: &Layers<'_, W>,
+)
+    requires sized { length pixels.old ≡ 4 * (damage.now.width * damage.now.height) }
+    requires narrow { damage.now.width ≤ 4096 }
+    requires low { damage.now.height ≤ 4096 }
+    requires rows { rows.first ≤ rows.end }
+    requires high { rows.end ≤ damage.now.height }
+    ensures { IsPaintedIn (pixel_of pixels.old) (pixel_of pixels.new)
+        (λ x y. AreOpaqueAsSaid (pos x) (pos y) (W.windows layers.now.windows.now))
+        (λ x y. scratch layers.now.background (W.windows layers.now.windows.now) (pos x) (pos y))
+        (has damage.now) damage.now.width (is_in (record { first = 0; end = damage.now.width }) rows) }
+{
+    let width = damage.width();
+    let mut first = 0;
+    while first < width {
+        let end = (first + STRETCH as u32).min(width);
+        paint_columns(pixels, rows, Span { first, end }, damage, layers);
+        first = end;
+    }
+}
+
+/// Paints the damaged pixels of these rows. They are left at once where none is.
+fn paint_band<A: Allocator, W: Windows>(
+    pixels: &mut [u8],
+    rows: Span,
+    damage: &Damage<A>,
+    layers: &Layers<'_, W>,
+)
+    requires sized { length pixels.old ≡ 4 * (damage.now.width * damage.now.height) }
+    requires narrow { damage.now.width ≤ 4096 }
+    requires low { damage.now.height ≤ 4096 }
+    requires rows { rows.first ≤ rows.end }
+    requires high { rows.end ≤ damage.now.height }
+    ensures { IsPaintedIn (pixel_of pixels.old) (pixel_of pixels.new)
+        (λ x y. AreOpaqueAsSaid (pos x) (pos y) (W.windows layers.now.windows.now))
+        (λ x y. scratch layers.now.background (W.windows layers.now.windows.now) (pos x) (pos y))
+        (has damage.now) damage.now.width (is_in (record { first = 0; end = damage.now.width }) rows) }
+{
+    if is_clear(damage, rows) {
+        return;
+    }
+    paint_strips(pixels, rows, damage, layers);
+}
+
+/// Paints the damaged pixels of an image with these sides. It goes by bands of rows, since a window that is turned by a quarter has the
+/// pixels of a column side by side: they are read together while they are at hand.
 pub(crate) fn paint_rows<A: Allocator, W: Windows>(
     pixels: &mut [u8],
     width: u32,
@@ -120,12 +210,18 @@ pub(crate) fn paint_rows<A: Allocator, W: Windows>(
     requires narrow { width ≤ 4096 }
     requires low { height ≤ 4096 }
     requires sized { length pixels.old ≡ 4 * (width * height) }
-    ensures { IsPaintedAbove (pixel_of pixels.old) (pixel_of pixels.new)
+    ensures { IsPaintedIn (pixel_of pixels.old) (pixel_of pixels.new)
         (λ x y. AreOpaqueAsSaid (pos x) (pos y) (W.windows layers.now.windows.now))
-        (λ x y. scratch layers.now.background (W.windows layers.now.windows.now) (pos x) (pos y)) (has damage.now) width height }
+        (λ x y. scratch layers.now.background (W.windows layers.now.windows.now) (pos x) (pos y))
+        (has damage.now) width (is_in (record { first = 0; end = width }) (record { first = 0; end = height })) }
 {
-    for y in 0..height {
-        let base = y as usize * width as usize;
-        paint_row(pixels, base, y, damage, layers);
+    let mut first = 0;
+    while first < height {
+        let rows = Span {
+            first,
+            end: (first + BAND).min(height),
+        };
+        paint_band(pixels, rows, damage, layers);
+        first = rows.end;
     }
 }

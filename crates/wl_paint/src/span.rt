@@ -9,6 +9,13 @@ pub(crate) struct Part {
     pub count: usize,
 }
 
+/// The columns or the rows from `first` up to `end`.
+#[derive(Clone, Copy)]
+pub(crate) struct Span {
+    pub first: u32,
+    pub end: u32,
+}
+
 /// The place, or the nearest from 0 to `size`.
 fn held_to(place: i64, size: u32) -> u32
     ensures same { (at : ℕ) → at < size → nat_lt at result ≡ int_lt (pos at) place }

@@ -82,6 +82,8 @@ of-wl_surface (surface.SetOpaqueRegion region) = refl
 of-wl_surface (surface.SetInputRegion region) = refl
 of-wl_surface surface.Commit = refl
 of-wl_surface (surface.SetBufferTransform transform) = refl
+of-wl_surface (surface.SetBufferScale scale) = refl
+of-wl_surface (surface.DamageBuffer x y width height) = refl
 
 pub of-wl_subcompositor : (request : WlSubcompositorRequest) → request_of (wl_subcompositor_request request) ≡ ToSubcompositor request
 of-wl_subcompositor subcompositor.Destroy = refl
@@ -117,6 +119,9 @@ of-xdg_positioner (positioner.SetAnchor anchor) = refl
 of-xdg_positioner (positioner.SetGravity gravity) = refl
 of-xdg_positioner (positioner.SetConstraintAdjustment adjustment) = refl
 of-xdg_positioner (positioner.SetOffset x y) = refl
+of-xdg_positioner positioner.SetReactive = refl
+of-xdg_positioner (positioner.SetParentSize width height) = refl
+of-xdg_positioner (positioner.SetParentConfigure serial) = refl
 
 pub of-xdg_surface : (request : XdgSurfaceRequest) → request_of (xdg_surface_request request) ≡ ToXdgSurface request
 of-xdg_surface xdg.Destroy = refl
@@ -128,6 +133,7 @@ of-xdg_surface (xdg.AckConfigure serial) = refl
 pub of-xdg_popup : (request : XdgPopupRequest) → request_of (xdg_popup_request request) ≡ ToPopup request
 of-xdg_popup popup.Destroy = refl
 of-xdg_popup (popup.Grab seat serial) = refl
+of-xdg_popup (popup.Reposition positioner token) = refl
 
 -- by the bytes of its texts
 abbrev pub bare : XdgToplevelRequest → ToplevelRequest

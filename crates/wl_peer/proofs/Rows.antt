@@ -81,11 +81,11 @@ row_gone-unsent = refl
 abbrev get_registry : List ℕ
 get_registry = 1 ∷ 0 ∷ 0 ∷ 0 ∷ 1 ∷ 0 ∷ 12 ∷ 0 ∷ 2 ∷ 0 ∷ 0 ∷ 0 ∷ []
 
--- the first global is wl_compositor, at version 2
+-- the first global is wl_compositor, at version 4
 abbrev global_1 : List ℕ
 global_1 =
     2 ∷ 0 ∷ 0 ∷ 0 ∷ 0 ∷ 0 ∷ 36 ∷ 0 ∷ 1 ∷ 0 ∷ 0 ∷ 0 ∷ 14 ∷ 0 ∷ 0 ∷ 0 ∷ 119 ∷ 108 ∷ 95 ∷ 99 ∷ 111 ∷ 109 ∷ 112 ∷ 111 ∷ 115 ∷ 105 ∷ 116 ∷ 111 ∷ 114
-    ∷ 0 ∷ 0 ∷ 0 ∷ 2 ∷ 0 ∷ 0 ∷ 0 ∷ []
+    ∷ 0 ∷ 0 ∷ 0 ∷ 4 ∷ 0 ∷ 0 ∷ 0 ∷ []
 
 pub row_global : take 36 (fed get_registry fresh).unsent ≡ global_1
 row_global = refl
@@ -100,7 +100,7 @@ bind_at version =
 abbrev bound : ℕ → Peer
 bound version = fed (bind_at version) (fed get_registry fresh)
 
-pub row_bound : (bound 2).held ≡ 3
+pub row_bound : (bound 4).held ≡ 3
 row_bound = refl
 
 -- no compositor has version 5 or 0
@@ -153,3 +153,25 @@ row_store_lives = refl
 
 pub row_store_goes : size_of 1 (fed (10 ∷ 0 ∷ 0 ∷ 0 ∷ 0 ∷ 0 ∷ 8 ∷ 0 ∷ []) without_pool).stores ≡ 0
 row_store_goes = refl
+
+-- wl_registry.bind of xdg_wm_base at a version, as object 3, and its positioner 4
+abbrev bind_base_at : ℕ → List ℕ
+bind_base_at version =
+    2 ∷ 0 ∷ 0 ∷ 0 ∷ 0 ∷ 0 ∷ 36 ∷ 0 ∷ 6 ∷ 0 ∷ 0 ∷ 0 ∷ 12 ∷ 0 ∷ 0 ∷ 0 ∷ 120 ∷ 100 ∷ 103 ∷ 95 ∷ 119 ∷ 109 ∷ 95 ∷ 98 ∷ 97 ∷ 115 ∷ 101 ∷ 0 ∷ version ∷ 0 ∷ 0 ∷ 0
+    ∷ 3 ∷ 0 ∷ 0 ∷ 0 ∷ []
+
+abbrev positioned : ℕ → Peer
+positioned version = fed (3 ∷ 0 ∷ 0 ∷ 0 ∷ 1 ∷ 0 ∷ 12 ∷ 0 ∷ 4 ∷ 0 ∷ 0 ∷ 0 ∷ []) (fed (bind_base_at version) (fed get_registry fresh))
+
+pub row_positioned : (positioned 1).held ≡ 4
+row_positioned = refl
+
+-- xdg_positioner.set_reactive came with version 3: at version 1 there is no such request
+abbrev set_reactive : List ℕ
+set_reactive = 4 ∷ 0 ∷ 0 ∷ 0 ∷ 7 ∷ 0 ∷ 8 ∷ 0 ∷ []
+
+pub row_reactive_early : (fed set_reactive (positioned 1)).status ≡ Some (Protocol 1 1)
+row_reactive_early = refl
+
+pub row_reactive : (fed set_reactive (positioned 3)).status ≡ None
+row_reactive = refl

@@ -37,6 +37,7 @@ use Rattle.wl_peer.specs.declared.refusals.ErrorCode.TheVariants.{InvalidObject,
 use Rattle.wl_xdg_state.specs.Settings.{is_allowed}
 use Rattle.wl_xdg_state.specs.declared.settings.Setting.{Setting}
 use Rattle.wl_xdg_state.specs.declared.settings.Setting.TheVariants.{Size, AnchorRect, Anchor, Gravity, Adjustment, Offset}
+use Rattle.wl_xdg_state.specs.declared.settings.Setting.TheVariants.{Reactive, ParentSize, ParentConfigure}
 use Rattle.wl_peer.specs.declared.refusals.ErrorCode.TheVariants.{InvalidFormat, InvalidStride, InvalidFd, InvalidInput}
 use Rattle.wl_peer.specs.declared.refusals.Refusal.{Refusal}
 use Rattle.wl_peer.specs.declared.actions.Action.{Action}
@@ -164,6 +165,9 @@ positioner_action object (positioner.SetAnchor anchor) = set_if_allowed object (
 positioner_action object (positioner.SetGravity gravity) = set_if_allowed object (Gravity gravity)
 positioner_action object (positioner.SetConstraintAdjustment adjustment) = set_if_allowed object (Adjustment adjustment)
 positioner_action object (positioner.SetOffset x y) = set_if_allowed object (Offset x y)
+positioner_action object positioner.SetReactive = set_if_allowed object Reactive
+positioner_action object (positioner.SetParentSize width height) = set_if_allowed object (ParentSize width height)
+positioner_action object (positioner.SetParentConfigure serial) = set_if_allowed object (ParentConfigure serial)
 
 -- The request's own errors, and what it asks. What the definition of a client by itself leaves out is refused as a limit would be.
 abbrev pub action_of : Known → ℕ → ℕ → Request → Result Action Refusal

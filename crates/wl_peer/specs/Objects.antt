@@ -102,12 +102,12 @@ global name interface text version = record { name = name; interface = interface
 -- the globals in the order in which they are told (wayland.xml, wl_registry.global)
 abbrev pub globals : List Global
 globals =
-    global 1 WlCompositor (codes "wl_compositor") 2 ∷
+    global 1 WlCompositor (codes "wl_compositor") 4 ∷
     global 2 WlSubcompositor (codes "wl_subcompositor") 1 ∷
     global 3 WlShm (codes "wl_shm") 1 ∷
     global 4 WlOutput (codes "wl_output") 1 ∷
     global 5 WlSeat (codes "wl_seat") 1 ∷
-    global 6 XdgWmBase (codes "xdg_wm_base") 1 ∷
+    global 6 XdgWmBase (codes "xdg_wm_base") 3 ∷
     []
 
 -- a bind names this global by its name and interface, at one of its versions (wayland.xml, wl_registry.bind)

@@ -124,7 +124,10 @@ surface_request opcode fields =
     if opcode == 3 then surface.Frame (word_in 0 fields) else (
     if opcode == 4 then surface.SetOpaqueRegion (word_in 0 fields) else (
     if opcode == 5 then surface.SetInputRegion (word_in 0 fields) else (
-    if opcode == 6 then surface.Commit else surface.SetBufferTransform (number_in 0 fields)))))))
+    if opcode == 6 then surface.Commit else (
+    if opcode == 7 then surface.SetBufferTransform (number_in 0 fields) else (
+    if opcode == 8 then surface.SetBufferScale (number_in 0 fields) else
+    surface.DamageBuffer (number_in 0 fields) (number_in 1 fields) (number_in 2 fields) (number_in 3 fields)))))))))
 
 abbrev pub subcompositor_request : ℕ → List Field → WlSubcompositorRequest
 subcompositor_request opcode fields =
@@ -159,8 +162,11 @@ positioner_request opcode fields =
     if opcode == 2 then positioner.SetAnchorRect (number_in 0 fields) (number_in 1 fields) (number_in 2 fields) (number_in 3 fields) else (
     if opcode == 3 then positioner.SetAnchor (word_in 0 fields) else (
     if opcode == 4 then positioner.SetGravity (word_in 0 fields) else (
-    if opcode == 5 then positioner.SetConstraintAdjustment (word_in 0 fields) else positioner.SetOffset (number_in 0 fields)
-    (number_in 1 fields))))))
+    if opcode == 5 then positioner.SetConstraintAdjustment (word_in 0 fields) else (
+    if opcode == 6 then positioner.SetOffset (number_in 0 fields) (number_in 1 fields) else (
+    if opcode == 7 then positioner.SetReactive else (
+    if opcode == 8 then positioner.SetParentSize (number_in 0 fields) (number_in 1 fields) else
+    positioner.SetParentConfigure (word_in 0 fields)))))))))
 
 abbrev pub xdg_request : ℕ → List Field → XdgSurfaceRequest
 xdg_request opcode fields =
@@ -187,7 +193,9 @@ toplevel_request opcode fields =
     if opcode == 12 then toplevel.UnsetFullscreen else toplevel.SetMinimized))))))))))))
 
 abbrev pub popup_request : ℕ → List Field → XdgPopupRequest
-popup_request opcode fields = if opcode == 0 then popup.Destroy else popup.Grab (word_in 0 fields) (word_in 1 fields)
+popup_request opcode fields =
+    if opcode == 0 then popup.Destroy else (
+    if opcode == 1 then popup.Grab (word_in 0 fields) (word_in 1 fields) else popup.Reposition (word_in 0 fields) (word_in 1 fields))
 
 abbrev pub request_in : Interface → ℕ → List Field → Request
 request_in WlDisplay opcode fields = ToDisplay (display_request opcode fields)

@@ -8,6 +8,7 @@ use Rattle.wl_proto.specs.Messages.{Message, says}
 use Rattle.wl_peer.specs.declared.refusals.ErrorCode.{ErrorCode}
 use Rattle.wl_peer.specs.declared.refusals.ErrorCode.TheVariants.{InvalidObject, InvalidMethod, NoMemory, Implementation, MissingCapability}
 use Rattle.wl_peer.specs.declared.refusals.ErrorCode.TheVariants.{InvalidFormat, InvalidStride, InvalidFd, InvalidTransform}
+use Rattle.wl_peer.specs.declared.refusals.ErrorCode.TheVariants.{InvalidScale, InvalidBufferSize}
 use Rattle.wl_peer.specs.declared.refusals.ErrorCode.TheVariants.{SurfaceHasRoleObject, BadSurface, BadParent, Role, DefunctSurfaces}
 use Rattle.wl_peer.specs.declared.refusals.ErrorCode.TheVariants.{NotTheTopmostPopup, InvalidPopupParent, InvalidSurfaceState}
 use Rattle.wl_peer.specs.declared.refusals.ErrorCode.TheVariants.{InvalidPositioner, NotConstructed, AlreadyConstructed, UnconfiguredBuffer}
@@ -31,7 +32,9 @@ code_number MissingCapability = 0
 code_number InvalidFormat = 0
 code_number InvalidStride = 1
 code_number InvalidFd = 2
+code_number InvalidScale = 0
 code_number InvalidTransform = 1
+code_number InvalidBufferSize = 2
 code_number SurfaceHasRoleObject = 4
 code_number BadSurface = 0
 code_number BadParent = 1
@@ -60,7 +63,9 @@ code_name MissingCapability = codes "missing_capability"
 code_name InvalidFormat = codes "invalid_format"
 code_name InvalidStride = codes "invalid_stride"
 code_name InvalidFd = codes "invalid_fd"
+code_name InvalidScale = codes "invalid_scale"
 code_name InvalidTransform = codes "invalid_transform"
+code_name InvalidBufferSize = codes "invalid_size"
 code_name SurfaceHasRoleObject = codes "defunct_role_object"
 code_name BadSurface = codes "bad_surface"
 code_name BadParent = codes "bad_parent"

@@ -22,8 +22,12 @@ pub enum ErrorCode {
     InvalidStride,
     /// wl_shm and wl_shm_pool: invalid_fd.
     InvalidFd,
+    /// wl_surface: invalid_scale.
+    InvalidScale,
     /// wl_surface: invalid_transform.
     InvalidTransform,
+    /// wl_surface: invalid_size.
+    InvalidBufferSize,
     /// wl_surface: defunct_role_object.
     SurfaceHasRoleObject,
     /// wl_subcompositor and wl_subsurface: bad_surface.
@@ -69,6 +73,7 @@ impl ErrorCode {
             ErrorCode::InvalidObject
             | ErrorCode::MissingCapability
             | ErrorCode::InvalidFormat
+            | ErrorCode::InvalidScale
             | ErrorCode::BadSurface
             | ErrorCode::Role
             | ErrorCode::InvalidInput
@@ -81,6 +86,7 @@ impl ErrorCode {
             | ErrorCode::NotConstructed => 1,
             ErrorCode::NoMemory
             | ErrorCode::InvalidFd
+            | ErrorCode::InvalidBufferSize
             | ErrorCode::NotTheTopmostPopup
             | ErrorCode::AlreadyConstructed => 2,
             ErrorCode::Implementation
@@ -107,6 +113,7 @@ impl ErrorCode {
             ErrorCode::InvalidFormat => b"invalid_format",
             ErrorCode::InvalidStride => b"invalid_stride",
             ErrorCode::InvalidFd => b"invalid_fd",
+            ErrorCode::InvalidScale => b"invalid_scale",
             ErrorCode::InvalidTransform => b"invalid_transform",
             ErrorCode::SurfaceHasRoleObject | ErrorCode::DefunctRoleObject =>
                 b"defunct_role_object",
@@ -122,7 +129,7 @@ impl ErrorCode {
             ErrorCode::AlreadyConstructed => b"already_constructed",
             ErrorCode::UnconfiguredBuffer => b"unconfigured_buffer",
             ErrorCode::InvalidSerial => b"invalid_serial",
-            ErrorCode::InvalidSize => b"invalid_size",
+            ErrorCode::InvalidBufferSize | ErrorCode::InvalidSize => b"invalid_size",
             ErrorCode::InvalidInput => b"invalid_input",
             ErrorCode::InvalidGrab => b"invalid_grab",
         }

@@ -14,8 +14,8 @@ use Rattle.wl_surface.specs.Surfaces.{Surfaces, history_in, with_change as with_
 use Rattle.wl_surface.specs.Trees.{committed_in, desynchronised_in, destroyed_in, linked, synchronised_in, unlinked}
 use Rattle.wl_state.specs.declared.role.Role.TheVariants.{Popup as AsPopup, Cursor as AsCursor}
 use Rattle.wl_surface.specs.Waiting.{Callback}
-use Rattle.wl_xdg_state.specs.Popups.{dismissing, is_parent_of, is_toplevel, new_popup, orphaning, parent_allows, parent_of, popup_at}
-use Rattle.wl_xdg_state.specs.Popups.{popup_changed, popups_of, with_effect, with_grab}
+use Rattle.wl_xdg_state.specs.Popups.{Popped, copying, dismissing, is_configured, is_parent_of, is_toplevel, new_popup, orphaning}
+use Rattle.wl_xdg_state.specs.Popups.{parent_allows, parent_of, popup_at, popup_changed, popups_of, repositioning, with_effect, with_grab}
 use Rattle.wl_xdg_state.specs.Positioner.{Placed, Positioner, place}
 use Rattle.wl_xdg_state.specs.Shell.{Effect, Configures, Maps, Unmaps, Popup, XdgSurface, next_serial, with_change, without_role, xdg_at}
 use Rattle.wl_xdg_state.specs.Shell.{xdg_of}
@@ -23,7 +23,7 @@ use Rattle.wl_stacking.specs.Pointer.{Pointer, Target}
 use Rattle.wl_stacking.specs.Stacking.{Standing, is_of, with_mapped, without_surface_of}
 use Rattle.wl_stacking.specs.Windows.{Place, Window}
 use Rattle.wl_plain.specs.Demand.{Demand, Asks, EndSurface, AskFrame, CommitTree, GetSubsurface, EndSubsurface, SetMode}
-use Rattle.wl_plain.specs.Demand.{GetPointer, MakeCursor, GetPopup, Grab, EndPopup}
+use Rattle.wl_plain.specs.Demand.{GetPointer, MakeCursor, GetPopup, Reposition, Grab, EndPopup}
 use Rattle.wl_plain.specs.Demand.{EndToplevel, Move}
 use Rattle.wl_plain.specs.Demanding.{effect_of_commit}
 use Rattle.wl_plain.specs.Desktop.{Desktop, Resident, Subsurface}
@@ -146,6 +146,13 @@ abbrev pub popup_given : ℕ → ℕ → ℕ → ℕ → Positioner → Resident
 popup_given id version xdg parent positioner r =
     making XdgPopup id version (popup_given_to id xdg parent positioner (xdg_at xdg r.owned.shell) r)
 
+-- xdg_popup.reposition: placed by what stands before it; where it is configured anew the next serial is drawn
+abbrev pub popup_repositioned : Placing → Positioner → Option Popped → Resident → Resident
+popup_repositioned where_to positioner None r = r
+popup_repositioned where_to positioner (Some p) r =
+    drawing (is_configured p)
+    (xdg_changed p.xdg.id (repositioning (is_configured p) r.peer.serial (where_to (copying positioner p.popup)) positioner) r)
+
 -- a client holds a grab
 abbrev pub holds_grab : Option Resident → Bool
 holds_grab None = false
@@ -214,6 +221,7 @@ changed_for c (SetMode link synchronised) r d = mode_set link synchronised r
 changed_for c (GetPointer id version) r d = pointer_given c id version r d
 changed_for c (MakeCursor surface) r d = with_surfaces (with_surface_change surface (with_role AsCursor) r.owned.surfaces) r
 changed_for c (GetPopup id version xdg parent p) r d = popup_given id version xdg parent p r
+changed_for c (Reposition xdg token p) r d = popup_repositioned (placement_now c r d) p (popup_at xdg r.owned.shell) r
 changed_for c (Grab xdg serial) r d = grabbed (grab_allowed c xdg serial r d) xdg r
 changed_for c (EndPopup id xdg) r d = removing id (xdg_changed xdg without_role r)
 changed_for c (EndToplevel id xdg surface) r d = toplevel_ended id xdg r

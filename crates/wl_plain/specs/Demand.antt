@@ -23,6 +23,8 @@ pub data Demand : Type 0 where
   MakeCursor : ℕ → Demand
   -- a new popup, with its version, of an xdg_surface, with the xdg_surface of its parent and its positioner
   GetPopup : ℕ → ℕ → ℕ → ℕ → Positioner → Demand
+  -- a popup, by its xdg_surface, is placed anew by this positioner, with a token
+  Reposition : ℕ → ℕ → Positioner → Demand
   -- a popup asks for a grab: by its xdg_surface, with a serial
   Grab : ℕ → ℕ → Demand
   -- a popup, and its xdg_surface

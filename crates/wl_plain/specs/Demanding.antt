@@ -1,5 +1,5 @@
 -- What a message demands where every request is served, or the first error that it has.
-use Rattle.std.specs.Prelude.{ℕ, Bool, false, if◌then◌else◌, is_some, Option, Some, None, Result, Ok, Err, List, [], ◌∷◌}
+use Rattle.std.specs.Prelude.{ℕ, Bool, true, false, if◌then◌else◌, is_some, Option, Some, None, Result, Ok, Err, List, [], ◌∷◌}
 use Rattle.wl_proto.specs.declared.wl_compositor.WlCompositorRequest.{WlCompositorRequest}
 use Rattle.wl_proto.specs.declared.wl_compositor.WlCompositorRequest.TheVariants as compositor
 use Rattle.wl_proto.specs.declared.wl_surface.WlSurfaceRequest.{WlSurfaceRequest}
@@ -9,11 +9,12 @@ use Rattle.wl_proto.specs.declared.xdg_surface.XdgSurfaceRequest.TheVariants as 
 use Rattle.wl_proto.specs.declared.xdg_wm_base.XdgWmBaseRequest.{XdgWmBaseRequest}
 use Rattle.wl_proto.specs.declared.xdg_wm_base.XdgWmBaseRequest.TheVariants as base
 use Rattle.wl_proto.specs.Messages.{Message}
-use Rattle.wl_peer.specs.declared.refusals.ErrorCode.TheVariants.{SurfaceHasRoleObject, UnconfiguredBuffer as unconfigured}
+use Rattle.wl_peer.specs.declared.refusals.ErrorCode.TheVariants.{InvalidBufferSize, SurfaceHasRoleObject}
+use Rattle.wl_peer.specs.declared.refusals.ErrorCode.TheVariants.{UnconfiguredBuffer as unconfigured}
 use Rattle.wl_peer.specs.declared.refusals.Refusal.{Refusal}
 use Rattle.wl_peer.specs.Judgement.{action_of, judged_at}
 use Rattle.wl_peer.specs.Peer.{known_of}
-use Rattle.wl_state.specs.Request.{Attach, Damage, SetOpaqueRegion, SetInputRegion}
+use Rattle.wl_state.specs.Request.{Attach, Damage, DamageBuffer, SetOpaqueRegion, SetInputRegion}
 use Rattle.wl_xdg_state.specs.Popups.{Popped, popped_of}
 use Rattle.wl_xdg_state.specs.Shell.{Effect, Stays, Unconfigured, Configures, XdgSurface as Xdg, is_full, on_commit, stage_of, xdg_at}
 use Rattle.wl_xdg_state.specs.Shell.{xdg_of}
@@ -28,7 +29,8 @@ use Rattle.wl_peer.specs.ToplevelRequest.{ToplevelRequest}
 use Rattle.wl_peer.specs.ToplevelRequest as toplevel
 use Rattle.wl_plain.specs.WlPointer.{pointer_demand, seat_demand}
 use Rattle.wl_plain.specs.WlSubsurface.{past_limit, refuses, subcompositor_demand, subsurface_demand}
-use Rattle.wl_plain.specs.WlSurface.{buffer_named, region_named, surface_created, transform_set, will_show}
+use Rattle.wl_plain.specs.WlSurface.{buffer_named, region_named, scale_set, surface_created, transform_set, will_be_whole}
+use Rattle.wl_plain.specs.WlSurface.{will_show}
 use Rattle.wl_plain.specs.XdgPopup.{popup_demand, popup_made, positioner_of}
 use Rattle.wl_plain.specs.XdgShell.{acknowledged_by, base_destroyed, geometry_set, state_asked, toplevel_made, xdg_surface_destroyed}
 use Rattle.wl_plain.specs.XdgShell.{xdg_surface_made}
@@ -69,8 +71,15 @@ committed_by (Some x) object Unconfigured = refuses x.id unconfigured
 committed_by (Some x) object Configures = if is_full x.configures then past_limit else Ok (CommitTree object)
 committed_by (Some x) object effect = Ok (CommitTree object)
 
+-- then, whatever else it comes to, a buffer whose sides are no multiples of the scale is an error of the surface (wayland.xml, wl_surface.error)
+abbrev pub if_whole : Bool → ℕ → Result Demand Refusal → Result Demand Refusal
+if_whole true object demand = demand
+if_whole false object (Ok demand) = refuses object InvalidBufferSize
+if_whole false object (Err refusal) = Err refusal
+
 abbrev pub commit_demand : Resident → ℕ → Result Demand Refusal
-commit_demand r object = committed_by (xdg_of object r.owned.shell) object (effect_of_commit r object)
+commit_demand r object =
+    if_whole (will_be_whole r object) object (committed_by (xdg_of object r.owned.shell) object (effect_of_commit r object))
 
 -- wl_surface.destroy: its xdg_surface must be gone
 abbrev pub surface_destroyed : Resident → ℕ → Result Demand Refusal
@@ -86,6 +95,9 @@ surface_demand r object version (surface.SetOpaqueRegion region) = Ok (Asks (Ask
 surface_demand r object version (surface.SetInputRegion region) = Ok (Asks (AskSurface object (SetInputRegion (region_named r region))))
 surface_demand r object version surface.Commit = commit_demand r object
 surface_demand r object version (surface.SetBufferTransform transform) = demands (transform_set object transform)
+surface_demand r object version (surface.SetBufferScale scale) = demands (scale_set object scale)
+surface_demand r object version (surface.DamageBuffer x y width height) =
+    Ok (Asks (AskSurface object (DamageBuffer (rect x y width height))))
 
 -- xdg_wm_base
 abbrev pub base_demand : Resident → ℕ → ℕ → XdgWmBaseRequest → Result Demand Refusal

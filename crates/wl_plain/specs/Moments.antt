@@ -1,16 +1,14 @@
 -- What a step applies and marks, by the desktops before it and after it.
 use Rattle.std.specs.Prelude.{ℕ, ℤ, int_le, pos, unsigned_abs, ◌&&◌, ◌||◌, Bool, false, Option, Some, None, List, [], ◌∷◌}
-use Rattle.wl_state.specs.State.{History, applied, between, damaged_rects, height_of, is_damaged, width_of}
+use Rattle.wl_state.specs.State.{History, applied, between, is_damaged_by}
 use Rattle.wl_surface.specs.Surfaces.{history_in}
 use Rattle.wl_plain.specs.Desktop.{Desktop, Showing, owned_in}
 use Rattle.wl_plain.specs.Marks.{Applied, at_least, at_most}
 use Rattle.wl_plain.specs.Stacked.{all_windows}
 
--- the damage that was applied to a surface between its old and its new cut, by the size that it has now
+-- the damage that was applied to a surface between its old and its new cut, seen with what it shows now
 abbrev pub is_applied_at : History → History → ℕ → ℕ → Bool
-is_applied_at old new x y =
-    is_damaged (width_of (applied new).buffer (applied new).transform) (height_of (applied new).buffer (applied new).transform)
-    (damaged_rects (between old.cut new.cut new.requests)) x y
+is_applied_at old new x y = is_damaged_by (applied new) (between old.cut new.cut new.requests) x y
 
 abbrev pub is_applied_by : Option History → Option History → ℕ → ℕ → Bool
 is_applied_by (Some old) (Some new) x y = is_applied_at old new x y

@@ -10,13 +10,13 @@ use Rattle.wl_state.specs.Request.{Buffer}
 use Rattle.wl_state.specs.State.{History, applied, held}
 use Rattle.wl_state.specs.Surface.{listed}
 use Rattle.wl_surface.specs.Surfaces.{Surfaces, is_busy}
-use Rattle.wl_xdg_state.specs.Popups.{is_among, popups_of}
-use Rattle.wl_xdg_state.specs.Positioner.{Placed}
+use Rattle.wl_xdg_state.specs.Popups.{Popped, copying, is_among, is_configured, popup_at, popups_of}
+use Rattle.wl_xdg_state.specs.Positioner.{Placed, Positioner}
 use Rattle.wl_xdg_state.specs.Shell.{Effect, Configures, Kind, Toplevel, IsPopup, RoleObject, Shell, XdgSurface, xdg_of}
 use Rattle.wl_stacking.specs.Pointer.{Target, fixed_from}
 use Rattle.wl_stacking.specs.Windows.{Place, Window}
 use Rattle.wl_plain.specs.Changing.{callbacks_of, has_focus, placement_now}
-use Rattle.wl_plain.specs.Demand.{Demand, Asks, EndSurface, CommitTree, EndSubsurface, GetPointer, EndPopup}
+use Rattle.wl_plain.specs.Demand.{Demand, Asks, EndSurface, CommitTree, EndSubsurface, GetPointer, Reposition, EndPopup}
 use Rattle.wl_plain.specs.Demand.{EndToplevel}
 use Rattle.wl_plain.specs.Demanding.{effect_of_commit}
 use Rattle.wl_plain.specs.Desktop.{Desktop, Resident}
@@ -46,6 +46,15 @@ abbrev pub commit_told : ℕ → Effect → Option XdgSurface → Resident → D
 commit_told c Configures (Some x) r d = configure_told c r d x.id x.role
 commit_told c effect x r d = []
 
+-- a popup that is configured anew: with the token, where it will stand, and then the configure of the xdg_surface
+abbrev pub reposition_told : ℕ → Resident → Desktop → ℕ → Positioner → Option Popped → List Said
+reposition_told c r d token positioner None = []
+reposition_told c r d token positioner (Some p) =
+    if is_configured p
+    then said p.object.id (says XdgPopup 2 (Word token ∷ [])) ∷ popup_told p.object.id (placement_now c r d (copying positioner p.popup))
+    ++ xdg_configured p.xdg.id r.peer.serial ∷ []
+    else []
+
 -- ---- the pointer comes to a surface
 
 abbrev pub focus_window : Option Target → List Window → Option Window
@@ -73,6 +82,7 @@ abbrev pub own_answers : ℕ → Demand → Resident → List Window → Desktop
 own_answers c (Asks ask) r windows d = answers_to ask r
 own_answers c (EndSurface id) r windows d = id_deleted id ∷ map (λ callback. id_deleted callback.id) (callbacks_of id r)
 own_answers c (CommitTree surface) r windows d = commit_told c (effect_of_commit r surface) (xdg_of surface r.owned.shell) r d
+own_answers c (Reposition xdg token p) r windows d = reposition_told c r d token p (popup_at xdg r.owned.shell)
 own_answers c (EndSubsurface id) r windows d = id_deleted id ∷ []
 own_answers c (GetPointer id version) r windows d = new_pointer_told (has_focus c d.pointer.focus) id r.peer.serial windows d
 own_answers c (EndPopup id xdg) r windows d = id_deleted id ∷ []

@@ -4,7 +4,7 @@ use Rattle.std.specs.Prelude.{Some, None}
 use Rattle.std.specs.Option.{option_map_or}
 use Rattle.wl_store.specs.Layout.{alpha_of}
 use Rattle.wl_store.specs.Stores.{bytes_of}
-use Rattle.wl_store.specs.Transform.{buffer_point, transform_of}
+use Rattle.wl_store.specs.Transform.{buffer_point, scaled, transform_of}
 use Rattle.wl_store.specs.declared.color.Argb.{Argb}
 use Rattle.wl_blend.specs.Blend.{blended}
 use Rattle.wl_blend.specs.declared.color.Rgb.{Rgb}
@@ -31,10 +31,6 @@ pixel_at bytes b point =
       b = slice_index bytes at;
     }
     else record { a = 0; r = 0; g = 0; b = 0 }
-
--- a point of a buffer of that scale: both coordinates times the scale (wayland.xml, wl_surface.set_buffer_scale)
-abbrev pub scaled : ℕ → ℕ × ℕ → ℕ × ℕ
-scaled scale point = (point.0 * scale, point.1 * scale)
 
 -- a window's colour at a point of the output that it contains
 abbrev pub color_in : Desktop → Window → ℤ → ℤ → Argb

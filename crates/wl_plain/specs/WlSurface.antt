@@ -1,14 +1,14 @@
 -- What is asked of a surface (wayland.xml, wl_compositor.create_surface and wl_surface).
-use Rattle.std.specs.Prelude.{ℕ, ℤ, pos, ◌&&◌, nat_le, int_le, unsigned_abs, Bool, if◌then◌else◌, Option, Result, Ok, Err, List, length}
+use Rattle.std.specs.Prelude.{ℕ, ℤ, pos, ◌&&◌, nat_le, int_le, unsigned_abs, Bool, true, if◌then◌else◌, Option, Some, None, Result, Ok, Err, List, length}
 use Rattle.std.specs.Option.{option_and_then, option_map}
 use Rattle.wl_geom.specs.Region.{Change}
 use Rattle.wl_peer.specs.declared.refusals.ErrorCode.{ErrorCode}
-use Rattle.wl_peer.specs.declared.refusals.ErrorCode.TheVariants.{Implementation, InvalidTransform}
+use Rattle.wl_peer.specs.declared.refusals.ErrorCode.TheVariants.{Implementation, InvalidScale, InvalidTransform}
 use Rattle.wl_peer.specs.declared.refusals.Refusal.{Refusal}
 use Rattle.wl_peer.specs.Buffers.{Buffer as Made}
 use Rattle.wl_peer.specs.Told.{display_error}
-use Rattle.wl_state.specs.Request.{Buffer, SetBufferTransform}
-use Rattle.wl_state.specs.State.{pending}
+use Rattle.wl_state.specs.Request.{Buffer, SetBufferScale, SetBufferTransform}
+use Rattle.wl_state.specs.State.{Values, is_whole, pending}
 use Rattle.wl_state.specs.Surface.{is_there}
 use Rattle.wl_surface.specs.Surfaces.{history_in}
 use Rattle.wl_plain.specs.Ask.{Ask, CreateSurface, AskSurface}
@@ -52,6 +52,18 @@ transform_set object z =
     if int_le (pos 0) z && int_le z (pos 7) then Ok (AskSurface object (SetBufferTransform (unsigned_abs z))) else refuse object
     InvalidTransform
 
+-- wl_surface.set_buffer_scale: 1 or more
+abbrev pub scale_set : ℕ → ℤ → Result Ask Refusal
+scale_set object z = if int_le (pos 1) z then Ok (AskSurface object (SetBufferScale (unsigned_abs z))) else refuse object InvalidScale
+
 -- the state that a commit would give has a buffer
 abbrev pub will_show : Resident → ℕ → Bool
 will_show r surface = is_there (option_and_then (λ h. (pending h).buffer) (history_in surface r.owned.surfaces))
+
+-- the buffer of the state that a commit would give has sides that are multiples of its scale
+abbrev pub is_whole_state : Option Values → Bool
+is_whole_state None = true
+is_whole_state (Some v) = is_whole v.buffer v.scale
+
+abbrev pub will_be_whole : Resident → ℕ → Bool
+will_be_whole r surface = is_whole_state (option_map pending (history_in surface r.owned.surfaces))

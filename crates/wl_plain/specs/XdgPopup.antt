@@ -1,5 +1,5 @@
 -- What is asked of popups (xdg-shell.xml, xdg_surface.get_popup and xdg_popup).
-use Rattle.std.specs.Prelude.{ℕ, Bool, true, false, if◌then◌else◌, Option, Some, None, Result, Ok, is_some}
+use Rattle.std.specs.Prelude.{ℕ, ◌&&◌, Bool, true, false, if◌then◌else◌, Option, Some, None, Result, Ok, is_some}
 use Rattle.wl_proto.specs.declared.xdg_popup.XdgPopupRequest.{XdgPopupRequest}
 use Rattle.wl_proto.specs.declared.xdg_popup.XdgPopupRequest.TheVariants as popup
 use Rattle.wl_peer.specs.declared.refusals.ErrorCode.TheVariants as error
@@ -7,11 +7,11 @@ use Rattle.wl_peer.specs.declared.refusals.Refusal.{Refusal}
 use Rattle.wl_state.specs.declared.role.Role.{Role}
 use Rattle.wl_state.specs.declared.role.Role.TheVariants.{Toplevel as AsToplevel, Popup as AsPopup, Subsurface as AsSubsurface}
 use Rattle.wl_state.specs.declared.role.Role.TheVariants.{Cursor as AsCursor}
-use Rattle.wl_xdg_state.specs.Popups.{Popped, is_parent, is_popup_mapped, popup_at}
+use Rattle.wl_xdg_state.specs.Popups.{Popped, is_configured, is_parent, is_popup_mapped, popup_at}
 use Rattle.wl_xdg_state.specs.Positioner.{Positioner, first_positioner, is_complete}
-use Rattle.wl_xdg_state.specs.Shell.{XdgSurface, xdg_at, xdg_with}
+use Rattle.wl_xdg_state.specs.Shell.{XdgSurface, is_full, xdg_at, xdg_with}
 use Rattle.wl_plain.specs.Ask.{Ignore}
-use Rattle.wl_plain.specs.Demand.{Demand, Asks, GetPopup, Grab, EndPopup}
+use Rattle.wl_plain.specs.Demand.{Demand, Asks, GetPopup, Reposition, Grab, EndPopup}
 use Rattle.wl_plain.specs.Desktop.{Resident}
 use Rattle.wl_plain.specs.WlSubsurface.{past_limit, refuses}
 use Rattle.wl_plain.specs.XdgShell.{role_of}
@@ -58,10 +58,19 @@ grab_of object serial x (Some p) =
     if p.popup.is_dismissed then Ok (Asks Ignore) else (if is_popup_mapped p then refuses object error.InvalidGrab else Ok
     (Grab x.id serial))
 
+-- xdg_popup.reposition: where it configures the popup anew, no more than 64 configures wait; by a positioner with a size and a rectangle
+abbrev pub repositioned_by : XdgSurface → ℕ → Positioner → Option Popped → Result Demand Refusal
+repositioned_by x token positioner None = past_limit
+repositioned_by x token positioner (Some p) =
+    if is_configured p && is_full x.configures then past_limit else (if is_complete positioner then Ok
+    (Reposition x.id token positioner) else refuses x.base error.InvalidPositioner)
+
 abbrev pub popup_asked : Resident → ℕ → Option XdgSurface → XdgPopupRequest → Result Demand Refusal
 popup_asked r object None request = past_limit
 popup_asked r object (Some x) popup.Destroy = popup_destroyed r object x
 popup_asked r object (Some x) (popup.Grab by serial) = grab_of object serial x (popup_at x.id r.owned.shell)
+popup_asked r object (Some x) (popup.Reposition positioner token) =
+    repositioned_by x token (positioner_of (r.peer.positioners positioner)) (popup_at x.id r.owned.shell)
 
 abbrev pub popup_demand : Resident → ℕ → XdgPopupRequest → Result Demand Refusal
 popup_demand r object request = popup_asked r object (xdg_with object r.owned.shell) request

@@ -10,19 +10,20 @@ use Rattle.wl_peer.specs.declared.refusals.ErrorCode.TheVariants.{InvalidMethod}
 use Rattle.wl_peer.specs.declared.refusals.Refusal.{Refusal}
 use Rattle.wl_peer.specs.Peer.{Errs, LacksMemory, Peer, counted, ended, with_rest}
 use Rattle.wl_peer.specs.Told.{Said, display_error}
-use Rattle.wl_xdg_state.specs.Popups.{is_toplevel}
+use Rattle.wl_xdg_state.specs.Popups.{is_toplevel, Popped, popup_at}
 use Rattle.wl_xdg_state.specs.Shell.{Effect, Stays, Unconfigured, Configures, Maps, Unmaps, Kind, Toplevel, IsPopup, RoleObject, XdgSurface, xdg_of}
+use Rattle.wl_xdg_state.specs.Positioner.{Positioner}
 use Rattle.wl_stacking.specs.Pointer.{Pointer, first_pointer}
 use Rattle.wl_stacking.specs.Stacking.{without_client}
 use Rattle.wl_stacking.specs.Windows.{Window}
 use Rattle.wl_plain.specs.Changing.{changed_for, drawing, has_focus, in_rising_order, stacked_by, with_kept_move}
-use Rattle.wl_plain.specs.Demand.{Demand, Asks, EndSurface, AskFrame, CommitTree, GetSubsurface, EndSubsurface, SetMode, GetPointer, MakeCursor}
+use Rattle.wl_plain.specs.Demand.{Demand, Asks, EndSurface, AskFrame, CommitTree, GetSubsurface, EndSubsurface, SetMode, GetPointer, MakeCursor, Reposition}
 use Rattle.wl_plain.specs.Demand.{GetPopup, Grab, EndPopup, EndToplevel, Move}
 use Rattle.wl_plain.specs.Demanding.{effect_of_commit, judge_all}
 use Rattle.wl_plain.specs.Desktop.{Desktop, Resident, become_by, client_at, client_in, resident_of, status_in, status_of, unpointed, with_client}
 use Rattle.wl_plain.specs.Happens.{AnswersThen, BecomesThen, DoesThen, ServesThen, TakesThen, WantsOrThen, changed_so, done_for, wants_memory}
 use Rattle.wl_plain.specs.LeftOut.{LeftOut}
-use Rattle.wl_plain.specs.Replies.{commit_told, configure_told, new_pointer_told, role_told, own_answers, popups_done, releases_unless, replies}
+use Rattle.wl_plain.specs.Replies.{commit_told, configure_told, new_pointer_told, role_told, own_answers, popups_done, releases_unless, replies, reposition_told}
 use Rattle.wl_plain.specs.Settling.{QueuesTo, Strike, after_status, becomes, ended_all, ended_at, ended_by, pointer_without, struck_by, unstruck}
 use Rattle.wl_plain.specs.Stacked.{all_windows}
 use Rattle.wl_plain.specs.Step.{making, with_peer, xdg_configured}
@@ -55,6 +56,7 @@ changed-same c (GetPointer id version) r d away =
     sym (ap (λ (b : Bool). making WlPointer id version (drawing b (record r { pointers = in_rising_order id r.pointers }))) (away id version refl))
 changed-same c (MakeCursor surface) r d away = refl
 changed-same c (GetPopup id version xdg parent p) r d away = refl
+changed-same c (Reposition xdg token p) r d away = refl
 changed-same c (Grab xdg serial) r d away = refl
 changed-same c (EndPopup id xdg) r d away = refl
 changed-same c (EndToplevel id xdg surface) r d away = refl
@@ -76,6 +78,10 @@ told-same c Unconfigured o r d = refl
 told-same c Maps o r d = refl
 told-same c Unmaps o r d = refl
 
+reposition-same : (c : ℕ) (r : Resident) (d : Desktop) (token : ℕ) (p : Positioner) (o : Option Popped) → reposition_told c r (unpointed d) token p o ≡ reposition_told c r d token p o
+reposition-same c r d token p None = refl
+reposition-same c r d token p (Some q) = refl
+
 answers-same : (c : ℕ) (demand : Demand) (r : Resident) (windows : List Window) (d : Desktop) → LooksAway c demand d → own_answers c demand r windows (unpointed d) ≡ own_answers c demand r windows d
 answers-same c (Asks ask) r windows d away = refl
 answers-same c (EndSurface id) r windows d away = refl
@@ -87,6 +93,7 @@ answers-same c (SetMode link synchronised) r windows d away = refl
 answers-same c (GetPointer id version) r windows d away = sym (ap (λ (b : Bool). new_pointer_told b id r.peer.serial windows d) (away id version refl))
 answers-same c (MakeCursor surface) r windows d away = refl
 answers-same c (GetPopup id version xdg parent p) r windows d away = refl
+answers-same c (Reposition xdg token p) r windows d away = reposition-same c r d token p (popup_at xdg r.owned.shell)
 answers-same c (Grab xdg serial) r windows d away = refl
 answers-same c (EndPopup id xdg) r windows d away = refl
 answers-same c (EndToplevel id xdg surface) r windows d away = refl
@@ -125,6 +132,7 @@ done-back c (SetMode link synchronised) r d = refl
 done-back c (GetPointer id version) r d = refl
 done-back c (MakeCursor surface) r d = refl
 done-back c (GetPopup id version xdg parent p) r d = refl
+done-back c (Reposition xdg token p) r d = refl
 done-back c (Grab xdg serial) r d = refl
 done-back c (EndPopup id xdg) r d = refl
 done-back c (EndToplevel id xdg surface) r d = refl
@@ -150,6 +158,7 @@ done-still c (SetMode link synchronised) r d = refl
 done-still c (GetPointer id version) r d = refl
 done-still c (MakeCursor surface) r d = refl
 done-still c (GetPopup id version xdg parent p) r d = refl
+done-still c (Reposition xdg token p) r d = refl
 done-still c (Grab xdg serial) r d = refl
 done-still c (EndPopup id xdg) r d = refl
 done-still c (EndToplevel id xdg surface) r d = refl
@@ -167,6 +176,7 @@ plain-for (SetMode link synchronised) c d wants = refl
 plain-for (GetPointer id version) c d wants = refl
 plain-for (MakeCursor surface) c d wants = refl
 plain-for (GetPopup id version xdg parent p) c d wants = refl
+plain-for (Reposition xdg token p) c d wants = refl
 plain-for (Grab xdg serial) c d wants = refl
 plain-for (EndPopup id xdg) c d wants = refl
 plain-for (EndToplevel id xdg surface) c d wants = refl

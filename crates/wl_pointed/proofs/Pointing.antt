@@ -16,13 +16,14 @@ use Rattle.wl_stacking.specs.PointerActions.{PointerInput, GoTo, Press, Release,
 use Rattle.wl_stacking.specs.Windows.{Place}
 use Rattle.wl_xdg_state.specs.Positioner.{Positioner}
 use Rattle.wl_xdg_state.specs.Shell.{Effect, Stays, Unconfigured, Configures, Maps, Unmaps, XdgSurface, xdg_at, xdg_of}
+use Rattle.wl_xdg_state.specs.Popups.{Popped, copying, is_configured, popup_at, repositioning}
 use Rattle.wl_plain.specs.declared.answers.Done.{Done}
 use Rattle.wl_plain.specs.declared.answers.Done.TheVariants as gave
 use Rattle.wl_plain.specs.Act.{Connect, Feed, Store, Leave, Tick, Send, Close, Motion, Button, IsClosed, IsSent, IsStored, closed_by, lowest}
 use Rattle.wl_plain.specs.Ask.{Ask, Own, CreateSurface, AskSurface, EndObject, GetXdgSurface, DestroyXdgSurface, GetToplevel, Acknowledge, ConfigureAgain, Ignore}
-use Rattle.wl_plain.specs.Changing.{Placing, changed_for, drawing, effect_placing, grab_allowed, grab_holder, grabbed}
+use Rattle.wl_plain.specs.Changing.{Placing, changed_for, drawing, effect_placing, grab_allowed, grab_holder, grabbed, popup_repositioned}
 use Rattle.wl_plain.specs.Changing.{has_focus, in_rising_order, mode_set, placement_now, popup_given_to, tree_committed}
-use Rattle.wl_plain.specs.Demand.{Demand, Asks, EndSurface, AskFrame, CommitTree, GetSubsurface, EndSubsurface, SetMode, GetPointer, MakeCursor}
+use Rattle.wl_plain.specs.Demand.{Demand, Asks, EndSurface, AskFrame, CommitTree, GetSubsurface, EndSubsurface, SetMode, GetPointer, MakeCursor, Reposition}
 use Rattle.wl_plain.specs.Demand.{GetPopup, Grab, EndPopup, EndToplevel, Move}
 use Rattle.wl_plain.specs.Demanding.{effect_of_commit, judge_all}
 use Rattle.wl_plain.specs.Desktop.{Desktop, Resident, arrival, become_by, client_at, client_in, resident_of, status_in, with_client, with_number}
@@ -31,7 +32,7 @@ use Rattle.wl_plain.specs.Happens.{AnswersThen, BecomesThen, ChangesThen, Connec
 use Rattle.wl_plain.specs.Happens.{changed_so, placed, point_in, wants_memory, with_press, with_release}
 use Rattle.wl_plain.specs.LeftOut.{LeftOut}
 use Rattle.wl_plain.specs.Settling.{Midstep, PointerActs, Settles, after_status, becomes, unstruck}
-use Rattle.wl_plain.specs.Step.{changed_by, making, toplevel_given, with_peer}
+use Rattle.wl_plain.specs.Step.{changed_by, making, toplevel_given, with_peer, xdg_changed}
 use Rattle.wl_plain.specs.Through.{ending_through, settling_through}
 use Rattle.wl_laws.proofs.Lists.Keys.{none-some, some-same}
 use Rattle.wl_laws.proofs.Runs.Fates.{same-or}
@@ -89,6 +90,15 @@ popup-pointers : (id xdg parent : ℕ) (p : Positioner) (x : Option XdgSurface) 
 popup-pointers id xdg parent p None r = refl
 popup-pointers id xdg parent p (Some x) r = refl
 
+drawing-pointers : (b : Bool) (r : Resident) → (drawing b r).pointers ≡ r.pointers
+drawing-pointers true r = refl
+drawing-pointers false r = refl
+
+reposition-pointers : (where_to : Placing) (p : Positioner) (o : Option Popped) (r : Resident) → (popup_repositioned where_to p o r).pointers ≡ r.pointers
+reposition-pointers where_to p None r = refl
+reposition-pointers where_to p (Some q) r =
+    drawing-pointers (is_configured q) (xdg_changed q.xdg.id (repositioning (is_configured q) r.peer.serial (where_to (copying p q.popup)) p) r)
+
 grab-pointers : (b : Bool) (xdg : ℕ) (r : Resident) → (grabbed b xdg r).pointers ≡ r.pointers
 grab-pointers true xdg r = refl
 grab-pointers false xdg r = refl
@@ -108,6 +118,7 @@ changed-pointers c (SetMode link synchronised) d r = mode-pointers link synchron
 changed-pointers c (GetPointer id version) d r = drawn-pointers (has_focus c d.pointer.focus) id version (record r { pointers = in_rising_order id r.pointers })
 changed-pointers c (MakeCursor surface) d r = refl
 changed-pointers c (GetPopup id version xdg parent p) d r = popup-pointers id xdg parent p (xdg_at xdg r.owned.shell) r
+changed-pointers c (Reposition xdg token p) d r = reposition-pointers (placement_now c r d) p (popup_at xdg r.owned.shell) r
 changed-pointers c (Grab xdg serial) d r = grab-pointers (grab_allowed c xdg serial r d) xdg r
 changed-pointers c (EndPopup id xdg) d r = refl
 changed-pointers c (EndToplevel id xdg top) d r = refl

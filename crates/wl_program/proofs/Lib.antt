@@ -1,3 +1,4 @@
 mod Ending
+mod PointerLines
 mod Rows
 mod Served

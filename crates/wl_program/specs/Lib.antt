@@ -1,4 +1,5 @@
 pub mod Pace
+pub mod Pointing
 pub mod Run
 pub mod Serving
 pub use Rattle.wl_options.specs.Command
@@ -8,6 +9,7 @@ pub use Rattle.wl_options.specs.Size
 pub use Rattle.wl_options.specs.Status
 pub use Rattle.wl_recording.specs.Line
 pub use Rattle.wl_recording.specs.Lines
+pub use Rattle.wl_recording.specs.Pointer
 pub use Rattle.wl_recording.specs.Side
 pub use Rattle.wl_replay.specs.Report
 pub use Rattle.wl_replay.specs.Storing

@@ -7,7 +7,7 @@ mod run;
 mod serving;
 mod streams;
 
-pub use pace::Pace;
+pub use pace::{Pace, Schedule};
 pub use run::run_program;
 pub use serving::serve_on;
 pub use wl_options::{

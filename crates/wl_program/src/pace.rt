@@ -46,6 +46,13 @@ fn wrapped(number: u128) -> u32
     (number % (1 << 32)) as u32
 }
 
+/// When turns are taken: by this clock, at this pace.
+#[derive_where(Clone, Copy)]
+pub struct Schedule<'a, C: Clock> {
+    pub clock: &'a C,
+    pub pace: Pace,
+}
+
 /// Tells when the next turn is due.
 #[derive(Clone, Copy)]
 pub(crate) struct Timer {

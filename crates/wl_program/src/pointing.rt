@@ -1,6 +1,9 @@
 //! The pointer's file.
 
-ghost use Rattle.std.specs.Prelude.{◌≡◌, ◌⊎◌, [], IfErr, IfOk, is_some, false, true};
+ghost use Rattle.std.specs.Io.KnownBytes.{IsAtEnd};
+ghost use Rattle.std.specs.Prelude.{◌≡◌, ◌≤◌, ◌⊎◌, [], IfErr, IfOk, Ok, OnOk, is_some, false, length, true};
+ghost use Rattle.wl_recording.specs.Lines.{TakesLine};
+ghost use Rattle.wl_program.specs.Pointing.{AreLines, FailsLine, FailsLines, IsNextLine};
 ghost use Rattle.wl_program.specs.Serving.{IsOfPointer};
 
 use std::alloc::Allocator;
@@ -8,7 +11,7 @@ use std::io::{BufRead, BufReader, ErrorKind};
 use std::rt::Files;
 use std::{fs, io};
 use wl_options::Fault;
-use wl_recording::{LineError, PointerLine, pointer_line, read_line};
+use wl_recording::{LINE_LIMIT, LineError, PointerLine, pointer_line, read_line};
 
 /// Reads the lines of the pointer's file, where there is one.
 ///
@@ -54,7 +57,8 @@ fn read_lines<A: Allocator + Copy, R: BufRead>(
     alloc: A,
     reader: &mut R,
 ) -> Result<Vec<PointerLine, A>, Fault>
-    ensures { IfErr result (IsOfPointer true) }
+    ensures ok { IfOk result (λ lines. AreLines (R.remaining reader.old) lines.items) }
+    ensures failed { IfErr result (FailsLines (R.remaining reader.old)) }
 {
     let mut lines = Vec::new(alloc);
     let mut text = Vec::new(alloc);
@@ -73,9 +77,10 @@ fn next_line<A: Allocator, R: BufRead>(
     reader: &mut R,
     text: &mut Vec<u8, A>,
 ) -> Result<Option<PointerLine>, Fault>
-    ensures { IfErr result (IsOfPointer true) }
+    ensures ok { IfOk result (IsNextLine (R.remaining reader.old) (R.remaining reader.new)) }
+    ensures failed { IfErr result (FailsLine number (R.remaining reader.old)) }
 {
-    if !read_line(reader, text).map_err(|error| reading_failed(error, number))? {
+    if !read_text(number, reader, text)? {
         return Ok(None);
     }
     match pointer_line(text) {
@@ -84,12 +89,20 @@ fn next_line<A: Allocator, R: BufRead>(
     }
 }
 
-fn reading_failed(error: LineError, number: u32) -> Fault
-    ensures { IsOfPointer true result }
+/// Reads the next line, which has this number, without its line feed. False at the end.
+fn read_text<A: Allocator, R: BufRead>(
+    number: u32,
+    reader: &mut R,
+    text: &mut Vec<u8, A>,
+) -> Result<bool, Fault>
+    ensures taken { result ≡ Ok true → TakesLine (R.remaining reader.old) (R.remaining reader.new) text.new.items }
+    ensures end { result ≡ Ok false → IsAtEnd (R.remaining reader.old) }
+    ensures short { OnOk result (length text.new.items ≤ LINE_LIMIT) }
+    ensures failed { IfErr result (FailsLine number (R.remaining reader.old)) }
 {
-    match error {
+    read_line(reader, text).map_err(|error| match error {
         LineError::Read => Fault::Read,
         LineError::TooLong => Fault::BadLine(number),
         LineError::Memory => Fault::Memory,
-    }
+    })
 }

@@ -13,7 +13,7 @@ ghost use Rattle.wl_server.specs.Ways.{serving, ways};
 ghost use Rattle.wl_program.specs.Run.{FailsServing};
 ghost use Rattle.wl_program.specs.Serving.{AreTurns, BeginsTurns, ServedTurns, moment_of, output_of, stage_of};
 
-use crate::pace::{Pace, Timer};
+use crate::pace::{Pace, Schedule, Timer};
 use crate::pointing::read_pointer;
 use crate::run::BLACK;
 use crate::streams::{create, flush};
@@ -44,19 +44,15 @@ pub(crate) fn serve<'a, F: Files + Net + Clock + AllocGlobal, A: Allocator + Cop
     let side = Folder::new(files, serve.dir);
     let session = session_of(alloc, serve.size)?;
     let mut service = Service::new(session, hub, side, lines);
-    let pace = Pace {
-        turns: serve.turns,
-        rate: serve.rate,
+    let schedule = Schedule {
+        clock: files,
+        pace: Pace {
+            turns: serve.turns,
+            rate: serve.rate,
+        },
     };
     let mut connections = Connections::new();
-    serve_on(
-        files,
-        &mut service,
-        &mut connections,
-        pace,
-        output,
-        &mut ppm,
-    )
+    serve_on(schedule, &mut service, &mut connections, output, &mut ppm)
 }
 
 /// Makes the socket at a path. An empty path names no file, so nothing is made there.
@@ -125,31 +121,31 @@ fn take_turn<A: Allocator + Copy, H: Hub, S: SideFiles, W: Write, P: Write>(
     }
 }
 
-/// Serves the clients of a hub over their connections: takes the turns 1 to as many as the pace has, one after another, each at its time.
+/// Serves the clients of a hub over their connections: takes the turns 1 to as many as the schedule's pace has, one after another, each at its
+/// time.
 ///
-/// Turns begin at most as often as the pace says, and between them it sleeps by the clock; no clause says how long. `Write` is answered where the
+/// Turns begin at most as often as the pace says, and between them it sleeps by the schedule's clock; no clause says how long. `Write` is answered where the
 /// report or the images couldn't be written; then no more turns are taken, and the steps of those that were stand.
 pub fn serve_on<C: Clock, A: Allocator + Copy, H: Hub, S: SideFiles, W: Write, P: Write>(
-    clock: &C,
+    schedule: Schedule<'_, C>,
     service: &mut Service<A, H, S>,
     connections: &mut Connections<H::Conn>,
-    pace: Pace,
     report: &mut W,
     ppm: &mut Option<P>,
 ) -> Result<(), Fault>
-    ensures taken { OnOk result (Tells (AreTurns (ways H.accepts H.reads H.writes H.closes H.fault_count) (files_of S.opens S.gives S.fault_count) pace.rate pace.turns
+    ensures taken { OnOk result (Tells (AreTurns (ways H.accepts H.reads H.writes H.closes H.fault_count) (files_of S.opens S.gives S.fault_count) schedule.entry.pace.rate schedule.entry.pace.turns
         (serving service.old.hub connections.old service.old.side service.old.waiting) (serving service.new.hub connections.new service.new.side service.new.waiting))
         service.old.session service.new.session (W.contents report.old) (W.contents report.new)
         (images_in P.contents ppm.old) (images_in P.contents ppm.new)) }
-    ensures begun { OnErr result (Takes (BeginsTurns (ways H.accepts H.reads H.writes H.closes H.fault_count) (files_of S.opens S.gives S.fault_count) pace.rate pace.turns
+    ensures begun { OnErr result (Takes (BeginsTurns (ways H.accepts H.reads H.writes H.closes H.fault_count) (files_of S.opens S.gives S.fault_count) schedule.entry.pace.rate schedule.entry.pace.turns
         (serving service.old.hub connections.old service.old.side service.old.waiting) (serving service.new.hub connections.new service.new.side service.new.waiting))
         service.old.session service.new.session) }
     ensures failed { IfErr result (λ fault. fault ≡ Fault.Write) }
 {
-    let mut timer = Timer::new(pace.rate);
-    for before in 0..pace.count() {
-        timer.wait(clock);
-        let time = pace.time_of(before + 1);
+    let mut timer = Timer::new(schedule.pace.rate);
+    for before in 0..schedule.pace.count() {
+        timer.wait(schedule.clock);
+        let time = schedule.pace.time_of(before + 1);
         take_turn(service, connections, time, report, ppm)?;
     }
     Ok(())

@@ -43,6 +43,7 @@ known (events.XdgSurface (xdg_surface.Configure serial)) = (_, refl, refl, lit< 
 known (events.XdgToplevel (xdg_toplevel.Configure width height states)) = (_, refl, refl, lit< tt)
 known (events.XdgPopup (xdg_popup.Configure x y width height)) = (_, refl, refl, lit< tt)
 known (events.XdgPopup xdg_popup.PopupDone) = (_, refl, refl, lit< tt)
+known (events.XdgPopup (xdg_popup.Repositioned token)) = (_, refl, refl, lit< tt)
 
 apart : (r : Result (Unit {0}) PutError) (u : Unit {0}) → r ≡ Ok u → IsErrOf r TooLong → ⊥
 apart r u ok err = cc

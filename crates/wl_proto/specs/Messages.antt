@@ -114,6 +114,9 @@ wl_surface_request (wl_surface_requests.SetOpaqueRegion region) = says WlSurface
 wl_surface_request (wl_surface_requests.SetInputRegion region) = says WlSurface 5 (Word region ∷ [])
 wl_surface_request wl_surface_requests.Commit = says WlSurface 6 []
 wl_surface_request (wl_surface_requests.SetBufferTransform transform) = says WlSurface 7 (Number transform ∷ [])
+wl_surface_request (wl_surface_requests.SetBufferScale scale) = says WlSurface 8 (Number scale ∷ [])
+wl_surface_request (wl_surface_requests.DamageBuffer x y width height) =
+    says WlSurface 9 (Number x ∷ Number y ∷ Number width ∷ Number height ∷ [])
 
 abbrev pub wl_shm_request : WlShmRequest → Message
 wl_shm_request (wl_shm_requests.CreatePool id size) = says WlShm 0 (Word id ∷ Number size ∷ [])
@@ -190,6 +193,10 @@ xdg_positioner_request (xdg_positioner_requests.SetGravity gravity) = says XdgPo
 xdg_positioner_request (xdg_positioner_requests.SetConstraintAdjustment constraint_adjustment) =
     says XdgPositioner 5 (Word constraint_adjustment ∷ [])
 xdg_positioner_request (xdg_positioner_requests.SetOffset x y) = says XdgPositioner 6 (Number x ∷ Number y ∷ [])
+xdg_positioner_request xdg_positioner_requests.SetReactive = says XdgPositioner 7 []
+xdg_positioner_request (xdg_positioner_requests.SetParentSize parent_width parent_height) =
+    says XdgPositioner 8 (Number parent_width ∷ Number parent_height ∷ [])
+xdg_positioner_request (xdg_positioner_requests.SetParentConfigure serial) = says XdgPositioner 9 (Word serial ∷ [])
 
 abbrev pub xdg_surface_request : XdgSurfaceRequest → Message
 xdg_surface_request xdg_surface_requests.Destroy = says XdgSurface 0 []
@@ -226,10 +233,12 @@ xdg_toplevel_event (xdg_toplevel_events.Configure width height states) =
 abbrev pub xdg_popup_request : XdgPopupRequest → Message
 xdg_popup_request xdg_popup_requests.Destroy = says XdgPopup 0 []
 xdg_popup_request (xdg_popup_requests.Grab seat serial) = says XdgPopup 1 (Word seat ∷ Word serial ∷ [])
+xdg_popup_request (xdg_popup_requests.Reposition positioner token) = says XdgPopup 2 (Word positioner ∷ Word token ∷ [])
 
 abbrev pub xdg_popup_event : XdgPopupEvent → Message
 xdg_popup_event (xdg_popup_events.Configure x y width height) = says XdgPopup 0 (Number x ∷ Number y ∷ Number width ∷ Number height ∷ [])
 xdg_popup_event xdg_popup_events.PopupDone = says XdgPopup 1 []
+xdg_popup_event (xdg_popup_events.Repositioned token) = says XdgPopup 2 (Word token ∷ [])
 
 abbrev pub request_message : Request → Message
 request_message (requests.WlDisplay request) = wl_display_request request

@@ -71,6 +71,8 @@ requests_of WlSurface =
     message None (AnObject WlRegion true ∷ []) ∷
     message None ([]) ∷
     message (Some 2) (AnInt ∷ []) ∷
+    message (Some 3) (AnInt ∷ []) ∷
+    message (Some 4) (AnInt ∷ AnInt ∷ AnInt ∷ AnInt ∷ []) ∷
     []
 requests_of WlShm =
     message None (ANewId (Some WlShmPool) ∷ AnInt ∷ []) ∷
@@ -118,6 +120,9 @@ requests_of XdgPositioner =
     message None (AUint ∷ []) ∷
     message None (AUint ∷ []) ∷
     message None (AnInt ∷ AnInt ∷ []) ∷
+    message (Some 3) ([]) ∷
+    message (Some 3) (AnInt ∷ AnInt ∷ []) ∷
+    message (Some 3) (AUint ∷ []) ∷
     []
 requests_of XdgSurface =
     message None ([]) ∷
@@ -145,6 +150,7 @@ requests_of XdgToplevel =
 requests_of XdgPopup =
     message None ([]) ∷
     message None (AnObject WlSeat false ∷ AUint ∷ []) ∷
+    message (Some 3) (AnObject XdgPositioner false ∷ AUint ∷ []) ∷
     []
 
 abbrev pub events_of : Interface → List Signature
@@ -194,6 +200,7 @@ events_of XdgToplevel =
 events_of XdgPopup =
     message None (AnInt ∷ AnInt ∷ AnInt ∷ AnInt ∷ []) ∷
     message None ([]) ∷
+    message (Some 3) (AUint ∷ []) ∷
     []
 
 abbrev pub is_in_version : ℕ → Option ℕ → Bool

@@ -37,6 +37,15 @@ pub enum WlSurfaceRequest {
     SetBufferTransform {
         transform: i32,
     },
+    SetBufferScale {
+        scale: i32,
+    },
+    DamageBuffer {
+        x: i32,
+        y: i32,
+        width: i32,
+        height: i32,
+    },
 }
 
 pub(crate) fn decode(version: u32, opcode: u16, body: &[u8]) -> Result<WlSurfaceRequest, ProtoError>
@@ -79,6 +88,19 @@ pub(crate) fn decode(version: u32, opcode: u16, body: &[u8]) -> Result<WlSurface
         7 if version >= 2 => {
             let transform = int(body)?;
             Ok(WlSurfaceRequest::SetBufferTransform { transform })
+        }
+        8 if version >= 3 => {
+            let scale = int(body)?;
+            Ok(WlSurfaceRequest::SetBufferScale { scale })
+        }
+        9 if version >= 4 => {
+            let (x, y, width, height) = four_ints(body)?;
+            Ok(WlSurfaceRequest::DamageBuffer {
+                x,
+                y,
+                width,
+                height,
+            })
         }
         _ => Err(ProtoError::NoMethod),
     }

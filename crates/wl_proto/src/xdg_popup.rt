@@ -16,10 +16,11 @@ use wl_wire::{Arg, PutError, message_size, put};
 pub enum XdgPopupRequest {
     Destroy,
     Grab { seat: u32, serial: u32 },
+    Reposition { positioner: u32, token: u32 },
 }
 
-pub(crate) fn decode(_version: u32, opcode: u16, body: &[u8]) -> Result<XdgPopupRequest, ProtoError>
-    ensures { Gives xdg_popup_request result (decoded XdgPopup _version opcode body.now) }
+pub(crate) fn decode(version: u32, opcode: u16, body: &[u8]) -> Result<XdgPopupRequest, ProtoError>
+    ensures { Gives xdg_popup_request result (decoded XdgPopup version opcode body.now) }
 {
     match opcode {
         0 => {
@@ -29,6 +30,10 @@ pub(crate) fn decode(_version: u32, opcode: u16, body: &[u8]) -> Result<XdgPopup
         1 => {
             let (seat, serial) = two_words(body)?;
             Ok(XdgPopupRequest::Grab { seat, serial })
+        }
+        2 if version >= 3 => {
+            let (positioner, token) = two_words(body)?;
+            Ok(XdgPopupRequest::Reposition { positioner, token })
         }
         _ => Err(ProtoError::NoMethod),
     }
@@ -40,6 +45,10 @@ pub(crate) fn objects(request: &XdgPopupRequest) -> [Option<ObjectArg>; 2]
 {
     match *request {
         XdgPopupRequest::Grab { seat, .. } => [Some(ObjectArg::new(seat, Interface::WlSeat)), None],
+        XdgPopupRequest::Reposition { positioner, .. } => [
+            Some(ObjectArg::new(positioner, Interface::XdgPositioner)),
+            None,
+        ],
         _ => [None, None],
     }
 }
@@ -54,6 +63,9 @@ pub enum XdgPopupEvent {
         height: i32,
     },
     PopupDone,
+    Repositioned {
+        token: u32,
+    },
 }
 
 pub(crate) fn encode<A: Allocator>(
@@ -76,6 +88,7 @@ pub(crate) fn encode<A: Allocator>(
             &[Arg::Int(x), Arg::Int(y), Arg::Int(width), Arg::Int(height)],
         ),
         XdgPopupEvent::PopupDone => put(out, object, 1, &[]),
+        XdgPopupEvent::Repositioned { token } => put(out, object, 2, &[Arg::Uint(token)]),
     }
 }
 
@@ -90,5 +103,6 @@ pub(crate) fn size(event: &XdgPopupEvent) -> Option<u16>
             height,
         } => message_size(&[Arg::Int(x), Arg::Int(y), Arg::Int(width), Arg::Int(height)]),
         XdgPopupEvent::PopupDone => message_size(&[]),
+        XdgPopupEvent::Repositioned { token } => message_size(&[Arg::Uint(token)]),
     }
 }

@@ -34,14 +34,22 @@ pub enum XdgPositionerRequest {
         x: i32,
         y: i32,
     },
+    SetReactive,
+    SetParentSize {
+        parent_width: i32,
+        parent_height: i32,
+    },
+    SetParentConfigure {
+        serial: u32,
+    },
 }
 
 pub(crate) fn decode(
-    _version: u32,
+    version: u32,
     opcode: u16,
     body: &[u8],
 ) -> Result<XdgPositionerRequest, ProtoError>
-    ensures { Gives xdg_positioner_request result (decoded XdgPositioner _version opcode body.now) }
+    ensures { Gives xdg_positioner_request result (decoded XdgPositioner version opcode body.now) }
 {
     match opcode {
         0 => {
@@ -78,6 +86,21 @@ pub(crate) fn decode(
         6 => {
             let (x, y) = two_ints(body)?;
             Ok(XdgPositionerRequest::SetOffset { x, y })
+        }
+        7 if version >= 3 => {
+            nothing(body)?;
+            Ok(XdgPositionerRequest::SetReactive)
+        }
+        8 if version >= 3 => {
+            let (parent_width, parent_height) = two_ints(body)?;
+            Ok(XdgPositionerRequest::SetParentSize {
+                parent_width,
+                parent_height,
+            })
+        }
+        9 if version >= 3 => {
+            let serial = word(body)?;
+            Ok(XdgPositionerRequest::SetParentConfigure { serial })
         }
         _ => Err(ProtoError::NoMethod),
     }

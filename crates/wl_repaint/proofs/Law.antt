@@ -9,7 +9,7 @@ use Rattle.std.proofs.lemmas.Int.{ints}
 use Rattle.std.proofs.lemmas.List.Elements.{recursion_from_All}
 use Rattle.wl_geom.specs.Rect.{in_span}
 use Rattle.wl_plain.specs.Marks.{Applied, has_same_record, int_eq, same_records}
-use Rattle.wl_stacking.specs.Windows.{AreUnscaled, Window, contains}
+use Rattle.wl_stacking.specs.Windows.{Window, contains}
 use Rattle.wl_state.specs.State.{is_damaged}
 use Rattle.wl_store.specs.Transform.{transform_of}
 use Rattle.wl_surface.specs.declared.applied.Change.{Change}
@@ -40,48 +40,41 @@ with-true : (a b : Bool) → b ≡ true → a ≡ (a && b)
 with-true true b e = sym e
 with-true false b e = refl
 
-both-one : (a b : ℕ) → (a == 1) ≡ true → (b == 1) ≡ true → (a == b) ≡ true
-both-one a b e f = eq-eqb a b (eqb-true a 1 e ∙ sym (eqb-true b 1 f))
-
 -- windows of one client and tree
 same-window : (w v : Window) → (w.owner.client == v.owner.client) ≡ true → (w.owner.root == v.owner.root) ≡ true → nat_lt w.transform 8 ≡ true → nat_lt v.transform 8 ≡ true
-    → (w.scale == 1) ≡ true → (v.scale == 1) ≡ true → is_same_window (told_of w) (told_of v) ≡ has_same_record w v
-same-window w v client root first second here there =
+    → is_same_window (told_of w) (told_of v) ≡ has_same_record w v
+same-window w v client root first second =
     ap (λ b. fields b (number_of (transform_of w.transform) == number_of (transform_of v.transform)))
     (sym (with-true (w.surface == v.surface) (w.owner.root == v.owner.root) root))
     ∙ ap (λ n. fields (w.surface == v.surface) (n == number_of (transform_of v.transform))) (counted w.transform first)
     ∙ ap (λ n. fields (w.surface == v.surface) (w.transform == n)) (counted v.transform second)
-    ∙ ap (fields (w.surface == v.surface)) (with-true (w.transform == v.transform) (w.scale == v.scale) (both-one w.scale v.scale here there))
-    ∙ sym (ap (λ b. fields (b && (w.surface == v.surface)) (w.transform == v.transform && w.scale == v.scale)) client)
+    ∙ sym (ap (λ b. fields (b && (w.surface == v.surface)) (w.transform == v.transform)) client)
   where
     fields : Bool → Bool → Bool
-    fields a b = a && ((int_eq w.corner.x v.corner.x && int_eq w.corner.y v.corner.y) && (((w.width == v.width) && (w.height == v.height)) && b))
+    fields a b = a && ((int_eq w.corner.x v.corner.x && int_eq w.corner.y v.corner.y) && (((w.width == v.width) && (w.height == v.height)) && (b && (w.scale == v.scale))))
 
 module _ (client root : ℕ) where
   records : (was is : List Window) → list_all (has_root client root) was ≡ true → list_all (has_root client root) is ≡ true
-      → list_all (λ w. nat_lt w.transform 8) was ≡ true → list_all (λ w. nat_lt w.transform 8) is ≡ true → AreUnscaled was → AreUnscaled is
+      → list_all (λ w. nat_lt w.transform 8) was ≡ true → list_all (λ w. nat_lt w.transform 8) is ≡ true
       → pointwise is_same_window (map told_of was) (map told_of is) ≡ same_records was is
-  records [] [] a b c d e f = refl
-  records [] (v ∷ vs) a b c d e f = refl
-  records (w ∷ ws) [] a b c d e f = refl
-  records (w ∷ ws) (v ∷ vs) a b c d e f =
+  records [] [] a b c d = refl
+  records [] (v ∷ vs) a b c d = refl
+  records (w ∷ ws) [] a b c d = refl
+  records (w ∷ ws) (v ∷ vs) a b c d =
       let rooted = and_parts (has_root client root w) (list_all (has_root client root) ws) a in
       let other = and_parts (has_root client root v) (list_all (has_root client root) vs) b in
       let first = and_parts (nat_lt w.transform 8) (list_all (λ w. nat_lt w.transform 8) ws) c in
       let second = and_parts (nat_lt v.transform 8) (list_all (λ w. nat_lt w.transform 8) vs) d in
-      let here = and_parts (w.scale == 1) (list_all (λ w. w.scale == 1) ws) e in
-      let there = and_parts (v.scale == 1) (list_all (λ w. w.scale == 1) vs) f in
       let own = and_parts (client == w.owner.client) (root == w.owner.root) rooted.0 in
       let its = and_parts (client == v.owner.client) (root == v.owner.root) other.0 in
       ap (λ b. b && pointwise is_same_window (map told_of ws) (map told_of vs))
-      (same-window w v (one-same client w.owner.client v.owner.client own.0 its.0) (one-same root w.owner.root v.owner.root own.1 its.1) first.0 second.0 here.0 there.0)
-      ∙ ap (λ b. has_same_record w v && b) (records ws vs rooted.1 other.1 first.1 second.1 here.1 there.1)
+      (same-window w v (one-same client w.owner.client v.owner.client own.0 its.0) (one-same root w.owner.root v.owner.root own.1 its.1) first.0 second.0)
+      ∙ ap (λ b. has_same_record w v && b) (records ws vs rooted.1 other.1 first.1 second.1)
 
 pub same-as-records : SameAsRecords
 same-as-records client root was is of-tree =
     records client root was is (all-first (has_root client root) was is of-tree.rooted) (all-second (has_root client root) was is of-tree.rooted)
     (all-first (λ w. nat_lt w.transform 8) was is of-tree.numbered) (all-second (λ w. nat_lt w.transform 8) was is of-tree.numbered)
-    (all-first (λ w. w.scale == 1) was is of-tree.unscaled) (all-second (λ w. w.scale == 1) was is of-tree.unscaled)
 
 -- ---- damage
 

@@ -7,7 +7,7 @@ use Rattle.wl_windows.specs.declared.window.TreeWindow.{TreeWindow}
 use Rattle.wl_repaint.specs.Repaint.{marks, marks_trees}
 
 abbrev window : ℕ → ℕ → ℕ → TreeWindow
-window surface at side = record { surface = surface; root = 6; x = pos at; y = pos 2; w = side; h = side; transform = Normal }
+window surface at side = record { surface = surface; root = 6; x = pos at; y = pos 2; w = side; h = side; transform = Normal; scale = 1 }
 
 -- the parent and its child, whose corner stands in this column
 abbrev tree : ℕ → List TreeWindow

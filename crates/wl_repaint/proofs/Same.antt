@@ -32,31 +32,32 @@ place-Decides : (a b : ℤ) → Decides (int_eq a b) (a ≡ b)
 place-Decides a b = (λ e. grind (arith, ints), λ e. grind (arith, ints))
 
 -- windows with the same fields are the same
-joined : (w v : TreeWindow) → w.surface ≡ v.surface → w.root ≡ v.root → w.x ≡ v.x → w.y ≡ v.y → w.w ≡ v.w → w.h ≡ v.h → w.transform ≡ v.transform → w ≡ v
-joined w v surface root x y wide high transform =
+joined : (w v : TreeWindow) → w.surface ≡ v.surface → w.root ≡ v.root → w.x ≡ v.x → w.y ≡ v.y → w.w ≡ v.w → w.h ≡ v.h → w.transform ≡ v.transform → w.scale ≡ v.scale → w ≡ v
+joined w v surface root x y wide high transform scale =
     ap (λ n. record w { surface = n }) surface ∙ ap (λ n. record w { surface = v.surface; root = n }) root
     ∙ ap (λ n. record w { surface = v.surface; root = v.root; x = n }) x
     ∙ ap (λ n. record w { surface = v.surface; root = v.root; x = v.x; y = n }) y
     ∙ ap (λ n. record w { surface = v.surface; root = v.root; x = v.x; y = v.y; w = n }) wide
-    ∙ ap (λ n. record v { h = n; transform = w.transform }) high ∙ ap (λ t. record v { transform = t }) transform
+    ∙ ap (λ n. record v { h = n; transform = w.transform; scale = w.scale }) high ∙ ap (λ t. record v { transform = t; scale = w.scale }) transform
+    ∙ ap (λ n. record v { scale = n }) scale
 
 -- a test of all fields, one by one, decides so
-pub fields-Decide : (w v : TreeWindow) (surface root x y wide high transform : Bool) → Decides surface (w.surface ≡ v.surface) → Decides root (w.root ≡ v.root)
+pub fields-Decide : (w v : TreeWindow) (surface root x y wide high transform scale : Bool) → Decides surface (w.surface ≡ v.surface) → Decides root (w.root ≡ v.root)
     → Decides x (w.x ≡ v.x) → Decides y (w.y ≡ v.y) → Decides wide (w.w ≡ v.w) → Decides high (w.h ≡ v.h) → Decides transform (w.transform ≡ v.transform)
-    → Decides (surface && (root && (x && (y && (wide && (high && transform)))))) (w ≡ v)
-fields-Decide w v surface root x y wide high transform a r b c d e f =
-    Decides-like (surface && (root && (x && (y && (wide && (high && transform))))))
-    (λ p. joined w v p.0 p.1.0 p.1.1.0 p.1.1.1.0 p.1.1.1.1.0 p.1.1.1.1.1.0 p.1.1.1.1.1.1)
+    → Decides scale (w.scale ≡ v.scale) → Decides (surface && (root && (x && (y && (wide && (high && (transform && scale))))))) (w ≡ v)
+fields-Decide w v surface root x y wide high transform scale a r b c d e f g =
+    Decides-like (surface && (root && (x && (y && (wide && (high && (transform && scale)))))))
+    (λ p. joined w v p.0 p.1.0 p.1.1.0 p.1.1.1.0 p.1.1.1.1.0 p.1.1.1.1.1.0 p.1.1.1.1.1.1.0 p.1.1.1.1.1.1.1)
     (λ e.
-    (ap (λ u. u.surface) e, (ap (λ u. u.root) e, (ap (λ u. u.x) e, (ap (λ u. u.y) e, (ap (λ u. u.w) e, (ap (λ u. u.h) e, ap (λ u. u.transform) e)))))))
-    (Decides-and _ _ a (Decides-and _ _ r (Decides-and _ _ b (Decides-and _ _ c (Decides-and _ _ d (Decides-and _ _ e f))))))
+    (ap (λ u. u.surface) e, (ap (λ u. u.root) e, (ap (λ u. u.x) e, (ap (λ u. u.y) e, (ap (λ u. u.w) e, (ap (λ u. u.h) e, (ap (λ u. u.transform) e, ap (λ u. u.scale) e))))))))
+    (Decides-and _ _ a (Decides-and _ _ r (Decides-and _ _ b (Decides-and _ _ c (Decides-and _ _ d (Decides-and _ _ e (Decides-and _ _ f g)))))))
 
 pub window-Decides : (w v : TreeWindow) → Decides (is_same_window w v) (w ≡ v)
 window-Decides w v =
-    Decides-like (is_same_window w v) (λ p. joined w v p.0.0 p.0.1 p.1.0.0 p.1.0.1 p.1.1.0.0 p.1.1.0.1 p.1.1.1)
+    Decides-like (is_same_window w v) (λ p. joined w v p.0.0 p.0.1 p.1.0.0 p.1.0.1 p.1.1.0.0 p.1.1.0.1 p.1.1.1.0 p.1.1.1.1)
     (λ e. (
       (ap (λ u. u.surface) e, ap (λ u. u.root) e),
-      ((ap (λ u. u.x) e, ap (λ u. u.y) e), ((ap (λ u. u.w) e, ap (λ u. u.h) e), ap (λ u. u.transform) e)),
+      ((ap (λ u. u.x) e, ap (λ u. u.y) e), ((ap (λ u. u.w) e, ap (λ u. u.h) e), (ap (λ u. u.transform) e, ap (λ u. u.scale) e))),
     ))
     (Decides-and _ _ (Decides-and _ _ (Decides-eqb w.surface v.surface) (Decides-eqb w.root v.root)) (Decides-and _ _ (Decides-and _ _ (place-Decides w.x v.x) (place-Decides w.y v.y))
-    (Decides-and _ _ (Decides-and _ _ (Decides-eqb w.w v.w) (Decides-eqb w.h v.h)) (transform-Decides w.transform v.transform))))
+    (Decides-and _ _ (Decides-and _ _ (Decides-eqb w.w v.w) (Decides-eqb w.h v.h)) (Decides-and _ _ (transform-Decides w.transform v.transform) (Decides-eqb w.scale v.scale)))))

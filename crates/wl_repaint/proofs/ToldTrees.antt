@@ -32,8 +32,6 @@ of-root client root was is of-client = record {
       (λ w own here. and_from (client == w.owner.client) (root == w.owner.root) own here) (was ++ is) of-client.owned;
   numbered = ap (list_all (λ w. nat_lt w.transform 8)) (sym (both-left root was is))
       ∙ all-left (λ w. nat_lt w.transform 8) (λ w. root == w.owner.root) (λ w. nat_lt w.transform 8) (λ w own here. own) (was ++ is) of-client.numbered;
-  unscaled = ap (list_all (λ w. w.scale == 1)) (sym (both-left root was is))
-      ∙ all-left (λ w. w.scale == 1) (λ w. root == w.owner.root) (λ w. w.scale == 1) (λ w own here. own) (was ++ is) of-client.unscaled;
 }
 
 module _ (A : Type 0) (client : ℕ) (was is : List Window) (of-client : AreOfClient client was is) (changes : List (Change A)) (applied : Applied)

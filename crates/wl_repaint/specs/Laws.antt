@@ -5,7 +5,7 @@ use Rattle.wl_plain.specs.Desktop.{Desktop}
 use Rattle.wl_plain.specs.Marks.{Applied, AreDistinct, at_least, at_most, in_output, same_records}
 use Rattle.wl_plain.specs.Moments.{applied_between}
 use Rattle.wl_plain.specs.Stacked.{all_windows}
-use Rattle.wl_stacking.specs.Windows.{AreUnscaled, Window}
+use Rattle.wl_stacking.specs.Windows.{Window}
 use Rattle.wl_state.specs.State.{is_damaged}
 use Rattle.wl_surface.specs.declared.applied.Change.{Change}
 use Rattle.wl_invariants.specs.TreeMarksLaws.{AreUndamaged, among, has_root, is_in_any, is_struck_at}
@@ -14,12 +14,10 @@ use Rattle.wl_toplevels.specs.Toplevel.{AreInTurn, ChangesToplevel}
 use Rattle.wl_windows.specs.Windows.{told_of}
 use Rattle.wl_repaint.specs.Repaint.{AreTogether, marks, marks_trees, same_windows}
 
--- The windows `was` and `is` are of the tree with this root of this client, each transform is a number of wl_output.transform, and none of
--- their buffers is scaled.
+-- The windows `was` and `is` are of the tree with this root of this client, and each transform is a number of wl_output.transform.
 pub record AreOfTree (client root : ℕ) (was is : List Window) : Type 0 where
   pub rooted : list_all (has_root client root) (was ++ is) ≡ true
   pub numbered : list_all (λ w. nat_lt w.transform 8) (was ++ is) ≡ true
-  pub unscaled : AreUnscaled (was ++ is)
 
 -- The damage that was applied to the window's surface, by points of the surface, is what these changes tell of it.
 abbrev pub IsAppliedBy : {A : Type 0} → List (Change A) → Applied → Window → Type 0
@@ -64,11 +62,10 @@ MarksBetween A =
 
 -- ---- several trees
 
--- The windows `was` and `is` are of this client, each transform is a number of wl_output.transform, and none of their buffers is scaled.
+-- The windows `was` and `is` are of this client, and each transform is a number of wl_output.transform.
 pub record AreOfClient (client : ℕ) (was is : List Window) : Type 0 where
   pub owned : list_all (λ w. client == w.owner.client) (was ++ is) ≡ true
   pub numbered : list_all (λ w. nat_lt w.transform 8) (was ++ is) ≡ true
-  pub unscaled : AreUnscaled (was ++ is)
 
 -- Windows whose trees stand one after another are told so that those of each tree stand together.
 abbrev pub ToldTogether : Type 0

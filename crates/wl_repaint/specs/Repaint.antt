@@ -22,12 +22,12 @@ number_of Flipped90 = 5
 number_of Flipped180 = 6
 number_of Flipped270 = 7
 
--- two windows are of one surface of one tree, and have the same corner, size and transform
+-- two windows are of one surface of one tree, and have the same corner, size, transform and scale
 abbrev pub is_same_window : TreeWindow → TreeWindow → Bool
 is_same_window w v =
     ((w.surface == v.surface) && (w.root == v.root))
     && ((int_eq w.x v.x && int_eq w.y v.y)
-    && (((w.w == v.w) && (w.h == v.h)) && (number_of w.transform == number_of v.transform)))
+    && (((w.w == v.w) && (w.h == v.h)) && ((number_of w.transform == number_of v.transform) && (w.scale == v.scale))))
 
 -- so are the windows of two lists, one by one
 abbrev pub same_windows : List TreeWindow → List TreeWindow → Bool
@@ -35,7 +35,7 @@ same_windows was is = pointwise is_same_window was is
 
 -- what is kept of a window to mark it
 abbrev pub record_of : TreeWindow → WindowRecord
-record_of w = record { x = w.x; y = w.y; w = w.w; h = w.h; transform = w.transform }
+record_of w = record { x = w.x; y = w.y; w = w.w; h = w.h; transform = w.transform; scale = w.scale }
 
 -- the window contains the point
 abbrev pub window_has : ℤ → ℤ → TreeWindow → Bool

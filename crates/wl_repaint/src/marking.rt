@@ -22,10 +22,11 @@ fn record_of(window: &TreeWindow) -> WindowRecord
         w: window.w,
         h: window.h,
         transform: window.transform,
+        scale: window.scale,
     }
 }
 
-/// Whether two lists are of the same windows, each with the same place, size and transform.
+/// Whether two lists are of the same windows, each with the same place, size, transform and scale.
 fn are_same(was: &[TreeWindow], is: &[TreeWindow]) -> bool
     ensures { result ≡ same_windows was.now is.now }
 {

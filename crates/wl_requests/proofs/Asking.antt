@@ -170,6 +170,7 @@ stacks-from old mid r rest (Err refusal) stacking same h = tt
 pub placed-behind : (placing : Placing) (object : ℕ) (k : Kind) (c : ℕ) (r : Resident) (p : Peer) (d : Desktop) → IsPlacingFor placing object k c r d
     → IsPlacingFor placing object k c (with_peer p r) d
 placed-behind placing object (kind.Surface surface.Commit) c r p d h = record { bounds = h.bounds; parent = h.parent }
+placed-behind placing object (kind.Popup (popup.Reposition positioner token)) c r p d h = record { bounds = h.bounds; parent = h.parent }
 placed-behind placing object k c r p d h = h
 
 -- and so does what a grab is allowed by

@@ -1,9 +1,11 @@
 -- What a commit comes to for the shell, and what is told of it.
-use Rattle.std.proofs.Common.{◌≡◌, ℕ, [], ◌∷◌, ◌++◌, Bool, true, false, Option, Some, None, refl, ap, sym, ◌∙◌}
-use Rattle.std.specs.Prelude.{ℤ, Ok, is_some}
+use Rattle.std.proofs.Common.{◌≡◌, ℕ, [], ◌∷◌, ◌++◌, Bool, true, false, Option, Some, None, Result, refl, ap, sym, ◌∙◌}
+use Rattle.std.specs.Prelude.{ℤ, Ok, Err, is_some}
 use Rattle.wl_geom.specs.declared.rect.Rect.{Rect}
 use Rattle.std.specs.Option.{option_and_then, option_map}
 use Rattle.wl_peer.specs.Peer.{Peer}
+use Rattle.wl_peer.specs.declared.refusals.ErrorCode.TheVariants.{InvalidBufferSize}
+use Rattle.wl_peer.specs.declared.refusals.Refusal.{Refusal}
 use Rattle.wl_family.specs.Family.{Tied}
 use Rattle.wl_surface.specs.Slots.{Slots}
 use Rattle.wl_xdg_state.specs.Kept.{Kept, commit_answer, kind_toplevel, toplevel_in}
@@ -11,9 +13,12 @@ use Rattle.wl_xdg_state.specs.Popups.{is_toplevel, is_toplevel_kind}
 use Rattle.wl_xdg_state.specs.Shell.{Effect, Stays, Unconfigured, Configures, Maps, Unmaps, IsPopup, Kind, RoleObject, Toplevel, XdgSurface, xdg_of}
 use Rattle.wl_xdg_state.specs.declared.acts.Placed.{Placed}
 use Rattle.wl_xdg_state.specs.declared.acts.ShellAct.{ShellAct}
-use Rattle.wl_xdg_state.specs.declared.acts.ShellAct.TheVariants.{Configure, Map, Unmap, Nothing}
+use Rattle.wl_xdg_state.specs.declared.acts.ShellAct.TheVariants.{Configure, Map, Unmap, Place, Nothing}
 use Rattle.wl_plain.specs.Changing.{Placing, effect_placing}
+use Rattle.wl_plain.specs.Demand.{Demand}
+use Rattle.wl_plain.specs.Demanding.{if_whole}
 use Rattle.wl_plain.specs.Desktop.{Resident}
+use Rattle.wl_plain.specs.WlSubsurface.{refuses}
 use Rattle.wl_plain.specs.Replies.{popup_told}
 use Rattle.wl_owning.specs.Owning.{IsOwned, Names, effect_by, kept_id}
 use Rattle.wl_owning.specs.Popups.{act_told, object_told, role_told}
@@ -62,6 +67,7 @@ module _ (names : Names) (slots : Slots) (tied : Tied) (kept : ℕ → Option Ke
       ap (λ (o : Option XdgSurface). (effect_placing where_to id Configures o after).peer) xdg.3
   commit-peer where_to shows bounds at Map after answer = mapped-peer where_to id (xdg_of id r.owned.shell) after
   commit-peer where_to shows bounds at Unmap after answer = unmapped-peer where_to id (xdg_of id r.owned.shell) after
+  commit-peer where_to shows bounds at (Place placed) after answer = still-peer where_to id (xdg_of id r.owned.shell) after
   commit-peer where_to shows bounds at Nothing after answer = still-peer where_to id (xdg_of id r.owned.shell) after
 
   -- whether its xdg_surface has a toplevel is read of what is kept
@@ -172,6 +178,7 @@ pub told-still : (act : ShellAct) (serial : ℕ) (k : Option Kept) (p : Peer) �
 told-still (Configure placed) serial k p other = absurd (other placed refl)
 told-still Map serial k p other = (refl, refl)
 told-still Unmap serial k p other = (refl, refl)
+told-still (Place placed) serial k p other = (refl, refl)
 told-still Nothing serial k p other = (refl, refl)
 
 -- a serial is drawn of a client that lives on
@@ -179,4 +186,20 @@ pub drawn-status : (act : ShellAct) (p : Peer) → (drawn_by act p).status ≡ p
 drawn-status (Configure placed) p = refl
 drawn-status Map p = refl
 drawn-status Unmap p = refl
+drawn-status (Place placed) p = refl
 drawn-status Nothing p = refl
+
+-- ---- the size of its buffer is looked at after the shell's own errors
+
+pub whole-judged : (whole : Bool) (object : ℕ) (judged shell : Result Demand Refusal) → judged ≡ if_whole whole object shell → whole ≡ true → judged ≡ shell
+whole-judged true object judged shell e is = e
+whole-judged false object judged shell e is = absurd (cc)
+
+pub unwhole-judged : (whole : Bool) (object : ℕ) (judged shell : Result Demand Refusal) (demand : Demand) → judged ≡ if_whole whole object shell → whole ≡ false → shell ≡ Ok demand
+    → judged ≡ refuses object InvalidBufferSize
+unwhole-judged true object judged shell demand e is ok = absurd (cc)
+unwhole-judged false object judged shell demand e is ok = e ∙ ap (if_whole false object) ok
+
+pub shell-judged : (whole : Bool) (object : ℕ) (judged shell : Result Demand Refusal) (refusal : Refusal) → judged ≡ if_whole whole object shell → shell ≡ Err refusal → judged ≡ Err refusal
+shell-judged true object judged shell refusal e err = e ∙ err
+shell-judged false object judged shell refusal e err = e ∙ ap (if_whole false object) err

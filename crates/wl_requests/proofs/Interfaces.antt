@@ -30,6 +30,8 @@ of-surface (surface.SetOpaqueRegion region) = refl
 of-surface (surface.SetInputRegion region) = refl
 of-surface surface.Commit = refl
 of-surface (surface.SetBufferTransform transform) = refl
+of-surface (surface.SetBufferScale scale) = refl
+of-surface (surface.DamageBuffer x y width height) = refl
 
 pub of-subsurface : (request : WlSubsurfaceRequest) → (wl_subsurface_request request).interface ≡ WlSubsurface
 of-subsurface subsurface.Destroy = refl
@@ -59,6 +61,7 @@ of-xdg-surface (xdg.AckConfigure serial) = refl
 pub of-popup : (request : XdgPopupRequest) → (xdg_popup_request request).interface ≡ XdgPopup
 of-popup popup.Destroy = refl
 of-popup (popup.Grab by serial) = refl
+of-popup (popup.Reposition positioner token) = refl
 
 -- the object in the table is of the interface of its entry
 pub object-is : (interface : Interface) (held : Held) (id : ℕ) (entry : Entry) → entry_of held id ≡ Some entry → entry.interface ≡ interface → is_of interface (objects_in held id) ≡ true

@@ -4,6 +4,7 @@ pub mod PopupsNext
 pub mod PopupsReleased
 pub mod ReleasedDone
 pub mod PopupsGrabbed
+pub mod PopupsAnew
 pub mod PopupsAnswered
 pub mod Numbers
 pub mod Naming

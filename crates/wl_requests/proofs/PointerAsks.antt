@@ -1,6 +1,6 @@
 -- What the first message of a client asks of the pointer.
 use Rattle.std.proofs.Common.{◌≡◌, ℕ, List, ap, Bool, true, false, Option, Some, None, Result, refl, sym, subst, ◌∙◌}
-use Rattle.std.specs.Prelude.{◌==◌, ◌||◌, ◌-◌, if◌then◌else◌, is_some, Ok, Err, take, drop}
+use Rattle.std.specs.Prelude.{◌==◌, ◌||◌, ◌-◌, if◌then◌else◌, is_some, Ok, Err, take, drop, ◌&&◌}
 use Rattle.wl_wire.specs.Wire.{split_of}
 use Rattle.wl_wire.specs.declared.header.Split.{Split}
 use Rattle.wl_wire.specs.declared.header.Split.TheVariants.{Message as Whole, More, Bad}
@@ -46,11 +46,11 @@ use Rattle.wl_owning.proofs.Keeping.OwningXdg.{toplevel-named}
 use Rattle.wl_owning.proofs.Keeping.OwningNames.{targets-at}
 use Rattle.wl_plain.specs.Ask.{Ask, Ignore, owns}
 use Rattle.wl_plain.specs.Demand.{Asks, CommitTree, Demand, EndSurface}
-use Rattle.wl_plain.specs.Demanding.{committed_by, demand_of, demands, effect_of_commit, toplevel_asked, xdg_asked}
+use Rattle.wl_plain.specs.Demanding.{committed_by, demand_of, demands, effect_of_commit, if_whole, toplevel_asked, xdg_asked}
 use Rattle.wl_plain.specs.Desktop.{Resident}
 use Rattle.wl_plain.specs.LeftOut.{nothing_left_out}
-use Rattle.wl_plain.specs.XdgPopup.{grab_of, is_no_popup, may_be_parent, popup_asked, popup_made, positioner_of}
-use Rattle.wl_xdg_state.specs.Popups.{Popped, is_parent, is_popup_mapped, popup_at}
+use Rattle.wl_plain.specs.XdgPopup.{grab_of, is_no_popup, may_be_parent, popup_asked, popup_made, positioner_of, repositioned_by}
+use Rattle.wl_xdg_state.specs.Popups.{Popped, is_parent, is_popup_mapped, popup_at, is_configured}
 use Rattle.wl_xdg_state.specs.Positioner.{Positioner, is_complete}
 use Rattle.wl_proto.specs.declared.xdg_popup.XdgPopupRequest.{XdgPopupRequest}
 use Rattle.wl_proto.specs.declared.xdg_popup.XdgPopupRequest.TheVariants as popups
@@ -58,7 +58,7 @@ use Rattle.wl_owning.proofs.Popups.Naming.{roles-named}
 use Rattle.wl_plain.specs.Step.{with_peer}
 use Rattle.wl_plain.specs.WlPointer.{is_no_cursor}
 use Rattle.wl_plain.specs.WlSubsurface.{beside, demand_by_link, has_subsurface, is_no_subsurface, link_of_subsurface, past_limit, placed_beside, refuses}
-use Rattle.wl_plain.specs.WlSurface.{surface_created, transform_set}
+use Rattle.wl_plain.specs.WlSurface.{surface_created, transform_set, will_be_whole, scale_set}
 use Rattle.wl_plain.specs.XdgShell.{acknowledged_by, geometry_set, role_of, state_asked, toplevel_made, xdg_surface_destroyed}
 use Rattle.wl_requests.specs.declared.messages.Asked.{Asked}
 use Rattle.wl_requests.specs.declared.messages.Asked.TheVariants as asks
@@ -103,6 +103,12 @@ module _ (numbers : ById ℕ) where
   ended-nothing object true refused = tt
   ended-nothing object false refused = refl
 
+  -- a commit of a buffer that is no multiple of its scale is refused
+  whole-nothing : (b : Bool) (object : ℕ) (judged : Result Demand Refusal) → AsksPointerSo numbers judged Nothing → AsksPointerSo numbers (if_whole b object judged) Nothing
+  whole-nothing true object judged nothing = nothing
+  whole-nothing false object (Ok demand) nothing = tt
+  whole-nothing false object (Err refusal) nothing = tt
+
   surface-nothing : (r : Resident) (object version : ℕ) (request : WlSurfaceRequest) → AsksPointerSo numbers (demand_of nothing_left_out r object version (wl_surface_request request)) Nothing
   surface-nothing r object version surface.Destroy = ended-nothing object (is_some (xdg_of object r.owned.shell)) _
   surface-nothing r object version (surface.Attach buffer x y) = refl
@@ -110,8 +116,11 @@ module _ (numbers : ById ℕ) where
   surface-nothing r object version (surface.Frame callback) = refl
   surface-nothing r object version (surface.SetOpaqueRegion region) = refl
   surface-nothing r object version (surface.SetInputRegion region) = refl
-  surface-nothing r object version surface.Commit = committed-nothing (xdg_of object r.owned.shell) object (effect_of_commit r object)
+  surface-nothing r object version surface.Commit =
+      whole-nothing (will_be_whole r object) object _ (committed-nothing (xdg_of object r.owned.shell) object (effect_of_commit r object))
   surface-nothing r object version (surface.SetBufferTransform transform) = alone (transform_set object transform)
+  surface-nothing r object version (surface.SetBufferScale scale) = alone (scale_set object scale)
+  surface-nothing r object version (surface.DamageBuffer x y width height) = refl
 
   made-nothing : (r : Resident) (x : Xdg) (version id parent : ℕ) (p : Positioner) → AsksPointerSo numbers (popup_made r x version id parent p) Nothing
   made-nothing r x version id parent p =
@@ -148,9 +157,19 @@ module _ (numbers : ById ℕ) where
       at None = tt
       at (Some p) = if-nothing p.popup.is_dismissed _ _ refl (if-nothing (is_popup_mapped p) _ _ tt refl)
 
+  -- and one that is placed anew
+  reposition-nothing : (r : Resident) (object positioner token : ℕ) (o : Option Xdg) → AsksPointerSo numbers (popup_asked r object o (popups.Reposition positioner token)) Nothing
+  reposition-nothing r object positioner token None = tt
+  reposition-nothing r object positioner token (Some x) = at (positioner_of (r.peer.positioners positioner)) (popup_at x.id r.owned.shell)
+    where
+      at : (p : Positioner) (o : Option Popped) → AsksPointerSo numbers (repositioned_by x token p o) Nothing
+      at p None = tt
+      at p (Some q) = if-nothing (is_configured q && is_full x.configures) _ _ tt (if-nothing (is_complete p) _ _ refl tt)
+
   popup-nothing : (r : Resident) (object version : ℕ) (request : XdgPopupRequest) → AsksPointerSo numbers (demand_of nothing_left_out r object version (xdg_popup_request request)) Nothing
   popup-nothing r object version popups.Destroy = destroyed-nothing r object (xdg_with object r.owned.shell)
   popup-nothing r object version (popups.Grab seat serial) = grab-nothing r object seat serial (xdg_with object r.owned.shell)
+  popup-nothing r object version (popups.Reposition positioner token) = reposition-nothing r object positioner token (xdg_with object r.owned.shell)
 
   placed-nothing : (object parent : ℕ) (request : Member → AskedOf) (o : Option Member) → AsksPointerSo numbers (placed_beside object parent request o) Nothing
   placed-nothing object parent request None = tt

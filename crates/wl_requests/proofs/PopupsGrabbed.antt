@@ -135,7 +135,7 @@ was-dismissed x p (Some object) e told = at object.kind e told
 -- ---- what is left
 
 -- nothing else of the client than its shell changes
-left-still : {A : Type 0} (old new : Kept A) (r after : Resident) (q : Peer) → IsResident old r → IsPeer new.client q → after.callbacks ≡ r.callbacks
+pub left-still : {A : Type 0} (old new : Kept A) (r after : Resident) (q : Peer) → IsResident old r → IsPeer new.client q → after.callbacks ≡ r.callbacks
     → r.peer.requests ≤ after.peer.requests → after.owned.surfaces ≡ r.owned.surfaces → after.subsurfaces ≡ r.subsurfaces → new.owned.linked ≡ old.owned.linked → new.subsurfaces ≡ old.subsurfaces
     → (new.client.ended ≡ None → names_of new.client.objects ≡ names_of old.client.objects)
     → (new.client.ended ≡ None → IsOwned (names_of old.client.objects) old.owned.linked.surfaces old.owned.linked.family (kept_of new.owned.shell) after.owned)

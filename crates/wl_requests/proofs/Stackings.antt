@@ -1,6 +1,6 @@
 -- What requests do to the stack of toplevels.
 use Rattle.std.proofs.Common.{◌≡◌, ℕ, Bool, true, false, Option, Some, None, Result, refl, sym, subst}
-use Rattle.std.specs.Prelude.{◌==◌, ◌||◌, if◌then◌else◌, is_some, Ok}
+use Rattle.std.specs.Prelude.{◌==◌, ◌||◌, if◌then◌else◌, is_some, Ok, ◌&&◌}
 use Rattle.wl_proto.specs.Messages.{Message, wl_pointer_request, wl_subcompositor_request, wl_subsurface_request, xdg_popup_request, xdg_surface_request, xdg_wm_base_request}
 use Rattle.wl_proto.specs.declared.xdg_popup.XdgPopupRequest.{XdgPopupRequest}
 use Rattle.wl_proto.specs.declared.xdg_popup.XdgPopupRequest.TheVariants as popups
@@ -18,11 +18,11 @@ use Rattle.wl_interface.specs.declared.interface.Interface.TheVariants.{XdgTople
 use Rattle.wl_peer.specs.declared.refusals.ErrorCode.TheVariants.{Role as HasAnotherRole}
 use Rattle.wl_peer.specs.declared.refusals.Refusal.{Refusal}
 use Rattle.wl_xdg_state.specs.Kept.{kept_of}
-use Rattle.wl_xdg_state.specs.Popups.{Popped, is_parent, is_popup_mapped, is_toplevel, popup_at}
+use Rattle.wl_xdg_state.specs.Popups.{Popped, is_parent, is_popup_mapped, is_toplevel, popup_at, is_configured}
 use Rattle.wl_xdg_state.specs.Positioner.{Positioner, is_complete}
-use Rattle.wl_xdg_state.specs.Shell.{Effect, XdgSurface as Xdg, xdg_at, xdg_of, xdg_with}
+use Rattle.wl_xdg_state.specs.Shell.{Effect, XdgSurface as Xdg, xdg_at, xdg_of, xdg_with, is_full}
 use Rattle.wl_xdg_state.specs.declared.acts.ShellAct.{ShellAct}
-use Rattle.wl_xdg_state.specs.declared.acts.ShellAct.TheVariants.{Configure, Map, Unmap, Nothing}
+use Rattle.wl_xdg_state.specs.declared.acts.ShellAct.TheVariants.{Configure, Map, Unmap, Place, Nothing}
 use Rattle.wl_plain.specs.Ask.{Ignore}
 use Rattle.wl_plain.specs.Demand.{Asks, Demand, CommitTree}
 use Rattle.wl_plain.specs.Demanding.{demand_of, demands, effect_of_commit, moved_by_pointer, toplevel_asked, toplevel_demand, toplevel_destroyed, xdg_asked}
@@ -38,7 +38,7 @@ use Rattle.wl_surface.specs.Surfaces.{Link}
 use Rattle.wl_surface.specs.Trees.{is_bad_parent, is_too_deep}
 use Rattle.wl_plain.specs.WlPointer.{is_no_cursor}
 use Rattle.wl_plain.specs.WlSubsurface.{beside, demand_by_link, has_subsurface, is_no_subsurface, link_of_subsurface, past_limit, placed_beside, refuses}
-use Rattle.wl_plain.specs.XdgPopup.{grab_of, is_no_popup, may_be_parent, popup_asked, popup_made, positioner_of}
+use Rattle.wl_plain.specs.XdgPopup.{grab_of, is_no_popup, may_be_parent, popup_asked, popup_made, positioner_of, repositioned_by}
 use Rattle.wl_plain.specs.XdgShell.{acknowledged_by, geometry_set, role_of, state_asked, toplevel_made, xdg_surface_destroyed}
 use Rattle.wl_owning.proofs.Keeping.OwningXdg.{toplevel-named}
 use Rattle.wl_owning.proofs.Popups.Naming.{roles-named}
@@ -54,6 +54,7 @@ stacks-by-act : {A : Type 0} (old : Kept A) (id number : ℕ) (act : ShellAct) �
 stacks-by-act old id number (Configure placed) named = refl
 stacks-by-act old id number Map named = (number, named, refl)
 stacks-by-act old id number Unmap named = (number, named, refl)
+stacks-by-act old id number (Place placed) named = refl
 stacks-by-act old id number Nothing named = refl
 
 stacks-if-act : {A : Type 0} (old : Kept A) (id number : ℕ) (act : ShellAct) (toplevel : Bool) → IsSurface old id number
@@ -156,10 +157,19 @@ grab-stays old r object seat serial (Some x) = at (popup_at x.id r.owned.shell)
     at None = tt
     at (Some p) = if-stays old r p.popup.is_dismissed _ _ refl (if-stays old r (is_popup_mapped p) _ _ tt refl)
 
+reposition-stays : {A : Type 0} (old : Kept A) (r : Resident) (object positioner token : ℕ) (o : Option Xdg) → StacksSo old r (popup_asked r object o (popups.Reposition positioner token)) Stays
+reposition-stays old r object positioner token None = tt
+reposition-stays old r object positioner token (Some x) = at (positioner_of (r.peer.positioners positioner)) (popup_at x.id r.owned.shell)
+  where
+    at : (p : Positioner) (o : Option Popped) → StacksSo old r (repositioned_by x token p o) Stays
+    at p None = tt
+    at p (Some q) = if-stays old r (is_configured q && is_full x.configures) _ _ tt (if-stays old r (is_complete p) _ _ refl tt)
+
 pub popup-stays : {A : Type 0} (old : Kept A) (r : Resident) (object version : ℕ) (request : XdgPopupRequest)
     → StacksSo old r (demand_of nothing_left_out r object version (xdg_popup_request request)) Stays
 popup-stays old r object version popups.Destroy = destroyed-stays old r object (xdg_with object r.owned.shell)
 popup-stays old r object version (popups.Grab seat serial) = grab-stays old r object seat serial (xdg_with object r.owned.shell)
+popup-stays old r object version (popups.Reposition positioner token) = reposition-stays old r object positioner token (xdg_with object r.owned.shell)
 
 -- a request of a wl_subsurface
 placed-stays : {A : Type 0} (old : Kept A) (r : Resident) (object parent : ℕ) (request : Member → Asked) (o : Option Member) → StacksSo old r (placed_beside object parent request o) Stays

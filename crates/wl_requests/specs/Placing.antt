@@ -1,9 +1,12 @@
--- What a popup is placed by where its surface is committed (wayland.xml, wl_surface.commit; xdg-shell.xml, xdg_positioner).
-use Rattle.std.specs.Prelude.{ℕ, ◌≡◌}
-use Rattle.wl_owning.specs.Popups.{IsAtParent}
+-- What a popup is placed by: where its surface is committed, and where it is placed anew (wayland.xml, wl_surface.commit; xdg-shell.xml,
+-- xdg_positioner and xdg_popup.reposition).
+use Rattle.std.specs.Prelude.{ℕ, ◌≡◌, Option}
+use Rattle.wl_owning.specs.Popups.{IsAtParentOf, popup_of_surface, popup_with}
 use Rattle.wl_plain.specs.Changing.{output_rect}
 use Rattle.wl_plain.specs.Desktop.{Desktop, Resident}
 use Rattle.wl_proto.specs.declared.wl_surface.WlSurfaceRequest.TheVariants as surface
+use Rattle.wl_proto.specs.declared.xdg_popup.XdgPopupRequest.TheVariants as popup
+use Rattle.wl_xdg_state.specs.Shell.{Popup}
 use Rattle.wl_requests.specs.declared.messages.Asked.{Asked}
 use Rattle.wl_requests.specs.declared.messages.Asked.TheVariants as asked
 use Rattle.wl_requests.specs.declared.messages.Kind.{Kind}
@@ -11,13 +14,15 @@ use Rattle.wl_requests.specs.declared.messages.Kind.TheVariants as kind
 use Rattle.wl_requests.specs.declared.residents.Placing.{Placing}
 
 -- It is placed within the output, and by where the window geometry of its parent stands.
-pub record IsPlacing (placing : Placing) (c surface : ℕ) (r : Resident) (d : Desktop) : Type 0 where
+pub record IsPlacing (placing : Placing) (c : ℕ) (popup : Option Popup) (r : Resident) (d : Desktop) : Type 0 where
   pub bounds : placing.bounds ≡ output_rect d.output
-  pub parent : IsAtParent placing.parent_at c surface r d
+  pub parent : IsAtParentOf popup placing.parent_at c r d
 
--- So it is of the surface of a commit; nothing else places a popup.
+-- So it is of the popup of a surface that is committed, and of one that is placed anew, as it stands before that; nothing else places a popup.
 abbrev pub IsPlacingFor : Placing → ℕ → Kind → ℕ → Resident → Desktop → Type 0
-IsPlacingFor placing object (kind.Surface surface.Commit) c r d = IsPlacing placing c object r d
+IsPlacingFor placing object (kind.Surface surface.Commit) c r d = IsPlacing placing c (popup_of_surface object r.owned.shell) r d
+IsPlacingFor placing object (kind.Popup (popup.Reposition positioner token)) c r d =
+    IsPlacing placing c (popup_with object r.owned.shell) r d
 IsPlacingFor placing object kind c r d = Unit {0}
 
 -- of what the first message asks

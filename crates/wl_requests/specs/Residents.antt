@@ -207,6 +207,11 @@ NewIsFree v m = IfSome (new_id_in m) (λ new. IsFree v new.id)
 abbrev pub ObjectsFit : {A : Type 0} → Kept A → Message → Type 0
 ObjectsFit v m = list_all (fits (objects_in v.client.objects)) (objects_named m) ≡ true
 
+-- the next serial is drawn, or isn't
+abbrev pub drawn_if : Bool → Peer → Peer
+drawn_if true p = record p { serial = next_serial p.serial }
+drawn_if false p = p
+
 -- Where a commit came to a configure, the next serial is drawn.
 abbrev pub drawn_by : ShellAct → Peer → Peer
 drawn_by (Configure placed) p = record p { serial = next_serial p.serial }

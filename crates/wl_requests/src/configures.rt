@@ -4,12 +4,16 @@ ghost use Rattle.std.specs.Prelude.{◌≡◌, ◌∷◌, ◌++◌, [], None, is
 ghost use Rattle.std.specs.Option.{option_and_then, option_map};
 ghost use Rattle.wl_client.specs.Agreement.{IsPeer};
 ghost use Rattle.wl_client.specs.Said.{said_of};
+ghost use Rattle.wl_interface.specs.declared.interface.Interface.TheVariants.{XdgPopup};
 ghost use Rattle.wl_peer.specs.Peer.{Peer, Queues};
+ghost use Rattle.wl_peer.specs.Told.{said};
+ghost use Rattle.wl_proto.specs.Messages.{says};
+ghost use Rattle.wl_wire.specs.Wire.{Word};
 ghost use Rattle.wl_xdg_state.specs.Kept.{kept_of, toplevel_in};
-ghost use Rattle.wl_owning.specs.Popups.{act_told};
+ghost use Rattle.wl_owning.specs.Popups.{act_told, anew_told};
 ghost use Rattle.wl_plain.specs.Replies.{popup_configured, popup_told};
 ghost use Rattle.wl_plain.specs.Step.{toplevel_configured, xdg_configured};
-ghost use Rattle.wl_requests.specs.Residents.{drawn_by, Leaves};
+ghost use Rattle.wl_requests.specs.Residents.{drawn_by, drawn_if, Leaves};
 
 use crate::residents::Resident;
 use std::alloc::Allocator;
@@ -61,6 +65,16 @@ fn popup_event(popup: u32, placed: Placed) -> Event<'static>
     }
 }
 
+/// xdg_popup.repositioned, with the token of the request.
+fn repositioned_event(popup: u32, token: u32) -> Event<'static>
+    ensures { said_of result ≡ said popup (says XdgPopup 2 (Word token ∷ [])) }
+{
+    Event {
+        object: popup,
+        body: EventBody::XdgPopup(XdgPopupEvent::Repositioned { token }),
+    }
+}
+
 impl<A: Allocator + Copy> Resident<A> {
     /// Configures a toplevel: xdg_toplevel.configure, of no size of the compositor's, and xdg_surface.configure.
     pub(crate) fn tell_configure(&mut self, toplevel: u32, xdg_surface: u32, serial: u32)
@@ -93,6 +107,33 @@ impl<A: Allocator + Copy> Resident<A> {
             }
             None => self.client.queue_all(&[configure]),
         }
+    }
+
+    /// Where a popup was placed anew, the serial is drawn, and it is told with the token of the request where it will stand:
+    /// xdg_popup.repositioned, xdg_popup.configure and xdg_surface.configure (xdg-shell.xml, xdg_popup.reposition).
+    pub(crate) fn tell_anew(
+        &mut self,
+        popup: u32,
+        token: u32,
+        placed: Option<Placed>,
+        xdg_surface: u32,
+        serial: u32,
+    )
+        ensures table { self.new.client.ended ≡ None → self.new.client.objects ≡ self.old.client.objects }
+        ensures told { (p : Peer) → IsPeer self.old.client p
+            → (q : Peer) × Queues (anew_told placed token serial popup xdg_surface) (drawn_if (is_some placed) p) q × IsPeer self.new.client q }
+        ensures owned { self.new.owned ≡ self.old.owned }
+        ensures subsurfaces { self.new.subsurfaces ≡ self.old.subsurfaces }
+        ensures rest { Leaves self.old self.new }
+    {
+        let Some(place) = placed else {
+            return;
+        };
+        self.client.draw_serial();
+        let first = repositioned_event(popup, token);
+        let second = popup_event(popup, place);
+        let third = xdg_surface_event(xdg_surface, serial);
+        self.client.queue_all(&[first, second, third]);
     }
 
     /// The id of the role object of a surface, if it has one.

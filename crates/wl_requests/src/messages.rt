@@ -17,7 +17,7 @@ ghost use Rattle.wl_plain.specs.LeftOut.{nothing_left_out};
 ghost use Rattle.wl_plain.specs.Demanding.{demand_of};
 
 use crate::pointer_asked::PointerAsked;
-use crate::residents::{Grabbing, Outcome, Placing, Resident, Stacking};
+use crate::residents::{Given, Grabbing, Outcome, Placing, Resident, Stacking};
 use crate::xdg_toplevel::{ToplevelAsked, asked_of};
 use std::alloc::Allocator;
 use wl_client::{Action, First, Refusal};
@@ -117,38 +117,34 @@ impl<A: Allocator + Copy> Resident<A> {
     }
 
     /// Answers a request to an object, which has this version and target. Where there is no room for windows nothing is applied, and where
-    /// there is none for a new wl_pointer its client ends. A popup is placed, and a grab allowed, by what is handed in for that.
+    /// there is none for a new wl_pointer its client ends. A popup is placed, at first and anew, and a grab allowed, by what is handed in.
     fn answer(
         &mut self,
         object: u32,
         version: u32,
         target: usize,
         kind: Kind,
-        has_room: bool,
-        placing: Placing,
-        grabbing: Grabbing,
+        given: Given,
     ) -> Outcome<A>
         ensures answers { (m : Message) → IsKind kind m → entry_of self.old.client.objects object ≡ Some (record { interface = m.interface; version = version; target = target })
-            → NewIsFree self.old m → ObjectsFit self.old m → AnswersGiven placing grabbing kind object (λ r. demand_of nothing_left_out r object version m) self.old self.new }
+            → NewIsFree self.old m → ObjectsFit self.old m → AnswersGiven given.placing given.grabbing kind object (λ r. demand_of nothing_left_out r object version m) self.old self.new }
         ensures stacks { (m : Message) → IsKind kind m → entry_of self.old.client.objects object ≡ Some (record { interface = m.interface; version = version; target = target })
             → Stacks (λ r. demand_of nothing_left_out r object version m) self.old result.stacking }
         ensures decides { (touch : Touch) → IsTouchOf kind object target self.old touch
             → (m : Message) → IsKind kind m → entry_of self.old.client.objects object ≡ Some (record { interface = m.interface; version = version; target = target })
-            → AnswersPlacedAs (is_some result.applied) placing kind object (λ r. demand_of nothing_left_out r object version m) self.old self.new }
+            → AnswersPlacedAs (is_some result.applied) given.placing kind object (λ r. demand_of nothing_left_out r object version m) self.old self.new }
         ensures touched { (touch : Touch) → IsTouchOf kind object target self.old touch
             → IsTouched touch self.old.owned.linked self.new.owned.linked result.applied }
         ensures nothing { ((touch : Touch) → IsTouchOf kind object target self.old touch → ⊥) → (numbers : ById ℕ) (subsurfaces : List Subsurface) → AreOfSurfaces self.old.subsurfaces numbers subsurfaces → result.applied ≡ None }
         ensures rest { Leaves self.old self.new }
-        ensures room { is_some result.applied ≡ true → has_room ≡ true }
+        ensures room { is_some result.applied ≡ true → given.has_room ≡ true }
         ensures holds { (touch : Touch) → IsTouchOf kind object target self.old touch
             → (m : Message) → IsKind kind m → entry_of self.old.client.objects object ≡ Some (record { interface = m.interface; version = version; target = target })
-            → HoldsPlaced (is_some result.applied) placing kind object (λ r. demand_of nothing_left_out r object version m) self.old self.new }
-        ensures seat { (id : ℕ) → pointer_asked_by target kind ≡ PointerAsked.NewPointer id → has_room ≡ false → is_some self.new.client.ended ≡ true }
+            → HoldsPlaced (is_some result.applied) given.placing kind object (λ r. demand_of nothing_left_out r object version m) self.old self.new }
+        ensures seat { (id : ℕ) → pointer_asked_by target kind ≡ PointerAsked.NewPointer id → given.has_room ≡ false → is_some self.new.client.ended ≡ true }
     {
         match kind {
-            Kind::Surface(request) => {
-                self.wl_surface(object, version, target, &request, has_room, placing)
-            }
+            Kind::Surface(request) => { self.wl_surface(object, version, target, &request, given) }
             Kind::Toplevel(asked) => Outcome::of(self.xdg_toplevel(object, target, asked)),
             Kind::Compositor(request) => {
                 self.wl_compositor(object, version, &request);
@@ -158,9 +154,14 @@ impl<A: Allocator + Copy> Resident<A> {
                 self.wl_subcompositor(object, version, &request);
                 Outcome::of(Stacking::Stays)
             }
-            Kind::Subsurface(request) => self.wl_subsurface(object, version, &request, has_room),
+            Kind::Subsurface(request) => self.wl_subsurface(
+                object,
+                version,
+                &request,
+                given.has_room,
+            ),
             Kind::Seat(request) => {
-                self.wl_seat(object, version, &request, has_room);
+                self.wl_seat(object, version, &request, given.has_room);
                 Outcome::of(Stacking::Stays)
             }
             Kind::Pointer(request) => {
@@ -175,16 +176,14 @@ impl<A: Allocator + Copy> Resident<A> {
                 self.xdg_surface(object, version, target, &request);
                 Outcome::of(Stacking::Stays)
             }
-            Kind::Popup(request) => {
-                self.xdg_popup(object, version, target, &request, has_room, grabbing)
-            }
+            Kind::Popup(request) => { self.xdg_popup(object, version, target, &request, given) }
         }
     }
 
     /// Takes the first whole message of a client that lives, which asks this, and answers what that did. None where there is no whole message;
     /// then nothing is changed. Where there is no room for the windows that it leads to, a request that may change what several surfaces show
     /// lacks memory, and nothing is applied; so does wl_seat.get_pointer where there is none for the new wl_pointer. A popup whose surface is
-    /// committed for the first time is placed by what is handed in for that, and so is what a grab is allowed by.
+    /// committed for the first time, or that is placed anew, is placed by what is handed in for that, and so is what a grab is allowed by.
     pub fn serve(
         &mut self,
         asked: Asked,
@@ -228,7 +227,12 @@ impl<A: Allocator + Copy> Resident<A> {
                 kind,
             } => {
                 self.client.take_first(size);
-                Some(self.answer(object, version, target, kind, has_room, placing, grabbing))
+                let given = Given {
+                    has_room,
+                    placing,
+                    grabbing,
+                };
+                Some(self.answer(object, version, target, kind, given))
             }
         }
     }

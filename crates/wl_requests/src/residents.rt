@@ -20,8 +20,8 @@ pub enum Stacking {
     Out(SurfaceNo),
 }
 
-/// What a popup is placed by where its surface is committed, in pixels of the output: within these bounds, which are the output's, and by
-/// where the window geometry of its parent stands (xdg-shell.xml, xdg_positioner).
+/// What a popup is placed by where its surface is committed and where it is placed anew, in pixels of the output: within these bounds, which
+/// are the output's, and by where the window geometry of its parent stands (xdg-shell.xml, xdg_positioner and xdg_popup.reposition).
 #[derive(Clone, Copy, Debug, PartialEq, Eq)]
 pub struct Placing {
     pub bounds: Rect,
@@ -35,6 +35,15 @@ pub struct Grabbing {
     pub press: Option<u32>,
     pub release: Option<u32>,
     pub held_elsewhere: bool,
+}
+
+/// What is handed in for a request: whether there is room for the windows, or for the wl_pointer, that it leads to, what a popup is placed by,
+/// and what a grab is allowed by.
+#[derive(Clone, Copy)]
+pub(crate) struct Given {
+    pub(crate) has_room: bool,
+    pub(crate) placing: Placing,
+    pub(crate) grabbing: Grabbing,
 }
 
 /// What a request did: to the stack of toplevels, and what it applied, if it may change what surfaces show (wayland.xml, wl_surface.commit and

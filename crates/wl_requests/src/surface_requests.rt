@@ -6,10 +6,10 @@ ghost use Rattle.std.specs.Option.{option_map};
 ghost use Rattle.wl_client.specs.Agreement.{IsPeer};
 ghost use Rattle.wl_peer.specs.Peer.{Peer};
 ghost use Rattle.wl_state.specs.Kept.{buffer_of};
-ghost use Rattle.wl_surface.specs.Slots.{is_transform};
-ghost use Rattle.wl_state.specs.Request.{Attach, Damage as DamageAsked, SetBufferTransform, SetInputRegion, SetOpaqueRegion};
+ghost use Rattle.wl_surface.specs.Slots.{is_scale, is_transform};
+ghost use Rattle.wl_state.specs.Request.{Attach, Damage as DamageAsked, DamageBuffer as BufferDamaged, SetBufferScale, SetBufferTransform, SetInputRegion, SetOpaqueRegion};
 ghost use Rattle.wl_proto.specs.Messages.{wl_surface_request};
-ghost use Rattle.wl_proto.specs.declared.wl_surface.WlSurfaceRequest.TheVariants.{Commit, Destroy, Frame as FrameAsked, SetBufferTransform as TransformAsked};
+ghost use Rattle.wl_proto.specs.declared.wl_surface.WlSurfaceRequest.TheVariants.{Commit, Destroy, Frame as FrameAsked, SetBufferScale as ScaleAsked, SetBufferTransform as TransformAsked};
 ghost use Rattle.wl_geom.specs.declared.rect.Rect.{Rect as ScreenRect};
 ghost use Rattle.wl_xdg_state.specs.Kept.{Kept as KeptXdg, changing, commit_answer, kept_after, kept_of};
 ghost use Rattle.wl_plain.specs.Ask.{AskSurface};
@@ -32,7 +32,7 @@ ghost use Rattle.wl_plain.specs.Demanding.{demand_of, effect_of_commit};
 ghost use Rattle.wl_plain.specs.WlSurface.{buffer_named, region_named, will_show};
 
 use crate::messages::Kind;
-use crate::residents::{Outcome, Placing, Resident, Stacking};
+use crate::residents::{Given, Outcome, Resident, Stacking};
 use std::alloc::Allocator;
 use wl_client::{ErrorCode, Refusal};
 use wl_geom::Rect;
@@ -46,6 +46,13 @@ fn is_valid(transform: i32) -> bool
     ensures { result ≡ is_transform transform }
 {
     (0..=7).contains(&transform)
+}
+
+/// Whether this is a scale, so many pixels of a buffer for one of its surface (wayland.xml, wl_surface.set_buffer_scale).
+fn is_positive(scale: i32) -> bool
+    ensures { result ≡ is_scale scale }
+{
+    scale >= 1
 }
 
 /// Whether a buffer is one of these that are freed.
@@ -75,7 +82,7 @@ fn stacking_of(act: ShellAct, surface: SurfaceNo, is_toplevel: bool) -> Stacking
     match act {
         ShellAct::Map => Stacking::ToTop(surface),
         ShellAct::Unmap => Stacking::Out(surface),
-        ShellAct::Configure(_) | ShellAct::Nothing => Stacking::Stays,
+        ShellAct::Configure(_) | ShellAct::Place(_) | ShellAct::Nothing => Stacking::Stays,
     }
 }
 
@@ -146,6 +153,17 @@ impl<A: Allocator + Copy> Resident<A> {
         }
     }
 
+    /// wl_surface.damage_buffer of a rectangle in pixels of the buffer.
+    fn damage_buffer(&mut self, object: u32, surface: SurfaceNo, rect: Rect)
+        ensures does { IsSurface self.old object surface → Does (λ r. AskSurface object (BufferDamaged rect)) self.old self.new }
+        ensures rest { Leaves self.old self.new }
+    {
+        match self.owned.linked.surfaces.damage_buffer(surface, rect) {
+            Ok(()) => {}
+            Err(_) => self.client.lack_memory(),
+        }
+    }
+
     /// wl_surface.set_opaque_region of a copy of the region with this id, or of none for null.
     pub(crate) fn set_opaque_region(&mut self, object: u32, surface: SurfaceNo, region: u32)
         ensures does { IsSurface self.old object surface → Does (λ r. AskSurface object (SetOpaqueRegion (region_named r region))) self.old self.new }
@@ -170,24 +188,19 @@ impl<A: Allocator + Copy> Resident<A> {
         }
     }
 
-    /// wl_surface.commit: what is pending counts, and the shell says what that comes to. A popup is placed by what is handed in for that.
-    fn commit(
-        &mut self,
-        object: u32,
-        version: u32,
-        surface: SurfaceNo,
-        has_room: bool,
-        placing: Placing,
-    ) -> Outcome<A>
+    /// wl_surface.commit: what is pending counts, and the shell says what that comes to. A popup is placed by what is handed in for that. Where the
+    /// shell refuses nothing, a buffer whose sides are no multiples of the scale is refused, and nothing is applied (wayland.xml, wl_surface.error,
+    /// invalid_size).
+    fn commit(&mut self, object: u32, version: u32, surface: SurfaceNo, given: Given) -> Outcome<A>
         ensures answers { IsSurface self.old object surface
-            → AnswersPlacedAs (is_some result.applied) placing (Kind.Surface Commit) object (λ r. demand_of nothing_left_out r object version (wl_surface_request Commit)) self.old self.new }
+            → AnswersPlacedAs (is_some result.applied) given.placing (Kind.Surface Commit) object (λ r. demand_of nothing_left_out r object version (wl_surface_request Commit)) self.old self.new }
         ensures stacks { IsSurface self.old object surface
             → Stacks (λ r. demand_of nothing_left_out r object version (wl_surface_request Commit)) self.old result.stacking }
         ensures touched { IsTouched (Commits surface) self.old.owned.linked self.new.owned.linked result.applied }
         ensures rest { Leaves self.old self.new }
-        ensures room { is_some result.applied ≡ true → has_room ≡ true }
+        ensures room { is_some result.applied ≡ true → given.has_room ≡ true }
         ensures holds { IsSurface self.old object surface
-            → HoldsPlaced (is_some result.applied) placing (Kind.Surface Commit) object (λ r. demand_of nothing_left_out r object version (wl_surface_request Commit)) self.old self.new }
+            → HoldsPlaced (is_some result.applied) given.placing (Kind.Surface Commit) object (λ r. demand_of nothing_left_out r object version (wl_surface_request Commit)) self.old self.new }
     {
         let has_buffer = self.owned.linked.surfaces.pending_buffer(surface).is_some();
         let is_toplevel = self.has_toplevel(surface);
@@ -195,13 +208,18 @@ impl<A: Allocator + Copy> Resident<A> {
         match self.owned.shell.on_commit(
             surface,
             has_buffer,
-            placing.bounds,
-            placing.parent_at,
+            given.placing.bounds,
+            given.placing.parent_at,
             serial,
         ) {
             Ok(act) => {
+                if !self.owned.linked.surfaces.is_whole(surface) {
+                    let refusal = Refusal::of(object, ErrorCode::InvalidBufferSize);
+                    self.client.refuse(refusal);
+                    return Outcome::of(Stacking::Stays);
+                }
                 self.client.count();
-                let applied = self.apply(surface, act, serial, has_room);
+                let applied = self.apply(surface, act, serial, given.has_room);
                 Outcome {
                     stacking: stacking_of(act, surface, is_toplevel),
                     applied,
@@ -215,7 +233,8 @@ impl<A: Allocator + Copy> Resident<A> {
         }
     }
 
-    /// What is pending of a surface counts, and what that came to for the shell is told. Answers what was applied; None without memory for it.
+    /// What is pending of a surface counts, where the sides of its buffer are multiples of the scale, and what that came to for the shell is told.
+    /// Answers what was applied; None without memory for it.
     fn apply(
         &mut self,
         surface: SurfaceNo,
@@ -260,6 +279,18 @@ impl<A: Allocator + Copy> Resident<A> {
         ensures rest { Leaves self.old self.new }
     {
         match self.owned.linked.surfaces.set_transform(surface, transform) {
+            Ok(()) => {}
+            Err(_) => self.client.lack_memory(),
+        }
+    }
+
+    /// wl_surface.set_buffer_scale to one of 1 or more.
+    fn set_buffer_scale(&mut self, object: u32, surface: SurfaceNo, scale: i32)
+        ensures does { is_scale scale ≡ true → IsSurface self.old object surface
+            → Does (λ r. AskSurface object (SetBufferScale (unsigned_abs scale))) self.old self.new }
+        ensures rest { Leaves self.old self.new }
+    {
+        match self.owned.linked.surfaces.set_scale(surface, scale) {
             Ok(()) => {}
             Err(_) => self.client.lack_memory(),
         }
@@ -319,6 +350,21 @@ impl<A: Allocator + Copy> Resident<A> {
         self.set_buffer_transform(object, surface, transform);
     }
 
+    /// wl_surface.set_buffer_scale, of 1 or more.
+    fn scale(&mut self, object: u32, version: u32, surface: SurfaceNo, scale: i32)
+        ensures answers { IsSurface self.old object surface
+            → AnswersDemand (λ r. demand_of nothing_left_out r object version (wl_surface_request (ScaleAsked scale))) self.old self.new }
+        ensures rest { Leaves self.old self.new }
+    {
+        if !is_positive(scale) {
+            let refusal = Refusal::of(object, ErrorCode::InvalidScale);
+            self.client.refuse(refusal);
+            return;
+        }
+        self.client.count();
+        self.set_buffer_scale(object, surface, scale);
+    }
+
     /// wl_surface.frame: the callback with this id waits until a commit applies the request and a frame is shown.
     fn frame(&mut self, object: u32, version: u32, surface: SurfaceNo, callback: u32)
         ensures answers { IsSurface self.old object surface → IsFree self.old callback
@@ -346,26 +392,25 @@ impl<A: Allocator + Copy> Resident<A> {
         version: u32,
         surface: SurfaceNo,
         request: &WlSurfaceRequest,
-        has_room: bool,
-        placing: Placing,
+        given: Given,
     ) -> Outcome<A>
         ensures answers { IsSurface self.old object surface → NewIsFree self.old (wl_surface_request request.now)
-            → AnswersPlaced placing (Kind.Surface request.now) object (λ r. demand_of nothing_left_out r object version (wl_surface_request request.now)) self.old self.new }
+            → AnswersPlaced given.placing (Kind.Surface request.now) object (λ r. demand_of nothing_left_out r object version (wl_surface_request request.now)) self.old self.new }
         ensures stacks { IsSurface self.old object surface
             → Stacks (λ r. demand_of nothing_left_out r object version (wl_surface_request request.now)) self.old result.stacking }
         ensures decides { (touch : Touch) → IsTouchOf (Kind.Surface request.now) object surface self.old touch → IsSurface self.old object surface
-            → AnswersPlacedAs (is_some result.applied) placing (Kind.Surface request.now) object (λ r. demand_of nothing_left_out r object version (wl_surface_request request.now)) self.old self.new }
+            → AnswersPlacedAs (is_some result.applied) given.placing (Kind.Surface request.now) object (λ r. demand_of nothing_left_out r object version (wl_surface_request request.now)) self.old self.new }
         ensures touched { (touch : Touch) → IsTouchOf (Kind.Surface request.now) object surface self.old touch
             → IsTouched touch self.old.owned.linked self.new.owned.linked result.applied }
         ensures nothing { ((touch : Touch) → IsTouchOf (Kind.Surface request.now) object surface self.old touch → ⊥) → result.applied ≡ None }
         ensures rest { Leaves self.old self.new }
-        ensures room { is_some result.applied ≡ true → has_room ≡ true }
+        ensures room { is_some result.applied ≡ true → given.has_room ≡ true }
         ensures holds { (touch : Touch) → IsTouchOf (Kind.Surface request.now) object surface self.old touch → IsSurface self.old object surface
-            → HoldsPlaced (is_some result.applied) placing (Kind.Surface request.now) object (λ r. demand_of nothing_left_out r object version (wl_surface_request request.now)) self.old self.new }
+            → HoldsPlaced (is_some result.applied) given.placing (Kind.Surface request.now) object (λ r. demand_of nothing_left_out r object version (wl_surface_request request.now)) self.old self.new }
     {
         match *request {
-            WlSurfaceRequest::Commit => self.commit(object, version, surface, has_room, placing),
-            WlSurfaceRequest::Destroy => self.destroy(object, version, surface, has_room),
+            WlSurfaceRequest::Commit => self.commit(object, version, surface, given),
+            WlSurfaceRequest::Destroy => self.destroy(object, version, surface, given.has_room),
             WlSurfaceRequest::Attach { buffer, x, y } => {
                 self.client.count();
                 self.attach(object, surface, buffer, x, y);
@@ -397,6 +442,20 @@ impl<A: Allocator + Copy> Resident<A> {
             }
             WlSurfaceRequest::SetBufferTransform { transform } => {
                 self.transform(object, version, surface, transform);
+                Outcome::of(Stacking::Stays)
+            }
+            WlSurfaceRequest::SetBufferScale { scale } => {
+                self.scale(object, version, surface, scale);
+                Outcome::of(Stacking::Stays)
+            }
+            WlSurfaceRequest::DamageBuffer {
+                x,
+                y,
+                width: w,
+                height: h,
+            } => {
+                self.client.count();
+                self.damage_buffer(object, surface, Rect { x, y, w, h });
                 Outcome::of(Stacking::Stays)
             }
         }

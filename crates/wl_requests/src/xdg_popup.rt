@@ -2,7 +2,7 @@
 
 ghost use Rattle.std.specs.Prelude.{ℕ, ◌≡◌, ◌&&◌, ◌||◌, IfSome, None, [], is_some, not, true};
 ghost use Rattle.wl_proto.specs.Messages.{xdg_popup_request};
-ghost use Rattle.wl_proto.specs.declared.xdg_popup.XdgPopupRequest.TheVariants.{Destroy, Grab};
+ghost use Rattle.wl_proto.specs.declared.xdg_popup.XdgPopupRequest.TheVariants.{Destroy, Grab, Reposition};
 ghost use Rattle.wl_xdg_state.specs.Shell.{xdg_with};
 ghost use Rattle.wl_plain.specs.Changing.{is_serial};
 ghost use Rattle.wl_plain.specs.Demanding.{demand_of};
@@ -10,11 +10,11 @@ ghost use Rattle.wl_plain.specs.LeftOut.{nothing_left_out};
 ghost use Rattle.wl_plain.specs.XdgPopup.{popup_asked};
 ghost use Rattle.wl_requests.specs.Holding.{HoldsAs};
 ghost use Rattle.wl_requests.specs.Messages.{IsTouchOf};
-ghost use Rattle.wl_requests.specs.Residents.{AnswersAllowed, AnswersDemandAs, IsPopup, Leaves};
+ghost use Rattle.wl_requests.specs.Residents.{AnswersAllowed, AnswersDemandAs, AnswersGiven, AnswersPlaced, IsPopup, Leaves};
 ghost use Rattle.wl_requests.specs.Touching.{IsTouched, Touch};
 
 use crate::messages::Kind;
-use crate::residents::{Grabbing, Outcome, Resident, Stacking};
+use crate::residents::{Given, Grabbing, Outcome, Placing, Resident, Stacking};
 use std::alloc::Allocator;
 use wl_proto::XdgPopupRequest;
 use wl_surface::{Applied, SurfaceNo};
@@ -104,34 +104,70 @@ impl<A: Allocator + Copy> Resident<A> {
         }
     }
 
-    /// A request of the popup of a surface. What a grab is allowed by is handed in.
+    /// xdg_popup.reposition by the positioner with this id: the popup has a copy of it. Where it was configured before, and isn't dismissed, it is
+    /// told with this token where it will stand, and its xdg_surface is configured. What it is placed by is handed in.
+    fn reposition(
+        &mut self,
+        object: u32,
+        surface: SurfaceNo,
+        positioner: u32,
+        token: u32,
+        placing: Placing,
+    )
+        ensures answers { IsPopup self.old object surface
+            → AnswersPlaced placing (Kind.Popup (Reposition positioner token)) object (λ r. popup_asked r object (xdg_with object r.owned.shell) (Reposition positioner token)) self.old self.new }
+        ensures rest { Leaves self.old self.new }
+        ensures surfaces { self.new.owned.linked ≡ self.old.owned.linked }
+    {
+        let values = self.positioner_of(positioner);
+        let xdg_surface = self.xdg_surface_of(surface);
+        let serial = self.client.serial();
+        match self.owned.shell.reposition(
+            surface,
+            &values,
+            placing.bounds,
+            placing.parent_at,
+            serial,
+        ) {
+            Ok(placed) => {
+                self.client.count();
+                self.tell_anew(object, token, placed, xdg_surface, serial);
+            }
+            Err(error) => self.refuse_xdg_surface(object, surface, error),
+        }
+    }
+
+    /// A request of the popup of a surface. What it is placed by, and what a grab is allowed by, is handed in.
     pub(crate) fn xdg_popup(
         &mut self,
         object: u32,
         version: u32,
         surface: SurfaceNo,
         request: &XdgPopupRequest,
-        has_room: bool,
-        grabbing: Grabbing,
+        given: Given,
     ) -> Outcome<A>
-        ensures answers { IsPopup self.old object surface → AnswersAllowed grabbing (Kind.Popup request.now) (λ r. demand_of nothing_left_out r object version (xdg_popup_request request.now)) self.old self.new }
+        ensures answers { IsPopup self.old object surface → AnswersGiven given.placing given.grabbing (Kind.Popup request.now) object (λ r. demand_of nothing_left_out r object version (xdg_popup_request request.now)) self.old self.new }
         ensures decides { (touch : Touch) → IsTouchOf (Kind.Popup request.now) object surface self.old touch → IsPopup self.old object surface
             → AnswersDemandAs (is_some result.applied) (λ r. demand_of nothing_left_out r object version (xdg_popup_request request.now)) self.old self.new }
         ensures touched { (touch : Touch) → IsTouchOf (Kind.Popup request.now) object surface self.old touch → IsTouched touch self.old.owned.linked self.new.owned.linked result.applied }
         ensures nothing { ((touch : Touch) → IsTouchOf (Kind.Popup request.now) object surface self.old touch → ⊥) → result.applied ≡ None }
         ensures stays { result.stacking ≡ Stacking.Stays }
         ensures rest { Leaves self.old self.new }
-        ensures room { is_some result.applied ≡ true → has_room ≡ true }
+        ensures room { is_some result.applied ≡ true → given.has_room ≡ true }
         ensures holds { (touch : Touch) → IsTouchOf (Kind.Popup request.now) object surface self.old touch → IsPopup self.old object surface
             → HoldsAs (is_some result.applied) (λ r. demand_of nothing_left_out r object version (xdg_popup_request request.now)) self.old self.new }
     {
         match *request {
             XdgPopupRequest::Destroy => Outcome {
                 stacking: Stacking::Stays,
-                applied: self.destroy_popup(object, surface, has_room),
+                applied: self.destroy_popup(object, surface, given.has_room),
             },
             XdgPopupRequest::Grab { serial, .. } => {
-                self.grab(object, surface, serial, grabbing);
+                self.grab(object, surface, serial, given.grabbing);
+                Outcome::of(Stacking::Stays)
+            }
+            XdgPopupRequest::Reposition { positioner, token } => {
+                self.reposition(object, surface, positioner, token, given.placing);
                 Outcome::of(Stacking::Stays)
             }
         }

@@ -189,7 +189,7 @@ impl<A: Allocator + Copy> Resident<A> {
     }
 
     /// The values of the xdg_positioner with this id.
-    fn positioner_of(&self, id: u32) -> Positioner
+    pub(crate) fn positioner_of(&self, id: u32) -> Positioner
         ensures { (p : Peer) → IsPeer self.now.client p → result ≡ positioner_of (p.positioners id) }
     {
         match self.client.positioner(id) {

@@ -1,4 +1,5 @@
--- What a popup is placed by where its surface is committed, by what is kept, is what it is placed by on the desktop.
+-- What a popup is placed by where its surface is committed, or where it is placed anew, by what is kept, is what it is placed by on the
+-- desktop.
 use Rattle.std.proofs.Common.{◌≡◌, ℕ, true, Option, Some, None, List, [], ◌∷◌, ap, ap₂, sym, subst, ◌∙◌}
 use Rattle.std.specs.Prelude.{ℤ, ◌==◌, IfSome, pos}
 use Rattle.std.proofs.lemmas.Bool.{or_left, or_right}
@@ -9,15 +10,19 @@ use Rattle.wl_named.specs.Renaming.{has_surface}
 use Rattle.wl_named_popups.specs.Popups.{AreStandingAs}
 use Rattle.wl_named_popups.proofs.Rooted.{corners-named, standing-named}
 use Rattle.wl_owning.specs.Owning.{target_as}
-use Rattle.wl_owning.specs.Popups.{corner_of}
+use Rattle.wl_owning.specs.Popups.{corner_of, popup_of_surface, popup_with}
+use Rattle.wl_owning.specs.RoleNames.{names_of, roles_in}
 use Rattle.wl_owning.proofs.Keeping.OwningTies.{number-of-name}
+use Rattle.wl_owning.proofs.Keeping.OwningXdg.{toplevel-named}
+use Rattle.wl_owning.proofs.Popups.Naming.{roles-named}
 use Rattle.wl_peer.specs.Objects.{ById}
 use Rattle.wl_plain.specs.Desktop.{Desktop, Resident}
 use Rattle.wl_client.specs.First.{Passes}
 use Rattle.wl_interface.specs.declared.interface.Interface.{Interface}
-use Rattle.wl_interface.specs.declared.interface.Interface.TheVariants.{WlSurface}
+use Rattle.wl_interface.specs.declared.interface.Interface.TheVariants.{WlSurface, XdgPopup}
 use Rattle.wl_proto.specs.Messages.{Message}
 use Rattle.wl_proto.specs.declared.wl_surface.WlSurfaceRequest.TheVariants as surface
+use Rattle.wl_proto.specs.declared.xdg_popup.XdgPopupRequest.TheVariants as popups
 use Rattle.wl_requests.specs.declared.messages.Asked.{Asked}
 use Rattle.wl_requests.specs.declared.messages.Asked.TheVariants as asked
 use Rattle.wl_requests.specs.declared.messages.Kind.{Kind}
@@ -30,7 +35,9 @@ use Rattle.wl_stacking.specs.Popups.{parent_corner}
 use Rattle.wl_stacking.specs.Stacking.{Owned, Standing, is_of}
 use Rattle.wl_stacking.specs.Windows.{Place}
 use Rattle.wl_toplevels.specs.Changes.{HasTrees}
-use Rattle.wl_xdg_state.specs.Shell.{Popup}
+use Rattle.wl_xdg_state.specs.Kept.{Kept as KeptXdg, kept_of}
+use Rattle.wl_xdg_state.specs.Popups.{popup_in}
+use Rattle.wl_xdg_state.specs.Shell.{Popup, XdgSurface}
 use Rattle.wl_resident.specs.declared.screens.Screen.{Screen}
 use Rattle.wl_resident.specs.Agreement.{IsStack}
 use Rattle.wl_resident.specs.Finding.{IsCornerOf, IsPlacedBy, popup_in_shell}
@@ -91,23 +98,47 @@ module _ {A : Type 0} (c : ℕ) (others : ℕ → ById ℕ) (base d : Desktop) (
       (is (seat.its c others base d r old (pile_of was) before) (seat.held c others base d r old (pile_of was) before) ∙ corner-same popup.parent)
 
   module _ (placing : Placing) (width : was.damage.width ≡ d.output.width) (height : was.damage.height ≡ d.output.height) where
-    committed-placing : (object target : ℕ) → numbers old object ≡ Some target
-        → placing.bounds ≡ record { x = pos 0; y = pos 0; w = pos was.damage.width; h = pos was.damage.height }
-        → IfSome (popup_in_shell old.owned.shell target) (λ popup. IsCornerOf was.scene.standing c old placing.parent_at popup) → IsPlacing placing c object r d
-    committed-placing object target named bounds parent = record {
-      bounds = bounds ∙ ap₂ (λ (w h : ℕ). record { x = pos 0; y = pos 0; w = pos w; h = pos h }) width height;
+    -- what it is placed by, whichever popup it is
+    abbrev IsPlacedAt : Option Popup → Type 0
+    IsPlacedAt popup =
+        (placing.bounds ≡ record { x = pos 0; y = pos 0; w = pos was.damage.width; h = pos was.damage.height })
+        × IfSome popup (λ popup. IsCornerOf was.scene.standing c old placing.parent_at popup)
+
+    popup-placing : (kept popup : Option Popup) → kept ≡ popup → IsPlacedAt kept → IsPlacing placing c popup r d
+    popup-placing kept popup same placed = record {
+      bounds = placed.0 ∙ ap₂ (λ (w h : ℕ). record { x = pos 0; y = pos 0; w = pos w; h = pos h }) width height;
       parent =
-          subst (λ (o : Option Popup). IfSome o (λ popup. placing.parent_at ≡ corner_of (parent_corner d.standing c r.owned popup.parent)))
-          (kept-popup c others base d r old (pile_of was) before trees object target (ap (λ (n : ById ℕ). n object) (seat.nums-own c others base d r old (pile_of was) before) ∙ named))
-          (parent-same placing.parent_at (popup_in_shell old.owned.shell target) parent);
+          subst (λ (o : Option Popup). IfSome o (λ popup. placing.parent_at ≡ corner_of (parent_corner d.standing c r.owned popup.parent))) same
+          (parent-same placing.parent_at kept placed.1);
     }
+
+    -- that of a surface
+    committed-placing : (object target : ℕ) → numbers old object ≡ Some target → IsPlacedAt (popup_in_shell old.owned.shell target)
+        → IsPlacing placing c (popup_of_surface object r.owned.shell) r d
+    committed-placing object target named =
+        popup-placing (popup_in_shell old.owned.shell target) (popup_of_surface object r.owned.shell)
+        (kept-popup c others base d r old (pile_of was) before trees object target (ap (λ (n : ById ℕ). n object) (seat.nums-own c others base d r old (pile_of was) before) ∙ named))
+
+    -- that of an xdg_popup
+    anew-placing : (object target : ℕ) → roles_in old.client.objects object ≡ Some target → IsPlacedAt (popup_in_shell old.owned.shell target)
+        → IsPlacing placing c (popup_with object r.owned.shell) r d
+    anew-placing object target named =
+        let its = toplevel-named (names_of old.client.objects) old.owned.linked.surfaces old.owned.linked.family (kept_of old.owned.shell) r.owned before.seat.owns object target named in
+        popup-placing (popup_in_shell old.owned.shell target) (popup_with object r.owned.shell)
+        (ap (option_and_then (λ (k : KeptXdg). popup_in k.role)) its.3.here
+        ∙ (ap popup_in its.3.stands.role ∙ sym (ap (option_and_then (λ (x : XdgSurface). popup_in x.role)) its.4)))
 
     placing-for : (k : Kind) (object version size target : ℕ) (m : Message) → Passes old.client object version size target m → IsKind k m
         → IsPlacedBy was c old (asked.Request object version size target k) placing → IsPlacingFor placing object k c r d
     placing-for (kind.Surface surface.Commit) object version size target m passes is placed =
         committed-placing object target
         (ap (option_and_then (target_as WlSurface)) passes.entry
-        ∙ ap (λ (n : Interface). target_as WlSurface (record { interface = n; version = version; target = target })) (ap (λ (n : Message). n.interface) is)) placed.bounds placed.parent
+        ∙ ap (λ (n : Interface). target_as WlSurface (record { interface = n; version = version; target = target })) (ap (λ (n : Message). n.interface) is)) (placed.bounds, placed.parent)
+    placing-for (kind.Popup (popups.Reposition positioner token)) object version size target m passes is placed =
+        anew-placing object target
+        (roles-named.popup old.client.objects object target
+        (ap (option_and_then (target_as XdgPopup)) passes.entry
+        ∙ ap (λ (n : Message). target_as XdgPopup (record { interface = n.interface; version = version; target = target })) is)) (placed.bounds, placed.parent)
     placing-for k object version size target m passes is placed = tt
 
     -- It is what a popup is placed by on the desktop.

@@ -1,6 +1,6 @@
 -- Which surface a message touches, by what is kept of its client.
 use Rattle.std.proofs.Common.{◌≡◌, ℕ, ◌-◌, ◌⊎◌, inl, inr, List, Bool, true, false, Option, Some, None, Result, Ok, Err, take, drop, refl, ap, sym, subst, ◌∙◌}
-use Rattle.std.specs.Prelude.{ℤ, ◌==◌, ◌||◌, if◌then◌else◌, is_some}
+use Rattle.std.specs.Prelude.{ℤ, ◌==◌, ◌||◌, if◌then◌else◌, is_some, ◌&&◌}
 use Rattle.std.specs.Option.{option_and_then, option_map}
 use Rattle.wl_wire.specs.Wire.{split_of}
 use Rattle.wl_wire.specs.declared.header.Split.{Split}
@@ -40,7 +40,7 @@ use Rattle.wl_peer.specs.ToplevelRequest as toplevel
 use Rattle.wl_peer.specs.declared.refusals.Refusal.{Refusal}
 use Rattle.wl_peer.proofs.Requests.{of-wl_subsurface, of-wl_surface}
 use Rattle.wl_xdg_state.specs.Kept.{kept_of}
-use Rattle.wl_xdg_state.specs.Popups.{Popped, is_parent, is_popup_mapped, popup_at}
+use Rattle.wl_xdg_state.specs.Popups.{Popped, is_parent, is_popup_mapped, popup_at, is_configured}
 use Rattle.wl_xdg_state.specs.Positioner.{Positioner, is_complete}
 use Rattle.wl_xdg_state.specs.Shell.{Effect, Stays, Unconfigured, Configures, Maps, Unmaps, XdgSurface as Xdg, is_full, xdg_at, xdg_of, xdg_with}
 use Rattle.wl_state.specs.Request.{Request as Asking, Member, PlaceAbove, PlaceBelow}
@@ -48,15 +48,15 @@ use Rattle.wl_surface.specs.Surfaces.{Link}
 use Rattle.wl_surface.specs.Trees.{is_bad_parent, is_too_deep}
 use Rattle.wl_plain.specs.Ask.{Ask, Ignore, owns}
 use Rattle.wl_plain.specs.Demand.{Demand, Asks, CommitTree, EndPopup, EndSubsurface, EndSurface, EndToplevel, SetMode}
-use Rattle.wl_plain.specs.Demanding.{committed_by, demand_by, demand_of, demands, effect_of_commit, moved_by_pointer, surface_demand, toplevel_asked, toplevel_destroyed}
+use Rattle.wl_plain.specs.Demanding.{committed_by, demand_by, demand_of, demands, effect_of_commit, moved_by_pointer, surface_demand, toplevel_asked, toplevel_destroyed, if_whole}
 use Rattle.wl_plain.specs.Demanding.{xdg_asked}
 use Rattle.wl_plain.specs.Desktop.{Resident}
 use Rattle.wl_plain.specs.LeftOut.{nothing_left_out}
 use Rattle.wl_plain.specs.Step.{with_peer}
 use Rattle.wl_plain.specs.WlPointer.{is_no_cursor}
 use Rattle.wl_plain.specs.WlSubsurface.{beside, demand_by_link, has_subsurface, is_no_subsurface, link_of_subsurface, past_limit, placed_beside, refuses}
-use Rattle.wl_plain.specs.WlSurface.{surface_created, transform_set}
-use Rattle.wl_plain.specs.XdgPopup.{grab_of, is_no_popup, may_be_parent, popup_asked, popup_destroyed, popup_made, positioner_of}
+use Rattle.wl_plain.specs.WlSurface.{surface_created, transform_set, will_be_whole, scale_set}
+use Rattle.wl_plain.specs.XdgPopup.{grab_of, is_no_popup, may_be_parent, popup_asked, popup_destroyed, popup_made, positioner_of, repositioned_by}
 use Rattle.wl_plain.specs.XdgShell.{acknowledged_by, base_destroyed, geometry_set, role_of, state_asked, toplevel_made, xdg_surface_destroyed, xdg_surface_made}
 use Rattle.wl_laws.proofs.Lists.Keys.{none-some}
 use Rattle.wl_ordered.specs.Ordered.{OwnsOrdered}
@@ -177,6 +177,15 @@ popup-grab-untouched : (r : Resident) (object by serial : ℕ) (o : Option Xdg) 
 popup-grab-untouched r object by serial None = tt
 popup-grab-untouched r object by serial (Some x) = grab-untouched object serial x (popup_at x.id r.owned.shell)
 
+repositioned-untouched : (x : Xdg) (token : ℕ) (p : Positioner) (o : Option Popped) → Untouched (repositioned_by x token p o)
+repositioned-untouched x token p None = tt
+repositioned-untouched x token p (Some q) =
+    if-untouched (is_configured q && is_full x.configures) _ _ tt (if-untouched (is_complete p) _ _ (λ r. refl) tt)
+
+popup-reposition-untouched : (r : Resident) (object positioner token : ℕ) (o : Option Xdg) → Untouched (popup_asked r object o (popup.Reposition positioner token))
+popup-reposition-untouched r object positioner token None = tt
+popup-reposition-untouched r object positioner token (Some x) = repositioned-untouched x token (positioner_of (r.peer.positioners positioner)) (popup_at x.id r.owned.shell)
+
 xdg-asked-untouched : (r : Resident) (o : Option Xdg) (version : ℕ) (request : XdgSurfaceRequest) → Untouched (xdg_asked r o version request)
 xdg-asked-untouched r None version request = tt
 xdg-asked-untouched r (Some x) version requests.Destroy = asks-untouched (xdg_surface_destroyed x)
@@ -262,6 +271,12 @@ commit-only object (Some x) Stays = refl
 commit-only object (Some x) Maps = refl
 commit-only object (Some x) Unmaps = refl
 
+-- where the buffer is whole, as without that
+whole-only : (demand : Demand) (b : Bool) (object : ℕ) (judged : Result Demand Refusal) → IsOnly demand judged → IsOnly demand (if_whole b object judged)
+whole-only demand true object judged only = only
+whole-only demand false object (Ok other) only = tt
+whole-only demand false object (Err refusal) only = tt
+
 -- ---- what is demanded of a wl_subsurface
 
 subsurface-judged : (r : Resident) (object version : ℕ) (m : Message) (request : WlSubsurfaceRequest) → m ≡ wl_subsurface_request request
@@ -334,6 +349,8 @@ module _ {A : Type 0} (v : Kept A) (r : Resident) (is : IsResident v r) (orderly
     surface-of-wl (surface.SetInputRegion region) = refl
     surface-of-wl surface.Commit = refl
     surface-of-wl (surface.SetBufferTransform transform) = refl
+    surface-of-wl (surface.SetBufferScale scale) = refl
+    surface-of-wl (surface.DamageBuffer x y width height) = refl
 
     surface-named : (request : WlSurfaceRequest) → m ≡ wl_surface_request request → kept_numbers v object ≡ Some target
     surface-named request is_it =
@@ -354,7 +371,8 @@ module _ {A : Type 0} (v : Kept A) (r : Resident) (is : IsResident v r) (orderly
         let named = surface-named surface.Commit is_it in
         let e : demand ≡ CommitTree object =
         is-only (CommitTree object) demand (surface_demand left object version surface.Commit)
-        (commit-only object (xdg_of object left.owned.shell) (effect_of_commit left object)) (surface-asks surface.Commit is_it) in
+        (whole-only (CommitTree object) (will_be_whole left object) object _ (commit-only object (xdg_of object left.owned.shell) (effect_of_commit left object)))
+        (surface-asks surface.Commit is_it) in
         subst (λ (d : Demand). Touches v r (λ touch. touch ≡ Commits target) touched d) (sym e)
         (one-touched (λ touch. touch ≡ Commits target) touched (CommitTree object) object target refl there named (Commits target, refl, refl)
         (λ touch same. subst (λ (t : Touch). IsDemandOf v r t (CommitTree object)) (sym same) (object, refl, named)))
@@ -373,6 +391,10 @@ module _ {A : Type 0} (v : Kept A) (r : Resident) (is : IsResident v r) (orderly
     surface-touches (surface.SetInputRegion region) is_it touched there = surface-untouched (λ touch. ⊥) (surface.SetInputRegion region) is_it touched (λ q. refl) there (λ touch it. it)
     surface-touches (surface.SetBufferTransform transform) is_it touched there =
         surface-untouched (λ touch. ⊥) (surface.SetBufferTransform transform) is_it touched (asks-untouched (transform_set object transform)) there (λ touch it. it)
+    surface-touches (surface.SetBufferScale scale) is_it touched there =
+        surface-untouched (λ touch. ⊥) (surface.SetBufferScale scale) is_it touched (asks-untouched (scale_set object scale)) there (λ touch it. it)
+    surface-touches (surface.DamageBuffer x y width height) is_it touched there =
+        surface-untouched (λ touch. ⊥) (surface.DamageBuffer x y width height) is_it touched (λ q. refl) there (λ touch it. it)
 
     -- ---- of a wl_subsurface
 
@@ -507,6 +529,10 @@ module _ {A : Type 0} (v : Kept A) (r : Resident) (is : IsResident v r) (orderly
         untouched (λ touch. ⊥) touched
         (judged-untouched left object version m (xdg_popup_request (popup.Grab by serial)) (sym is_it) (popup-grab-untouched left object by serial (xdg_with object left.owned.shell))) there
         (λ touch it. it)
+    popup-touches (popup.Reposition positioner token) is_it touched there =
+        untouched (λ touch. ⊥) touched
+        (judged-untouched left object version m (xdg_popup_request (popup.Reposition positioner token)) (sym is_it)
+        (popup-reposition-untouched left object positioner token (xdg_with object left.owned.shell))) there (λ touch it. it)
 
     -- ---- of whatever interface
 

@@ -3,6 +3,7 @@
 use Rattle.std.specs.Prelude.{ℕ, ℤ, ◌≡◌, pos, IfSome, Option, None, List}
 use Rattle.std.specs.Option.{option_and_then, option_map}
 use Rattle.wl_proto.specs.declared.wl_surface.WlSurfaceRequest.TheVariants as surface
+use Rattle.wl_proto.specs.declared.xdg_popup.XdgPopupRequest.TheVariants as popups
 use Rattle.wl_requests.specs.declared.messages.Asked.{Asked}
 use Rattle.wl_requests.specs.declared.messages.Asked.TheVariants as asked
 use Rattle.wl_requests.specs.declared.messages.Kind.TheVariants as kind
@@ -33,10 +34,12 @@ found_by c root parent all = kept_found kept_owner c root parent all
 
 -- ---- what a popup is placed by
 
--- the popup of the surface that is to be committed by what is asked, if it has one
-abbrev pub popup_committed : Book → Asked → Option Popup
-popup_committed book (asked.Request object version size target (kind.Surface surface.Commit)) = popup_in_shell book target
-popup_committed book asked = None
+-- The popup that what is asked may place: that of a surface that is to be committed, if it has one, and one that is to be placed anew.
+abbrev pub popup_to_place : Book → Asked → Option Popup
+popup_to_place book (asked.Request object version size target (kind.Surface surface.Commit)) = popup_in_shell book target
+popup_to_place book (asked.Request object version size target (kind.Popup (popups.Reposition positioner token))) =
+    popup_in_shell book target
+popup_to_place book asked = None
 
 -- The window geometry of its parent stands there, whatever client is stood for.
 abbrev pub IsCornerOf : {A : Type 0} → List Standing → ℕ → Kept A → ℤ × ℤ → Popup → Type 0
@@ -47,4 +50,4 @@ IsCornerOf standing c v at popup =
 -- It is placed within the output, by that.
 pub record IsPlacedBy {A : Type 0} (s : Screen A) (c : ℕ) (v : Kept A) (asked : Asked) (placing : Placing) : Type 0 where
   pub bounds : placing.bounds ≡ record { x = pos 0; y = pos 0; w = pos s.damage.width; h = pos s.damage.height }
-  pub parent : IfSome (popup_committed v.owned.shell asked) (λ popup. IsCornerOf s.scene.standing c v placing.parent_at popup)
+  pub parent : IfSome (popup_to_place v.owned.shell asked) (λ popup. IsCornerOf s.scene.standing c v placing.parent_at popup)

@@ -24,7 +24,7 @@ ghost use Rattle.wl_plain.specs.Act.{IsLeft, IsSent, IsStored, stored_of};
 
 use crate::laws::message_laws;
 use crate::screens::Screen;
-use crate::touching::{committed_popup, find_toplevel, root_of, touched_by};
+use crate::touching::{find_toplevel, popup_to_place, root_of, touched_by};
 use std::alloc::Allocator;
 use wl_client::{Cause, Client, StoreNo};
 use wl_linked::Linked;
@@ -116,13 +116,13 @@ impl<A: Allocator + Copy> Screen<A> {
         self.clear(resident, client, alloc);
     }
 
-    /// What a popup is placed by where what is asked is to commit its surface: within the output, by where the window geometry of its parent
-    /// stands.
+    /// What a popup is placed by where what is asked is to commit its surface or to place it anew: within the output, by where the window
+    /// geometry of its parent stands.
     fn placing(&self, resident: &Resident<A>, client: ClientNo, asked: &Asked) -> Placing
         ensures { IsPlacedBy self.now client resident.now asked.now result }
     {
         let owned = &resident.owned;
-        let parent_at = match committed_popup(&owned.shell, asked) {
+        let parent_at = match popup_to_place(&owned.shell, asked) {
             Some(popup) => parent_corner(&self.scene, client, owned, popup.parent()),
             None => (0, 0),
         };

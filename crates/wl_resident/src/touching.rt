@@ -3,7 +3,7 @@
 ghost use Rattle.std.specs.Option.{option_and_then};
 ghost use Rattle.std.specs.Prelude.{ℕ, ◌≡◌, None, Option, Some, option_copied};
 ghost use Rattle.wl_family.specs.Family.{links_in};
-ghost use Rattle.wl_resident.specs.Finding.{found_by, parent_by, popup_committed, popup_in_shell};
+ghost use Rattle.wl_resident.specs.Finding.{found_by, parent_by, popup_in_shell, popup_to_place};
 ghost use Rattle.wl_resident.specs.Screens.{IsTouchedBy, IsTouchedIn, root_in};
 ghost use Rattle.wl_scene.specs.Roots.{parent_surface};
 ghost use Rattle.wl_shell.specs.Agreement.{IsShell};
@@ -119,17 +119,19 @@ pub(crate) fn find_toplevel<A: Allocator>(
     }
 }
 
-/// The popup of the surface that is to be committed by what is asked, if it has one.
-pub(crate) fn committed_popup<'a, A: Allocator>(
+/// The popup that what is asked may place: that of a surface that is to be committed, if it has one, and one that is to be placed anew
+/// (xdg-shell.xml, xdg_popup.reposition).
+pub(crate) fn popup_to_place<'a, A: Allocator>(
     shell: &'a Shell<A>,
     asked: &Asked,
 ) -> Option<&'a Popup>
-    ensures { option_copied result ≡ popup_committed shell.now asked.now }
+    ensures { option_copied result ≡ popup_to_place shell.now asked.now }
 {
     match asked {
         Asked::Request {
             target,
-            kind: Kind::Surface(WlSurfaceRequest::Commit),
+            kind: Kind::Surface(WlSurfaceRequest::Commit)
+            | Kind::Popup(XdgPopupRequest::Reposition { .. }),
             ..
         } => popup_of(shell, *target),
         _ => None,

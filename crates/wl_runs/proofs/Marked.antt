@@ -10,7 +10,6 @@ use Rattle.wl_state.specs.Surface.{Surface}
 use Rattle.wl_surface.specs.Surfaces.{Surfaces, surface_at}
 use Rattle.wl_stacking.specs.Stacking.{Standing, is_of}
 use Rattle.wl_stacking.specs.Windows.{Owner, Place, Window, owner_of, surface_windows, tree}
-use Rattle.wl_stacking.proofs.Scales.{tree-unscaled}
 use Rattle.wl_plain.specs.Desktop.{Desktop}
 use Rattle.wl_plain.specs.Marks.{in_output}
 use Rattle.wl_plain.specs.Moments.{applied_between, marks_at_least, marks_at_most}
@@ -103,7 +102,7 @@ there-each c t d =
 pub runs-are-there : RunsAreThere
 runs-are-there c t d = each-all (IsThereIn (surfaces_in d c)) (windows_with c t d) (there-each c t d)
 
--- ---- transforms and scales
+-- ---- transforms
 
 turned-each : (c t : ℕ) (d : Desktop) → AreTurned (surfaces_in d c) → Each (λ w. nat_lt w.transform 8 ≡ true) (windows_with c t d)
 turned-each c t d turned =
@@ -113,19 +112,12 @@ turned-each c t d turned =
     (λ w is. ap (λ n. nat_lt n 8) is.transform ∙ applied-turned is.history (turned w.surface is.history is.here))
     (tree 17 owner (surfaces_in d c) owner.root place) (tree-shown owner (surfaces_in d c) 17 owner.root place))
 
-unscaled-each : (c t : ℕ) (d : Desktop) → Each (λ w. (w.scale == 1) ≡ true) (windows_with c t d)
-unscaled-each c t d =
-    with-each (λ w. (w.scale == 1) ≡ true) c t d
-    (λ owner place own.
-    so-each (λ w. w.scale == 1) (tree 17 owner (surfaces_in d c) owner.root place) (tree-unscaled owner (surfaces_in d c) 17 owner.root place))
-
 pub runs-are-of-client : RunsAreOfClient
 runs-are-of-client c t d e step shown shown' = record {
   owned = all-so (λ w. c == w.owner.client) (step.was ++ step.is)
       (each-map (λ w. has_toplevel c t w ≡ true) (λ w. (c == w.owner.client) ≡ true) (λ w its. and-left (c == w.owner.client) (t == w.owner.toplevel) its) (step.was ++ step.is)
       (so-each (has_toplevel c t) (step.was ++ step.is) step.together));
   numbered = both (λ w. nat_lt w.transform 8) (turned-each c t d (shown.each c).turned) (turned-each c t e (shown'.each c).turned);
-  unscaled = both (λ w. w.scale == 1) (unscaled-each c t d) (unscaled-each c t e);
 }
   where
     both : (p : Window → Bool) → Each (λ w. p w ≡ true) (windows_with c t d) → Each (λ w. p w ≡ true) (windows_with c t e) → list_all p (step.was ++ step.is) ≡ true

@@ -49,8 +49,8 @@ MarksTreesByName A =
 abbrev pub RunsAreThere : Type 0
 RunsAreThere = (c toplevel : ℕ) (d : Desktop) → All (IsThereIn (owned_in d c).surfaces) (windows_with c toplevel d)
 
--- Where just the mapped toplevels stand, before and after, those that change are of one client, none is scaled, and each is turned in one
--- of the eight ways.
+-- Where just the mapped toplevels stand, before and after, those that change are of one client, and each is turned in one of the eight
+-- ways.
 abbrev pub RunsAreOfClient : Type 0
 RunsAreOfClient =
     (c toplevel : ℕ) (d e : Desktop) (step : ChangesToplevel c toplevel d e) → ShownStand d → ShownStand e → AreOfClient c step.was step.is

@@ -22,7 +22,7 @@ pub fn runs_are_there()
     ensures { RunsAreThere }
 {}
 
-/// Those that change are of one client, none is scaled, and each is turned in one of the eight ways.
+/// Those that change are of one client, and each is turned in one of the eight ways.
 pub fn runs_are_of_client()
     ensures { RunsAreOfClient }
 {}

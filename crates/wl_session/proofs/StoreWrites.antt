@@ -1,13 +1,15 @@
 -- A store write that leaves busy buffers alone hides nothing.
-use Rattle.std.proofs.Common.{◌≡◌, ℕ, ◌<◌, Bool, true, false, List, [], ◌∷◌, ◌++◌, Option, Some, None, refl, ap, sym, subst, ◌∙◌, arith, pos, negsuc, inl, inr}
-use Rattle.std.specs.Prelude.{◌*◌, ℤ, ◌-ℤ◌, ◌==◌, ◌&&◌, ◌||◌, nat_lt, unsigned_abs, flat_map, find, cond, not, ◌⊎◌}
+use Rattle.std.proofs.Common.{◌≡◌, ℕ, zero, suc, ◌<◌, Bool, true, false, List, [], ◌∷◌, ◌++◌, Option, Some, None, refl, ap, sym, subst, ◌∙◌, arith, pos, negsuc, inl, inr}
+use Rattle.std.specs.Prelude.{◌*◌, ◌/◌, ℤ, ◌-ℤ◌, ◌==◌, ◌&&◌, ◌||◌, nat_lt, unsigned_abs, flat_map, find, cond, not, ◌⊎◌}
 use Rattle.std.specs.List.{list_any}
 use Rattle.std.specs.Option.{option_map}
 use Rattle.std.proofs.lemmas.Int.{ints}
+use Rattle.std.proofs.Math.Nat.{div-zero}
 use Rattle.wl_geom.specs.Rect.{in_span}
 use Rattle.wl_store.specs.declared.color.Argb.{Argb}
-use Rattle.wl_store.specs.Transform.{buffer_point, is_turned, transform_of}
+use Rattle.wl_store.specs.Transform.{buffer_point, is_turned, scaled, transform_of}
 use Rattle.wl_store.specs.declared.transform.Transform.{Transform}
+use Rattle.wl_store.proofs.Points.{scaled-below}
 use Rattle.wl_store.specs.declared.transform.Transform.TheVariants.{Normal, Rotated90, Rotated180, Rotated270, Flipped, Flipped90, Flipped180, Flipped270}
 use Rattle.wl_state.specs.Request.{Buffer}
 use Rattle.wl_state.specs.State.{History, applied}
@@ -21,7 +23,7 @@ use Rattle.wl_plain.specs.Desktop.{Desktop, Resident, Showing, client_at, owned_
 use Rattle.wl_plain.specs.Stacked.{all_windows}
 use Rattle.wl_plain.specs.Step.{with_peer}
 use Rattle.wl_laws.proofs.Runs.Forms.{ChangesAt}
-use Rattle.wl_plain.specs.Scratch.{bytes_now, color_in, pixel_at, scaled}
+use Rattle.wl_plain.specs.Scratch.{bytes_now, color_in, pixel_at}
 use Rattle.wl_laws.proofs.Runs.Places.{number-other, number-same}
 use Rattle.wl_laws.proofs.Marks.Stacks.{Each, Fields, and-left, and-right, differ, each-map, fields, or-left, or-right, unless}
 use Rattle.wl_laws.proofs.Marks.Painted.{each-kept}
@@ -47,9 +49,10 @@ point-within Flipped90 w h i j bw bh a b c d = (omega (arith, b, d), omega (arit
 point-within Flipped180 w h i j bw bh a b c d = (omega (arith, a, c), omega (arith, b, d))
 point-within Flipped270 w h i j bw bh a b c d = (omega (arith, b, d), omega (arith, a, c))
 
--- a scale of 1 leaves it there
-unscaled-within : (i scale n : ℕ) → scale ≡ 1 → i < n → i * scale < n
-unscaled-within i scale n e less = rw e (omega (arith, less))
+-- a coordinate of the surface, times the scale, lies within the buffer
+scaled-within : (i scale n : ℕ) → i < n / scale → i * scale < n
+scaled-within i zero n less = let none : i < 0 = subst (λ q. i < q) (div-zero n) less in omega (arith, none)
+scaled-within i (suc scale) n less = scaled-below i n (suc scale) (omega arith) less
 
 -- how far a point of a span is from its start
 far-within : (at start : ℤ) (n : ℕ) (d : ℤ) → (at -ℤ start) ≡ d → in_span start (pos n) at ≡ true → unsigned_abs d < n
@@ -171,7 +174,7 @@ same-colors old new x y w v keeps f b s t here =
     let p = point_at v x y in
     let across = far-within x v.corner.x v.width (x -ℤ v.corner.x) refl (and-left (in_span v.corner.x (pos v.width) x) (in_span v.corner.y (pos v.height) y) here) in
     let down = far-within y v.corner.y v.height (y -ℤ v.corner.y) refl (and-right (in_span v.corner.x (pos v.width) x) (in_span v.corner.y (pos v.height) y) here) in
-    let within = point-within (transform_of v.transform) v.width v.height (unsigned_abs (x -ℤ v.corner.x)) (unsigned_abs (y -ℤ v.corner.y)) v.buffer.width v.buffer.height t.3 t.4 across down in
+    let within = point-within (transform_of v.transform) v.width v.height (unsigned_abs (x -ℤ v.corner.x)) (unsigned_abs (y -ℤ v.corner.y)) (v.buffer.width / v.scale) (v.buffer.height / v.scale) t.3 t.4 across down in
     let there : history_in w.surface (owned_in old c).surfaces ≡ Some s.0 = subst (λ n. history_in w.surface (owned_in old n).surfaces ≡ Some s.0) f.client s.1 in
     let unwritten = found-none (is_rewritten_at old new c p.0 p.1) (owned_in old c).surfaces.surfaces (λ (z : Surface). z.id == w.surface) s.0 v.buffer (keeps p.0 p.1) there (s.2
     ∙ ap (λ (a : Buffer). Some a) b) in
@@ -179,8 +182,8 @@ same-colors old new x y w v keeps f b s t here =
     subst (λ (q : Argb). is_same_color q (color_in new v x y) ≡ true) (sym (color-is old w v x y f b))
     (subst (λ (q : Argb). is_same_color was q ≡ true) (sym (color-is new v v x y (self v) refl))
     (not-rewritten (nat_lt p.0 v.buffer.width) (nat_lt p.1 v.buffer.height) (is_same_color (pixel_at (bytes_in old c v.buffer.store) v.buffer p) (pixel_at (bytes_in new c v.buffer.store) v.buffer p))
-    unwritten (fits p.0 v.buffer.width (unscaled-within q.0 v.scale v.buffer.width t.5 within.0))
-    (fits p.1 v.buffer.height (unscaled-within q.1 v.scale v.buffer.height t.5 within.1))))
+    unwritten (fits p.0 v.buffer.width (scaled-within q.0 v.scale v.buffer.width within.0))
+    (fits p.1 v.buffer.height (scaled-within q.1 v.scale v.buffer.height within.1))))
 
 pub any-none : {X : Type 0} (p : X → Bool) (xs : List X) → Each (λ x. p x ≡ false) xs → list_any p xs ≡ false
 any-none p [] e = refl

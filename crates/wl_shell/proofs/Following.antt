@@ -3,10 +3,9 @@ use Rattle.std.proofs.Common.{◌≡◌, ◌≤◌, ◌<◌, ◌+◌, ℕ, suc, 
 use Rattle.std.specs.Prelude.{◌==◌, ◌&&◌, ◌||◌, ◌⊎◌, IfSome, IsSomeAnd, cond, filter, flat_map, fold, if◌then◌else◌, nat_lt, not}
 use Rattle.std.specs.List.{list_any}
 use Rattle.std.specs.Option.{option_map, option_map_or}
-use Rattle.std.proofs.Math.Path.{fun_ext}
 use Rattle.std.proofs.lemmas.Bool.{eqb-true}
 use Rattle.std.proofs.lemmas.List.{length-append, map-append}
-use Rattle.wl_shell.specs.Agreement.{IsShell, with_history}
+use Rattle.wl_shell.specs.Agreement.{IsShell}
 use Rattle.wl_shell.specs.Descent.{AreYounger, has_popup_at, is_of_xdg}
 use Rattle.wl_shell.specs.Dismissing.{AreDone, GoesByFamily}
 use Rattle.wl_shell.specs.Found.{AreFound}
@@ -17,7 +16,7 @@ use Rattle.wl_shell.proofs.Dismissing.{EachAlike, alike-popups, dismissals_end, 
 use Rattle.wl_shell.proofs.Agreeing.{found-at, found-surface}
 use Rattle.wl_shell.proofs.Ordered.{Each, IsAmong, IsIts, IsKeptAs, all-its, among-popups, at-among, each-map, kept-as, popped-as, popup-of}
 use Rattle.wl_shell.proofs.Reading.{any-in-order}
-use Rattle.wl_shell.proofs.Shells.{shells_stand}
+use Rattle.wl_shell.proofs.Shells.{changed-still}
 use Rattle.wl_shell.proofs.Standing.{both, kept-for, there}
 use Rattle.wl_state.specs.State.{History}
 use Rattle.wl_xdg_state.proofs.Standing.{changes_stand}
@@ -674,13 +673,5 @@ next_found surface x result book histories shell each agrees order found newest 
 pub next_stands : NextStands
 next_stands surface x kept histories shell agrees found =
     let t = kept-for kept histories shell agrees surface x found in
-    subst (λ (hs : ℕ → Option History). IsShell (changing surface (kept_changed dismiss) kept) hs (with_dismissed x.id shell)) (fun_ext (λ (other : ℕ). same t.1 t.3.history other))
-    (shells_stand.changed surface (kept_changed dismiss) (popup_changed dismiss) t.0 x t.1 kept histories shell (λ y. refl) (λ y. refl) agrees t.2 found
-    (changes_stand.changed dismiss t.0 x t.1 t.3.stands))
-  where
-    same : (h : History) → histories surface ≡ Some h → (other : ℕ) → with_history surface (Some h) histories other ≡ histories other
-    same h e other = at (other == surface) refl
-      where
-        at : (b : Bool) → (other == surface) ≡ b → (if b then Some h else histories other) ≡ histories other
-        at true here = sym (ap histories (eqb-true other surface here) ∙ e)
-        at false here = refl
+    changed-still surface (kept_changed dismiss) (popup_changed dismiss) t.0 x t.1 kept histories shell (λ y. refl) (λ y. refl) agrees t.2 t.3
+    (changes_stand.changed dismiss t.0 x t.1 t.3.stands)

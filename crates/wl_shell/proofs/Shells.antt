@@ -1,16 +1,21 @@
 -- What is kept of all xdg_surfaces goes on standing for them.
 use Rattle.std.proofs.Common.{◌≡◌, ◌≢◌, ℕ, [], ◌∷◌, map, Bool, true, false, Option, Some, None, refl, ap, subst, sym, ◌∙◌, arith}
-use Rattle.std.specs.Prelude.{◌==◌, ◌||◌, IfSome, IsSomeAnd, if◌then◌else◌}
+use Rattle.std.specs.Prelude.{ℤ, ◌==◌, ◌||◌, IfSome, IsSomeAnd, if◌then◌else◌, is_some, Ok}
 use Rattle.std.specs.List.{list_any}
 use Rattle.std.specs.Option.{option_map}
+use Rattle.std.proofs.Math.Path.{fun_ext}
 use Rattle.std.proofs.lemmas.Bool.{eqb-true}
 use Rattle.std.proofs.lemmas.Bool.Decides.{nat_tests}
+use Rattle.wl_geom.specs.declared.rect.Rect.{Rect}
 use Rattle.wl_state.specs.State.{History}
-use Rattle.wl_shell.specs.Agreement.{AreApart, IsKept}
-use Rattle.wl_xdg_state.specs.Kept.{Kept, Stands, first_kept, kept_changed}
-use Rattle.wl_xdg_state.specs.Popups.{dismiss, dismissed_among, is_among, orphan, popup_changed}
+use Rattle.wl_shell.specs.Agreement.{AreApart, IsKept, IsShell, with_history}
+use Rattle.wl_xdg_state.specs.Kept.{Kept, Stands, changing, first_kept, kept_changed, kept_repositioning, reposition_answer}
+use Rattle.wl_xdg_state.specs.Popups.{Popped, dismiss, dismissed_among, first_of, is_among, is_configured, orphan, popped_of, popup_changed, repositioning}
+use Rattle.wl_xdg_state.specs.Positioner.{Placed, Positioner, place}
+use Rattle.wl_shell.proofs.Standing.{IsThere, kept-for}
 use Rattle.wl_xdg_state.proofs.Standing.{changes_stand}
-use Rattle.wl_shell.specs.Laws.{BaseRead, ChangedShell, DismissalStands, GoneShell, ManyChanged, NewShell, OrphaningStands, OtherHistory, ShellsStand, kept_dismissed}
+use Rattle.wl_shell.specs.Laws.{BaseRead, ChangedShell, DismissalStands, GoneShell, ManyChanged, NewShell, OrphaningStands, OtherHistory, RepositionAnswered, RepositionedShell, ShellsStand}
+use Rattle.wl_shell.specs.Laws.{kept_dismissed}
 use Rattle.wl_xdg_state.specs.Shell.{Shell, XdgSurface, with_change, with_new, without_xdg, xdg_at, xdg_of}
 use Rattle.wl_shell.proofs.Agreeing.{changed-apart, changed-elsewhere, changed-here, differ, found-map, new-apart, new-elsewhere, new-here, newest, removed-apart, removed-elsewhere, removed-here}
 use Rattle.wl_xdg_state.proofs.Standing.{new_stands}
@@ -189,6 +194,46 @@ orphaning_stands : OrphaningStands
 orphaning_stands xdg kept histories shell is =
     many_changed (kept_changed (orphan xdg)) (popup_changed (orphan xdg)) kept histories shell (λ y. refl) (λ y. refl) (λ k x h s. changes_stand.changed (orphan xdg) k x h s) is
 
+-- one changes, and its surface's history doesn't
+pub changed-still : (surface : ℕ) (change : Kept → Kept) (step : XdgSurface → XdgSurface) (k : Kept) (x : XdgSurface) (h : History) (kept : ℕ → Option Kept) (histories : ℕ → Option History)
+    (shell : Shell) → ((y : XdgSurface) → (step y).id ≡ y.id) → ((y : XdgSurface) → (step y).surface ≡ y.surface) → IsShell kept histories shell → kept surface ≡ Some k
+    → IsThere histories shell surface k x h → Stands (change k) (step x) h → IsShell (changing surface change kept) histories (with_change x.id step shell)
+changed-still surface change step k x h kept histories shell keeps_id keeps_surface is here there stands =
+    subst (λ (hs : ℕ → Option History). IsShell (changing surface change kept) hs (with_change x.id step shell)) (fun_ext (λ (other : ℕ). at other (other == surface) refl))
+    (changed_shell surface change step k x h kept histories shell keeps_id keeps_surface is here there.found stands)
+  where
+    at : (other : ℕ) (b : Bool) → (other == surface) ≡ b → (if b then Some h else histories other) ≡ histories other
+    at other true same = sym (ap histories (eqb-true other surface same) ∙ there.history)
+    at other false same = refl
+
+-- ---- a popup is placed anew
+
+reposition_answered : RepositionAnswered
+reposition_answered surface positioner bounds parent_at x p kept histories shell is found its =
+    let t = kept-for kept histories shell is surface x found in
+    ap (reposition_answer positioner bounds parent_at) t.2 ∙ changes_stand.answered positioner bounds parent_at t.0 x t.1 p its t.3.stands
+
+repositioned_shell : RepositionedShell
+repositioned_shell surface positioner bounds parent_at serial placed x p kept histories shell is found its answer =
+    let t = kept-for kept histories shell is surface x found in
+    let done = changes_stand.reposition positioner bounds parent_at serial (λ _. place positioner bounds parent_at) placed t.0 x t.1 p
+    (ap (reposition_answer positioner bounds parent_at) (sym t.2) ∙ answer) its refl t.3.stands in (
+      done.0,
+      changed-still surface (kept_repositioning placed serial positioner) step t.0 x t.1 kept histories shell (λ y. id-still y (is_configured p)) (λ y. surface-still y (is_configured p))
+          is t.2 t.3 done.1,
+    )
+  where
+    step : XdgSurface → XdgSurface
+    step = repositioning (is_configured p) serial (place positioner bounds parent_at) positioner
+
+    id-still : (y : XdgSurface) (b : Bool) → (repositioning b serial (place positioner bounds parent_at) positioner y).id ≡ y.id
+    id-still y true = refl
+    id-still y false = refl
+
+    surface-still : (y : XdgSurface) (b : Bool) → (repositioning b serial (place positioner bounds parent_at) positioner y).surface ≡ y.surface
+    surface-still y true = refl
+    surface-still y false = refl
+
 pub shells_stand : ShellsStand
 shells_stand = record {
   made = new_shell;
@@ -199,4 +244,6 @@ shells_stand = record {
   many = many_changed;
   dismissal = dismissal_stands;
   orphaning = orphaning_stands;
+  answered = reposition_answered;
+  repositioned = repositioned_shell;
 }

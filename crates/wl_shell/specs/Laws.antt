@@ -1,12 +1,16 @@
 -- Laws of the xdg_surfaces of a client: what is kept of all of them stands for them, after each change too.
-use Rattle.std.specs.Prelude.{ℕ, ◌≡◌, ◌≤◌, ◌==◌, ◌≢◌, List, length, map, true, false, if◌then◌else◌, None, Some, Option}
+use Rattle.std.specs.Prelude.{ℕ, ℤ, ◌≡◌, ◌≤◌, ◌==◌, ◌≢◌, List, length, map, true, false, if◌then◌else◌, is_some, None, Some, Option, Ok}
 use Rattle.std.specs.Option.{option_map}
 use Rattle.std.specs.Prelude.{IfSome, IsSomeAnd}
 use Rattle.std.specs.List.{list_any}
+use Rattle.wl_geom.specs.declared.rect.Rect.{Rect}
 use Rattle.wl_state.specs.State.{History}
 use Rattle.wl_shell.specs.Agreement.{IsShell, with_history}
-use Rattle.wl_xdg_state.specs.Kept.{Kept, Stands, changing, first_kept, kept_changed, with_kept}
-use Rattle.wl_xdg_state.specs.Popups.{dismiss, dismissed_among, is_among, orphan, orphaning}
+use Rattle.wl_xdg_state.specs.Kept.{Kept, Stands, changing, first_kept, kept_changed, kept_repositioning, reposition_answer, reposition_by}
+use Rattle.wl_xdg_state.specs.Kept.{with_kept}
+use Rattle.wl_xdg_state.specs.Popups.{Popped, dismiss, dismissed_among, first_of, is_among, is_configured, orphan, orphaning, popped_of}
+use Rattle.wl_xdg_state.specs.Popups.{repositioning}
+use Rattle.wl_xdg_state.specs.Positioner.{Placed, Positioner, place}
 use Rattle.wl_xdg_state.specs.Shell.{Shell, XdgSurface}
 use Rattle.wl_xdg_state.specs.Shell.{with_change, with_new, without_xdg, xdg_at, xdg_of}
 
@@ -86,6 +90,30 @@ DismissalStands =
     → IsShell kept histories shell
     → IsShell (each_changed (kept_dismissed ids) kept) histories (map (dismissed_among ids) shell)
 
+-- xdg_popup.reposition: what is answered is by the popup that this surface has
+abbrev pub RepositionAnswered : Type 0
+RepositionAnswered =
+    (surface : ℕ) (positioner : Positioner) (bounds : Rect) (parent_at : ℤ × ℤ) (x : XdgSurface) (p : Popped) (kept : ℕ → Option Kept)
+    (histories : ℕ → Option History) (shell : Shell)
+    → IsShell kept histories shell
+    → xdg_of surface shell ≡ Some x
+    → first_of (popped_of x) ≡ Some p
+    → reposition_answer positioner bounds parent_at (kept surface)
+    ≡ reposition_by (is_configured p) positioner (place positioner bounds parent_at) x.configures
+
+-- It is placed anew, if that isn't refused. A place is answered exactly where it is configured anew.
+abbrev pub RepositionedShell : Type 0
+RepositionedShell =
+    (surface : ℕ) (positioner : Positioner) (bounds : Rect) (parent_at : ℤ × ℤ) (serial : ℕ) (placed : Option Placed) (x : XdgSurface)
+    (p : Popped) (kept : ℕ → Option Kept) (histories : ℕ → Option History) (shell : Shell)
+    → IsShell kept histories shell
+    → xdg_of surface shell ≡ Some x
+    → first_of (popped_of x) ≡ Some p
+    → reposition_answer positioner bounds parent_at (kept surface) ≡ Ok placed
+    → (is_some placed ≡ is_configured p)
+    × IsShell (changing surface (kept_repositioning placed serial positioner) kept) histories
+    (with_change x.id (repositioning (is_configured p) serial (place positioner bounds parent_at) positioner) shell)
+
 -- a toplevel goes: its popups have no parent any more
 abbrev pub OrphaningStands : Type 0
 OrphaningStands =
@@ -102,3 +130,5 @@ pub record ShellsStand : Type 0 where
   pub many : ManyChanged
   pub dismissal : DismissalStands
   pub orphaning : OrphaningStands
+  pub answered : RepositionAnswered
+  pub repositioned : RepositionedShell

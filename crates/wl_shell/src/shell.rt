@@ -3,7 +3,7 @@
 ghost use Rattle.std.specs.Prelude.{◌≡◌, ◌≢◌, ◌&&◌, [], ℕ, All, MatchOption, None, Some, OnOk, OnErr, IfErr, IfOk, IfNone, IfSome, IsOkUnless, IsSomeAnd, Err, is_some, nat_lt, true};
 ghost use Rattle.std.specs.List.{list_any};
 ghost use Rattle.std.specs.Option.{option_and_then, option_copied};
-ghost use Rattle.wl_xdg_state.specs.Kept.{acknowledgement_answer, changing, commit_answer, configure_answer, destruction_answer, first_kept, geometry_answer, grab_answer, is_of_base, kept_acknowledging, kept_after, kept_asking, kept_changed, kept_configured, kept_grabbing, kept_of, kept_popup, kept_toplevel, kept_without_role, making_refused, popup_answer, toplevel_answer, with_kept};
+ghost use Rattle.wl_xdg_state.specs.Kept.{acknowledgement_answer, changing, commit_answer, configure_answer, destruction_answer, first_kept, geometry_answer, grab_answer, is_of_base, kept_acknowledging, kept_after, kept_asking, kept_changed, kept_configured, kept_grabbing, kept_of, kept_popup, kept_repositioning, kept_toplevel, kept_without_role, making_refused, popup_answer, reposition_answer, toplevel_answer, with_kept};
 ghost use Rattle.wl_xdg_state.specs.Popups.{dismiss};
 ghost use Rattle.wl_shell.specs.Found.{AreFound};
 ghost use Rattle.wl_shell.specs.Laws.{orphaned};
@@ -15,7 +15,7 @@ use std::collections::BTreeMap;
 use std::marker::Model;
 use wl_geom::Rect;
 use wl_surface::SurfaceNo;
-use wl_xdg_state::{Positioner, ShellAct, ShellError, XdgSurface};
+use wl_xdg_state::{Placed, Positioner, ShellAct, ShellError, XdgSurface};
 
 /// A popup that is asked for.
 #[derive(Clone, Copy, Debug, PartialEq, Eq)]
@@ -138,7 +138,8 @@ impl<A: Allocator> Shell<A> {
         xdg_surface.ask_geometry(rect)
     }
 
-    /// xdg_surface.ack_configure: the last configure of this serial and those before it don't wait any more.
+    /// xdg_surface.ack_configure: the last configure of this serial and those before it don't wait any more. Where one of them places a popup
+    /// anew, the latest such place waits for the next commit.
     ///
     /// # Errors
     ///
@@ -158,7 +159,9 @@ impl<A: Allocator> Shell<A> {
     /// The surface is committed, and its state then has a buffer, or none (wayland.xml, wl_surface.commit; xdg-shell.xml, xdg_surface). The
     /// window geometry that was asked counts from then on. Where a configure is to be sent it has this serial, which waits to be acknowledged.
     /// A popup is placed then, within the bounds, given in pixels of the output, its parent's window geometry standing at `parent_at`; neither
-    /// is of use to a toplevel. Of a dismissed popup nothing else changes. It takes no memory. Of a surface without an xdg_surface nothing changes, and `Nothing` is answered.
+    /// is of use to a toplevel. One that was placed anew stands there from the first commit on after that was acknowledged, unless the commit unmaps
+    /// it; `Place` says so where the commit doesn't map it. Of a dismissed popup nothing else changes. It takes no memory. Of a surface without an
+    /// xdg_surface nothing changes, and `Nothing` is answered.
     ///
     /// # Errors
     ///
@@ -240,6 +243,33 @@ impl<A: Allocator> Shell<A> {
             return Ok(true);
         };
         xdg_surface.grab(is_allowed)
+    }
+
+    /// xdg_popup.reposition: the popup of the surface has a copy of this positioner in place of the one before. Where it was configured before, and
+    /// isn't dismissed, it is placed anew, within the bounds, given in pixels of the output, its parent's window geometry standing at `parent_at`: that
+    /// place is answered, and is to be sent with a configure of this serial, which waits to be acknowledged; the popup stands where it stood. Elsewhere
+    /// nothing is to be sent, and no serial is drawn. Where the surface has no popup nothing changes. It takes no memory.
+    ///
+    /// # Errors
+    ///
+    /// The first of these; each changes nothing. `TooMany` where a configure would be sent and 64 of them wait, `InvalidPositioner` where the
+    /// positioner isn't complete.
+    pub fn reposition(
+        &mut self,
+        popup: SurfaceNo,
+        positioner: &Positioner,
+        bounds: Rect,
+        parent_at: (i32, i32),
+        serial: u32,
+    ) -> Result<Option<Placed>, ShellError>
+        ensures answer { result ≡ reposition_answer positioner.now bounds parent_at (kept_of self.old popup) }
+        ensures ok { IfOk result (λ placed. kept_of self.new ≡ changing popup (kept_repositioning placed serial positioner.now) (kept_of self.old)) }
+        ensures err { OnErr result (self.new ≡ self.old) }
+    {
+        let Some(xdg_surface) = self.surfaces.get_mut(&popup) else {
+            return Ok(None);
+        };
+        xdg_surface.reposition(positioner, bounds, parent_at, serial)
     }
 
     /// The surface of the xdg_surface of this id; none where there is none.

@@ -152,7 +152,7 @@ run-at p d (x ∷ xs) (suc k) less here before h =
 
 -- a window that is of no toplevel that counts
 nobody : Stacked
-nobody = record { client = 0; toplevel = 0; window = record { surface = 0; root = 0; x = pos 0; y = pos 0; w = 0; h = 0; transform = Normal } }
+nobody = record { client = 0; toplevel = 0; window = record { surface = 0; root = 0; x = pos 0; y = pos 0; w = 0; h = 0; transform = Normal; scale = 1 } }
 
 pub none-there : (p : Stacked → Bool) (xs : List Stacked) → position p xs ≡ None → list_any p xs ≡ false
 none-there p xs e = absent p nobody xs e

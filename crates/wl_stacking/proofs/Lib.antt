@@ -1,4 +1,3 @@
 pub mod Hits
 pub mod Lone
 pub mod Rows
-pub mod Scales

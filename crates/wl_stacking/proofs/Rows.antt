@@ -5,7 +5,7 @@ use Rattle.std.specs.Option.{option_map}
 use Rattle.wl_geom.specs.declared.rect.Rect.{Rect}
 use Rattle.wl_geom.specs.Region.{Add}
 use Rattle.wl_store.specs.declared.color.Format.TheVariants.{Xrgb8888}
-use Rattle.wl_state.specs.Request.{Buffer, Itself, Request, Attach, SetInputRegion, Commit, AddChild, SetPosition, PlaceBelow}
+use Rattle.wl_state.specs.Request.{Buffer, Itself, Request, Attach, SetBufferScale, SetBufferTransform, SetInputRegion, Commit, AddChild, SetPosition, PlaceBelow}
 use Rattle.wl_state.specs.State.{History}
 use Rattle.wl_state.specs.Surface.{Surface}
 use Rattle.wl_surface.specs.Surfaces.{Surfaces}
@@ -61,6 +61,22 @@ row_below = refl
 pub row_corner : map (λ (w : Window). w.corner) (shown parent) ≡ at (pos 0) (pos 0) ∷ at (pos 4) (pos 4) ∷ []
 unfolding tree
 row_corner = refl
+
+-- a buffer of 40 by 40 pixels at scale 2 is half as wide and half as high, and one at scale 3 a third, rounded down
+abbrev sides_of : Request → List (ℕ × ℕ × ℕ)
+sides_of request = map (λ (w : Window). (w.width, w.height, w.scale)) (shown (Attach (Some (buffer 10 40)) (pos 0) (pos 0) ∷ request ∷ Commit ∷ []))
+
+pub row_scaled : sides_of (SetBufferScale 2) ≡ (20, 20, 2) ∷ []
+unfolding tree
+row_scaled = refl
+
+pub row_scaled-down : sides_of (SetBufferScale 3) ≡ (13, 13, 3) ∷ []
+unfolding tree
+row_scaled-down = refl
+
+pub row_unscaled : sides_of (SetBufferTransform 1) ≡ (40, 40, 1) ∷ []
+unfolding tree
+row_unscaled = refl
 
 -- a parent without a buffer hides it
 pub row_hidden : surfaces_of (shown (parent ++ Attach None (pos 0) (pos 0) ∷ Commit ∷ [])) ≡ []

@@ -1,7 +1,6 @@
 -- The windows of a desktop, from bottom to top.
-use Rattle.std.specs.Prelude.{ℕ, zero, suc, ◌≡◌, ℤ, pos, ◌+ℤ◌, ◌-ℤ◌, ◌*◌, ◌%◌, ◌==◌, ◌&&◌, Bool, true, false, if◌then◌else◌, Option, Some}
+use Rattle.std.specs.Prelude.{ℕ, zero, suc, ℤ, pos, ◌+ℤ◌, ◌-ℤ◌, ◌*◌, ◌%◌, ◌==◌, ◌&&◌, Bool, true, false, if◌then◌else◌, Option, Some}
 use Rattle.std.specs.Prelude.{None, List, [], ◌∷◌, ◌++◌, fold, flat_map}
-use Rattle.std.specs.List.{list_all}
 use Rattle.std.specs.Option.{option_map_or}
 use Rattle.wl_geom.specs.declared.rect.Rect.{Rect}
 use Rattle.wl_geom.specs.Rect.{in_rect}
@@ -45,18 +44,14 @@ window_showing owner surface corner v buffer =
       owner = owner;
       surface = surface;
       corner = corner;
-      width = width_of (Some buffer) v.transform;
-      height = height_of (Some buffer) v.transform;
+      width = width_of (Some buffer) v.transform v.scale;
+      height = height_of (Some buffer) v.transform v.scale;
       transform = v.transform;
       scale = v.scale;
       buffer = buffer;
       opaque = v.opaque;
       input = v.input;
     }
-
--- the buffers of these windows have the scale 1
-abbrev pub AreUnscaled : List Window → Type 0
-AreUnscaled ws = list_all (λ w. w.scale == 1) ws ≡ true
 
 -- its window, if it shows one
 abbrev pub window_with : Owner → ℕ → Place → Values → Option Buffer → List Window

@@ -1,4 +1,6 @@
+pub mod Blocks
 pub mod Commits
+pub mod Damages
 pub mod Records
 pub mod Rows
-pub mod Scales
+pub mod Says

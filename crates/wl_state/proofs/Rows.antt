@@ -3,8 +3,10 @@ use Rattle.std.proofs.Common.{◌≡◌, ℕ, List, [], ◌∷◌, ◌++◌, Opt
 use Rattle.std.specs.Prelude.{ℤ, pos, negsuc}
 use Rattle.wl_geom.specs.declared.rect.Rect.{Rect}
 use Rattle.wl_store.specs.declared.color.Format.TheVariants.{Xrgb8888}
-use Rattle.wl_state.specs.Request.{Buffer, Itself, Child, Request, Attach, Damage, SetWindowGeometry, Commit, AddChild, SetPosition, PlaceAbove, PlaceBelow}
-use Rattle.wl_state.specs.State.{History, applied, apply, between, committed, damaged_rects, geometry, held, height_of, is_damaged, offset, order, pending, position, width_of}
+use Rattle.wl_state.specs.Request.{Buffer, Itself, Child, Request, Attach, Damage, DamageBuffer, SetBufferScale, SetWindowGeometry, Commit, AddChild}
+use Rattle.wl_state.specs.Request.{SetPosition, PlaceAbove, PlaceBelow}
+use Rattle.wl_state.specs.State.{History, Values, applied, apply, between, committed, damaged_rects, first_values, geometry, held, height_of, is_damaged, is_damaged_by}
+use Rattle.wl_state.specs.State.{is_whole, offset, order, pending, position, values, width_of}
 use Rattle.wl_state.specs.Surface.{shows}
 
 -- a buffer of 40 by 40 pixels in store 1
@@ -93,10 +95,10 @@ row_damage-empty = refl
 abbrev wide : Option Buffer
 wide = Some (record (forty 1) { width = 80 })
 
-pub row_turned : width_of wide 1 ≡ 40
+pub row_turned : width_of wide 1 1 ≡ 40
 row_turned = refl
 
-pub row_turned-height : height_of wide 1 ≡ 80
+pub row_turned-height : height_of wide 1 1 ≡ 80
 row_turned-height = refl
 
 -- a new child is topmost; placed below its parent it stands under it
@@ -125,3 +127,53 @@ row_geometry-pending = refl
 
 pub row_geometry-used : geometry 2 (record { requests = SetWindowGeometry (rect (pos 4) (pos 4) (pos 32) (pos 32)) ∷ Commit ∷ Commit ∷ []; cut = 3 }) ≡ None
 row_geometry-used = refl
+
+-- a surface of scale 2 is half as wide and half as high as its buffer; a scale of 3 doesn't fit
+abbrev scaled_values : ℕ → Values
+scaled_values transform = record first_values { buffer = Some (forty 1); transform = transform; scale = 2 }
+
+pub row_scaled : width_of (Some (forty 1)) 0 2 ≡ 20
+row_scaled = refl
+
+pub row_scaled-whole : is_whole (Some (forty 1)) 2 ≡ true
+row_scaled-whole = refl
+
+pub row_scaled-in-part : is_whole (Some (forty 1)) 3 ≡ false
+row_scaled-in-part = refl
+
+-- one point of the buffer is in one block
+abbrev of_buffer : ℤ → ℤ → ℤ → ℤ → List Request
+of_buffer x y w h = DamageBuffer (rect x y w h) ∷ []
+
+pub row_block : is_damaged_by (scaled_values 0) (of_buffer (pos 2) (pos 2) (pos 1) (pos 1)) 1 1 ≡ true
+row_block = refl
+
+pub row_block-left : is_damaged_by (scaled_values 0) (of_buffer (pos 2) (pos 2) (pos 1) (pos 1)) 0 1 ≡ false
+row_block-left = refl
+
+pub row_block-below : is_damaged_by (scaled_values 0) (of_buffer (pos 2) (pos 2) (pos 1) (pos 1)) 1 2 ≡ false
+row_block-below = refl
+
+-- two by two of them are in four
+pub row_blocks-first : is_damaged_by (scaled_values 0) (of_buffer (pos 1) (pos 1) (pos 2) (pos 2)) 0 0 ≡ true
+row_blocks-first = refl
+
+pub row_blocks-last : is_damaged_by (scaled_values 0) (of_buffer (pos 1) (pos 1) (pos 2) (pos 2)) 1 1 ≡ true
+row_blocks-last = refl
+
+pub row_blocks-beside : is_damaged_by (scaled_values 0) (of_buffer (pos 1) (pos 1) (pos 2) (pos 2)) 2 1 ≡ false
+row_blocks-beside = refl
+
+-- where the surface is turned, the first point of the buffer is in its upper right corner
+pub row_block-turned : is_damaged_by (scaled_values 1) (of_buffer (pos 0) (pos 0) (pos 1) (pos 1)) 19 0 ≡ true
+row_block-turned = refl
+
+pub row_block-turned-left : is_damaged_by (scaled_values 1) (of_buffer (pos 0) (pos 0) (pos 1) (pos 1)) 0 0 ≡ false
+row_block-turned-left = refl
+
+-- an empty rectangle is in no block, and the scale is that of the last request
+pub row_block-empty : is_damaged_by (scaled_values 0) (of_buffer (pos 1) (pos 1) (pos 0) (pos 4)) 0 0 ≡ false
+row_block-empty = refl
+
+pub row_last-scale : (values (SetBufferScale 3 ∷ SetBufferScale 2 ∷ [])).scale ≡ 2
+row_last-scale = refl

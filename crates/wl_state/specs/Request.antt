@@ -22,16 +22,18 @@ pub data Member : Type 0 where
   Child : ℕ → Member
 
 -- One accepted request. An attach names the buffer itself, and a region request the list of the region's changes, or none for null. A
--- frame request has its number among the client's requests. A link is a wl_subsurface by its number among the client's: what is asked of
--- it stands in its parent's list (wayland.xml, wl_surface, wl_subcompositor.get_subsurface and wl_subsurface; xdg-shell.xml,
+-- frame request has its number among the client's requests. Damage is a rectangle of points of the surface, or of its buffer. A link is a
+-- wl_subsurface by its number among the client's: what is asked of it stands in its parent's list (wayland.xml, wl_surface, wl_subcompositor.get_subsurface and wl_subsurface; xdg-shell.xml,
 -- xdg_surface.set_window_geometry).
 pub data Request : Type 0 where
   Attach : Option Buffer → ℤ → ℤ → Request
   Damage : Rect → Request
+  DamageBuffer : Rect → Request
   Frame : ℕ → Request
   SetOpaqueRegion : Option (List Change) → Request
   SetInputRegion : Option (List Change) → Request
   SetBufferTransform : ℕ → Request
+  SetBufferScale : ℕ → Request
   SetWindowGeometry : Rect → Request
   Commit : Request
   AddChild : ℕ → Request

@@ -1,13 +1,15 @@
 -- What counts of what was asked of a surface. The first `cut` of its requests count; the cut is 0 or the place just after a commit.
-use Rattle.std.specs.Prelude.{ℕ, suc, ℤ, pos, negsuc, ◌+ℤ◌, int_lt, ◌==◌, nat_lt, ◌&&◌, Bool, true, false, cond, if◌then◌else◌, Option}
-use Rattle.std.specs.Prelude.{Some, None, List, [], ◌∷◌, ◌++◌, length, take, drop, fold, filter, not}
+use Rattle.std.specs.Prelude.{ℕ, suc, ◌≡◌, ◌+◌, ◌*◌, ◌/◌, ◌%◌, ℤ, pos, negsuc, ◌+ℤ◌, int_lt, ◌==◌, nat_lt, ◌&&◌, ◌||◌, Bool, true}
+use Rattle.std.specs.Prelude.{false, cond, if◌then◌else◌, Option}
+use Rattle.std.specs.Prelude.{Some, None, List, [], ◌∷◌, ◌++◌, length, take, drop, fold, filter, flat_map, not}
 use Rattle.std.specs.List.{list_any}
 use Rattle.wl_geom.specs.declared.rect.Rect.{Rect}
 use Rattle.wl_geom.specs.Rect.{in_rect}
 use Rattle.wl_geom.specs.Region.{Change}
-use Rattle.wl_store.specs.Transform.{is_turned, transform_of}
-use Rattle.wl_state.specs.Request.{Buffer, Member, Itself, Child, Request, Attach, Damage, Frame, SetOpaqueRegion, SetInputRegion}
-use Rattle.wl_state.specs.Request.{SetBufferTransform, SetWindowGeometry, Commit, AddChild, SetPosition, PlaceAbove, PlaceBelow}
+use Rattle.wl_store.specs.Transform.{buffer_point, is_turned, transform_of}
+use Rattle.wl_state.specs.Request.{Buffer, Member, Itself, Child, Request, Attach, Damage, DamageBuffer, SetOpaqueRegion, SetInputRegion}
+use Rattle.wl_state.specs.Request.{SetBufferTransform, SetBufferScale, SetWindowGeometry, Commit, AddChild, SetPosition, PlaceAbove}
+use Rattle.wl_state.specs.Request.{PlaceBelow}
 
 -- what was asked of a surface, and how much of it counts
 pub record History : Type 0 where
@@ -35,10 +37,11 @@ abbrev pub changes_or_none : Option (List Change) → List Change
 changes_or_none None = []
 changes_or_none (Some changes) = changes
 
--- one request more; none sets the scale
+-- one request more
 abbrev pub asked : Values → Request → Values
 asked v (Attach buffer x y) = record v { buffer = buffer }
 asked v (SetBufferTransform transform) = record v { transform = transform }
+asked v (SetBufferScale scale) = record v { scale = scale }
 asked v (SetOpaqueRegion region) = record v { opaque = changes_or_none region }
 asked v (SetInputRegion region) = record v { input = region }
 asked v request = v
@@ -98,40 +101,71 @@ moving m request = m
 abbrev pub offset : List Request → Moving
 offset requests = fold moving (record { x = pos 0; y = pos 0; next = None }) requests
 
--- the size of what is shown: that of the buffer, its sides exchanged by an odd transform; nothing without a buffer
-abbrev pub width_of : Option Buffer → ℕ → ℕ
-width_of None transform = 0
-width_of (Some b) transform = cond (is_turned (transform_of transform)) b.height b.width
+-- the size of what is shown: the sides of the buffer divided by the scale, and exchanged by an odd transform; nothing without a buffer
+-- (wayland.xml, wl_surface.set_buffer_scale, set_buffer_transform)
+abbrev pub width_of : Option Buffer → ℕ → ℕ → ℕ
+width_of None transform scale = 0
+width_of (Some b) transform scale = cond (is_turned (transform_of transform)) (b.height / scale) (b.width / scale)
 
-abbrev pub height_of : Option Buffer → ℕ → ℕ
-height_of None transform = 0
-height_of (Some b) transform = cond (is_turned (transform_of transform)) b.width b.height
+abbrev pub height_of : Option Buffer → ℕ → ℕ → ℕ
+height_of None transform scale = 0
+height_of (Some b) transform scale = cond (is_turned (transform_of transform)) (b.width / scale) (b.height / scale)
 
--- the rectangles of the damage requests
+-- the width and the height of a buffer are multiples of the scale
+abbrev pub is_whole : Option Buffer → ℕ → Bool
+is_whole None scale = true
+is_whole (Some b) scale = (b.width % scale == 0) && (b.height % scale == 0)
+
+-- the rectangles of the damage requests: of points of the surface, and of points of its buffer (wayland.xml, wl_surface.damage, damage_buffer)
+abbrev pub damaged_rect : Request → List Rect
+damaged_rect (Damage rect) = rect ∷ []
+damaged_rect request = []
+
 abbrev pub damaged_rects : List Request → List Rect
-damaged_rects [] = []
-damaged_rects (Damage rect ∷ rs) = rect ∷ damaged_rects rs
-damaged_rects (Attach buffer x y ∷ rs) = damaged_rects rs
-damaged_rects (Frame number ∷ rs) = damaged_rects rs
-damaged_rects (SetOpaqueRegion region ∷ rs) = damaged_rects rs
-damaged_rects (SetInputRegion region ∷ rs) = damaged_rects rs
-damaged_rects (SetBufferTransform transform ∷ rs) = damaged_rects rs
-damaged_rects (SetWindowGeometry rect ∷ rs) = damaged_rects rs
-damaged_rects (Commit ∷ rs) = damaged_rects rs
-damaged_rects (AddChild link ∷ rs) = damaged_rects rs
-damaged_rects (SetPosition link x y ∷ rs) = damaged_rects rs
-damaged_rects (PlaceAbove link member ∷ rs) = damaged_rects rs
-damaged_rects (PlaceBelow link member ∷ rs) = damaged_rects rs
+damaged_rects requests = flat_map damaged_rect requests
+
+abbrev pub damaged_buffer_rect : Request → List Rect
+damaged_buffer_rect (DamageBuffer rect) = rect ∷ []
+damaged_buffer_rect request = []
+
+abbrev pub damaged_buffer_rects : List Request → List Rect
+damaged_buffer_rects requests = flat_map damaged_buffer_rect requests
 
 -- what was asked between two cuts
 abbrev pub between : ℕ → ℕ → List Request → List Request
 between old new requests = drop old (take new requests)
 
--- Damage that is applied by one step: a point of the surface in one of the rectangles between the old and the new cut; each point where
--- these are more than 1,024 (wayland.xml, wl_surface.damage).
+-- Damage that is told by rectangles of a surface of that size: a point of it in one of them; each point where these are more than 1,024.
 abbrev pub is_damaged : ℕ → ℕ → List Rect → ℕ → ℕ → Bool
 is_damaged width height rects x y =
     (nat_lt x width && nat_lt y height) && cond (nat_lt 1024 (length rects)) true (list_any (in_rect (pos x) (pos y)) rects)
+
+-- two spans from a first point to before another have a point in common
+abbrev pub overlap : ℤ → ℤ → ℤ → ℤ → Bool
+overlap a b c d = (int_lt a b && int_lt c d) && (int_lt a d && int_lt c b)
+
+-- A point that a surface of this scale shows is a block of so many by so many points of its buffer. The block has a point in a rectangle.
+abbrev pub meets : ℕ → ℕ × ℕ → Rect → Bool
+meets scale point r =
+    overlap r.x (r.x +ℤ r.w) (pos (point.0 * scale)) (pos (point.0 * scale + scale))
+    && overlap r.y (r.y +ℤ r.h) (pos (point.1 * scale)) (pos (point.1 * scale + scale))
+
+-- Damage that is applied by one step, of a surface that shows these values then: a point of the surface in one of the rectangles that were
+-- asked between the old and the new cut, or whose block of the buffer has a point in one of those of the buffer; each point where both are
+-- more than 1,024 together (wayland.xml, wl_surface.damage, damage_buffer).
+abbrev pub is_damaged_by : Values → List Request → ℕ → ℕ → Bool
+is_damaged_by v requests x y =
+    let width = width_of v.buffer v.transform v.scale in
+    let height = height_of v.buffer v.transform v.scale in
+    (nat_lt x width && nat_lt y height)
+    && cond (nat_lt 1024 (length (damaged_rects requests) + length (damaged_buffer_rects requests))) true
+    (list_any (in_rect (pos x) (pos y)) (damaged_rects requests)
+    || list_any (meets v.scale (buffer_point (transform_of v.transform) width height x y)) (damaged_buffer_rects requests))
+
+-- Rectangles of a surface that shows these values say just that damage.
+abbrev pub SaysDamage : List Rect → Values → List Request → Type 0
+SaysDamage rects v requests =
+    (x y : ℕ) → is_damaged (width_of v.buffer v.transform v.scale) (height_of v.buffer v.transform v.scale) rects x y ≡ is_damaged_by v requests x y
 
 -- the last window geometry that was asked, if there is one
 abbrev pub geometry_asked : Option Rect → Request → Option Rect

@@ -5,7 +5,10 @@
 ghost use Rattle.wl_state.specs.Laws.{CommitTakesAll};
 
 mod content;
+mod damage;
+mod held_damage;
 mod role;
+mod shape;
 mod state;
 
 pub use content::{Attached, BufferNo, Offset, bounded_sum, held};

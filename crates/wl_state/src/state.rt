@@ -3,21 +3,20 @@
 ghost use Rattle.std.specs.Prelude.{ℕ, ◌≡◌, ◌↔◌, ◌≢◌, ◌||◌, is_some, MatchBool, false, ◌++◌, ◌∷◌, [], Some, None, List, OnOk, OnErr, take};
 ghost use Rattle.std.specs.Option.{option_map, option_or};
 ghost use Rattle.wl_store.specs.Transform.{transform_of};
-ghost use Rattle.wl_state.specs.Kept.{IsCurrent, IsFarther, StandsFor, buffer_of, counting_in, counting_of, kept_has, kept_shows, latest, turned_height, turned_width};
+ghost use Rattle.wl_state.specs.Kept.{IsCurrent, IsFarther, StandsFor, buffer_of, counting_in, counting_of, kept_has, kept_shows, latest};
 ghost use Rattle.wl_geom.specs.Region.{Change as RegionChange, Stands as Covers};
-ghost use Rattle.wl_state.specs.Request.{Attach, Commit, Damage, SetBufferTransform, SetInputRegion, SetOpaqueRegion};
+ghost use Rattle.wl_state.specs.Request.{Attach, Commit, Damage, DamageBuffer, SetBufferScale, SetBufferTransform, SetInputRegion, SetOpaqueRegion};
+ghost use Rattle.wl_state.specs.State.{SaysDamage, between, committed, held, is_whole, pending};
 ghost use Rattle.wl_state.specs.Surface.{Surface as Asked, applying, asking, names, new_surface};
 
 use crate::content::{Attached, BufferNo, Offset};
+use crate::held_damage::{HeldDamage, MAX_KEPT};
 use crate::role::Role;
+use crate::shape::{is_multiple, shape_of};
 use std::alloc::{AllocError, Allocator};
 use std::marker::Model;
-use std::mem;
 use wl_geom::{Rect, Region};
-use wl_store::Transform;
-
-/// How many damage requests of a surface count one by one.
-const MAX_DAMAGE: usize = 1024;
+use wl_store::{Scale, Transform};
 
 /// A surface's state in three records. A region that wasn't set since is that of the record below, so that a commit moves
 /// regions and takes no memory. It is seen as the values that it keeps.
@@ -29,6 +28,9 @@ pub struct SurfaceState<A: Allocator> {
     pending_transform: Transform,
     held_transform: Transform,
     current_transform: Transform,
+    pending_scale: Scale,
+    held_scale: Scale,
+    current_scale: Scale,
     pending_opaque: Option<Region<A>>,
     held_opaque: Option<Region<A>>,
     current_opaque: Region<A>,
@@ -39,7 +41,8 @@ pub struct SurfaceState<A: Allocator> {
     held_offset: Offset,
     current_offset: Offset,
     pending_damage: Vec<Rect, A>,
-    held_damage: Vec<Rect, A>,
+    pending_buffer_damage: Vec<Rect, A>,
+    held_damage: HeldDamage<A>,
     role: Option<Role>,
 }
 
@@ -56,6 +59,9 @@ impl<A: Allocator> Model for SurfaceState<A> {
       pending_transform = s.pending_transform;
       held_transform = s.held_transform;
       current_transform = s.current_transform;
+      pending_scale = s.pending_scale;
+      held_scale = s.held_scale;
+      current_scale = s.current_scale;
       pending_opaque = s.pending_opaque;
       held_opaque = s.held_opaque;
       current_opaque = s.current_opaque;
@@ -66,35 +72,26 @@ impl<A: Allocator> Model for SurfaceState<A> {
       held_offset = s.held_offset;
       current_offset = s.current_offset;
       pending_damage = s.pending_damage.items;
-      held_damage = s.held_damage.items;
+      held_damage = s.held_damage.rects.items;
+      pending_buffer_damage = s.pending_buffer_damage.items;
+      held_buffer_damage = s.held_damage.buffer_rects.items;
       role = s.role;
     } };
 }
 
-/// What counts of a surface: the buffer as it is attached, the surface's size in pixels (that of the buffer, its sides exchanged where the
-/// transform turns it; none without a buffer), how far the surface has moved, which points are opaque, and which take input: where no
-/// region says it, all.
+/// What counts of a surface: the buffer as it is attached, the surface's size in its own pixels (the sides of the buffer divided by the scale, and
+/// exchanged where the transform turns it; none without a buffer), how far the surface has moved, which points are opaque, and which take input: where
+/// no region says it, all.
 #[derive(Drop)]
 pub struct Current<'a, A: Allocator> {
     pub buffer: Option<Attached>,
     pub w: u32,
     pub h: u32,
     pub transform: Transform,
+    pub scale: Scale,
     pub offset: Offset,
     pub opaque: &'a Region<A>,
     pub input: Option<&'a Region<A>>,
-}
-
-/// The size of what is shown.
-fn size_of(buffer: &Option<Attached>, transform: Transform) -> (u32, u32)
-    ensures width { result.0 ≡ turned_width (option_map buffer_of buffer.now) transform }
-    ensures height { result.1 ≡ turned_height (option_map buffer_of buffer.now) transform }
-{
-    match buffer {
-        None => (0, 0),
-        Some(attached) if transform.is_turned() => (attached.layout.h, attached.layout.w),
-        Some(attached) => (attached.layout.w, attached.layout.h),
-    }
 }
 
 /// Whether this is the buffer of that number.
@@ -119,6 +116,9 @@ impl<A: Allocator + Copy> SurfaceState<A> {
             pending_transform: Transform::Normal,
             held_transform: Transform::Normal,
             current_transform: Transform::Normal,
+            pending_scale: Scale::ONE,
+            held_scale: Scale::ONE,
+            current_scale: Scale::ONE,
             pending_opaque: None,
             held_opaque: None,
             current_opaque: Region::new(alloc),
@@ -129,7 +129,8 @@ impl<A: Allocator + Copy> SurfaceState<A> {
             held_offset: Offset { x: 0, y: 0 },
             current_offset: Offset { x: 0, y: 0 },
             pending_damage: Vec::new(alloc),
-            held_damage: Vec::new(alloc),
+            pending_buffer_damage: Vec::new(alloc),
+            held_damage: HeldDamage::new(alloc),
             role: None,
         }
     }
@@ -151,14 +152,32 @@ impl<A: Allocator> SurfaceState<A> {
         self.pending_transform = transform;
     }
 
-    /// wl_surface.damage. More than 1,024 rectangles damage the whole surface, so no more than one more is kept. Without memory nothing
-    /// changes.
+    /// wl_surface.set_buffer_scale.
+    pub fn set_scale(&mut self, scale: Scale)
+        ensures { (s : Asked) → StandsFor self.old s → StandsFor self.new (asking (SetBufferScale scale.number) s) }
+    {
+        self.pending_scale = scale;
+    }
+
+    /// wl_surface.damage, of a rectangle of the surface's points. More than 1,024 rectangles of both kinds damage the whole surface, so no more than one
+    /// more is kept of each. Without memory nothing changes.
     pub fn damage(&mut self, rect: Rect) -> Result<(), AllocError>
         ensures ok { OnOk result ((s : Asked) → StandsFor self.old s → StandsFor self.new (asking (Damage rect) s)) }
         ensures err { OnErr result (self.new ≡ self.old) }
     {
-        if self.pending_damage.len() <= MAX_DAMAGE {
+        if self.pending_damage.len() < MAX_KEPT {
             self.pending_damage.push(rect)?;
+        }
+        Ok(())
+    }
+
+    /// wl_surface.damage_buffer, of a rectangle of the buffer's points. As many are kept as of the surface's. Without memory nothing changes.
+    pub fn damage_buffer(&mut self, rect: Rect) -> Result<(), AllocError>
+        ensures ok { OnOk result ((s : Asked) → StandsFor self.old s → StandsFor self.new (asking (DamageBuffer rect) s)) }
+        ensures err { OnErr result (self.new ≡ self.old) }
+    {
+        if self.pending_buffer_damage.len() < MAX_KEPT {
+            self.pending_buffer_damage.push(rect)?;
         }
         Ok(())
     }
@@ -194,14 +213,13 @@ impl<A: Allocator> SurfaceState<A> {
         self.pending_input = Some(None);
     }
 
-    /// The damage that is pending is held.
+    /// The damage that is pending is held. Without memory nothing changes.
     fn hold_damage(&mut self) -> Result<(), AllocError>
-        ensures ok { OnOk result (self.new ≡ record self.old { held_damage = take 1025 (self.old.held_damage ++ self.old.pending_damage); pending_damage = [] }) }
+        ensures ok { OnOk result (self.new ≡ record self.old { held_damage = take 1025 (self.old.held_damage ++ self.old.pending_damage); pending_damage = []; held_buffer_damage = take 1025 (self.old.held_buffer_damage ++ self.old.pending_buffer_damage); pending_buffer_damage = [] }) }
         ensures err { OnErr result (self.new ≡ self.old) }
     {
-        self.held_damage.append(&mut self.pending_damage)?;
-        self.held_damage.truncate(MAX_DAMAGE + 1);
-        Ok(())
+        self.held_damage
+            .add(&mut self.pending_damage, &mut self.pending_buffer_damage)
     }
 
     /// The regions that are pending are held.
@@ -212,13 +230,14 @@ impl<A: Allocator> SurfaceState<A> {
         self.held_input = self.pending_input.take().or(self.held_input.take());
     }
 
-    /// The buffer, the transform and the offset that are pending are held.
+    /// The buffer, the transform, the scale and the offset that are pending are held.
     fn hold_content(&mut self)
-        ensures content { self.new ≡ record self.old { held_buffer = self.old.pending_buffer; held_transform = self.old.pending_transform; pending_offset = None; held_offset = self.new.held_offset } }
+        ensures content { self.new ≡ record self.old { held_buffer = self.old.pending_buffer; held_transform = self.old.pending_transform; held_scale = self.old.pending_scale; pending_offset = None; held_offset = self.new.held_offset } }
         ensures offset { IsFarther self.old.held_offset self.old.pending_offset self.new.held_offset }
     {
         self.held_buffer = self.pending_buffer;
         self.held_transform = self.pending_transform;
+        self.held_scale = self.pending_scale;
         self.held_offset = self.held_offset.farther(self.pending_offset.take());
     }
 
@@ -251,14 +270,18 @@ impl<A: Allocator> SurfaceState<A> {
         }
     }
 
-    /// What is held is applied, and the damage that was held is given.
+    /// What is held is applied. The damage that was held is given as rectangles of the surface, as large as it is then; more than 1,024 damage all of it.
+    /// It takes no memory.
     pub fn apply(&mut self, alloc: A) -> Vec<Rect, A>
         ensures stands { (s : Asked) → StandsFor self.old s → StandsFor self.new (applying s) }
-        ensures damage { result.items ≡ self.old.held_damage }
+        ensures damage { (s : Asked) → StandsFor self.old s
+            → SaysDamage result.items (held s.history) (between s.history.cut (committed s.history.requests) s.history.requests) }
     {
-        let damage = mem::replace(&mut self.held_damage, Vec::new(alloc));
+        let shape = shape_of(&self.held_buffer, self.held_transform, self.held_scale);
+        let damage = self.held_damage.take(shape, alloc);
         self.current_buffer = self.held_buffer;
         self.current_transform = self.held_transform;
+        self.current_scale = self.held_scale;
         self.current_offset = self.held_offset;
         self.apply_opaque();
         self.apply_input();
@@ -298,12 +321,17 @@ impl<A: Allocator> SurfaceState<A> {
         ensures stands { (s : Asked) → StandsFor self.now s → IsCurrent result s.history }
         ensures kept { counting_in result ≡ counting_of self.now }
     {
-        let (w, h) = size_of(&self.current_buffer, self.current_transform);
+        let shape = shape_of(
+            &self.current_buffer,
+            self.current_transform,
+            self.current_scale,
+        );
         Current {
             buffer: self.current_buffer,
-            w,
-            h,
+            w: shape.w,
+            h: shape.h,
             transform: self.current_transform,
+            scale: self.current_scale,
             offset: self.current_offset,
             opaque: &self.current_opaque,
             input: self.current_input.as_ref(),
@@ -315,6 +343,17 @@ impl<A: Allocator> SurfaceState<A> {
         ensures { result ≡ self.now.pending_buffer }
     {
         self.pending_buffer
+    }
+
+    /// Whether the sides of the buffer that is pending are multiples of the scale that is pending. Without a buffer they are.
+    pub fn is_whole(&self) -> bool
+        ensures { (s : Asked) → StandsFor self.now s → result ≡ is_whole (pending s.history).buffer (pending s.history).scale }
+    {
+        match &self.pending_buffer {
+            Some(attached) => is_multiple(attached.layout.w, self.pending_scale)
+                && is_multiple(attached.layout.h, self.pending_scale),
+            None => true,
+        }
     }
 
     /// The buffers that are pending, held and applied.

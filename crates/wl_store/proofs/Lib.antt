@@ -1,4 +1,5 @@
 pub mod Places
+pub mod Points
 pub mod Sound
 pub mod Refusals
 pub mod Layouts

@@ -36,10 +36,14 @@ abbrev pub alpha_of : Format → ℕ → ℕ
 alpha_of Argb8888 byte = byte
 alpha_of Xrgb8888 byte = 255
 
+-- where the pixel at the point (x, y) of the buffer begins
+abbrev pub place_of : Layout → ℕ × ℕ → ℕ
+place_of l point = l.offset + point.1 * l.stride + 4 * point.0
+
 -- the colour at the point (x, y) of the buffer that lies so in these bytes
 abbrev pub buffer_color : List ℕ → Layout → ℕ × ℕ → Argb
 buffer_color bytes l point =
-    let at = l.offset + point.1 * l.stride + 4 * point.0 in
+    let at = place_of l point in
     record {
       a = alpha_of l.format (slice_index bytes (at + 3));
       r = slice_index bytes (at + 2);

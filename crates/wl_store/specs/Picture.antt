@@ -1,6 +1,6 @@
--- What is seen of a picture: bytes, where a buffer lies in them, and how a surface shows it.
+-- What is seen of a picture: bytes, where a buffer lies in them, and how a surface shows it, turned and scaled.
 use Rattle.std.proofs.lemmas.Bool.{leb-true, ltb-true}
-use Rattle.std.specs.Prelude.{◌≡◌, refl, ◌^◌, ℕ, ◌+◌, ◌*◌, ◌<◌, nat_le, List, [], ◌∷◌, length, cond, Option, Some, None}
+use Rattle.std.specs.Prelude.{◌≡◌, refl, ◌^◌, ℕ, ◌+◌, ◌*◌, ◌/◌, ◌<◌, nat_le, List, [], ◌∷◌, length, cond, Option, Some, None}
 use Rattle.wl_store.specs.declared.color.Argb.{Argb}
 use Rattle.wl_store.specs.declared.color.Format.{Format}
 use Rattle.wl_store.specs.declared.color.Format.TheVariants.{Argb8888}
@@ -8,29 +8,34 @@ use Rattle.wl_store.specs.declared.place.Layout.{Layout}
 use Rattle.wl_store.specs.declared.transform.Transform.{Transform}
 use Rattle.wl_store.specs.declared.transform.Transform.TheVariants.{Normal}
 use Rattle.wl_store.specs.Layout.{argb_of, buffer_color}
-use Rattle.wl_store.specs.Transform.{is_turned, buffer_point}
+use Rattle.wl_store.specs.Transform.{is_turned, buffer_point, scaled}
 
 pub record Shown : Type 0 where
   pub bytes : List ℕ
   pub layout : Layout
   pub transform : Transform
+  pub scale : ℕ
 
 -- the picture of a buffer that lies so in these bytes, if it ends within them
-abbrev pub lent : List ℕ → Layout → Transform → Option Shown
-lent bytes l transform = cond (nat_le (l.offset + l.stride * l.h) (length bytes))
-    (Some (record { bytes = bytes; layout = l; transform = transform })) None
+abbrev pub lent : List ℕ → Layout → Transform → ℕ → Option Shown
+lent bytes l transform scale = cond (nat_le (l.offset + l.stride * l.h) (length bytes))
+    (Some (record { bytes = bytes; layout = l; transform = transform; scale = scale })) None
 
--- a surface's width and height, where it shows a buffer that lies so: an odd transform exchanges them
-abbrev pub surface_width : Transform → Layout → ℕ
-surface_width t l = cond (is_turned t) l.h l.w
+-- The width and the height of the surface that shows the picture: the buffer's, divided by the scale and rounded down; an odd transform
+-- exchanges them (wayland.xml, wl_surface.set_buffer_scale).
+abbrev pub surface_width : Shown → ℕ
+surface_width p = cond (is_turned p.transform) (p.layout.h / p.scale) (p.layout.w / p.scale)
 
-abbrev pub surface_height : Transform → Layout → ℕ
-surface_height t l = cond (is_turned t) l.w l.h
+abbrev pub surface_height : Shown → ℕ
+surface_height p = cond (is_turned p.transform) (p.layout.w / p.scale) (p.layout.h / p.scale)
+
+-- the point of the buffer that the point (i, j) of the surface shows
+abbrev pub point_shown : Shown → ℕ → ℕ → ℕ × ℕ
+point_shown p i j = scaled p.scale (buffer_point p.transform (surface_width p) (surface_height p) i j)
 
 -- the colour at the point (i, j) of the surface
 abbrev pub color_at : Shown → ℕ → ℕ → Argb
-color_at p i j = buffer_color p.bytes p.layout
-    (buffer_point p.transform (surface_width p.transform p.layout) (surface_height p.transform p.layout) i j)
+color_at p i j = buffer_color p.bytes p.layout (point_shown p i j)
 
 -- the bytes are those of so many points of the surface from (i, j) to the right, four each, in this format
 pub record ArePoints (p : Shown) (i j count : ℕ) (bytes : List ℕ) (format : Format) : Type 0 where
@@ -56,4 +61,4 @@ one_pixel =
 
 -- a picture of one pixel, which leaves what is below it as it is
 abbrev pub transparent : Shown
-transparent = record { bytes = 0 ∷ 0 ∷ 0 ∷ 0 ∷ []; layout = one_pixel; transform = Normal }
+transparent = record { bytes = 0 ∷ 0 ∷ 0 ∷ 0 ∷ []; layout = one_pixel; transform = Normal; scale = 1 }

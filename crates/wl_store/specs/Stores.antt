@@ -114,13 +114,13 @@ abbrev pub let_go : ℕ → Stock → Stock
 let_go number stock =
     cond (nat_le (uses_of number stock) 1) (without_store number stock) (with_change number (λ s. record s { uses = s.uses - 1 }) stock)
 
--- the picture that a store lends, where it is live and the layout ends within it
-abbrev pub picture_turned : ℕ → Layout → Transform → Stock → Option Shown
-picture_turned number l transform stock = option_and_then (λ bytes. lent bytes l transform) (bytes_of number stock)
+-- the picture that a store lends, turned and scaled so, where it is live and the layout ends within it
+abbrev pub picture_turned : ℕ → Layout → Transform → ℕ → Stock → Option Shown
+picture_turned number l transform scale stock = option_and_then (λ bytes. lent bytes l transform scale) (bytes_of number stock)
 
 -- the same by the transform's number
-abbrev pub picture_of : ℕ → Layout → ℕ → Stock → Option Shown
-picture_of number l transform stock = picture_turned number l (transform_of transform) stock
+abbrev pub picture_of : ℕ → Layout → ℕ → ℕ → Stock → Option Shown
+picture_of number l transform scale stock = picture_turned number l (transform_of transform) scale stock
 
 -- the numbers rise from above `low` to at most `made`
 abbrev pub IsNumbered : ℕ → ℕ → List Held → Type 0

@@ -1,5 +1,7 @@
 -- The eight transforms, and the buffer point that a surface point shows.
-use Rattle.std.specs.Prelude.{ℕ, ◌-◌, Bool, true, false, [], ◌∷◌, slice_index_or}
+use Rattle.std.specs.Prelude.{ℕ, ◌≡◌, ◌+◌, ◌-◌, ◌*◌, Bool, true, false, [], ◌∷◌, slice_index_or}
+use Rattle.wl_store.specs.declared.transform.Course.{Course}
+use Rattle.wl_store.specs.declared.transform.Course.TheVariants.{Right, Left, Down, Up}
 use Rattle.wl_store.specs.declared.transform.Transform.{Transform}
 use Rattle.wl_store.specs.declared.transform.Transform.TheVariants.{Normal, Rotated90, Rotated180, Rotated270, Flipped, Flipped90}
 use Rattle.wl_store.specs.declared.transform.Transform.TheVariants.{Flipped180, Flipped270}
@@ -31,6 +33,10 @@ buffer_point Flipped90 w h i j = (j, i)
 buffer_point Flipped180 w h i j = (i, h - 1 - j)
 buffer_point Flipped270 w h i j = (h - 1 - j, w - 1 - i)
 
+-- a point of a buffer of that scale: both coordinates times the scale (wayland.xml, wl_surface.set_buffer_scale)
+abbrev pub scaled : ℕ → ℕ × ℕ → ℕ × ℕ
+scaled scale point = (point.0 * scale, point.1 * scale)
+
 -- each row of the surface is a row of the buffer, from the left
 abbrev pub keeps_rows : Transform → Bool
 keeps_rows Normal = true
@@ -41,3 +47,10 @@ keeps_rows Flipped = false
 keeps_rows Flipped90 = false
 keeps_rows Flipped180 = true
 keeps_rows Flipped270 = false
+
+-- the point `to` lies n points from the point `from` on this course
+abbrev pub IsAlong : Course → ℕ → ℕ × ℕ → ℕ × ℕ → Type 0
+IsAlong Right n from to = (from.0 + n ≡ to.0) × (from.1 ≡ to.1)
+IsAlong Left n from to = (to.0 + n ≡ from.0) × (from.1 ≡ to.1)
+IsAlong Down n from to = (from.0 ≡ to.0) × (from.1 + n ≡ to.1)
+IsAlong Up n from to = (from.0 ≡ to.0) × (to.1 + n ≡ from.1)

@@ -1,32 +1,43 @@
-ghost use Rattle.std.specs.Prelude.{◌≡◌, ◌+◌, ◌*◌, ◌≤◌, ◌<◌, is_some, slice_range, length, IfSome};
-ghost use Rattle.wl_store.specs.Layout.{FitsIn, buffer_color};
-ghost use Rattle.wl_store.specs.Picture.{ArePoints, color_at, lent, surface_height, surface_width, transparent};
+ghost use Rattle.std.specs.Prelude.{◌≡◌, ◌+◌, ◌-◌, ◌*◌, ◌/◌, ◌%◌, ◌≤◌, ◌<◌, ◌==◌, ◌&&◌, ℕ, is_some, slice_range, length, IfSome};
+ghost use Rattle.wl_store.specs.Layout.{FitsIn, buffer_color, place_of};
+ghost use Rattle.wl_store.specs.Picture.{ArePoints, color_at, lent, point_shown, surface_height, surface_width, transparent};
 ghost use Rattle.wl_store.specs.Transform.{keeps_rows};
 
 use crate::color::{Argb, Format};
 use crate::place::Layout;
-use crate::transform::Transform;
+use crate::reading::{copy_falling, copy_rising};
+use crate::scale::Scale;
+use crate::transform::{Course, Transform};
 use std::marker::Model;
 
 /// The content of a surface, lent from a store: the bytes as they are now, where the buffer lies in
-/// them, and how the surface shows it.
+/// them, and how the surface shows it, turned and scaled.
 #[derive(Drop)]
 pub struct Picture<'a> {
     bytes: &'a [u8],
     layout: Layout,
     transform: Transform,
+    scale: Scale,
 }
 
 impl<'a> Model for Picture<'a> {
-    ghost use Rattle.std.specs.Prelude.{length};
+    ghost use Rattle.std.specs.Prelude.{◌≤◌, length};
     ghost use Rattle.wl_store.specs.Layout.{FitsIn};
     ghost use Rattle.wl_store.specs.Picture.{Shown};
 
     ghost Value = { Shown };
 
-    ghost view = { λ p. record { bytes = p.bytes.now; layout = p.layout; transform = p.transform } };
+    ghost view = { λ p. record { bytes = p.bytes.now; layout = p.layout; transform = p.transform; scale = p.scale.number } };
 
-    ghost invariant = { λ p. FitsIn (length p.bytes.now) p.layout };
+    ghost invariant = { λ p. FitsIn (length p.bytes.now) p.layout × (1 ≤ p.scale.number) };
+}
+
+/// Where a pixel of the buffer begins in the bytes.
+fn place_in(layout: &Layout, x: u32, y: u32) -> usize
+    requires row { y < layout.now.h }
+    ensures { result ≡ place_of layout.now (x, y) }
+{
+    layout.offset as usize + y as usize * layout.stride as usize + 4 * x as usize
 }
 
 /// The colour of a pixel of the buffer.
@@ -36,7 +47,7 @@ fn buffer_pixel(bytes: &[u8], layout: &Layout, x: u32, y: u32) -> Argb
     requires row { y < layout.now.h }
     ensures { result ≡ buffer_color bytes.now layout.now (x, y) }
 {
-    let at = layout.offset as usize + y as usize * layout.stride as usize + 4 * x as usize;
+    let at = place_in(layout, x, y);
     Argb {
         a: match layout.format {
             Format::Argb8888 => bytes[at + 3],
@@ -50,9 +61,14 @@ fn buffer_pixel(bytes: &[u8], layout: &Layout, x: u32, y: u32) -> Argb
 
 impl<'a> Picture<'a> {
     /// None where the layout passes the end of the bytes.
-    pub(crate) fn new(bytes: &'a [u8], layout: &Layout, transform: Transform) -> Option<Self>
-        ensures there { result ≡ lent bytes.now layout.now transform }
-        ensures shown { IfSome result (λ p. p ≡ record { bytes = bytes.now; layout = layout.now; transform = transform }) }
+    pub(crate) fn new(
+        bytes: &'a [u8],
+        layout: &Layout,
+        transform: Transform,
+        scale: Scale,
+    ) -> Option<Self>
+        ensures there { result ≡ lent bytes.now layout.now transform scale.number }
+        ensures shown { IfSome result (λ p. p ≡ record { bytes = bytes.now; layout = layout.now; transform = transform; scale = scale.number }) }
     {
         let end = u64::from(layout.offset) + u64::from(layout.stride) * u64::from(layout.h);
         if end > bytes.len() as u64 {
@@ -62,6 +78,7 @@ impl<'a> Picture<'a> {
             bytes,
             layout: *layout,
             transform,
+            scale,
         })
     }
 
@@ -79,30 +96,34 @@ impl<'a> Picture<'a> {
                 format: Format::Argb8888,
             },
             transform: Transform::Normal,
+            scale: Scale::ONE,
         }
     }
 
     /// The width and the height of the surface.
     fn sides(&self) -> (u32, u32)
-        ensures { result ≡ (surface_width self.now.transform self.now.layout, surface_height self.now.transform self.now.layout) }
+        ensures { result ≡ (surface_width self.now, surface_height self.now) }
     {
+        let width = self.scale.side(self.layout.w);
+        let height = self.scale.side(self.layout.h);
         if self.transform.is_turned() {
-            (self.layout.h, self.layout.w)
+            (height, width)
         } else {
-            (self.layout.w, self.layout.h)
+            (width, height)
         }
     }
 
-    /// The width of the surface, in pixels.
+    /// The width of the surface, in pixels: that of the buffer, or its height where it is turned by a quarter, divided by the scale and
+    /// rounded down.
     pub fn width(&self) -> u32
-        ensures { result ≡ surface_width self.now.transform self.now.layout }
+        ensures { result ≡ surface_width self.now }
     {
         self.sides().0
     }
 
-    /// The height of the surface, in pixels.
+    /// The height of the surface, in pixels, as its width.
     pub fn height(&self) -> u32
-        ensures { result ≡ surface_height self.now.transform self.now.layout }
+        ensures { result ≡ surface_height self.now }
     {
         self.sides().1
     }
@@ -120,13 +141,16 @@ impl<'a> Picture<'a> {
     }
 
     /// The bytes of the `count` points of the surface from (i, j) to the right, four a pixel, and their format, where each row of the surface is a
-    /// row of the buffer: where the transform is normal or turns the buffer upside down.
+    /// row of the buffer: where the scale is 1, and the transform is normal or turns the buffer upside down.
     pub fn points(&self, i: u32, j: u32, count: u32) -> Option<(&'a [u8], Format)>
-        requires columns { i + count ≤ surface_width self.now.transform self.now.layout }
-        requires row { j < surface_height self.now.transform self.now.layout }
-        ensures there { is_some result ≡ keeps_rows self.now.transform }
+        requires columns { i + count ≤ surface_width self.now }
+        requires row { j < surface_height self.now }
+        ensures there { is_some result ≡ (self.now.scale == 1 && keeps_rows self.now.transform) }
         ensures points { IfSome result (λ points. ArePoints self.now i j count points.0.now points.1) }
     {
+        if self.scale.number != 1 {
+            return None;
+        }
         let row = match self.transform {
             Transform::Normal => self.row(j),
             Transform::Flipped180 => self.row(self.layout.h - 1 - j),
@@ -136,25 +160,59 @@ impl<'a> Picture<'a> {
         Some((&row[first..first + 4 * count as usize], self.layout.format))
     }
 
-    /// The colour at the point (i, j) of the surface.
-    pub fn pixel(&self, i: u32, j: u32) -> Argb
-        requires column { i < surface_width self.now.transform self.now.layout }
-        requires row { j < surface_height self.now.transform self.now.layout }
-        ensures { result ≡ color_at self.now i j }
+    /// The point of the buffer that the point (i, j) of the surface shows.
+    fn point(&self, i: u32, j: u32) -> (u32, u32)
+        requires column { i < surface_width self.now }
+        requires row { j < surface_height self.now }
+        ensures point { result ≡ point_shown self.now i j }
+        ensures column { result.0 < self.now.layout.w }
+        ensures row { result.1 < self.now.layout.h }
     {
         let (width, height) = self.sides();
-        let right = width - 1 - i;
-        let below = height - 1 - j;
-        let (x, y) = match self.transform {
-            Transform::Normal => (i, j),
-            Transform::Rotated90 => (j, right),
-            Transform::Rotated180 => (right, below),
-            Transform::Rotated270 => (below, i),
-            Transform::Flipped => (right, j),
-            Transform::Flipped90 => (j, i),
-            Transform::Flipped180 => (i, below),
-            Transform::Flipped270 => (below, right),
-        };
+        let (x, y) = self.transform.buffer_point(width, height, i, j);
+        (x * self.scale.number, y * self.scale.number)
+    }
+
+    /// The colour at the point (i, j) of the surface.
+    pub fn pixel(&self, i: u32, j: u32) -> Argb
+        requires column { i < surface_width self.now }
+        requires row { j < surface_height self.now }
+        ensures { result ≡ color_at self.now i j }
+    {
+        let (x, y) = self.point(i, j);
         buffer_pixel(self.bytes, &self.layout, x, y)
+    }
+
+    /// Reads the points of the surface from (i, j) to the right into a run of pixels, four bytes each, up to its end. The answer is their format.
+    pub fn read(&self, i: u32, j: u32, run: &mut [u8]) -> Format
+        requires whole { length run.old % 4 ≡ 0 }
+        requires columns { i + length run.old / 4 ≤ surface_width self.now }
+        requires row { j < surface_height self.now }
+        ensures { ArePoints self.now i j (length run.old / 4) run.new result }
+    {
+        if !run.is_empty() {
+            self.fill(i, j, run);
+        }
+        self.layout.format
+    }
+
+    /// Reads points into a run of at least one pixel.
+    fn fill(&self, i: u32, j: u32, run: &mut [u8])
+        requires some { 0 < length run.old }
+        requires whole { length run.old % 4 ≡ 0 }
+        requires columns { i + length run.old / 4 ≤ surface_width self.now }
+        requires row { j < surface_height self.now }
+        ensures { ArePoints self.now i j (length run.old / 4) run.new self.now.layout.format }
+    {
+        let (x, y) = self.point(i, j);
+        let first = place_in(&self.layout, x, y);
+        let pixel = 4 * self.scale.number as usize;
+        let row = self.scale.number as usize * self.layout.stride as usize;
+        match self.transform.course() {
+            Course::Right => copy_rising(run, self.bytes, first, pixel),
+            Course::Left => copy_falling(run, self.bytes, first, pixel),
+            Course::Down => copy_rising(run, self.bytes, first, row),
+            Course::Up => copy_falling(run, self.bytes, first, row),
+        }
     }
 }

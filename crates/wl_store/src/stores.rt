@@ -5,6 +5,7 @@ ghost use Rattle.wl_store.specs.Transform.{transform_of};
 
 use crate::picture::Picture;
 use crate::place::Layout;
+use crate::scale::Scale;
 use crate::store::Store;
 use crate::transform::Transform;
 use std::alloc::{AllocError, AllocFailed, Allocator};
@@ -246,33 +247,45 @@ impl<A: Allocator> Stores<A> {
         true
     }
 
-    /// Lends the store's bytes as the content of a surface. `transform` is the protocol's number.
+    /// Lends the store's bytes as the content of a surface. `transform` is the protocol's number, and `scale` is how many points of the
+    /// buffer there are for one of the surface in each direction.
     ///
     /// None where the store isn't live or the layout passes its end.
-    pub fn picture(&self, store: StoreNo, layout: &Layout, transform: u32) -> Option<Picture<'_>>
-        requires { transform < 8 }
-        ensures there { result ≡ picture_of store layout.now transform self.now }
+    pub fn picture(
+        &self,
+        store: StoreNo,
+        layout: &Layout,
+        transform: u32,
+        scale: u32,
+    ) -> Option<Picture<'_>>
+        requires turned { transform < 8 }
+        requires scaled { 1 ≤ scale }
+        ensures there { result ≡ picture_of store layout.now transform scale self.now }
         ensures bytes { IfSome result (λ p. bytes_of store self.now ≡ Some p.bytes) }
         ensures layout { IfSome result (λ p. p.layout ≡ layout.now) }
         ensures transform { IfSome result (λ p. p.transform ≡ transform_of transform) }
+        ensures scale { IfSome result (λ p. p.scale ≡ scale) }
     {
-        self.picture_turned(store, layout, Transform::from_number(transform))
+        let turned = Transform::from_number(transform);
+        self.picture_turned(store, layout, turned, Scale { number: scale })
     }
 
-    /// The same, turned so.
+    /// The same, turned and scaled so.
     pub fn picture_turned(
         &self,
         store: StoreNo,
         layout: &Layout,
         transform: Transform,
+        scale: Scale,
     ) -> Option<Picture<'_>>
-        ensures there { result ≡ picture_turned store layout.now transform self.now }
+        ensures there { result ≡ picture_turned store layout.now transform scale.number self.now }
         ensures bytes { IfSome result (λ p. bytes_of store self.now ≡ Some p.bytes) }
         ensures layout { IfSome result (λ p. p.layout ≡ layout.now) }
         ensures transform { IfSome result (λ p. p.transform ≡ transform) }
+        ensures scale { IfSome result (λ p. p.scale ≡ scale.number) }
     {
         let bytes = self.bytes(store)?;
-        Picture::new(bytes, layout, transform)
+        Picture::new(bytes, layout, transform, scale)
     }
 }
 

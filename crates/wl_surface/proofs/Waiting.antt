@@ -12,7 +12,7 @@ use Rattle.wl_surface.specs.Slots.{Changes, Numbered, StandsAt}
 use Rattle.wl_state.specs.Request.{Frame}
 use Rattle.wl_state.specs.Surface.{Surface, asking}
 use Rattle.wl_surface.specs.Waiting.{next_of, without_next}
-use Rattle.wl_state.proofs.Records.{For-asked, still, undamaged}
+use Rattle.wl_state.proofs.Records.{For-unseen}
 
 -- ---- a frame request: nothing of it is kept of the surface
 
@@ -20,9 +20,7 @@ frame-stands : (n : ℕ) (slot : Option Kept) (at : Option Surface) → StandsAt
 frame-stands n None None t = tt
 frame-stands n (Some k) None t = absurd t
 frame-stands n None (Some s) t = absurd t
-frame-stands n (Some k) (Some s) t =
-    For-asked k s (Frame n) k.pending_buffer k.pending_transform k.pending_opaque k.pending_input k.pending_offset k.pending_damage refl t t.history.pending (still k s.history t.history)
-    (undamaged k s.history (Frame n) refl t.history)
+frame-stands n (Some k) (Some s) t = For-unseen k s (Frame n) refl refl refl refl refl t
 
 pub frame-changes : (places : List (Option Kept)) (frames after : List Waiting) (number n : ℕ)
     → Changes (record { places = places; frames = frames }) (record { places = places; frames = after }) number (asking (Frame n))

@@ -1,16 +1,15 @@
 -- What a call changes of what surfaces show.
 use Rattle.std.specs.Prelude.{ℕ, ◌≡◌, ◌==◌, ◌&&◌, Bool, true, false, not, cond, Option, Some, None, List}
-use Rattle.std.specs.Prelude.{[], ◌∷◌, count_by, take}
+use Rattle.std.specs.Prelude.{[], ◌∷◌, count_by}
 use Rattle.wl_surface.specs.declared.applied.Change.{Change}
 use Rattle.wl_surface.specs.Slots.{IsAny, Numbered, shows_at}
-use Rattle.wl_state.specs.State.{History, applied, between, committed, damaged_rects}
+use Rattle.wl_state.specs.State.{History, SaysDamage, applied, between, committed, held}
 use Rattle.wl_state.specs.Surface.{Surface, is_there}
 
--- What is told of a surface that is applied. Its damage is what was asked for since it was applied before: of the rectangles the first
--- 1,025, since more than 1,024 damage the whole surface.
+-- What is told of a surface that is applied: its damage is what was asked for since it was applied before, seen with what it shows now.
 pub record IsApplied {A : Type 0} (number : ℕ) (h : History) (c : Change A) : Type 0 where
   pub surface : c.surface ≡ number
-  pub rects : c.rects.items ≡ take 1025 (damaged_rects (between h.cut (committed h.requests) h.requests))
+  pub damage : SaysDamage c.rects.items (held h) (between h.cut (committed h.requests) h.requests)
 
 -- it is told of a surface that is there
 abbrev pub AreApplied : {A : Type 0} → ℕ → Option Surface → Option (Change A) → Type 0

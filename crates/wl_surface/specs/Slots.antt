@@ -9,7 +9,7 @@ use Rattle.wl_state.specs.Request.{Buffer}
 use Rattle.wl_state.specs.declared.role.Role.{Role}
 use Rattle.wl_state.specs.declared.state.Current.{Current}
 use Rattle.wl_state.specs.Surface.{Surface, has, has_content, shows}
-use Rattle.wl_state.specs.State.{applied, held, pending}
+use Rattle.wl_state.specs.State.{applied, held, is_whole, pending}
 
 -- Surfaces by numbers: there is one, or there is none.
 abbrev pub Numbered : Type 0
@@ -74,6 +74,10 @@ IsCopied (Some area) (Some changes) = Covers area changes
 abbrev pub is_transform : ℤ → Bool
 is_transform z = int_le (pos 0) z && int_le z (pos 7)
 
+-- a buffer scale is positive (wayland.xml, wl_surface.set_buffer_scale)
+abbrev pub is_scale : ℤ → Bool
+is_scale z = int_le (pos 1) z
+
 -- what the layer above reads of a surface, if there is one
 abbrev pub role_at : Option Surface → Option Role
 role_at None = None
@@ -82,6 +86,11 @@ role_at (Some s) = s.role
 abbrev pub pending_at : Option Surface → Option Buffer
 pending_at None = None
 pending_at (Some s) = (pending s.history).buffer
+
+-- what the next commit would show is a whole number of its pixels wide and high (wayland.xml, wl_surface.error, invalid_size)
+abbrev pub is_whole_at : Option Surface → Bool
+is_whole_at None = true
+is_whole_at (Some s) = is_whole (pending s.history).buffer (pending s.history).scale
 
 abbrev pub had_at : Option Surface → List (Option Buffer)
 had_at None = None ∷ None ∷ None ∷ []

@@ -18,8 +18,8 @@ pub struct Applied<A: Allocator> {
     pub callbacks: Vec<u32, A>,
 }
 
-/// A surface whose state was applied, or which is gone and showed a buffer. `rects` is the damage that was applied, in surface pixels, not cut
-/// to the surface; more than 1,024 rectangles damage all of it (wayland.xml, wl_surface.damage).
+/// A surface whose state was applied, or which is gone and showed a buffer. `rects` is the damage that was applied, that of the buffer too, in surface
+/// pixels, not cut to the surface; more than 1,024 rectangles damage all of it (wayland.xml, wl_surface.damage, damage_buffer).
 #[derive(Drop)]
 pub struct Change<A: Allocator> {
     pub surface: SurfaceNo,

@@ -28,6 +28,12 @@ pub enum SurfaceError {
     /// There is no memory for it.
     #[error("out of memory")]
     Memory = 7,
+    /// The scale is below 1.
+    #[error("no such scale")]
+    Scale = 8,
+    /// The sides of the buffer are no multiples of the scale.
+    #[error("the size of the buffer is no multiple of the scale")]
+    Size = 9,
 }
 
 impl From<AllocError> for SurfaceError {

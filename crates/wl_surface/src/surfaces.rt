@@ -7,8 +7,8 @@ ghost use Rattle.slab.specs.Slab.{entries};
 ghost use Rattle.wl_geom.specs.Region.{Change as RegionChange, Stands as Covers};
 ghost use Rattle.wl_surface.specs.Applied.{AreApplied};
 ghost use Rattle.wl_state.specs.Kept.{buffer_of, counting_in, counting_of, kept_has, kept_shows};
-ghost use Rattle.wl_surface.specs.Slots.{Changes, IsAny, changed_at, IsCopied, IsCurrentAt, kept_at, one_if_kept, Numbered, StandForAll, content_at, count, had_at, has_at, is_transform, nobody, pending_at, role_at, shows_at, with_at};
-ghost use Rattle.wl_state.specs.Request.{Attach, Commit, Damage, Frame, SetBufferTransform, SetInputRegion, SetOpaqueRegion};
+ghost use Rattle.wl_surface.specs.Slots.{Changes, IsAny, changed_at, IsCopied, IsCurrentAt, kept_at, one_if_kept, Numbered, StandForAll, content_at, count, had_at, has_at, is_scale, is_transform, is_whole_at, nobody, pending_at, role_at, shows_at, with_at};
+ghost use Rattle.wl_state.specs.Request.{Attach, Commit, Damage, DamageBuffer, Frame, SetBufferScale, SetBufferTransform, SetInputRegion, SetOpaqueRegion};
 ghost use Rattle.wl_state.specs.Surface.{applying, asking, new_surface, with_role};
 ghost use Rattle.wl_surface.specs.Waiting.{AreUndue, AreWaiting, Callback, IsNewNumber, IsNextDue, applied_by, frames_at, held_by, is_in, callbacks_of as those_of, next_of, without_next, without_those_of};
 
@@ -20,7 +20,7 @@ use std::alloc::Allocator;
 use std::marker::Model;
 use wl_geom::{Rect, Region};
 use wl_state::{Attached, BufferNo, Current, Role, SurfaceState};
-use wl_store::Transform;
+use wl_store::{Scale, Transform};
 
 /// A surface's number among its client's.
 pub type SurfaceNo = usize;
@@ -282,6 +282,19 @@ impl<A: Allocator> Surfaces<A> {
         Ok(())
     }
 
+    /// wl_surface.damage_buffer of a rectangle in pixels of the buffer. Without memory nothing changes.
+    pub fn damage_buffer(&mut self, surface: SurfaceNo, rect: Rect) -> Result<(), SurfaceError>
+        ensures ok { OnOk result (Changes self.old self.new surface (asking (DamageBuffer rect))) }
+        ensures frames { self.new.frames ≡ self.old.frames }
+        ensures err { OnErr result (self.new ≡ self.old) }
+        ensures cause { IfErr result (λ e. e ≡ SurfaceError.Memory) }
+    {
+        if let Some(kept) = self.slots.get_mut(surface) {
+            kept.damage_buffer(rect)?;
+        }
+        Ok(())
+    }
+
     fn set_opaque_to(&mut self, surface: SurfaceNo, region: Region<A>)
         ensures changes { (changes : List RegionChange) → Covers region changes → Changes self.old self.new surface (asking (SetOpaqueRegion (Some changes))) }
         ensures frames { self.new.frames ≡ self.old.frames }
@@ -334,6 +347,32 @@ impl<A: Allocator> Surfaces<A> {
         Ok(())
     }
 
+    fn show_scaled(&mut self, surface: SurfaceNo, scale: Scale)
+        ensures changes { Changes self.old self.new surface (asking (SetBufferScale scale.number)) }
+        ensures frames { self.new.frames ≡ self.old.frames }
+    {
+        if let Some(kept) = self.slots.get_mut(surface) {
+            kept.set_scale(scale);
+        }
+    }
+
+    /// wl_surface.set_buffer_scale: so many pixels of the buffer, to the right and down, are one of the surface. `Scale` is refused for a number
+    /// below 1, and nothing changes then.
+    pub fn set_scale(&mut self, surface: SurfaceNo, scale: i32) -> Result<(), SurfaceError>
+        ensures ok { OnOk result (Changes self.old self.new surface (asking (SetBufferScale (unsigned_abs scale)))) }
+        ensures frames { self.new.frames ≡ self.old.frames }
+        ensures valid { IsOk result ↔ (is_scale scale ≡ true) }
+        ensures err { OnErr result (self.new ≡ self.old) }
+        ensures cause { IfErr result (λ e. e ≡ SurfaceError.Scale) }
+    {
+        if scale < 1 {
+            return Err(SurfaceError::Scale);
+        }
+        let number = scale.unsigned_abs();
+        self.show_scaled(surface, Scale { number });
+        Ok(())
+    }
+
     /// Gives a surface its role, for life. `Role` is refused exactly where it has another one, and nothing changes then.
     pub fn give_role(&mut self, surface: SurfaceNo, role: Role) -> Result<(), SurfaceError>
         ensures ok { OnOk result (Changes self.old self.new surface (with_role role)) }
@@ -371,6 +410,17 @@ impl<A: Allocator> Surfaces<A> {
         match self.slots.get(surface) {
             Some(kept) => kept.pending_buffer(),
             None => None,
+        }
+    }
+
+    /// Whether the sides of the buffer that the next commit would show are multiples of the scale that it would have. They are without a buffer, and
+    /// where there is no surface of this number.
+    pub fn is_whole(&self, surface: SurfaceNo) -> bool
+        ensures { (all : Numbered) → StandForAll self.now all → result ≡ is_whole_at (all surface) }
+    {
+        match self.slots.get(surface) {
+            Some(kept) => kept.is_whole(),
+            None => true,
         }
     }
 

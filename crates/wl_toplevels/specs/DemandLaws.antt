@@ -5,7 +5,7 @@ use Rattle.wl_peer.specs.declared.actions.Action.{Action}
 use Rattle.wl_xdg_state.specs.Positioner.{Positioner}
 use Rattle.wl_plain.specs.Ask.{Acknowledge, AskSurface, ConfigureAgain, CreateSurface, DestroyXdgSurface, EndObject, GetToplevel}
 use Rattle.wl_plain.specs.Ask.{GetXdgSurface, Ignore, Own}
-use Rattle.wl_plain.specs.Demand.{AskFrame, Asks, CommitTree, Demand, EndPopup, EndSubsurface, EndSurface, EndToplevel, GetPointer}
+use Rattle.wl_plain.specs.Demand.{AskFrame, Asks, CommitTree, Demand, EndPopup, EndSubsurface, EndSurface, EndToplevel, GetPointer, Reposition}
 use Rattle.wl_plain.specs.Demand.{GetPopup, GetSubsurface, Grab, MakeCursor, Move, SetMode}
 use Rattle.wl_toplevels.specs.Done.{DemandChanges}
 
@@ -49,6 +49,10 @@ pub record RolesChangeNoWindow : Type 0 where
   pub destroy_xdg_surface : (id : ℕ) → DemandChanges (Asks (DestroyXdgSurface id))
   pub get_toplevel : (id version xdg : ℕ) → DemandChanges (Asks (GetToplevel id version xdg))
   pub get_popup : (id version xdg parent : ℕ) (positioner : Positioner) → DemandChanges (GetPopup id version xdg parent positioner)
+
+-- xdg_popup.reposition: the popup stands where it stood until the surface is committed
+abbrev pub RepositionsChangeNoWindow : Type 0
+RepositionsChangeNoWindow = (xdg token : ℕ) (positioner : Positioner) → DemandChanges (Reposition xdg token positioner)
 
 -- xdg_popup.grab, whether it is taken or refused
 abbrev pub GrabsChangeNoWindow : Type 0

@@ -12,7 +12,7 @@ use Rattle.wl_children.specs.declared.placed.Placed.{Placed}
 use Rattle.wl_children.specs.declared.placed.Side.{Side}
 use Rattle.wl_children.specs.declared.placed.Side.TheVariants.{Above, Below}
 use Rattle.wl_children.specs.Stacks.{above as above_kept, added, below as below_kept, beside, has_member, is_of, moved, moved_place, placed as placed_kept, without as without_kept}
-use Rattle.wl_state.specs.Request.{AddChild, Attach, Child, Commit, Damage, Frame, Itself, Member, PlaceAbove, PlaceBelow, Request, SetBufferTransform}
+use Rattle.wl_state.specs.Request.{AddChild, Attach, Child, Commit, Damage, DamageBuffer, Frame, Itself, Member, PlaceAbove, PlaceBelow, Request, SetBufferScale, SetBufferTransform}
 use Rattle.wl_state.specs.Request.{SetInputRegion, SetOpaqueRegion, SetPosition, SetWindowGeometry}
 use Rattle.wl_state.specs.State.{above, below, is_member, order, ordered, placed, position, position_asked, without}
 use Rattle.wl_tree_laws.specs.Stacks.{AreApart, IsKept, Kids, StacksFollow, has_child, is_about_children, place_of, place_request, stack_by, with_kid}
@@ -60,10 +60,12 @@ order-still ms (PlaceAbove l at) e = absurd (cc)
 order-still ms (PlaceBelow l at) e = absurd (cc)
 order-still ms (Attach b x y) e = refl
 order-still ms (Damage r) e = refl
+order-still ms (DamageBuffer r) e = refl
 order-still ms (Frame n) e = refl
 order-still ms (SetOpaqueRegion r) e = refl
 order-still ms (SetInputRegion r) e = refl
 order-still ms (SetBufferTransform n) e = refl
+order-still ms (SetBufferScale n) e = refl
 order-still ms (SetWindowGeometry r) e = refl
 order-still ms Commit e = refl
 

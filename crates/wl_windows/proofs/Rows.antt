@@ -3,7 +3,7 @@ use Rattle.std.proofs.Common.{◌≡◌, ℕ, ℤ, Bool, List, [], ◌∷◌, So
 use Rattle.std.specs.Prelude.{pos, negsuc}
 use Rattle.wl_store.specs.declared.color.Format.TheVariants.{Xrgb8888}
 use Rattle.wl_store.specs.declared.transform.Transform.TheVariants.{Normal, Rotated90}
-use Rattle.wl_state.specs.Request.{AddChild, Attach, Buffer, Commit, Itself, PlaceBelow, Request, SetBufferTransform, SetPosition}
+use Rattle.wl_state.specs.Request.{AddChild, Attach, Buffer, Commit, Itself, PlaceBelow, Request, SetBufferScale, SetBufferTransform, SetPosition}
 use Rattle.wl_state.specs.Surface.{Surface}
 use Rattle.wl_surface.specs.Surfaces.{Link, Surfaces}
 use Rattle.wl_stacking.specs.Windows.{Owner, tree}
@@ -45,15 +45,27 @@ abbrev shown : Bool → ℤ → List TreeWindow
 shown has_ended x = told_tree 17 owner (tied has_ended) 1 (record { x = x; y = pos 50 })
 
 abbrev root_at : ℤ → TreeWindow
-root_at x = record { surface = 1; root = 1; x = x; y = pos 53; w = 40; h = 30; transform = Normal }
+root_at x = record { surface = 1; root = 1; x = x; y = pos 53; w = 40; h = 30; transform = Normal; scale = 1 }
 
 abbrev child_at : ℤ → TreeWindow
-child_at x = record { surface = 2; root = 1; x = x; y = pos 52; w = 8; h = 4; transform = Rotated90 }
+child_at x = record { surface = 2; root = 1; x = x; y = pos 52; w = 8; h = 4; transform = Rotated90; scale = 1 }
 
 -- the child that is below, at its position from the moved corner; nothing of the child without a buffer, nor of what stands above that
 row-shown : shown false (pos 100) ≡ child_at (pos 106) ∷ root_at (pos 102) ∷ []
 unfolding tree
 row-shown = refl
+
+-- a surface of 40 by 30 pixels at scale 2, turned
+abbrev scaled : Surfaces
+scaled =
+    record {
+      surfaces = surface 1 (Attach (Some (buffer 1 40 30)) (pos 2) (pos 3) ∷ SetBufferScale 2 ∷ SetBufferTransform 1 ∷ Commit ∷ []) ∷ [];
+      links = [];
+    }
+
+row-scaled : told_tree 17 owner scaled 1 (record { x = pos 100; y = pos 50 }) ≡ record (root_at (pos 102)) { w = 15; h = 20; transform = Rotated90; scale = 2 } ∷ []
+unfolding tree
+row-scaled = refl
 
 -- a link that has ended
 row-ended : shown true (pos 100) ≡ root_at (pos 102) ∷ []

@@ -22,6 +22,7 @@ told_of w =
       w = w.width;
       h = w.height;
       transform = transform_of w.transform;
+      scale = w.scale;
     }
 
 -- whose the windows of the tree with this root are
@@ -42,9 +43,10 @@ window_with root surface corner v (Some buffer) =
       root = root;
       x = corner.x;
       y = corner.y;
-      w = width_of (Some buffer) v.transform;
-      h = height_of (Some buffer) v.transform;
+      w = width_of (Some buffer) v.transform v.scale;
+      h = height_of (Some buffer) v.transform v.scale;
       transform = transform_of v.transform;
+      scale = v.scale;
     })
 
 abbrev pub window_in : ℕ → ℕ → Place → History → Option TreeWindow

@@ -14,7 +14,7 @@ use wl_store::Transform;
 const BOUND: i64 = 16_777_216;
 
 /// A window of a tree: its surface, the surface at the root of the tree, where its upper left corner is on the output and its size, in
-/// pixels, and how its buffer is turned (wayland.xml, wl_subcompositor and wl_surface.set_buffer_transform).
+/// pixels, and how its buffer is turned and scaled (wayland.xml, wl_subcompositor, wl_surface.set_buffer_transform and set_buffer_scale).
 #[derive(Clone, Copy, Debug, PartialEq, Eq)]
 pub struct TreeWindow {
     pub surface: SurfaceNo,
@@ -24,6 +24,7 @@ pub struct TreeWindow {
     pub w: u32,
     pub h: u32,
     pub transform: Transform,
+    pub scale: u32,
 }
 
 /// So many pixels to the right and down.
@@ -85,6 +86,7 @@ pub(crate) fn window_of<A: Allocator + Copy>(
                 w: current.w,
                 h: current.h,
                 transform: current.transform,
+                scale: current.scale.number,
             })
         }
     }

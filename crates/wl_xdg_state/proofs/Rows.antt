@@ -1,11 +1,12 @@
 -- Worked examples, computed on the definitions.
-use Rattle.std.proofs.Common.{◌≡◌, ℕ, [], ◌∷◌, Option, Some, None, true, false, refl}
+use Rattle.std.proofs.Common.{◌≡◌, ℕ, [], ◌∷◌, Bool, Option, Some, None, true, false, refl}
 use Rattle.std.specs.Prelude.{ℤ, pos, negsuc}
 use Rattle.wl_geom.specs.declared.rect.Rect.{Rect}
 use Rattle.wl_xdg_state.specs.Positioner.{Placed, Positioner, first_positioner, is_complete, place, rect_set}
-use Rattle.std.specs.Option.{option_map}
-use Rattle.wl_xdg_state.specs.Popups.{new_popup, popup_in, with_effect}
-use Rattle.wl_xdg_state.specs.Shell.{Configure, Fresh, Waiting, Ready, Mapped, Unconfigured, Configures, Maps, Popup, Unmaps, XdgSurface, acknowledged, later_than, next_serial, on_commit}
+use Rattle.std.specs.Option.{option_and_then, option_map}
+use Rattle.wl_xdg_state.specs.Popups.{Popped, copying, dismiss, effect_in, first_of, is_configured, new_popup, popped_of, popup_changed, popup_in, repositioning, with_effect}
+use Rattle.wl_xdg_state.specs.Shell.{Configure, Fresh, Waiting, Ready, Mapped, Unconfigured, Configures, Maps, Popup, Unmaps, XdgSurface, acknowledged, acknowledging, configuring, later_than}
+use Rattle.wl_xdg_state.specs.Shell.{next_serial, on_commit, up_to}
 
 abbrev rect : ℤ → ℤ → ℤ → ℤ → Rect
 rect x y w h = record { x = x; y = y; w = w; h = h }
@@ -87,6 +88,9 @@ unplaced serial = record { serial = serial; placement = None }
 pub row_later : later_than 2 (unplaced 1 ∷ unplaced 2 ∷ unplaced 3 ∷ []) ≡ unplaced 3 ∷ []
 row_later = refl
 
+pub row_up_to : up_to 2 (unplaced 1 ∷ unplaced 2 ∷ unplaced 3 ∷ []) ≡ unplaced 1 ∷ unplaced 2 ∷ []
+row_up_to = refl
+
 -- a commit that configures a popup places it at once, and its configure places it nowhere else later
 abbrev corner_popup : XdgSurface
 corner_popup = new_popup 8 5 (at_the_corner (pos 0, pos 0)) 0 0 (record { id = 7; base = 4; surface = 6; role = None; configures = []; since = 0 })
@@ -99,6 +103,127 @@ row_placed = refl
 
 pub row_configured : configured_popup.configures ≡ unplaced 3 ∷ []
 row_configured = refl
+
+-- ---- a popup is placed anew (xdg-shell.xml, xdg_popup.reposition)
+
+abbrev where_now : Popup → Option Placed
+where_now popup = place popup.positioner (rect (pos 0) (pos 0) (pos 64) (pos 64)) (pos 0, pos 0)
+
+-- by the same positioner with another offset, and a configure of this serial where one is sent
+abbrev anew_by : ℕ → Positioner → XdgSurface → Option Popped → XdgSurface
+anew_by serial positioner x None = x
+anew_by serial positioner x (Some p) = repositioning (is_configured p) serial (where_now (copying positioner p.popup)) positioner x
+
+abbrev anew : ℕ → ℤ → XdgSurface → XdgSurface
+anew serial offset x = anew_by serial (at_the_corner (offset, offset)) x (first_of (popped_of x))
+
+abbrev committed_with : Bool → XdgSurface → XdgSurface
+committed_with has_buffer x = with_effect 2 1 where_now (effect_in has_buffer x.role) x
+
+-- where it stands, and where it will stand
+abbrev stands_at : XdgSurface → Option Placed
+stands_at x = option_and_then (λ (popup : Popup). popup.placement) (popup_in x.role)
+
+abbrev waits_at : XdgSurface → Option Placed
+waits_at x = option_and_then (λ (popup : Popup). popup.waiting) (popup_in x.role)
+
+abbrev ready_popup : XdgSurface
+ready_popup = acknowledging 2 (committed_with false corner_popup)
+
+abbrev mapped_popup : XdgSurface
+mapped_popup = committed_with true ready_popup
+
+abbrev corner : Option Placed
+corner = placed (pos 40) (pos 40) (pos 8) (pos 8)
+
+abbrev near : Option Placed
+near = placed (pos 32) (pos 32) (pos 8) (pos 8)
+
+abbrev nearer : Option Placed
+nearer = placed (pos 24) (pos 24) (pos 8) (pos 8)
+
+-- it is configured with the new place, and stands where it stood until the commit after the acknowledgement
+abbrev once : XdgSurface
+once = anew 3 (negsuc 7) mapped_popup
+
+pub row_reposition : once.configures ≡ record { serial = 3; placement = near } ∷ []
+row_reposition = refl
+
+pub row_reposition_stays : stands_at once ≡ corner
+row_reposition_stays = refl
+
+pub row_reposition_committed : stands_at (committed_with true once) ≡ corner
+row_reposition_committed = refl
+
+pub row_reposition_acknowledged : stands_at (acknowledging 3 once) ≡ corner
+row_reposition_acknowledged = refl
+
+pub row_reposition_waits : waits_at (acknowledging 3 once) ≡ near
+row_reposition_waits = refl
+
+pub row_reposition_arrives : stands_at (committed_with true (acknowledging 3 once)) ≡ near
+row_reposition_arrives = refl
+
+pub row_reposition_arrived : waits_at (committed_with true (acknowledging 3 once)) ≡ None
+row_reposition_arrived = refl
+
+-- a second time before it is acknowledged: both with the later serial, one by one, and the first alone
+abbrev twice : XdgSurface
+twice = anew 4 (negsuc 15) once
+
+pub row_twice : stands_at (committed_with true (acknowledging 4 twice)) ≡ nearer
+row_twice = refl
+
+pub row_twice_one_by_one : stands_at (committed_with true (acknowledging 4 (acknowledging 3 twice))) ≡ nearer
+row_twice_one_by_one = refl
+
+pub row_twice_the_first : stands_at (committed_with true (acknowledging 3 twice)) ≡ near
+row_twice_the_first = refl
+
+-- a third time: what was acknowledged is in force, and the last still waits to be
+abbrev thrice : XdgSurface
+thrice = committed_with true (acknowledging 4 (anew 5 (pos 0) twice))
+
+pub row_thrice : stands_at thrice ≡ nearer
+row_thrice = refl
+
+pub row_thrice_later : stands_at (committed_with true (acknowledging 5 thrice)) ≡ corner
+row_thrice_later = refl
+
+-- acknowledged with a later configure that places nothing
+pub row_with_a_later_one : stands_at (committed_with true (acknowledging 4 (configuring 4 once))) ≡ near
+row_with_a_later_one = refl
+
+-- a commit that unmaps forgets where it was to be placed, acknowledged or not
+pub row_unmapping_forgets : waits_at (committed_with false (acknowledging 3 twice)) ≡ None
+row_unmapping_forgets = refl
+
+pub row_unmapping_stands : stands_at (committed_with false (acknowledging 3 twice)) ≡ corner
+row_unmapping_stands = refl
+
+pub row_unmapping_configures : (committed_with false (acknowledging 3 twice)).configures ≡ []
+row_unmapping_configures = refl
+
+-- before anything was configured nothing is sent, and the commit in that stage uses the copy at once
+pub row_fresh : (anew 2 (negsuc 7) corner_popup).configures ≡ []
+row_fresh = refl
+
+pub row_fresh_commit : stands_at (committed_with false (anew 2 (negsuc 7) corner_popup)) ≡ near
+row_fresh_commit = refl
+
+-- before it is mapped: the commit that maps it puts the place in force, and one without a buffer does
+pub row_maps : stands_at (committed_with true (acknowledging 3 (anew 3 (negsuc 7) ready_popup))) ≡ near
+row_maps = refl
+
+pub row_ready_commit : stands_at (committed_with false (acknowledging 3 (anew 3 (negsuc 7) ready_popup))) ≡ near
+row_ready_commit = refl
+
+-- of a dismissed popup nothing is put in force, and none is sent
+pub row_dismissed : stands_at (committed_with true (popup_changed dismiss (acknowledging 3 once))) ≡ corner
+row_dismissed = refl
+
+pub row_dismissed_sent : (anew 3 (negsuc 7) (popup_changed dismiss mapped_popup)).configures ≡ []
+row_dismissed_sent = refl
 
 pub row_last_serial : next_serial 4294967295 ≡ 1
 row_last_serial = refl

@@ -1,8 +1,8 @@
 -- An acknowledgement by the last place of its serial.
-use Rattle.std.proofs.Common.{◌≡◌, ◌≢◌, ℕ, zero, suc, ◌<◌, List, [], ◌∷◌, Bool, true, false, length, drop, refl, arith}
+use Rattle.std.proofs.Common.{◌≡◌, ◌≢◌, ℕ, zero, suc, ◌<◌, List, [], ◌∷◌, Bool, true, false, length, take, drop, refl, ap, arith}
 use Rattle.std.specs.Prelude.{◌==◌, ◌||◌}
 use Rattle.std.proofs.lemmas.Bool.Decides.{nat_tests}
-use Rattle.wl_xdg_state.specs.Shell.{Configure, is_waiting, later_than}
+use Rattle.wl_xdg_state.specs.Shell.{Configure, is_waiting, later_than, up_to}
 use Rattle.wl_xdg_state.specs.Waits.{serial_at}
 
 -- no place has it
@@ -15,16 +15,16 @@ waits-not serial (c ∷ cs) none =
 
 -- this place has it, and no later one
 pub waits : (serial : ℕ) (cs : List Configure) (place : ℕ) → place < length cs → serial_at cs place ≡ serial → ((k : ℕ) → place < k → k < length cs → serial_at cs k ≢ serial) → (is_waiting serial cs ≡ true)
-    × (later_than serial cs ≡ drop (suc place) cs)
+    × (later_than serial cs ≡ drop (suc place) cs) × (up_to serial cs ≡ take (suc place) cs)
 waits serial [] place less here after = absurd (omega arith)
 waits serial (c ∷ cs) zero less here after =
     let same : c.serial ≡ serial = here in
     let this : (c.serial == serial) ≡ true = grind (arith, nat_tests) in
     let rest = waits-not serial cs (λ k less. after (suc k) (omega arith) (omega arith)) in
-    (rw this refl, rw (rest, this) refl)
+    (rw this refl, rw (rest, this) refl, rw (rest, this) refl)
 waits serial (c ∷ cs) (suc place) less here after =
     let rest = waits serial cs place (omega arith) here (λ k above less. after (suc k) (omega arith) (omega arith)) in
-    (either (c.serial == serial) (is_waiting serial cs) rest.0, rw rest.0 rest.1)
+    (either (c.serial == serial) (is_waiting serial cs) rest.0, rw rest.0 rest.1, rw rest.0 (ap (λ (later : List Configure). c ∷ later) rest.2))
   where
     either : (a b : Bool) → b ≡ true → (a || b) ≡ true
     either true b h = refl

@@ -1,13 +1,13 @@
 -- What is kept of the xdg_surfaces of a client, as plain values, and for what of the definition it stands.
-use Rattle.std.specs.Option.{option_map}
+use Rattle.std.specs.Option.{option_map, option_map_or}
 use Rattle.std.specs.Map.{lookup}
 use Rattle.std.specs.Ordering.{nat_cmp, is_eq}
-use Rattle.std.specs.Prelude.{ℕ, ℤ, pos, ◌≡◌, ◌≤◌, ◌==◌, ◌&&◌, ◌||◌, int_lt, Bool, true, false, if◌then◌else◌, is_some, Option, Some, None}
-use Rattle.std.specs.Prelude.{Result, Ok, Err, List, [], ◌∷◌, ◌++◌, drop, fold, length}
+use Rattle.std.specs.Prelude.{ℕ, ℤ, pos, ◌≡◌, ◌≤◌, ◌==◌, ◌&&◌, ◌||◌, not, int_lt, Bool, true, false, if◌then◌else◌, is_some, Option, Some}
+use Rattle.std.specs.Prelude.{None, Result, Ok, Err, List, [], ◌∷◌, ◌++◌, drop, fold, length}
 use Rattle.wl_geom.specs.declared.rect.Rect.{Rect}
 use Rattle.wl_state.specs.State.{History, geometry, geometry_asked}
 use Rattle.wl_xdg_state.specs.declared.acts.ShellAct.{ShellAct}
-use Rattle.wl_xdg_state.specs.declared.acts.ShellAct.TheVariants.{Configure as Configured, Map, Unmap, Nothing}
+use Rattle.wl_xdg_state.specs.declared.acts.ShellAct.TheVariants.{Configure as Configured, Map, Nothing, Place, Unmap}
 use Rattle.wl_xdg_state.specs.declared.error.ShellError.{ShellError}
 use Rattle.wl_xdg_state.specs.declared.error.ShellError.TheVariants as error
 use Rattle.wl_xdg_state.specs.declared.popup.PopupChange.{PopupChange}
@@ -16,12 +16,12 @@ use Rattle.wl_xdg_state.specs.declared.role_object.Kind.{Kind as KeptKind}
 use Rattle.wl_xdg_state.specs.declared.role_object.Kind.TheVariants as kept
 use Rattle.wl_xdg_state.specs.declared.stage.Stage.{Stage}
 use Rattle.wl_xdg_state.specs.declared.xdg_surface.Toplevel.{Toplevel as KeptToplevel}
-use Rattle.wl_xdg_state.specs.Popups.{dismiss, effect_in, in_force, is_mapped_stage, orphan, popup_in, popup_object, with_grab}
-use Rattle.wl_xdg_state.specs.Popups.{with_popup_role, without_grab}
+use Rattle.wl_xdg_state.specs.Popups.{arrive, copying, dismiss, effect_in, in_force, is_mapped_stage, orphan, popup_in, popup_object}
+use Rattle.wl_xdg_state.specs.Popups.{unmapped, waiting_in, with_grab, with_popup_role}
 use Rattle.wl_xdg_state.specs.Positioner.{Placed, Positioner, is_complete, place}
 use Rattle.wl_xdg_state.specs.Shell.{Configure, Effect, Stays, Unconfigured, Configures, Maps, Unmaps, Fresh, Waiting, Mapped, Kind}
 use Rattle.wl_xdg_state.specs.Shell.{Toplevel, IsPopup, Popup, RoleObject, XdgSurface, answers_states, at_stage, is_full, is_waiting}
-use Rattle.wl_xdg_state.specs.Shell.{later_than, role_acknowledged}
+use Rattle.wl_xdg_state.specs.Shell.{later_than, role_acknowledged, up_to}
 
 -- An xdg_surface: its id, the xdg_wm_base that made it, its role object, its configures that wait, the earliest first, and its window
 -- geometry: the last one that was asked, and the one that counts.
@@ -46,8 +46,10 @@ toplevel_object id = record { id = id; kind = Toplevel; stage = Fresh }
 -- what happens to a popup
 abbrev pub popup_by : PopupChange → Popup → Popup
 popup_by (change.Place placement) popup = in_force placement popup
+popup_by (change.Arrive placed) popup = arrive placed popup
+popup_by (change.Copy positioner) popup = copying positioner popup
 popup_by change.Grab popup = with_grab popup
-popup_by change.Release popup = without_grab popup
+popup_by change.Unmap popup = unmapped popup
 popup_by change.Dismiss popup = dismiss popup
 popup_by (change.Orphan xdg) popup = orphan xdg popup
 
@@ -101,11 +103,15 @@ kept_asking rect k = record k { pending = Some rect }
 
 abbrev pub kept_acknowledging : ℕ → Kept → Kept
 kept_acknowledging serial k =
-    record k { role = option_map role_acknowledged k.role; configures = later_than serial k.configures }
+    record k { role = option_map (role_acknowledged (up_to serial k.configures)) k.role; configures = later_than serial k.configures }
 
--- one configure more waits; the placement of its popup, if it has one, is in force already
+-- one configure more waits, which places its popup there once it is acknowledged and committed
+abbrev pub kept_configuring_with : ℕ → Option Placed → Kept → Kept
+kept_configuring_with serial placement k = record k { configures = k.configures ++ record { serial = serial; placement = placement } ∷ [] }
+
+-- one that places no popup, or whose placement is in force already
 abbrev pub kept_configuring : ℕ → Kept → Kept
-kept_configuring serial k = record k { configures = k.configures ++ record { serial = serial; placement = None } ∷ [] }
+kept_configuring serial k = kept_configuring_with serial None k
 
 abbrev pub kept_without_role : Kept → Kept
 kept_without_role k = record (kept_forgetting k) { role = None }
@@ -122,12 +128,18 @@ abbrev pub kept_changed : (Popup → Popup) → Kept → Kept
 kept_changed change k = record k { role = option_map (with_popup_role change) k.role }
 
 abbrev pub kept_unmapping : Kept → Kept
-kept_unmapping k = kept_changed without_grab (kept_in_stage Fresh (kept_forgetting k))
+kept_unmapping k = kept_changed unmapped (kept_in_stage Fresh (kept_forgetting k))
+
+-- a placement that waits comes into force, if one does
+abbrev pub kept_arriving : Option Placed → Kept → Kept
+kept_arriving None k = k
+kept_arriving (Some placed) k = kept_changed (arrive placed) k
 
 abbrev pub kept_after : ℕ → ShellAct → Kept → Kept
 kept_after serial (Configured placed) k =
     kept_configuring serial (kept_changed (in_force placed) (kept_in_stage Waiting (kept_applied k)))
-kept_after serial Map k = kept_in_stage Mapped (kept_applied k)
+kept_after serial Map k = kept_in_stage Mapped (kept_arriving (waiting_in k.role) (kept_applied k))
+kept_after serial (Place placed) k = kept_arriving (Some placed) (kept_applied k)
 kept_after serial Unmap k = kept_unmapping k
 kept_after serial Nothing k = kept_applied k
 
@@ -206,18 +218,23 @@ popup_placed bounds parent_at (Some popup) = place popup.positioner bounds paren
 abbrev pub placement_in : Rect → ℤ × ℤ → Option RoleObject → Option Placed
 placement_in bounds parent_at role = popup_placed bounds parent_at (popup_in role)
 
--- wl_surface.commit, by what it comes to, and where a popup is placed
-abbrev pub effect_answer : Option Placed → Effect → List Configure → Result ShellAct ShellError
-effect_answer placed Stays configures = Ok Nothing
-effect_answer placed Unconfigured configures = Err error.UnconfiguredBuffer
-effect_answer placed Configures configures = if is_full configures then Err error.TooMany else Ok (Configured placed)
-effect_answer placed Maps configures = Ok Map
-effect_answer placed Unmaps configures = Ok Unmap
+-- a commit that changes no stage: the placement that waits comes into force, if one does
+abbrev pub arrival : Option Placed → ShellAct
+arrival None = Nothing
+arrival (Some placed) = Place placed
+
+-- wl_surface.commit, by what it comes to, where a popup is placed now, and the placement that waits
+abbrev pub effect_answer : Option Placed → Option Placed → Effect → List Configure → Result ShellAct ShellError
+effect_answer placed waiting Stays configures = Ok (arrival waiting)
+effect_answer placed waiting Unconfigured configures = Err error.UnconfiguredBuffer
+effect_answer placed waiting Configures configures = if is_full configures then Err error.TooMany else Ok (Configured placed)
+effect_answer placed waiting Maps configures = Ok Map
+effect_answer placed waiting Unmaps configures = Ok Unmap
 
 abbrev pub commit_answer : Bool → Rect → ℤ × ℤ → Option Kept → Result ShellAct ShellError
 commit_answer has_buffer bounds parent_at None = Ok Nothing
 commit_answer has_buffer bounds parent_at (Some k) =
-    effect_answer (placement_in bounds parent_at k.role) (effect_in has_buffer k.role) k.configures
+    effect_answer (placement_in bounds parent_at k.role) (waiting_in k.role) (effect_in has_buffer k.role) k.configures
 
 -- xdg_toplevel.set_maximized and the like
 abbrev pub stage_configured : Option Stage → List Configure → Result Bool ShellError
@@ -232,6 +249,37 @@ configure_answer (Some k) = stage_configured (stage_in k) k.configures
 abbrev pub kept_configured : Bool → ℕ → Kept → Kept
 kept_configured true serial k = kept_configuring serial k
 kept_configured false serial k = k
+
+-- xdg_popup.reposition: its popup was configured before, and isn't dismissed
+abbrev pub kind_configured : Stage → Kind → Bool
+kind_configured stage Toplevel = false
+kind_configured stage (IsPopup popup) = answers_states stage && not popup.is_dismissed
+
+abbrev pub is_configured_in : Option RoleObject → Bool
+is_configured_in role = option_map_or (λ object. kind_configured object.stage object.kind) role false
+
+-- where such a popup is placed anew by this positioner; nowhere where it isn't configured
+abbrev pub placed_anew : Bool → Option Placed → Option Placed
+placed_anew true placed = placed
+placed_anew false placed = None
+
+abbrev pub reposition_by : Bool → Positioner → Option Placed → List Configure → Result (Option Placed) ShellError
+reposition_by is_configured positioner placed configures =
+    if is_configured && is_full configures then Err error.TooMany else (
+    if is_complete positioner then Ok (placed_anew is_configured placed) else Err error.InvalidPositioner)
+
+-- xdg_popup.reposition by this positioner, the parent's window geometry standing at `parent_at`; nothing is done where there is no popup
+abbrev pub reposition_answer : Positioner → Rect → ℤ × ℤ → Option Kept → Result (Option Placed) ShellError
+reposition_answer positioner bounds parent_at None = Ok None
+reposition_answer positioner bounds parent_at (Some k) =
+    if is_some (popup_in k.role)
+    then reposition_by (is_configured_in k.role) positioner (place positioner bounds parent_at) k.configures
+    else Ok None
+
+-- the positioner is copied; where the popup is placed anew a configure waits that places it there
+abbrev pub kept_repositioning : Option Placed → ℕ → Positioner → Kept → Kept
+kept_repositioning None serial positioner k = kept_changed (copying positioner) k
+kept_repositioning (Some placed) serial positioner k = kept_configuring_with serial (Some placed) (kept_changed (copying positioner) k)
 
 -- ---- what it stands for
 

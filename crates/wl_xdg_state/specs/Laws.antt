@@ -1,5 +1,5 @@
 -- Laws of an xdg_surface, and of where popups are placed.
-use Rattle.std.specs.Prelude.{ℕ, ℤ, ◌≡◌, ◌<◌, ◌≤◌, Bool, List, [], ◌∷◌, ◌++◌, length, true, None, Some, Option, Ok, IfSome}
+use Rattle.std.specs.Prelude.{ℕ, ℤ, ◌≡◌, ◌<◌, ◌≤◌, Bool, List, [], ◌∷◌, ◌++◌, length, true, None, Some, Option, Ok, IfSome, is_some}
 use Rattle.wl_geom.specs.declared.rect.Rect.{Rect}
 use Rattle.wl_xdg_state.specs.Moves.{moved_to}
 use Rattle.wl_xdg_state.specs.Positioner.{Axis, Placed, Positioner, place, placed_on}
@@ -7,8 +7,10 @@ use Rattle.wl_state.specs.Request.{Request, Commit, SetWindowGeometry}
 use Rattle.wl_state.specs.State.{History, apply, geometry_asked}
 use Rattle.wl_xdg_state.specs.declared.acts.ShellAct.{ShellAct}
 use Rattle.wl_xdg_state.specs.Kept.{Kept, Stands, commit_answer, first_kept, kept_acknowledging, kept_after, kept_asking}
-use Rattle.wl_xdg_state.specs.Kept.{kept_changed, kept_configuring, kept_popup, kept_toplevel, kept_without_role}
-use Rattle.wl_xdg_state.specs.Popups.{effect_in, new_popup, popup_changed, popup_in, with_effect}
+use Rattle.wl_xdg_state.specs.Kept.{kept_changed, kept_configuring, kept_popup, kept_repositioning, kept_toplevel, kept_without_role}
+use Rattle.wl_xdg_state.specs.Kept.{reposition_answer, reposition_by}
+use Rattle.wl_xdg_state.specs.Popups.{Popped, copying, effect_in, first_of, is_configured, new_popup, popped_of, popup_changed, popup_in}
+use Rattle.wl_xdg_state.specs.Popups.{repositioning, with_effect}
 use Rattle.wl_xdg_state.specs.Shell.{Configure, Popup, XdgSurface, acknowledging, configuring, is_waiting, later_than, new_toplevel}
 use Rattle.wl_xdg_state.specs.Shell.{without_role}
 
@@ -80,6 +82,28 @@ abbrev pub ConfigureStands : Type 0
 ConfigureStands = (serial : ℕ) (k : Kept) (x : XdgSurface) (h : History) → Stands k x h
     → Stands (kept_configuring serial k) (configuring serial x) h
 
+-- xdg_popup.reposition: what is answered is by the definition's popup
+abbrev pub RepositionAnswers : Type 0
+RepositionAnswers =
+    (positioner : Positioner) (bounds : Rect) (parent_at : ℤ × ℤ) (k : Kept) (x : XdgSurface) (h : History) (p : Popped)
+    → first_of (popped_of x) ≡ Some p
+    → Stands k x h
+    → reposition_answer positioner bounds parent_at (Some k)
+    ≡ reposition_by (is_configured p) positioner (place positioner bounds parent_at) x.configures
+
+-- One that isn't refused. A place is answered exactly where the popup is configured anew.
+abbrev pub RepositionStands : Type 0
+RepositionStands =
+    (positioner : Positioner) (bounds : Rect) (parent_at : ℤ × ℤ) (serial : ℕ) (where_to : Popup → Option Placed) (placed : Option Placed)
+    (k : Kept) (x : XdgSurface) (h : History) (p : Popped)
+    → reposition_answer positioner bounds parent_at (Some k) ≡ Ok placed
+    → first_of (popped_of x) ≡ Some p
+    → where_to (copying positioner p.popup) ≡ place positioner bounds parent_at
+    → Stands k x h
+    → (is_some placed ≡ is_configured p)
+    × Stands (kept_repositioning placed serial positioner k)
+    (repositioning (is_configured p) serial (where_to (copying positioner p.popup)) positioner x) h
+
 -- the role object goes
 abbrev pub DestructionStands : Type 0
 DestructionStands = (k : Kept) (x : XdgSurface) (h : History) → Stands k x h → Stands (kept_without_role k) (without_role x) h
@@ -102,5 +126,7 @@ pub record ChangesStand : Type 0 where
   pub acknowledgement : AcknowledgementStands
   pub commit : CommitStands
   pub configure : ConfigureStands
+  pub answered : RepositionAnswers
+  pub reposition : RepositionStands
   pub destruction : DestructionStands
   pub other : OtherStands

@@ -1,7 +1,7 @@
 -- The states of xdg surfaces (xdg-shell.xml, xdg_surface, xdg_toplevel and xdg_popup).
-use Rattle.std.specs.Option.{option_map}
+use Rattle.std.specs.Option.{option_map, option_or}
 use Rattle.std.specs.Prelude.{ℕ, ◌+◌, ◌==◌, nat_le, Bool, true, false, not, cond, if◌then◌else◌, Option, Some, None, List, [], ◌∷◌, ◌++◌}
-use Rattle.std.specs.Prelude.{length, find, map, filter}
+use Rattle.std.specs.Prelude.{length, find, fold, map, filter}
 use Rattle.std.specs.List.{list_any}
 use Rattle.wl_xdg_state.specs.Positioner.{Placed, Positioner}
 use Rattle.wl_xdg_state.specs.declared.acts.Configure as declared
@@ -21,12 +21,14 @@ Ready = stage.Ready
 abbrev pub Mapped : Stage
 Mapped = stage.Mapped
 
--- A popup: the xdg_surface of its parent, unless that toplevel is gone, the copy of its positioner, where it was placed
--- last, whether it was dismissed, whether it has a grab, and its number among the popups in order of creation.
+-- A popup: the xdg_surface of its parent, unless that toplevel is gone, the copy of its positioner, where it stands, where it was placed by
+-- configures that were acknowledged since, if it was, whether it was dismissed, whether it has a grab, and its number among the popups in
+-- order of creation.
 pub record Popup : Type 0 where
   pub parent : Option ℕ
   pub positioner : Positioner
   pub placement : Option Placed
+  pub waiting : Option Placed
   pub is_dismissed : Bool
   pub has_grab : Bool
   pub number : ℕ
@@ -41,8 +43,9 @@ pub record RoleObject : Type 0 where
   pub kind : Kind
   pub stage : Stage
 
--- A configure that waits to be acknowledged: its serial, and where it places its popup once it is acknowledged, if it does so. The
--- first configure of a popup doesn't: its placement is in force at once (xdg-shell.xml, xdg_surface.configure).
+-- A configure that waits to be acknowledged: its serial, and where it places its popup once it is acknowledged and committed, if it does
+-- so. The first configure of a popup doesn't: its placement is in force at once (xdg-shell.xml, xdg_surface.configure,
+-- xdg_popup.reposition).
 abbrev pub Configure : Type 0
 Configure = declared.Configure
 
@@ -138,6 +141,11 @@ later_than serial [] = []
 later_than serial (c ∷ cs) =
     if is_waiting serial cs then later_than serial cs else (if c.serial == serial then cs else c ∷ later_than serial cs)
 
+-- the configures that an acknowledgement forgets
+abbrev pub up_to : ℕ → List Configure → List Configure
+up_to serial [] = []
+up_to serial (c ∷ cs) = if is_waiting serial cs then c ∷ up_to serial cs else (if c.serial == serial then c ∷ [] else [])
+
 -- an xdg_surface has at most 64 configures that weren't acknowledged
 abbrev pub is_full : {A : Type 0} → List A → Bool
 is_full configures = nat_le 64 (length configures)
@@ -176,8 +184,17 @@ new_toplevel id since x = record x { role = Some (record { id = id; kind = Tople
 abbrev pub without_role : XdgSurface → XdgSurface
 without_role x = record x { role = None; configures = [] }
 
-abbrev pub role_acknowledged : RoleObject → RoleObject
-role_acknowledged object = at_stage (acknowledged object.stage) object
+-- of the placements of configures that are acknowledged the latest waits for the next commit
+abbrev pub latest_placement : Option Placed → List Configure → Option Placed
+latest_placement waiting configures = fold (λ latest c. option_or c.placement latest) waiting configures
+
+abbrev pub awaiting : List Configure → Kind → Kind
+awaiting configures Toplevel = Toplevel
+awaiting configures (IsPopup popup) = IsPopup (record popup { waiting = latest_placement popup.waiting configures })
+
+abbrev pub role_acknowledged : List Configure → RoleObject → RoleObject
+role_acknowledged configures object = record object { kind = awaiting configures object.kind; stage = acknowledged object.stage }
 
 abbrev pub acknowledging : ℕ → XdgSurface → XdgSurface
-acknowledging serial x = record x { role = option_map role_acknowledged x.role; configures = later_than serial x.configures }
+acknowledging serial x =
+    record x { role = option_map (role_acknowledged (up_to serial x.configures)) x.role; configures = later_than serial x.configures }

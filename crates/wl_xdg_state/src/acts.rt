@@ -13,7 +13,7 @@ pub struct Placed {
 #[derive(Clone, Copy, Debug, Default, PartialEq, Eq)]
 pub struct Configure {
     pub serial: u32,
-    /// Where it places its popup once it is acknowledged, if it does so.
+    /// Where it places its popup by the next commit once it is acknowledged, if it does so (xdg-shell.xml, xdg_popup.reposition).
     pub placement: Option<Placed>,
 }
 
@@ -26,6 +26,9 @@ pub enum ShellAct {
     Map,
     /// The surface isn't mapped any more.
     Unmap,
+    /// A popup stands there from now on: it was placed anew before, and that was acknowledged (xdg-shell.xml, xdg_popup.reposition). A commit
+    /// that maps one puts such a place in force too.
+    Place(Placed),
     /// Nothing more than the commit itself.
     Nothing,
 }

@@ -2,10 +2,11 @@
 
 ghost use Rattle.std.specs.Prelude.{◌≡◌};
 ghost use Rattle.wl_xdg_state.specs.Kept.{popup_by};
-ghost use Rattle.wl_xdg_state.specs.Popups.{first_popup};
+ghost use Rattle.wl_xdg_state.specs.Popups.{first_popup, waiting_of};
 ghost use Rattle.wl_xdg_state.specs.Positioner.{place};
+ghost use Rattle.wl_xdg_state.specs.Shell.{latest_placement};
 
-use crate::{Placed, Positioner};
+use crate::{Configure, Placed, Positioner};
 use std::marker::Model;
 use wl_geom::Rect;
 
@@ -14,10 +15,14 @@ use wl_geom::Rect;
 pub(crate) enum PopupChange {
     /// It is placed there, or nowhere.
     Place(Option<Placed>),
+    /// The place that waited is where it stands now.
+    Arrive(Placed),
+    /// Its positioner is this from now on.
+    Copy(Positioner),
     /// It has a grab.
     Grab,
-    /// It has no grab any more.
-    Release,
+    /// It isn't mapped any more: it has no grab, and no place waits.
+    Unmap,
     /// It is dismissed, and has no grab any more.
     Dismiss,
     /// The toplevel of the xdg_surface with this id goes; where that is its parent it has none any more.
@@ -30,6 +35,7 @@ pub struct Popup {
     parent: Option<u32>,
     positioner: Positioner,
     placement: Option<Placed>,
+    waiting: Option<Placed>,
     is_dismissed: bool,
     has_grab: bool,
     number: u64,
@@ -40,7 +46,7 @@ impl Model for Popup {
 
     ghost Value = { Popup };
 
-    ghost view = { λ p. record { parent = p.parent; positioner = p.positioner; placement = p.placement; is_dismissed = p.is_dismissed; has_grab = p.has_grab; number = p.number } };
+    ghost view = { λ p. record { parent = p.parent; positioner = p.positioner; placement = p.placement; waiting = p.waiting; is_dismissed = p.is_dismissed; has_grab = p.has_grab; number = p.number } };
 }
 
 impl Popup {
@@ -53,6 +59,7 @@ impl Popup {
             parent: Some(parent),
             positioner: *positioner,
             placement: None,
+            waiting: None,
             is_dismissed: false,
             has_grab: false,
             number,
@@ -66,11 +73,22 @@ impl Popup {
         self.parent
     }
 
-    /// Where it was placed last, in pixels from the corner of its parent's window geometry.
+    /// Where it stands, in pixels from the corner of its parent's window geometry.
     pub fn placement(&self) -> Option<Placed>
         ensures { result ≡ self.now.placement }
     {
         self.placement
+    }
+
+    /// Where it will stand by the next commit that doesn't unmap it: where it was placed by the latest configure that was acknowledged since
+    /// (xdg-shell.xml, xdg_popup.reposition). Nowhere where it was dismissed.
+    pub fn waiting(&self) -> Option<Placed>
+        ensures { result ≡ waiting_of self.now }
+    {
+        if self.is_dismissed {
+            return None;
+        }
+        self.waiting
     }
 
     /// It was dismissed (xdg-shell.xml, xdg_popup.popup_done).
@@ -105,14 +123,32 @@ impl Popup {
         Some(self.positioner.place(bounds, parent_at))
     }
 
+    /// These configures were acknowledged, the earliest first: the latest place that one of them gives it waits for the next commit.
+    pub(crate) fn acknowledge(&mut self, configures: &[Configure])
+        ensures { self.new ≡ record self.old { waiting = latest_placement self.old.waiting configures.now } }
+    {
+        self.waiting = configures.iter().fold(
+            self.waiting,
+            |latest, configure| configure.placement.or(latest),
+        );
+    }
+
     /// This happens to it.
     pub(crate) fn change(&mut self, change: &PopupChange)
         ensures { self.new ≡ popup_by change.now self.old }
     {
         match *change {
             PopupChange::Place(placement) => self.placement = placement,
+            PopupChange::Arrive(placed) => {
+                self.placement = Some(placed);
+                self.waiting = None;
+            }
+            PopupChange::Copy(positioner) => self.positioner = positioner,
             PopupChange::Grab => self.has_grab = true,
-            PopupChange::Release => self.has_grab = false,
+            PopupChange::Unmap => {
+                self.has_grab = false;
+                self.waiting = None;
+            }
             PopupChange::Dismiss => {
                 self.is_dismissed = true;
                 self.has_grab = false;

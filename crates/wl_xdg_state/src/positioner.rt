@@ -108,6 +108,7 @@ impl Positioner {
             Setting::Gravity(gravity) => self.gravity = gravity,
             Setting::Adjustment(adjustment) => self.adjustment = adjustment,
             Setting::Offset(x, y) => self.offset = (x, y),
+            Setting::Reactive | Setting::ParentSize(..) | Setting::ParentConfigure(_) => {}
         }
     }
 
@@ -175,6 +176,29 @@ impl Positioner {
         ensures { self.new ≡ record self.old { offset = (x, y) } }
     {
         self.apply(&Setting::Offset(x, y));
+    }
+
+    /// xdg_positioner.set_reactive: the popup may be placed anew where what it hangs on changes. Popups are placed when they are asked to be, and
+    /// never by themselves: nothing changes.
+    pub fn set_reactive(&mut self)
+        ensures { self.new ≡ self.old }
+    {
+        self.apply(&Setting::Reactive);
+    }
+
+    /// xdg_positioner.set_parent_size: how wide and how high the parent's window geometry will be. Popups are placed by where it stands: nothing
+    /// changes, whatever the numbers.
+    pub fn set_parent_size(&mut self, w: i32, h: i32)
+        ensures { self.new ≡ self.old }
+    {
+        self.apply(&Setting::ParentSize(w, h));
+    }
+
+    /// xdg_positioner.set_parent_configure: the serial of the configure that the parent answers then. Nothing changes, whatever the number.
+    pub fn set_parent_configure(&mut self, serial: u32)
+        ensures { self.new ≡ self.old }
+    {
+        self.apply(&Setting::ParentConfigure(serial));
     }
 
     /// Whether a size and an anchor rectangle were set.

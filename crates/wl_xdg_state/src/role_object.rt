@@ -7,7 +7,7 @@ ghost use Rattle.wl_xdg_state.specs.Popups.{kind_popup, popup_object, with_popup
 ghost use Rattle.wl_xdg_state.specs.Shell.{at_stage, role_acknowledged};
 
 use crate::popup::{Popup, PopupChange};
-use crate::{Positioner, Stage, Toplevel};
+use crate::{Configure, Positioner, Stage, Toplevel};
 use std::marker::Model;
 
 /// What a role object is.
@@ -92,11 +92,14 @@ impl RoleObject {
         }
     }
 
-    /// A configure was acknowledged.
-    pub(crate) fn acknowledge(&mut self)
-        ensures { self.new ≡ role_acknowledged self.old }
+    /// These configures were acknowledged, the earliest first.
+    pub(crate) fn acknowledge(&mut self, configures: &[Configure])
+        ensures { self.new ≡ role_acknowledged configures.now self.old }
     {
         self.stage = self.stage.acknowledged();
+        if let Kind::Popup(popup) = &mut self.kind {
+            popup.acknowledge(configures);
+        }
     }
 
     /// It is in this stage.

@@ -24,6 +24,12 @@ pub enum Setting {
     Adjustment(u32),
     /// set_offset: how far to the right and down the popup is moved.
     Offset(i32, i32),
+    /// set_reactive: the popup may be placed anew where what it hangs on changes.
+    Reactive,
+    /// set_parent_size: how wide and how high the parent's window geometry will be.
+    ParentSize(i32, i32),
+    /// set_parent_configure: the serial of the configure that the parent answers then.
+    ParentConfigure(u32),
 }
 
 impl Setting {
@@ -36,7 +42,11 @@ impl Setting {
             Setting::Size(w, h) => w > 0 && h > 0,
             Setting::AnchorRect(rect) => rect.w >= 0 && rect.h >= 0,
             Setting::Anchor(number) | Setting::Gravity(number) => number <= LAST_EDGE,
-            Setting::Adjustment(_) | Setting::Offset(..) => true,
+            Setting::Adjustment(_)
+            | Setting::Offset(..)
+            | Setting::Reactive
+            | Setting::ParentSize(..)
+            | Setting::ParentConfigure(_) => true,
         }
     }
 }

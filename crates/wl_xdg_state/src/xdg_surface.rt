@@ -2,10 +2,10 @@
 
 ghost use Rattle.std.specs.Prelude.{◌≡◌, ◌≢◌, ◌<◌, ◌↔◌, ℕ, false, Option, Some, OnOk, OnErr, IfOk, IfSome, IfNone, IsTrue, drop, is_some, length, map, slice_index_or};
 ghost use Rattle.std.specs.Option.{option_copied, option_map};
-ghost use Rattle.wl_xdg_state.specs.Shell.{Waiting, is_full};
-ghost use Rattle.wl_xdg_state.specs.Kept.{acknowledgement_answer, commit_answer, configure_answer, destruction_answer, first_kept, geometry_answer, grab_answer, kept_acknowledging, kept_after, kept_asking, kept_changed, kept_configured, kept_configuring, kept_forgetting, kept_grabbing, kept_in_stage, kept_popup, kept_toplevel, kept_unmapping, kept_without_role, placement_in, popup_answer, popup_by, stage_in, toplevel_answer, toplevel_in};
-ghost use Rattle.wl_xdg_state.specs.Popups.{dismiss, in_force, is_dismissed_in, orphan, popup_in};
-ghost use Rattle.wl_xdg_state.specs.Positioner.{Placed};
+ghost use Rattle.wl_xdg_state.specs.Shell.{Mapped, Waiting, is_full};
+ghost use Rattle.wl_xdg_state.specs.Kept.{acknowledgement_answer, arrival, commit_answer, configure_answer, destruction_answer, first_kept, geometry_answer, grab_answer, is_configured_in, kept_acknowledging, kept_after, kept_arriving, kept_asking, kept_changed, kept_configured, kept_configuring, kept_configuring_with, kept_forgetting, kept_grabbing, kept_in_stage, kept_popup, kept_repositioning, kept_toplevel, kept_unmapping, kept_without_role, placement_in, popup_answer, popup_by, reposition_answer, reposition_by, stage_in, toplevel_answer, toplevel_in};
+ghost use Rattle.wl_xdg_state.specs.Popups.{dismiss, in_force, is_dismissed_in, orphan, popup_in, waiting_in};
+ghost use Rattle.wl_xdg_state.specs.Positioner.{Placed, place};
 ghost use Rattle.wl_xdg_state.specs.Waits.{room_answer, serial_at};
 
 use crate::popup::{Popup, PopupChange};
@@ -237,7 +237,8 @@ impl XdgSurface {
         Ok(())
     }
 
-    /// xdg_surface.ack_configure: the last configure of this serial and those before it don't wait any more.
+    /// xdg_surface.ack_configure: the last configure of this serial and those before it don't wait any more. Where one of them places a popup
+    /// anew, the latest such place waits for the next commit.
     ///
     /// # Errors
     ///
@@ -254,8 +255,8 @@ impl XdgSurface {
         let Some(place) = last_place_of(&self.configures, serial) else {
             return Err(ShellError::InvalidSerial);
         };
+        role.acknowledge(&self.configures[..=place]);
         forget_first(&mut self.configures, place + 1);
-        role.acknowledge();
         Ok(())
     }
 
@@ -283,12 +284,29 @@ impl XdgSurface {
         }
     }
 
+    /// Where its popup will stand by the next commit that doesn't unmap it.
+    fn waiting(&self) -> Option<Placed>
+        ensures { result ≡ waiting_in self.now.role }
+    {
+        self.popup()?.waiting()
+    }
+
     /// Where its popup is placed now. A toplevel is placed nowhere.
     fn placement(&self, bounds: Rect, parent_at: (i32, i32)) -> Option<Placed>
         ensures { result ≡ placement_in bounds parent_at self.now.role }
     {
         let popup = self.popup()?;
         popup.place(bounds, parent_at)
+    }
+
+    /// A commit that changes no stage: a place that waits comes into force.
+    fn arrival(&self) -> ShellAct
+        ensures { result ≡ arrival (waiting_in self.now.role) }
+    {
+        match self.waiting() {
+            Some(placed) => ShellAct::Place(placed),
+            None => ShellAct::Nothing,
+        }
     }
 
     /// What a commit comes to. The table isn't used for a popup that was dismissed.
@@ -314,20 +332,17 @@ impl XdgSurface {
             (Some(Stage::Ready), true) => Ok(ShellAct::Map),
             (Some(Stage::Mapped), false) => Ok(ShellAct::Unmap),
             (None | Some(Stage::Waiting | Stage::Ready), false) | (Some(Stage::Mapped), true) => Ok(
-                ShellAct::Nothing,
+                self.arrival(),
             ),
         }
     }
 
     /// One configure more waits.
-    fn push(&mut self, serial: u32)
+    fn push(&mut self, serial: u32, placement: Option<Placed>)
         requires { is_full self.old.configures ≡ false }
-        ensures { self.new ≡ kept_configuring serial self.old }
+        ensures { self.new ≡ kept_configuring_with serial placement self.old }
     {
-        self.configures.push(Configure {
-            serial,
-            placement: None,
-        });
+        self.configures.push(Configure { serial, placement });
     }
 
     /// The role object is in this stage, where there is one.
@@ -348,13 +363,13 @@ impl XdgSurface {
         }
     }
 
-    /// Its surface isn't mapped any more. A popup holds no grab then, and keeps its placement.
+    /// Its surface isn't mapped any more. A popup holds no grab then, stands where it stood, and forgets where it was to be placed.
     fn unmap(&mut self)
         ensures { self.new ≡ kept_unmapping self.old }
     {
         self.forget();
         self.set_stage(Stage::Fresh);
-        self.change(&PopupChange::Release);
+        self.change(&PopupChange::Unmap);
     }
 
     /// A popup is placed there, and a configure of this serial is sent.
@@ -364,7 +379,24 @@ impl XdgSurface {
     {
         self.set_stage(Stage::Waiting);
         self.change(&PopupChange::Place(placed));
-        self.push(serial);
+        self.push(serial, None);
+    }
+
+    /// A place that waits comes into force.
+    fn arrive(&mut self)
+        ensures { self.new ≡ kept_arriving (waiting_in self.old.role) self.old }
+    {
+        if let Some(placed) = self.waiting() {
+            self.change(&PopupChange::Arrive(placed));
+        }
+    }
+
+    /// Its surface is mapped.
+    fn map(&mut self)
+        ensures { self.new ≡ kept_in_stage Mapped (kept_arriving (waiting_in self.old.role) self.old) }
+    {
+        self.arrive();
+        self.set_stage(Stage::Mapped);
     }
 
     /// A commit comes to this.
@@ -375,15 +407,17 @@ impl XdgSurface {
         self.applied = self.pending;
         match act {
             ShellAct::Configure(placed) => self.configure_placed(placed, serial),
-            ShellAct::Map => self.set_stage(Stage::Mapped),
+            ShellAct::Map => self.map(),
             ShellAct::Unmap => self.unmap(),
+            ShellAct::Place(placed) => self.change(&PopupChange::Arrive(placed)),
             ShellAct::Nothing => {}
         }
     }
 
     /// wl_surface.commit: its surface is committed, and its state then has a buffer, or none. The window geometry that was asked counts from
     /// then on. Where a configure is to be sent it has this serial, which waits to be acknowledged; a popup is placed then, within the bounds,
-    /// given in pixels of the output, its parent's window geometry standing at `parent_at` there. Of a dismissed popup nothing else changes.
+    /// given in pixels of the output, its parent's window geometry standing at `parent_at` there. One that was placed anew stands there from the
+    /// first commit on after that was acknowledged, unless the commit unmaps it. Of a dismissed popup nothing else changes.
     ///
     /// # Errors
     ///
@@ -420,8 +454,66 @@ impl XdgSurface {
             return Ok(false);
         }
         self.check_room()?;
-        self.push(serial);
+        self.push(serial, None);
         Ok(true)
+    }
+
+    /// Its role object is a popup that was configured before and isn't dismissed.
+    fn is_popup_configured(&self) -> bool
+        ensures { result ≡ is_configured_in self.now.role }
+    {
+        self.popup().is_some_and(|popup| !popup.is_dismissed())
+            && self.stage().is_some_and(Stage::answers_states)
+    }
+
+    /// Where its popup is placed anew by this positioner, if it is to be configured anew.
+    fn placed_anew(
+        &self,
+        positioner: &Positioner,
+        bounds: Rect,
+        parent_at: (i32, i32),
+    ) -> Result<Option<Placed>, ShellError>
+        ensures { result ≡ reposition_by (is_configured_in self.now.role) positioner.now (place positioner.now bounds parent_at) self.now.configures }
+    {
+        let is_configured = self.is_popup_configured();
+        if is_configured {
+            self.check_room()?;
+        }
+        if !positioner.is_complete() {
+            return Err(ShellError::InvalidPositioner);
+        }
+        Ok(is_configured.then(|| positioner.place(bounds, parent_at)))
+    }
+
+    /// xdg_popup.reposition: the positioner is copied for its popup. Where that was configured before and isn't dismissed it is placed anew, within
+    /// the bounds, given in pixels of the output, its parent's window geometry standing at `parent_at` there: that place is answered, to be sent
+    /// with a configure of this serial, which waits to be acknowledged. The popup stands where it stood until a commit after that. Where there is
+    /// no popup nothing changes. It takes no memory.
+    ///
+    /// # Errors
+    ///
+    /// The first of these; each changes nothing. `TooMany` where a configure would be sent and 64 of them wait, `InvalidPositioner` where the
+    /// positioner isn't complete.
+    pub fn reposition(
+        &mut self,
+        positioner: &Positioner,
+        bounds: Rect,
+        parent_at: (i32, i32),
+        serial: u32,
+    ) -> Result<Option<Placed>, ShellError>
+        ensures answer { result ≡ reposition_answer positioner.now bounds parent_at (Some self.old) }
+        ensures ok { IfOk result (λ placed. self.new ≡ kept_repositioning placed serial positioner.now self.old) }
+        ensures err { OnErr result (self.new ≡ self.old) }
+    {
+        if self.popup().is_none() {
+            return Ok(None);
+        }
+        let placed = self.placed_anew(positioner, bounds, parent_at)?;
+        self.change(&PopupChange::Copy(*positioner));
+        if placed.is_some() {
+            self.push(serial, placed);
+        }
+        Ok(placed)
     }
 
     /// xdg_popup.grab: its popup has a grab where it is allowed. True where that is so, and where nothing is done, since its popup was dismissed

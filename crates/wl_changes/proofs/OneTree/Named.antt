@@ -45,7 +45,7 @@ module _ {A : Type 0} (reads : ReadsSurfaces) (f : ℕ → ℕ) (old new there :
       ap (λ (o : Owner). applied o.client w.surface (pos x) (pos y)) is.owned
       ∙ (applies w.surface x y
       ∙ (told-of w.surface is.history is.here x y
-      ∙ (ap (λ n. is_told_at changes (f w.surface) n (height_of (counts is.history).buffer (counts is.history).transform) x y) (sym is.width)
+      ∙ (ap (λ n. is_told_at changes (f w.surface) n (height_of (counts is.history).buffer (counts is.history).transform (counts is.history).scale) x y) (sym is.width)
       ∙ ap (λ n. is_told_at changes (f w.surface) w.width n x y) (sym is.height))))
 
   tells-trees : TellsTrees f changes old new

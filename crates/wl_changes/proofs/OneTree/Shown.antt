@@ -13,8 +13,8 @@ pub record IsShown (owner : Owner) (all : Surfaces) (w : Window) : Type 0 where
   pub owned : w.owner ≡ owner
   pub history : History
   pub here : history_in w.surface all ≡ Some history
-  pub width : w.width ≡ width_of (applied history).buffer (applied history).transform
-  pub height : w.height ≡ height_of (applied history).buffer (applied history).transform
+  pub width : w.width ≡ width_of (applied history).buffer (applied history).transform (applied history).scale
+  pub height : w.height ≡ height_of (applied history).buffer (applied history).transform (applied history).scale
   pub transform : w.transform ≡ (applied history).transform
 
 pub each-always : {X : Type 0} (P : X → Type 0) → ((x : X) → P x) → (xs : List X) → Each P xs
@@ -35,8 +35,8 @@ module _ (owner : Owner) (all : Surfaces) where
           owned = refl;
           history = h;
           here = here;
-          width = ap (λ (b : Option Buffer). width_of b (applied h).transform) (sym e);
-          height = ap (λ (b : Option Buffer). height_of b (applied h).transform) (sym e);
+          width = ap (λ (b : Option Buffer). width_of b (applied h).transform (applied h).scale) (sym e);
+          height = ap (λ (b : Option Buffer). height_of b (applied h).transform (applied h).scale) (sym e);
           transform = refl;
         },
         tt,

@@ -45,7 +45,7 @@ abbrev one_name : ℕ → ℕ
 one_name id = 7
 
 abbrev at : ℕ → ℕ → ℕ → TreeWindow
-at name x y = record { surface = name; root = 11; x = pos x; y = pos y; w = 8; h = 8; transform = Normal }
+at name x y = record { surface = name; root = 11; x = pos x; y = pos y; w = 8; h = 8; transform = Normal; scale = 1 }
 
 -- ---- trees
 

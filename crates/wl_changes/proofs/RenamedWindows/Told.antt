@@ -50,7 +50,6 @@ module _ (f : ℕ → ℕ) where
   called-tree client root was is of-tree = record {
     rooted = called-all (has_root client (f root)) was is ∙ called-rooted client root (was ++ is) of-tree.rooted;
     numbered = called-all (λ w. nat_lt w.transform 8) was is ∙ of-tree.numbered;
-    unscaled = called-all (λ w. w.scale == 1) was is ∙ of-tree.unscaled;
   }
 
   same-record : (w v : Window) → (f w.surface == f v.surface) ≡ (w.surface == v.surface) → has_same_record (called w) (called v) ≡ has_same_record w v

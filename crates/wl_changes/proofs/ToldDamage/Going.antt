@@ -3,7 +3,6 @@ use Rattle.std.proofs.Common.{◌≡◌, ℕ, zero, suc, ◌≤◌, ◌==◌, �
 use Rattle.std.specs.Prelude.{◌&&◌}
 use Rattle.std.specs.List.{list_any}
 use Rattle.std.specs.Option.{option_map}
-use Rattle.std.proofs.lemmas.List.Folds.{list_any-append}
 use Rattle.wl_geom.specs.declared.rect.Rect.{Rect}
 use Rattle.wl_state.specs.State.{History, apply}
 use Rattle.wl_state.specs.Surface.{Surface}
@@ -20,7 +19,7 @@ use Rattle.wl_linked.specs.Tree.{is_among}
 use Rattle.wl_linked.proofs.Destroying.{numbered-left}
 use Rattle.wl_plain.specs.Moments.{is_applied_by}
 use Rattle.wl_changes.specs.ToldLaws.{EndTellsApplied, is_told_of}
-use Rattle.wl_changes.proofs.ToldDamage.Telling.{all-said, is_said_by, one-told, said_at}
+use Rattle.wl_changes.proofs.ToldDamage.Telling.{AreSaid, all-said, is_said_by, one-told, said-behind}
 
 -- ---- how deep
 
@@ -81,15 +80,14 @@ end-tells A surface all changes once apart shallow told n x y =
     left : (n == surface) ≡ false → numbered (without_surface surface all) n ≡ surface_at n all
     left other = ap (λ (named : Numbered). named n) (numbered-left surface all) ∙ ap (λ b. cond b None (surface_at n all)) other
 
-    said : (n == surface) ≡ false → (says : List Rect → Bool)
-        → list_any (is_said_by says n) changes ≡ (descends_from levels all surface n && said_at says (surface_at n all))
-    said other says =
-        ap (λ (cs : List (Change A)). list_any (is_said_by says n) cs) told.together
-        ∙ (list_any-append (is_said_by says n) told.own told.others
-        ∙ (ap (λ b. b || list_any (is_said_by says n) told.others) (own-silent says surface n (is_shown_at (surface_at surface all)) told.own other told.gone)
-        ∙ (all-said says n (numbered (without_surface surface all)) told.numbers told.others told.told
-        ∙ (ap (λ b. b && said_at says (numbered (without_surface surface all) n)) among
-        ∙ ap (λ (o : Option Surface). descends_from levels all surface n && said_at says o) (left other)))))
+    said : (n == surface) ≡ false → AreSaid n changes (descends_from levels all surface n) (surface_at n all)
+    said other =
+        subst (λ (cs : List (Change A)). AreSaid n cs (descends_from levels all surface n) (surface_at n all)) (sym told.together)
+        (said-behind n told.own told.others (surface_at n all) (descends_from levels all surface n)
+        (λ says. own-silent says surface n (is_shown_at (surface_at surface all)) told.own other told.gone)
+        (subst (λ (o : Option Surface). AreSaid n told.others (descends_from levels all surface n) o) (left other)
+        (subst (λ b. AreSaid n told.others b (numbered (without_surface surface all) n)) among
+        (all-said n (numbered (without_surface surface all)) told.numbers told.others told.told))))
 
     at : (b : Bool) → (n == surface) ≡ b
         → is_applied_by (history_in n all) (cond b None (option_map (λ h. cond (descends_from levels all surface n) (apply h) h) (history_in n all))) x y

@@ -37,8 +37,8 @@ record IsShown (owner : Owner) (all : Surfaces) (w : Window) : Type 0 where
   owned : w.owner ≡ owner
   history : History
   here : history_in w.surface all ≡ Some history
-  width : w.width ≡ width_of (counts history).buffer (counts history).transform
-  height : w.height ≡ height_of (counts history).buffer (counts history).transform
+  width : w.width ≡ width_of (counts history).buffer (counts history).transform (counts history).scale
+  height : w.height ≡ height_of (counts history).buffer (counts history).transform (counts history).scale
 
 module _ (owner : Owner) (all : Surfaces) where
   abbrev Each : List Window → Type 0
@@ -54,8 +54,8 @@ module _ (owner : Owner) (all : Surfaces) where
           owned = refl;
           history = h;
           here = here;
-          width = ap (λ (b : Option Buffer). width_of b (counts h).transform) (sym e);
-          height = ap (λ (b : Option Buffer). height_of b (counts h).transform) (sym e);
+          width = ap (λ (b : Option Buffer). width_of b (counts h).transform (counts h).scale) (sym e);
+          height = ap (λ (b : Option Buffer). height_of b (counts h).transform (counts h).scale) (sym e);
         },
         tt,
       )
@@ -106,7 +106,7 @@ tells-window old new owner changes applied told applies w is x y =
     ∙ (applies w.surface x y
     ∙ (told w.surface x y
     ∙ (ap (λ (o : Option History). is_told_of changes w.surface o x y) is.here
-    ∙ (ap (λ n. is_told_at changes w.surface n (height_of (counts is.history).buffer (counts is.history).transform) x y) (sym is.width)
+    ∙ (ap (λ n. is_told_at changes w.surface n (height_of (counts is.history).buffer (counts is.history).transform (counts is.history).scale) x y) (sym is.width)
     ∙ ap (λ n. is_told_at changes w.surface w.width n x y) (sym is.height)))))
 
 pub tells-windows : (A : Type 0) → TellsWindows A

@@ -1,12 +1,12 @@
 -- What is told of surfaces that are applied, one by one.
-use Rattle.std.proofs.Common.{◌≡◌, ℕ, ◌==◌, ◌||◌, Bool, true, false, cond, Option, Some, None, List, [], ◌∷◌, refl, ap, sym, subst, ◌∙◌, arith}
-use Rattle.std.specs.Prelude.{◌&&◌, take}
+use Rattle.std.proofs.Common.{◌≡◌, ℕ, ◌==◌, ◌||◌, Bool, true, false, cond, Option, Some, None, List, [], ◌∷◌, ◌++◌, refl, ap, sym, subst, ◌∙◌}
+use Rattle.std.specs.Prelude.{◌&&◌}
 use Rattle.std.specs.List.{list_any}
 use Rattle.std.specs.Option.{option_map}
-use Rattle.std.proofs.lemmas.Bool.{eqb-true}
+use Rattle.std.proofs.lemmas.Bool.{eq-eqb, eqb-true}
 use Rattle.std.proofs.lemmas.List.Folds.{list_any-append}
 use Rattle.wl_geom.specs.declared.rect.Rect.{Rect}
-use Rattle.wl_state.specs.State.{History, applied, apply, between, committed, damaged_rects, height_of, is_damaged, width_of}
+use Rattle.wl_state.specs.State.{History, Values, applied, apply, between, committed, height_of, held, is_damaged, is_damaged_by, width_of}
 use Rattle.wl_state.specs.Surface.{Surface}
 use Rattle.wl_surface.specs.declared.applied.Change.{Change}
 use Rattle.wl_surface.specs.Applied.{AreApplied}
@@ -20,49 +20,89 @@ use Rattle.wl_linked.specs.Linked.{numbered}
 use Rattle.wl_linked.specs.Tree.{AreTold, IsTold, IsToldUnless, is_among, listed}
 use Rattle.wl_plain.specs.Moments.{is_applied_by}
 use Rattle.wl_changes.specs.ToldLaws.{TellsApplied, is_told_of}
-use Rattle.wl_changes.proofs.ToldDamage.Rects.{and-false, first-say-all, undamaged}
+use Rattle.wl_changes.proofs.ToldDamage.Rects.{undamaged}
 
 -- ---- what is told of one surface
 
--- what these rectangles say, where they are those that are told of a surface that is applied
-abbrev pub said_at : (List Rect → Bool) → Option Surface → Bool
-said_at says None = false
-said_at says (Some s) = says (take 1025 (damaged_rects (between s.history.cut (committed s.history.requests) s.history.requests)))
+-- these rectangles damage a surface that shows these values
+abbrev pub damage : Values → ℕ → ℕ → List Rect → Bool
+damage v x y rects = is_damaged (width_of v.buffer v.transform v.scale) (height_of v.buffer v.transform v.scale) rects x y
+
+-- what rectangles say of a point of the surface, as it is once it is applied, if it is there
+abbrev pub says_at : ℕ → ℕ → Option Surface → List Rect → Bool
+says_at x y None rects = false
+says_at x y (Some s) rects = damage (held s.history) x y rects
+
+-- what was asked of that point since the surface was applied
+abbrev pub said_at : ℕ → ℕ → Option Surface → Bool
+said_at x y None = false
+said_at x y (Some s) = is_damaged_by (held s.history) (between s.history.cut (committed s.history.requests) s.history.requests) x y
 
 -- a change of this surface of which the rectangles say so
 abbrev pub is_said_by : {A : Type 0} → (List Rect → Bool) → ℕ → Change A → Bool
 is_said_by says n c = (c.surface == n) && says c.rects.items
 
+-- Of a surface that is applied the changes say what was asked of it, and of another they say nothing.
+abbrev pub AreSaid : {A : Type 0} → ℕ → List (Change A) → Bool → Option Surface → Type 0
+AreSaid n changes true at = (x y : ℕ) → list_any (is_said_by (says_at x y at) n) changes ≡ said_at x y at
+AreSaid n changes false at = (says : List Rect → Bool) → list_any (is_said_by says n) changes ≡ false
+
 or-false : (b : Bool) → (b || false) ≡ b
 or-false true = refl
 or-false false = refl
 
-one-said : {A : Type 0} (says : List Rect → Bool) (m n : ℕ) (at : Option Surface) (one : Option (Change A)) → AreApplied m at one
-    → list_any (is_said_by says n) (listed one) ≡ ((m == n) && said_at says at)
-one-said {A} says m n None one is = ap (λ (o : Option (Change A)). list_any (is_said_by says n) (listed o)) is ∙ sym (and-false (m == n))
-one-said {A} says m n (Some s) one is =
+-- it is told once
+one-said : {A : Type 0} (n : ℕ) (at : Option Surface) (one : Option (Change A)) → AreApplied n at one
+    → (x y : ℕ) → list_any (is_said_by (says_at x y at) n) (listed one) ≡ said_at x y at
+one-said {A} n None one is x y = ap (λ (o : Option (Change A)). list_any (is_said_by (says_at x y None) n) (listed o)) is
+one-said {A} n (Some s) one is x y =
+    let says = damage (held s.history) x y in
     ap (λ (o : Option (Change A)). list_any (is_said_by says n) (listed o)) is.1
-    ∙ (or-false (is_said_by says n is.0) ∙ (ap (λ k. (k == n) && says is.0.rects.items) is.2.surface ∙ ap (λ rects. (m == n) && says rects) is.2.rects))
+    ∙ (or-false (is_said_by says n is.0)
+    ∙ (ap (λ b. b && says is.0.rects.items) (eq-eqb is.0.surface n is.2.surface) ∙ is.2.damage x y))
+
+other-unsaid : {A : Type 0} (m n : ℕ) (at : Option Surface) (one : Option (Change A)) → (m == n) ≡ false → AreApplied m at one
+    → (says : List Rect → Bool) → list_any (is_said_by says n) (listed one) ≡ false
+other-unsaid {A} m n None one other is says = ap (λ (o : Option (Change A)). list_any (is_said_by says n) (listed o)) is
+other-unsaid {A} m n (Some s) one other is says =
+    ap (λ (o : Option (Change A)). list_any (is_said_by says n) (listed o)) is.1
+    ∙ (or-false (is_said_by says n is.0) ∙ ap (λ b. b && says is.0.rects.items) (ap (λ k. k == n) is.2.surface ∙ other))
+
+-- behind others, which say the same of it or nothing
+module _ {A : Type 0} (n : ℕ) (one others : List (Change A)) (at : Option Surface) where
+  said-again : (b : Bool) → AreSaid n one true at → AreSaid n others b at → AreSaid n (one ++ others) true at
+  said-again true first second = λ x y.
+      let says = says_at x y at in
+      list_any-append (is_said_by says n) one others
+      ∙ (ap (λ c. c || list_any (is_said_by says n) others) (first x y) ∙ (ap (λ c. said_at x y at || c) (second x y) ∙ twice (said_at x y at)))
+    where
+      twice : (b : Bool) → (b || b) ≡ b
+      twice true = refl
+      twice false = refl
+  said-again false first second = λ x y.
+      let says = says_at x y at in
+      list_any-append (is_said_by says n) one others
+      ∙ (ap (λ c. c || list_any (is_said_by says n) others) (first x y) ∙ (ap (λ c. said_at x y at || c) (second says) ∙ or-false (said_at x y at)))
+
+  pub said-behind : (b : Bool) → AreSaid n one false at → AreSaid n others b at → AreSaid n (one ++ others) b at
+  said-behind true first second = λ x y.
+      let says = says_at x y at in
+      list_any-append (is_said_by says n) one others ∙ (ap (λ c. c || list_any (is_said_by says n) others) (first says) ∙ second x y)
+  said-behind false first second = λ says.
+      list_any-append (is_said_by says n) one others ∙ (ap (λ c. c || list_any (is_said_by says n) others) (first says) ∙ second says)
 
 -- of one that stands among those that are applied it is what was asked of it since, and of others nothing
-pub all-said : {A : Type 0} (says : List Rect → Bool) (n : ℕ) (all : Numbered) (ns : List ℕ) (changes : List (Change A)) → AreTold ns all changes
-    → list_any (is_said_by says n) changes ≡ (is_among ns n && said_at says (all n))
-all-said {A} says n all [] changes told = ap (λ (cs : List (Change A)). list_any (is_said_by says n) cs) told
-all-said {A} says n all (m ∷ ms) changes told =
-    ap (λ (cs : List (Change A)). list_any (is_said_by says n) cs) told.4
-    ∙ (list_any-append (is_said_by says n) (listed told.0) told.1
-    ∙ (ap (λ b. b || list_any (is_said_by says n) told.1) (one-said says m n (all m) told.0 told.2)
-    ∙ (ap (λ b. ((m == n) && said_at says (all m)) || b) (all-said says n all ms told.1 told.3) ∙ at (m == n) refl)))
+pub all-said : {A : Type 0} (n : ℕ) (all : Numbered) (ns : List ℕ) (changes : List (Change A)) → AreTold ns all changes
+    → AreSaid n changes (is_among ns n) (all n)
+all-said {A} n all [] changes told = λ says. ap (λ (cs : List (Change A)). list_any (is_said_by says n) cs) told
+all-said {A} n all (m ∷ ms) changes told =
+    subst (λ (cs : List (Change A)). AreSaid n cs ((m == n) || is_among ms n) (all n)) (sym told.4) (at (m == n) refl (all-said n all ms told.1 told.3))
   where
-    again : (a b : Bool) → (b || (a && b)) ≡ b
-    again a true = refl
-    again true false = refl
-    again false false = refl
-
-    at : (b : Bool) → (m == n) ≡ b
-        → ((b && said_at says (all m)) || (is_among ms n && said_at says (all n))) ≡ ((b || is_among ms n) && said_at says (all n))
-    at true e = ap (λ k. said_at says (all k) || (is_among ms n && said_at says (all n))) (eqb-true m n e) ∙ again (is_among ms n) (said_at says (all n))
-    at false e = refl
+    at : (b : Bool) → (m == n) ≡ b → AreSaid n told.1 (is_among ms n) (all n) → AreSaid n (listed told.0 ++ told.1) (b || is_among ms n) (all n)
+    at true e rest =
+        said-again n (listed told.0) told.1 (all n) (is_among ms n)
+        (one-said n (all n) told.0 (subst (λ k. AreApplied k (all k) told.0) (eqb-true m n e) told.2)) rest
+    at false e rest = said-behind n (listed told.0) told.1 (all n) (is_among ms n) (other-unsaid m n (all m) told.0 e told.2) rest
 
 -- ---- the damage of one surface
 
@@ -70,26 +110,14 @@ all-said {A} says n all (m ∷ ms) changes told =
 abbrev pub asked_at : Option Surface → Option History
 asked_at at = option_map (λ s. s.history) at
 
--- the rectangles damage a surface of which this counts
-abbrev pub damage : History → ℕ → ℕ → List Rect → Bool
-damage h x y rects = is_damaged (width_of (applied h).buffer (applied h).transform) (height_of (applied h).buffer (applied h).transform) rects x y
-
 -- It is told as it is applied, or isn't.
-pub one-told : {A : Type 0} (n : ℕ) (changes : List (Change A)) (x y : ℕ) (b : Bool) (at : Option Surface)
-    → ((says : List Rect → Bool) → list_any (is_said_by says n) changes ≡ (b && said_at says at))
+pub one-told : {A : Type 0} (n : ℕ) (changes : List (Change A)) (x y : ℕ) (b : Bool) (at : Option Surface) → AreSaid n changes b at
     → is_applied_by (asked_at at) (option_map (λ h. cond b (apply h) h) (asked_at at)) x y
     ≡ is_told_of changes n (option_map (λ h. cond b (apply h) h) (asked_at at)) x y
 one-told n changes x y b None said = refl
-one-told n changes x y true (Some s) said =
-    let h = apply s.history in
-    sym
-    (said (damage h x y)
-    ∙ first-say-all (damaged_rects (between s.history.cut (committed s.history.requests) s.history.requests)) 1025 (omega arith)
-    (width_of (applied h).buffer (applied h).transform) (height_of (applied h).buffer (applied h).transform) x y)
+one-told n changes x y true (Some s) said = sym (said x y)
 one-told n changes x y false (Some s) said =
-    let h = s.history in
-    undamaged (width_of (applied h).buffer (applied h).transform) (height_of (applied h).buffer (applied h).transform) h.cut h.requests x y
-    ∙ sym (said (damage h x y))
+    undamaged (applied s.history) s.history.cut s.history.requests x y ∙ sym (said (damage (applied s.history) x y))
 
 -- ---- a tree is applied
 
@@ -98,7 +126,7 @@ pub tree-told : {A : Type 0} (surface : ℕ) (all : Surfaces) (changes : List (C
 tree-told surface all changes once told n x y =
     subst (λ (o : Option History). is_applied_by (history_in n all) o x y ≡ is_told_of changes n o x y) (sym now)
     (one-told n changes x y (descends_from 16 all surface n) (surface_at n all)
-    (λ says. all-said says n (numbered all) told.numbers changes told.told ∙ ap (λ b. b && said_at says (surface_at n all)) (told.those n)))
+    (subst (λ b. AreSaid n changes b (surface_at n all)) (told.those n) (all-said n (numbered all) told.numbers changes told.told)))
   where
     now : history_in n (applied_tree levels surface all) ≡ option_map (λ h. cond (descends_from 16 all surface n) (apply h) h) (history_in n all)
     now = ap (λ (a : Surfaces). history_in n a) (applies-descendants all once 16 surface) ∙ history-applied n (descends_from 16 all surface) all
@@ -110,8 +138,7 @@ nothing-told {A} all changes none n x y = at (history_in n all)
     at : (o : Option History) → is_applied_by o o x y ≡ is_told_of changes n o x y
     at None = refl
     at (Some h) =
-        undamaged (width_of (applied h).buffer (applied h).transform) (height_of (applied h).buffer (applied h).transform) h.cut h.requests x y
-        ∙ sym (ap (λ (cs : List (Change A)). is_told_of cs n (Some h) x y) none)
+        undamaged (applied h) h.cut h.requests x y ∙ sym (ap (λ (cs : List (Change A)). is_told_of cs n (Some h) x y) none)
 
 pub told-unless : {A : Type 0} (b : Bool) (surface : ℕ) (all : Surfaces) (changes : List (Change A)) → AreOnceLinked all.links
     → IsToldUnless b surface all changes → TellsApplied changes all (applied_unless b surface all)
@@ -130,7 +157,7 @@ same-cut (Some g) None new x y e = absurd (cc)
 same-cut (Some g) (Some h) None x y e = refl
 same-cut (Some g) (Some h) (Some new) x y e =
     let same : g.cut ≡ h.cut = cc in
-    ap (λ cut. damage new x y (damaged_rects (between cut new.cut new.requests))) same
+    ap (λ cut. is_damaged_by (applied new) (between cut new.cut new.requests) x y) same
 
 pub told-from : {A : Type 0} (old mid new : Surfaces) (changes : List (Change A)) → ((n : ℕ) → cut_of (history_in n old) ≡ cut_of (history_in n mid))
     → TellsApplied changes mid new → TellsApplied changes old new

@@ -20,7 +20,7 @@ IsIn ids id popup = popup.is_dismissed ≡ true → is_among id ids ≡ true
 
 in-steady : (ids : List ℕ) → IsSteadyOf (IsIn ids)
 in-steady ids = record {
-  placed = λ where_to id p is. is;
+  placed = λ positioner placement waiting id p is. is;
   ungrabbed = λ id p is. is;
   orphaned = λ xdg id p is. at (is_parent_of xdg p) p is;
 }

@@ -17,14 +17,16 @@ use Rattle.wl_state.specs.declared.role.Role.TheVariants.{Cursor as AsCursor, Po
 use Rattle.wl_surface.specs.Waiting.{Callback}
 use Rattle.wl_xdg_state.specs.Positioner.{Positioner}
 use Rattle.wl_xdg_state.specs.Shell.{Effect, Stays, Unconfigured, Configures, Maps, Unmaps, Shell, XdgSurface as Xdg, xdg_at, xdg_of}
+use Rattle.wl_xdg_state.specs.Popups.{Popped, copying, is_configured, popup_at, repositioning}
 use Rattle.wl_plain.specs.Ask.{Ask, Own, CreateSurface, AskSurface, EndObject, GetXdgSurface, DestroyXdgSurface, GetToplevel, Acknowledge, ConfigureAgain, Ignore}
 use Rattle.wl_plain.specs.Changing.{Placing, after_all, changed_for, commit_done, drawing, effect_placing, frame_asked, grab_allowed, grabbed, has_focus, in_rising_order, is_asked, link_with_id}
 use Rattle.wl_plain.specs.Changing.{mode_set, placement_now, popup_given_to, subsurface_ended, subsurface_given, surface_ended, tree_committed, unlinked_at, without_callbacks, without_child}
-use Rattle.wl_plain.specs.Demand.{Demand, Asks, EndSurface, AskFrame, CommitTree, GetSubsurface, EndSubsurface, SetMode}
+use Rattle.wl_plain.specs.Changing.{popup_repositioned}
+use Rattle.wl_plain.specs.Demand.{Demand, Asks, EndSurface, AskFrame, CommitTree, GetSubsurface, EndSubsurface, SetMode, Reposition}
 use Rattle.wl_plain.specs.Demand.{EndPopup, EndToplevel, GetPointer, GetPopup, Grab, MakeCursor, Move}
 use Rattle.wl_plain.specs.Demanding.{effect_of_commit}
 use Rattle.wl_plain.specs.Desktop.{Desktop, Resident, Subsurface}
-use Rattle.wl_plain.specs.Step.{changed_by, making, toplevel_given, with_peer, with_shell, with_surfaces}
+use Rattle.wl_plain.specs.Step.{changed_by, making, toplevel_given, with_peer, with_shell, with_surfaces, xdg_changed}
 use Rattle.wl_plain.specs.WlSubsurface.{has_subsurface, is_of_child}
 use Rattle.wl_laws.specs.Apart.{AreApartBy}
 use Rattle.wl_laws.proofs.Lists.Keys.{apart-left, differ, new-apart}
@@ -109,6 +111,16 @@ pointer-owns id version true r bare owns =
 pointer-owns id version false r bare owns =
     owns-by (making WlPointer id version (drawing false (record r { pointers = in_rising_order id r.pointers }))) owns.apart owns.children
     (held-at r.owned.surfaces r.subsurfaces r.callbacks r.peer.objects (held-of r owns) id _ bare)
+
+drawn-owns : (b : Bool) (r : Resident) → OwnsKnown r → OwnsKnown (drawing b r)
+drawn-owns true r owns = owns-by (drawing true r) owns.apart owns.children (held-of r owns)
+drawn-owns false r owns = owns
+
+repositioned-owns : (where_to : Placing) (p : Positioner) (o : Option Popped) (r : Resident) → OwnsKnown r → OwnsKnown (popup_repositioned where_to p o r)
+repositioned-owns where_to p None r owns = owns
+repositioned-owns where_to p (Some q) r owns =
+    let now : Resident = xdg_changed q.xdg.id (repositioning (is_configured q) r.peer.serial (where_to (copying p q.popup)) p) r in
+    drawn-owns (is_configured q) now (owns-by now owns.apart owns.children (held-of r owns))
 
 grabbed-owns : (b : Bool) (xdg : ℕ) (r : Resident) → OwnsKnown r → OwnsKnown (grabbed b xdg r)
 grabbed-owns true xdg r owns = owns-by (grabbed true xdg r) owns.apart owns.children (held-of r owns)
@@ -232,6 +244,7 @@ demanded-known c (MakeCursor surface) r d ok owns =
     (held-there r.owned.surfaces r.subsurfaces r.callbacks r.peer.objects (held-of r owns) (with_change surface (with_role AsCursor) r.owned.surfaces)
     (there-changed surface (with_role AsCursor) r.owned.surfaces (λ s. refl)))
 demanded-known c (GetPopup id version xdg parent p) r d ok owns = popup-owns id version xdg parent p (xdg_at xdg r.owned.shell) r (bare-new r.peer.objects id ok.0) owns
+demanded-known c (Reposition xdg token p) r d ok owns = repositioned-owns (placement_now c r d) p (popup_at xdg r.owned.shell) r owns
 demanded-known c (Grab xdg serial) r d ok owns = grabbed-owns (grab_allowed c xdg serial r d) xdg r owns
 demanded-known c (EndPopup id xdg) r d ok owns =
     owns-by (changed_for c (EndPopup id xdg) r d) owns.apart owns.children

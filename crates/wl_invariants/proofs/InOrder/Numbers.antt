@@ -5,14 +5,16 @@ use Rattle.std.specs.List.{list_any}
 use Rattle.std.specs.Option.{option_map}
 use Rattle.std.proofs.lemmas.Bool.{eqb-true}
 use Rattle.wl_xdg_state.specs.Popups.{Popped, dismiss, dismissed_among, dismissed_with, dismissing, is_among, is_parent_of, new_popup, orphan, orphaning, placing, popup_changed, with_effect}
-use Rattle.wl_xdg_state.specs.Popups.{with_grab, with_popup, with_popup_role, without_grab}
+use Rattle.wl_xdg_state.specs.Popups.{with_grab, with_popup, with_popup_role, arrive, arriving, copying, is_configured, popup_at, repositioning, unmapped, waiting_in}
 use Rattle.wl_xdg_state.specs.Positioner.{Placed, Positioner}
 use Rattle.wl_xdg_state.specs.declared.stage.Stage.{Stage}
 use Rattle.wl_xdg_state.specs.Shell.{Effect, Stays, Unconfigured, Configures, Maps, Unmaps, Fresh, Waiting, Mapped, Kind, Toplevel, IsPopup, Popup, RoleObject, Shell, XdgSurface as Xdg}
 use Rattle.wl_xdg_state.specs.Shell.{acknowledging, at_stage, configuring, in_stage, new_toplevel, role_acknowledged, unmapping, with_change, without_role, xdg_at, xdg_of}
+use Rattle.wl_xdg_state.specs.Shell.{Configure, awaiting, up_to}
 use Rattle.wl_plain.specs.Ask.{Ask, Own, CreateSurface, AskSurface, EndObject, GetXdgSurface, DestroyXdgSurface, GetToplevel, Acknowledge, ConfigureAgain, Ignore}
 use Rattle.wl_plain.specs.Changing.{Placing, changed_for, drawing, effect_placing, grab_allowed, grabbed, has_focus, in_rising_order, is_configure, mode_set, placement_now, popup_given_to, tree_committed}
-use Rattle.wl_plain.specs.Demand.{Demand, Asks, EndSurface, AskFrame, CommitTree, GetSubsurface, EndSubsurface, SetMode, GetPointer, MakeCursor}
+use Rattle.wl_plain.specs.Changing.{popup_repositioned}
+use Rattle.wl_plain.specs.Demand.{Demand, Asks, EndSurface, AskFrame, CommitTree, GetSubsurface, EndSubsurface, SetMode, GetPointer, MakeCursor, Reposition}
 use Rattle.wl_plain.specs.Demand.{GetPopup, Grab, EndPopup, EndToplevel, Move}
 use Rattle.wl_plain.specs.Demanding.{effect_of_commit}
 use Rattle.wl_plain.specs.Desktop.{Desktop, Resident}
@@ -40,9 +42,13 @@ none-stage : (stage : Stage) (key : ℕ) (o : Option RoleObject) → is_popup_nu
 none-stage stage key None = refl
 none-stage stage key (Some object) = refl
 
-none-acknowledged : (key : ℕ) (o : Option RoleObject) → is_popup_numbered key (option_map role_acknowledged o) ≡ is_popup_numbered key o
-none-acknowledged key None = refl
-none-acknowledged key (Some object) = refl
+none-acknowledged : (configures : List Configure) (key : ℕ) (o : Option RoleObject) → is_popup_numbered key (option_map (role_acknowledged configures) o) ≡ is_popup_numbered key o
+none-acknowledged configures key None = refl
+none-acknowledged configures key (Some object) = at object.kind
+  where
+    at : (k : Kind) → is_kind_numbered key (awaiting configures k) ≡ is_kind_numbered key k
+    at Toplevel = refl
+    at (IsPopup popup) = refl
 
 none-popup : (change : Popup → Popup) → ((p : Popup) → (change p).number ≡ p.number) → (key : ℕ) (o : Option RoleObject)
     → is_popup_numbered key (option_map (with_popup_role change) o) ≡ is_popup_numbered key o
@@ -66,13 +72,23 @@ none-without key x is = absurd (differ (sym is))
 none-toplevel : (id since : ℕ) → BringsNone (new_toplevel id since)
 none-toplevel id since key x is = absurd (differ (sym is))
 
+-- a placement that waits comes into force
+none-arriving : (o : Option Placed) (key : ℕ) (x : Xdg) → is_popup_numbered key (arriving o x).role ≡ is_popup_numbered key x.role
+none-arriving None key x = refl
+none-arriving (Some placed) key x = none-popup (arrive placed) (λ p. refl) key x.role
+
+none-repositioned : (b : Bool) (serial : ℕ) (placement : Option Placed) (positioner : Positioner) → BringsNone (repositioning b serial placement positioner)
+none-repositioned true serial placement positioner key x is = sym (none-popup (copying positioner) (λ p. refl) key x.role) ∙ is
+none-repositioned false serial placement positioner key x is = sym (none-popup (copying positioner) (λ p. refl) key x.role) ∙ is
+
 none-effect : (serial since : ℕ) (where_to : Popup → Option Placed) (effect : Effect) → BringsNone (with_effect serial since where_to effect)
-none-effect serial since where_to Stays key x is = is
+none-effect serial since where_to Stays key x is = sym (none-arriving (waiting_in x.role) key x) ∙ is
 none-effect serial since where_to Unconfigured key x is = is
 none-effect serial since where_to Configures key x is =
     sym (none-popup (placing where_to) (λ p. refl) key (in_stage Waiting x).role ∙ none-stage Waiting key x.role) ∙ is
-none-effect serial since where_to Maps key x is = sym (none-stage Mapped key x.role) ∙ is
-none-effect serial since where_to Unmaps key x is = sym (none-popup without_grab (λ p. refl) key (unmapping since x).role ∙ none-stage Fresh key x.role) ∙ is
+none-effect serial since where_to Maps key x is =
+    sym (none-stage Mapped key (arriving (waiting_in x.role) x).role ∙ none-arriving (waiting_in x.role) key x) ∙ is
+none-effect serial since where_to Unmaps key x is = sym (none-popup unmapped (λ p. refl) key (unmapping since x).role ∙ none-stage Fresh key x.role) ∙ is
 
 none-if : (b : Bool) (f : Xdg → Xdg) → BringsNone f → BringsNone (λ x. cond b (f x) x)
 none-if true f none key x is = none key x is
@@ -119,7 +135,7 @@ apart-asked (EndObject id) r apart = apart
 apart-asked (GetXdgSurface id version base surface) r apart = new-apart has_number r.owned.shell _ (λ key is. absurd (differ (sym is))) apart
 apart-asked (DestroyXdgSurface id) r apart = apart-left has_number (λ x. not (x.id == id)) r.owned.shell apart
 apart-asked (GetToplevel id version xdg) r apart = apart-toplevel id xdg (xdg_at xdg r.owned.shell) r apart
-apart-asked (Acknowledge xdg serial) r apart = apart-changed xdg (acknowledging serial) (λ key x is. sym (none-acknowledged key x.role) ∙ is) r.owned.shell apart
+apart-asked (Acknowledge xdg serial) r apart = apart-changed xdg (acknowledging serial) (λ key x is. sym (none-acknowledged (up_to serial x.configures) key x.role) ∙ is) r.owned.shell apart
 apart-asked (ConfigureAgain xdg) r apart = apart-changed xdg (configuring r.peer.serial) (λ key x is. is) r.owned.shell apart
 apart-asked Ignore r apart = apart
 
@@ -134,6 +150,13 @@ apart-popup id xdg parent p None r ids none found apart = apart
 apart-popup id xdg parent p (Some x) r ids none found apart =
     changed-apart (λ id x. x.id == id) xdg x (new_popup id parent p r.peer.requests _) has_number r.owned.shell ids found apart
     (λ key is. none-found (has_number key) r.owned.shell (ap (λ (n : ℕ). list_any (has_number n) r.owned.shell) (sym (eqb-true r.peer.requests key is)) ∙ none))
+
+apart-repositioned : (where_to : Placing) (p : Positioner) (o : Option Popped) (r : Resident) → AreNumbered r.owned.shell → AreNumbered (popup_repositioned where_to p o r).owned.shell
+apart-repositioned where_to p None r apart = apart
+apart-repositioned where_to p (Some q) r apart =
+    let step = repositioning (is_configured q) r.peer.serial (where_to (copying p q.popup)) p in
+    apart-drawn (is_configured q) (xdg_changed q.xdg.id step r)
+    (apart-changed q.xdg.id step (none-repositioned (is_configured q) r.peer.serial (where_to (copying p q.popup)) p) r.owned.shell apart)
 
 apart-grabbed : (b : Bool) (xdg : ℕ) (r : Resident) → AreNumbered r.owned.shell → AreNumbered (grabbed b xdg r).owned.shell
 apart-grabbed true xdg r apart = apart-changed xdg (popup_changed with_grab) (λ key x is. sym (none-popup with_grab (λ p. refl) key x.role) ∙ is) r.owned.shell apart
@@ -153,6 +176,7 @@ demanded-numbers c (SetMode link synchronised) r d ids none apart = apart-mode l
 demanded-numbers c (GetPointer id version) r d ids none apart = apart-drawn (has_focus c d.pointer.focus) (record r { pointers = in_rising_order id r.pointers }) apart
 demanded-numbers c (MakeCursor surface) r d ids none apart = apart
 demanded-numbers c (GetPopup id version xdg parent p) r d ids none apart = apart-popup id xdg parent p (xdg_at xdg r.owned.shell) r ids none refl apart
+demanded-numbers c (Reposition xdg token p) r d ids none apart = apart-repositioned (placement_now c r d) p (popup_at xdg r.owned.shell) r apart
 demanded-numbers c (Grab xdg serial) r d ids none apart = apart-grabbed (grab_allowed c xdg serial r d) xdg r apart
 demanded-numbers c (EndPopup id xdg) r d ids none apart = apart-changed xdg without_role none-without r.owned.shell apart
 demanded-numbers c (EndToplevel id xdg top) r d ids none apart =
@@ -168,7 +192,7 @@ IsUpTo n id popup = popup.number ≤ n
 
 up-to-steady : (n : ℕ) → IsSteadyOf (IsUpTo n)
 up-to-steady n = record {
-  placed = λ where_to id p low. low;
+  placed = λ positioner placement waiting id p low. low;
   ungrabbed = λ id p low. low;
   orphaned = λ xdg id p low. subst (λ (k : ℕ). k ≤ n) (sym (orphan-number xdg p)) low;
 }

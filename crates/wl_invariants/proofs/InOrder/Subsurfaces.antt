@@ -12,14 +12,14 @@ use Rattle.wl_state.specs.Request.{AddChild, Frame}
 use Rattle.wl_state.specs.Surface.{Surface, new_surface, with_role}
 use Rattle.wl_surface.specs.Surfaces.{Surfaces, surface_at, with_change, with_new}
 use Rattle.wl_surface.specs.Trees.{linked}
-use Rattle.wl_xdg_state.specs.Popups.{dismissing, is_parent_of, new_popup, orphaning, popup_changed, with_effect, with_grab}
+use Rattle.wl_xdg_state.specs.Popups.{dismissing, is_parent_of, new_popup, orphaning, popup_changed, with_effect, with_grab, Popped, copying, is_configured, popup_at, repositioning, waiting_in}
 use Rattle.wl_xdg_state.specs.Positioner.{Placed, Positioner}
 use Rattle.wl_xdg_state.specs.Shell.{Configures, Effect, Maps, Stays, Unconfigured, Unmaps, Popup, Shell, XdgSurface as Xdg, acknowledging, configuring, new_toplevel}
 use Rattle.wl_xdg_state.specs.Shell.{with_change as with_xdg_change, without_role, xdg_at, xdg_of}
 use Rattle.wl_plain.specs.Ask.{Ask, Own, CreateSurface, AskSurface, EndObject, GetXdgSurface, DestroyXdgSurface, GetToplevel, Acknowledge, ConfigureAgain, Ignore}
 use Rattle.wl_plain.specs.Changing.{Placing, changed_for, drawing, effect_placing, frame_asked, grab_allowed, grabbed, has_focus, in_rising_order, is_configure, link_with_id, mode_set}
-use Rattle.wl_plain.specs.Changing.{placement_now, popup_given_to, subsurface_ended, subsurface_given, surface_ended, toplevel_ended, tree_committed, without_child}
-use Rattle.wl_plain.specs.Demand.{Demand, Asks, EndSurface, AskFrame, CommitTree, GetSubsurface, EndSubsurface, SetMode, GetPointer, MakeCursor}
+use Rattle.wl_plain.specs.Changing.{placement_now, popup_given_to, subsurface_ended, subsurface_given, surface_ended, toplevel_ended, tree_committed, without_child, popup_repositioned}
+use Rattle.wl_plain.specs.Demand.{Demand, Asks, EndSurface, AskFrame, CommitTree, GetSubsurface, EndSubsurface, SetMode, GetPointer, MakeCursor, Reposition}
 use Rattle.wl_plain.specs.Demand.{GetPopup, Grab, EndPopup, EndToplevel, Move}
 use Rattle.wl_plain.specs.Demanding.{effect_of_commit}
 use Rattle.wl_plain.specs.Desktop.{Desktop, Resident, Subsurface}
@@ -33,7 +33,7 @@ use Rattle.wl_laws.proofs.Soundness.Moves.{destroyed-role, trees-asked, trees-co
 use Rattle.wl_laws.proofs.Soundness.ObjectsKeys.{any-less, any-map, any-of-filter}
 use Rattle.wl_laws.proofs.Soundness.Orderly.{IsAllowed, IsAsked, role_in}
 use Rattle.wl_laws.proofs.Soundness.Roles.{KeepsShell, StaysChild, has_surface, no-child, role-else, role-now, role-still, shell-changed, shell-dismissed, shell-more, shell-orphaned}
-use Rattle.wl_laws.proofs.Soundness.Roles.{shell-same, shell-without}
+use Rattle.wl_laws.proofs.Soundness.Roles.{shell-same, shell-without, arriving-surface, repositioning-surface}
 use Rattle.wl_laws.proofs.Soundness.Standing.{found-first}
 
 pub record AreSubsurfaces (r : Resident) : Type 0 where
@@ -216,10 +216,10 @@ joined id version child parent r there none are =
 -- ---- a commit, and the rest
 
 effect-surface : (serial since : ℕ) (where_to : Popup → Option Placed) (effect : Effect) (x : Xdg) → (with_effect serial since where_to effect x).surface ≡ x.surface
-effect-surface serial since where_to Stays x = refl
+effect-surface serial since where_to Stays x = arriving-surface (waiting_in x.role) x
 effect-surface serial since where_to Unconfigured x = refl
 effect-surface serial since where_to Configures x = refl
-effect-surface serial since where_to Maps x = refl
+effect-surface serial since where_to Maps x = arriving-surface (waiting_in x.role) x
 effect-surface serial since where_to Unmaps x = refl
 
 effect-kept : (where_to : Placing) (id : ℕ) (effect : Effect) (o : Option Xdg) (r : Resident) → AreSubsurfaces r → AreSubsurfaces (effect_placing where_to id effect o r)
@@ -243,6 +243,14 @@ mode-kept link false r are = kept r (mode_set link false r) (trees-desynchronise
 drawn-kept : (b : Bool) (r : Resident) → AreSubsurfaces r → AreSubsurfaces (drawing b r)
 drawn-kept true r are = kept r (drawing true r) (λ id. refl) (shell-same r.owned.shell) refl are
 drawn-kept false r are = are
+
+repositioned-kept : (where_to : Placing) (p : Positioner) (o : Option Popped) (r : Resident) → AreSubsurfaces r → AreSubsurfaces (popup_repositioned where_to p o r)
+repositioned-kept where_to p None r are = are
+repositioned-kept where_to p (Some q) r are =
+    let step : Xdg → Xdg = repositioning (is_configured q) r.peer.serial (where_to (copying p q.popup)) p in
+    let now : Resident = xdg_changed q.xdg.id step r in
+    drawn-kept (is_configured q) now
+    (kept r now (λ id. refl) (shell-changed q.xdg.id step r.owned.shell (repositioning-surface (is_configured q) r.peer.serial (where_to (copying p q.popup)) p)) refl are)
 
 grabbed-kept : (b : Bool) (xdg : ℕ) (r : Resident) → AreSubsurfaces r → AreSubsurfaces (grabbed b xdg r)
 grabbed-kept true xdg r are = kept r (grabbed true xdg r) (λ id. refl) (shell-changed xdg (popup_changed with_grab) r.owned.shell (λ x. refl)) refl are
@@ -275,6 +283,7 @@ demanded-subsurfaces c (MakeCursor surface) r d there ok are = cursor surface r 
 demanded-subsurfaces c (GetPopup id version xdg parent p) r d there ok are =
     let given_so : Resident = popup_given_to id xdg parent p (xdg_at xdg r.owned.shell) r in
     kept given_so (making XdgPopup id version given_so) (λ id. refl) (shell-same given_so.owned.shell) refl (popup-given id xdg parent p (xdg_at xdg r.owned.shell) r refl are)
+demanded-subsurfaces c (Reposition xdg token p) r d there ok are = repositioned-kept (placement_now c r d) p (popup_at xdg r.owned.shell) r are
 demanded-subsurfaces c (Grab xdg serial) r d there ok are = grabbed-kept (grab_allowed c xdg serial r d) xdg r are
 demanded-subsurfaces c (EndPopup id xdg) r d there ok are =
     kept r (changed_for c (EndPopup id xdg) r d) (λ id. refl) (shell-changed xdg without_role r.owned.shell (λ x. refl)) refl are

@@ -16,7 +16,7 @@ HasNone id popup = popup.has_grab ≡ false
 
 none-steady : IsSteadyOf HasNone
 none-steady = record {
-  placed = λ where_to id p none. none;
+  placed = λ positioner placement waiting id p none. none;
   ungrabbed = λ id p none. refl;
   orphaned = λ xdg id p none. at (is_parent_of xdg p) p none;
 }

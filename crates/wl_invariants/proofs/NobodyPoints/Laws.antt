@@ -3,15 +3,17 @@ use Rattle.std.proofs.Common.{◌≡◌, ℕ, List, Bool, true, false, Option, S
 use Rattle.wl_peer.specs.declared.cause.Cause.{Cause}
 use Rattle.wl_xdg_state.specs.Shell.{Effect, Stays, Unconfigured, Configures, Maps, Unmaps, XdgSurface as Xdg, xdg_at, xdg_of}
 use Rattle.wl_xdg_state.specs.Positioner.{Positioner}
+use Rattle.wl_xdg_state.specs.Popups.{Popped, copying, is_configured, popup_at, repositioning}
 use Rattle.wl_stacking.specs.Stacking.{Standing}
 use Rattle.wl_plain.specs.Ask.{Ask, Own, CreateSurface, AskSurface, EndObject, GetXdgSurface, DestroyXdgSurface, GetToplevel, Acknowledge, ConfigureAgain, Ignore}
 use Rattle.wl_plain.specs.Changing.{Placing, changed_for, drawing, effect_placing, grab_allowed, grabbed, has_focus, holds_grab, in_rising_order, mode_set, placement_now, popup_given_to, tree_committed}
-use Rattle.wl_plain.specs.Demand.{Demand, Asks, EndSurface, AskFrame, CommitTree, GetSubsurface, EndSubsurface, SetMode, GetPointer, MakeCursor}
+use Rattle.wl_plain.specs.Changing.{popup_repositioned}
+use Rattle.wl_plain.specs.Demand.{Demand, Asks, EndSurface, AskFrame, CommitTree, GetSubsurface, EndSubsurface, SetMode, GetPointer, MakeCursor, Reposition}
 use Rattle.wl_plain.specs.Demand.{GetPopup, Grab, EndPopup, EndToplevel, Move}
 use Rattle.wl_plain.specs.Demanding.{effect_of_commit}
 use Rattle.wl_plain.specs.Desktop.{Desktop, Resident, client_at, toplevels_of}
 use Rattle.wl_plain.specs.LeftOut.{LeftOut}
-use Rattle.wl_plain.specs.Step.{changed_by, toplevel_given, with_peer}
+use Rattle.wl_plain.specs.Step.{changed_by, toplevel_given, with_peer, xdg_changed}
 use Rattle.wl_invariants.specs.NobodyPoints.{NobodyPoints}
 use Rattle.wl_invariants.specs.NobodyPointsLaws.{EmptyIsUnpointed, EndsKeepUnpointed, FramesKeepUnpointed, GrabsAreRefused, GrabsDismiss, MessagesKeepUnpointed, PiecesKeepUnpointed}
 use Rattle.wl_invariants.specs.NobodyPointsLaws.{UnpointedStays}
@@ -86,6 +88,11 @@ popup-heard : (id xdg parent : ℕ) (p : Positioner) (o : Option Xdg) (r : Resid
 popup-heard id xdg parent p None r = (refl, refl)
 popup-heard id xdg parent p (Some x) r = (refl, refl)
 
+repositioned-heard : (where_to : Placing) (p : Positioner) (o : Option Popped) (r : Resident) → HeardSo r (popup_repositioned where_to p o r)
+repositioned-heard where_to p None r = (refl, refl)
+repositioned-heard where_to p (Some q) r =
+    drawn-heard (is_configured q) (xdg_changed q.xdg.id (repositioning (is_configured q) r.peer.serial (where_to (copying p q.popup)) p) r)
+
 grabbed-heard : (b : Bool) (xdg : ℕ) (r : Resident) → HeardSo r (grabbed b xdg r)
 grabbed-heard true xdg r = (refl, refl)
 grabbed-heard false xdg r = (refl, refl)
@@ -101,6 +108,7 @@ changed-heard c (SetMode link synchronised) r d = mode-heard link synchronised r
 changed-heard c (GetPointer id version) r d = drawn-heard (has_focus c d.pointer.focus) (record r { pointers = in_rising_order id r.pointers })
 changed-heard c (MakeCursor surface) r d = (refl, refl)
 changed-heard c (GetPopup id version xdg parent p) r d = popup-heard id xdg parent p (xdg_at xdg r.owned.shell) r
+changed-heard c (Reposition xdg token p) r d = repositioned-heard (placement_now c r d) p (popup_at xdg r.owned.shell) r
 changed-heard c (Grab xdg serial) r d = grabbed-heard (grab_allowed c xdg serial r d) xdg r
 changed-heard c (EndPopup id xdg) r d = (refl, refl)
 changed-heard c (EndToplevel id xdg top) r d = (refl, refl)

@@ -16,13 +16,15 @@ use Rattle.wl_surface.specs.Surfaces.{Surfaces, is_used, with_change}
 use Rattle.wl_surface.specs.Waiting.{Callback}
 use Rattle.wl_xdg_state.specs.Positioner.{Positioner}
 use Rattle.wl_xdg_state.specs.Shell.{Effect, Stays, Unconfigured, Configures, Maps, Unmaps, XdgSurface, xdg_at, xdg_of}
+use Rattle.wl_xdg_state.specs.Popups.{Popped, copying, is_configured, popup_at, repositioning}
 use Rattle.wl_plain.specs.Ask.{Ask, Own, CreateSurface, AskSurface, EndObject, GetXdgSurface, DestroyXdgSurface, GetToplevel, Acknowledge, ConfigureAgain, Ignore}
 use Rattle.wl_plain.specs.Changing.{Placing, callbacks_of, changed_for, drawing, effect_placing, placement_now, grab_allowed, grabbed, has_focus, in_rising_order, link_with_id, mode_set, popup_given_to, tree_committed}
-use Rattle.wl_plain.specs.Demand.{Demand, Asks, EndSurface, AskFrame, CommitTree, GetSubsurface, EndSubsurface, SetMode, GetPointer, MakeCursor}
+use Rattle.wl_plain.specs.Changing.{popup_repositioned}
+use Rattle.wl_plain.specs.Demand.{Demand, Asks, EndSurface, AskFrame, CommitTree, GetSubsurface, EndSubsurface, SetMode, GetPointer, MakeCursor, Reposition}
 use Rattle.wl_plain.specs.Demand.{GetPopup, Grab, EndPopup, EndToplevel, Move}
 use Rattle.wl_plain.specs.Demanding.{effect_of_commit}
 use Rattle.wl_plain.specs.Desktop.{Desktop, Resident}
-use Rattle.wl_plain.specs.Step.{changed_by, toplevel_given}
+use Rattle.wl_plain.specs.Step.{changed_by, toplevel_given, xdg_changed}
 use Rattle.wl_laws.proofs.Soundness.RunSteady.{changed-steady}
 use Rattle.wl_invariants.specs.OneBuffer.{Attaches, HasOneBuffer, IsAttached, OneBuffer}
 use Rattle.wl_invariants.proofs.OneBuffer.Attached.{Fewer, fewer-asked, fewer-changed, fewer-committed, fewer-desynchronised, fewer-destroyed, fewer-linked, fewer-new, fewer-unlinked, or-asked}
@@ -69,6 +71,11 @@ grab-spares false xdg r = (refl, spares-all r)
 drawing-spares : (b : Bool) (r : Resident) → Spares r (drawing b r)
 drawing-spares true r = (refl, spares-all r)
 drawing-spares false r = (refl, spares-all r)
+
+repositioned-spares : (where_to : Placing) (p : Positioner) (o : Option Popped) (r : Resident) → Spares r (popup_repositioned where_to p o r)
+repositioned-spares where_to p None r = (refl, spares-all r)
+repositioned-spares where_to p (Some q) r =
+    drawing-spares (is_configured q) (xdg_changed q.xdg.id (repositioning (is_configured q) r.peer.serial (where_to (copying p q.popup)) p) r)
 
 mode-spares : (link : ℕ) (b : Bool) (r : Resident) → Spares r (mode_set link b r)
 mode-spares link true r = (refl, spares-all r)
@@ -164,6 +171,8 @@ module _ (n : ℕ) (r : Resident) (next : r.peer.requests ≡ n + 1) (one : OneB
   demand-keeps c (MakeCursor surface) d from = spared (changed_for c (MakeCursor surface) r d) (refl, role-fewer surface _ r.owned.surfaces)
   demand-keeps c (GetPopup id version xdg parent p) d from =
       spared (changed_for c (GetPopup id version xdg parent p) r d) (popup-spares id xdg parent p (xdg_at xdg r.owned.shell) r)
+  demand-keeps c (Reposition xdg token p) d from =
+      spared (changed_for c (Reposition xdg token p) r d) (repositioned-spares (placement_now c r d) p (popup_at xdg r.owned.shell) r)
   demand-keeps c (Grab xdg serial) d from = spared (changed_for c (Grab xdg serial) r d) (grab-spares (grab_allowed c xdg serial r d) xdg r)
   demand-keeps c (EndPopup id xdg) d from = own-same
   demand-keeps c (EndToplevel id xdg top) d from = own-same

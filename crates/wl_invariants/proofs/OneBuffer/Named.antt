@@ -33,19 +33,19 @@ use Rattle.wl_peer.specs.ToplevelRequest as toplevel
 use Rattle.wl_state.specs.Request.{Buffer, Member, Request, Attach, PlaceAbove, PlaceBelow}
 use Rattle.wl_surface.specs.Surfaces.{Link}
 use Rattle.wl_surface.specs.Trees.{is_bad_parent, is_too_deep}
-use Rattle.wl_xdg_state.specs.Popups.{Popped, is_parent, is_popup_mapped, popup_at}
+use Rattle.wl_xdg_state.specs.Popups.{Popped, is_parent, is_popup_mapped, popup_at, is_configured}
 use Rattle.wl_xdg_state.specs.Positioner.{Positioner, is_complete}
 use Rattle.wl_xdg_state.specs.Shell.{Effect, Stays, Unconfigured, Configures, Maps, Unmaps, XdgSurface as Xdg, answers_states, is_full, is_waiting, stage_of, xdg_at, xdg_of, xdg_with}
 use Rattle.wl_plain.specs.Ask.{Ask, AskSurface, owns}
 use Rattle.wl_plain.specs.Demand.{Demand, Asks}
 use Rattle.wl_plain.specs.Demanding.{base_demand, committed_by, demand_by, demand_of, demands, effect_of_commit, judge_all, moved_by_pointer, surface_demand, toplevel_asked, toplevel_destroyed}
-use Rattle.wl_plain.specs.Demanding.{xdg_asked}
+use Rattle.wl_plain.specs.Demanding.{xdg_asked, if_whole}
 use Rattle.wl_plain.specs.Desktop.{Resident}
 use Rattle.wl_plain.specs.LeftOut.{LeftOut}
 use Rattle.wl_plain.specs.WlPointer.{is_no_cursor}
 use Rattle.wl_plain.specs.WlSubsurface.{beside, demand_by_link, has_subsurface, is_no_subsurface, link_of_subsurface, placed_beside, subsurface_made}
-use Rattle.wl_plain.specs.WlSurface.{buffer_of}
-use Rattle.wl_plain.specs.XdgPopup.{grab_of, is_no_popup, may_be_parent, popup_asked, popup_made, positioner_of}
+use Rattle.wl_plain.specs.WlSurface.{buffer_of, will_be_whole}
+use Rattle.wl_plain.specs.XdgPopup.{grab_of, is_no_popup, may_be_parent, popup_asked, popup_made, positioner_of, repositioned_by}
 use Rattle.wl_plain.specs.XdgShell.{acknowledged_by, geometry_set, has_any, is_foreign, is_no_toplevel, role_of, state_asked}
 use Rattle.wl_laws.proofs.Soundness.AllowedHeard.{judged-hears}
 use Rattle.wl_invariants.specs.OneBuffer.{Attaches}
@@ -110,6 +110,12 @@ module _ (r : Resident) where
   committed-froms (Some x) object Maps = tt
   committed-froms (Some x) object Unmaps = tt
 
+  -- where the buffer is whole, as without that
+  whole-froms : (b : Bool) (object : ℕ) (judged : Result Demand Refusal) → Froms judged → Froms (if_whole b object judged)
+  whole-froms true object judged from = from
+  whole-froms false object (Ok demand) from = tt
+  whole-froms false object (Err refusal) from = tt
+
   surface-froms : (object version : ℕ) (request : WlSurfaceRequest) → Froms (surface_demand r object version request)
   surface-froms object version surface.Destroy = if-froms (is_some (xdg_of object r.owned.shell)) _ _ tt tt
   surface-froms object version (surface.Attach buffer x y) = (buffer, refl)
@@ -117,8 +123,11 @@ module _ (r : Resident) where
   surface-froms object version (surface.Frame callback) = tt
   surface-froms object version (surface.SetOpaqueRegion region) = tt
   surface-froms object version (surface.SetInputRegion region) = tt
-  surface-froms object version surface.Commit = committed-froms (xdg_of object r.owned.shell) object (effect_of_commit r object)
+  surface-froms object version surface.Commit =
+      whole-froms (will_be_whole r object) object _ (committed-froms (xdg_of object r.owned.shell) object (effect_of_commit r object))
   surface-froms object version (surface.SetBufferTransform z) = if-asks (int_le (pos 0) z && int_le z (pos 7)) _ _ tt tt
+  surface-froms object version (surface.SetBufferScale z) = if-asks (int_le (pos 1) z) _ _ tt tt
+  surface-froms object version (surface.DamageBuffer x y width height) = tt
 
   -- ---- subsurfaces
 
@@ -206,10 +215,16 @@ module _ (r : Resident) where
   grab-froms object serial x None = tt
   grab-froms object serial x (Some p) = if-froms p.popup.is_dismissed _ _ tt (if-froms (is_popup_mapped p) _ _ tt tt)
 
+  repositioned-froms : (x : Xdg) (token : ℕ) (p : Positioner) (o : Option Popped) → Froms (repositioned_by x token p o)
+  repositioned-froms x token p None = tt
+  repositioned-froms x token p (Some q) = if-froms (is_configured q && is_full x.configures) _ _ tt (if-froms (is_complete p) _ _ tt tt)
+
   popup-froms : (object : ℕ) (o : Option Xdg) (request : XdgPopupRequest) → Froms (popup_asked r object o request)
   popup-froms object None request = tt
   popup-froms object (Some x) popup.Destroy = if-froms (is_parent x.id r.owned.shell) _ _ tt tt
   popup-froms object (Some x) (popup.Grab by serial) = grab-froms object serial x (popup_at x.id r.owned.shell)
+  popup-froms object (Some x) (popup.Reposition positioner token) =
+      repositioned-froms x token (positioner_of (r.peer.positioners positioner)) (popup_at x.id r.owned.shell)
 
   -- ---- all of them
 

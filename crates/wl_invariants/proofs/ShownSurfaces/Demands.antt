@@ -18,21 +18,22 @@ use Rattle.wl_tree_laws.specs.Hanging.{AreNumbered, AreTied}
 use Rattle.wl_tree_laws.specs.Laws.{AreOnceLinked}
 use Rattle.wl_shell.specs.Agreement.{AreApart as AreToldApart}
 use Rattle.wl_xdg_state.specs.Popups.{dismissed_among, dismissed_with, dismissing, is_parent_of, is_toplevel, is_toplevel_kind, new_popup, orphan, orphaning, placing, popped_kind, popped_role, popup_changed}
-use Rattle.wl_xdg_state.specs.Popups.{Popped, with_effect, with_grab, without_grab}
-use Rattle.wl_xdg_state.specs.Positioner.{Positioner}
+use Rattle.wl_xdg_state.specs.Popups.{Popped, with_effect, with_grab, arrive, arriving, copying, is_configured, popup_at, repositioning, unmapped as unmapped_popup, waiting_in}
+use Rattle.wl_xdg_state.specs.Positioner.{Positioner, Placed}
 use Rattle.wl_xdg_state.specs.Shell.{Configures, Effect, IsPopup, Kind, Maps, RoleObject, Shell, Stays, Toplevel, Unconfigured, Unmaps, XdgSurface, acknowledging, configuring, in_stage, is_role}
-use Rattle.wl_xdg_state.specs.Shell.{new_toplevel, on_commit, unmapping, with_change as with_xdg_change, with_new as with_new_xdg, without_role, without_xdg, xdg_at, xdg_of, xdg_with}
+use Rattle.wl_xdg_state.specs.Shell.{new_toplevel, on_commit, unmapping, with_change as with_xdg_change, with_new as with_new_xdg, without_role, without_xdg, xdg_at, xdg_of, xdg_with, at_stage}
 use Rattle.wl_xdg_state.specs.declared.stage.Stage.{Stage}
 use Rattle.wl_xdg_state.specs.declared.stage.Stage.TheVariants as stage
 use Rattle.wl_stacking.specs.Stacking.{Owned, Standing, is_of, shows_buffer, with_mapped, without_surface_of}
 use Rattle.wl_stacking.specs.Windows.{Window}
 use Rattle.wl_plain.specs.Ask.{Acknowledge, Ask, AskSurface, ConfigureAgain, CreateSurface, DestroyXdgSurface, EndObject, GetToplevel, GetXdgSurface, Ignore, Own}
 use Rattle.wl_plain.specs.Changing.{Placing, changed_for, drawing, effect_placing, grab_allowed, grabbed, has_focus, in_rising_order, link_with_id, placement_now, popup_given_to, stacked_by, stacked_for}
-use Rattle.wl_plain.specs.Changing.{toplevel_ended, tree_committed, unlinked_at}
+use Rattle.wl_plain.specs.Changing.{toplevel_ended, tree_committed, unlinked_at, popup_repositioned}
 use Rattle.wl_plain.specs.Demand.{AskFrame, Asks, CommitTree, Demand, EndPopup, EndSubsurface, EndSurface, EndToplevel, GetPointer, GetPopup, GetSubsurface, Grab, MakeCursor, Move, SetMode}
+use Rattle.wl_plain.specs.Demand.{Reposition}
 use Rattle.wl_plain.specs.Demanding.{effect_of_commit, effect_on_xdg, is_dismissed}
 use Rattle.wl_plain.specs.Desktop.{Desktop, Resident}
-use Rattle.wl_plain.specs.Step.{asked_so_far, own_changed, toplevel_given}
+use Rattle.wl_plain.specs.Step.{asked_so_far, own_changed, toplevel_given, xdg_changed}
 use Rattle.wl_plain.specs.WlSurface.{will_show}
 use Rattle.wl_laws.specs.Apart.{AreObjects}
 use Rattle.wl_laws.specs.Soundness.{IsNoChild}
@@ -41,6 +42,7 @@ use Rattle.wl_laws.proofs.Lists.Standings.{mapped-another, mapped-here, without-
 use Rattle.wl_laws.proofs.Marks.Stacks.{and-both}
 use Rattle.wl_laws.proofs.Soundness.ObjectsKeys.{of-one}
 use Rattle.wl_laws.proofs.Soundness.Orderly.{HasId, IsAllowed}
+use Rattle.wl_laws.proofs.Soundness.Roles.{arriving-surface, repositioning-surface}
 use Rattle.wl_invariants.specs.InOrder.{is_toplevel_with}
 use Rattle.wl_invariants.specs.Shown.{heeded_stage, is_dismissed_kind}
 use Rattle.wl_invariants.proofs.KeptRecords.Keeping.OwningXdg.{has_surface, ids-apart, surfaces-apart}
@@ -50,6 +52,7 @@ use Rattle.wl_invariants.proofs.ShownSurfaces.Roots.{ShowAsBefore, all-show, com
 use Rattle.wl_invariants.proofs.ShownSurfaces.Well.{IsWell}
 use Rattle.wl_invariants.proofs.ShownSurfaces.Fitting.{AllFit, Fits, FitsAt, IsLess, KeepsSurfaces, acknowledging-less, all-but, all-still, dismissing-id, dismissing-less, dismissing-surface, fits-so}
 use Rattle.wl_invariants.proofs.ShownSurfaces.Fitting.{is_top, known, less-changed, less-mapped, less-same, new-as, orphaned-less, popup-known, role_known, staged, table}
+use Rattle.wl_invariants.proofs.ShownSurfaces.Fitting.{arriving-known, popup-staged, repositioning-less}
 use Rattle.wl_invariants.proofs.TreeSteps.Coming.{link-keeps-all}
 use Rattle.wl_invariants.proofs.TreeSteps.Commits.{request-keeps-all}
 use Rattle.wl_invariants.proofs.TreeSteps.Modes.{mode-keeps-all}
@@ -224,7 +227,10 @@ module _ (c : ℕ) (r : Resident) (d : Desktop) (is : IsRooted r) (fit : AllFit 
 
     -- it stays as it is
     still : (k : Bool × Bool × Bool) → known (Some x) ≡ k → Fits stood k shows_now → Commits Stays
-    still k e here = finished (λ y. y) (λ y. refl) d.standing (fits-so stood shows_now (known (Some x)) k e here) (λ surface other. refl)
+    still k e here =
+        let step : XdgSurface → XdgSurface = λ y. arriving (waiting_in y.role) y in
+        finished step (λ y. arriving-surface (waiting_in y.role) y) d.standing
+        (fits-so stood shows_now (known (Some (step x))) k (arriving-known (waiting_in x.role) x ∙ e) here) (λ surface other. refl)
 
     -- its role object is in this stage, which is heeded
     module _ (s : Stage) (live : heeded_stage x.role ≡ Some s) where
@@ -251,19 +257,28 @@ module _ (c : ℕ) (r : Resident) (d : Desktop) (is : IsRooted r) (fit : AllFit 
       mapped ready shows = at top refl
         where
           step : XdgSurface → XdgSurface
-          step y = in_stage stage.Mapped y
+          step y = in_stage stage.Mapped (arriving (waiting_in y.role) y)
+
+          same : KeepsSurfaces step
+          same y = arriving-surface (waiting_in y.role) y
+
+          arrived : (o : Option Placed) → role_known (option_map (at_stage stage.Mapped) (arriving o x).role) ≡ table top (Some stage.Mapped)
+          arrived None = staged s stage.Mapped x.role live
+          arrived (Some placed) =
+              ap role_known (popup-staged (arrive placed) stage.Mapped x.role)
+              ∙ (popup-known (arrive placed) (λ p. refl) (option_map (at_stage stage.Mapped) x.role) ∙ staged s stage.Mapped x.role live)
 
           now : known (Some (step x)) ≡ table top (Some stage.Mapped)
-          now = staged s stage.Mapped x.role live
+          now = arrived (waiting_in x.role)
 
           at : (b : Bool) → top ≡ b → AllFit c (done (stepped step)) (stacked_by Maps b c x.surface d).standing
           at true is_top =
-              finished step (λ y. refl) (with_mapped d.mappings c x.surface d.standing)
+              finished step same (with_mapped d.mappings c x.surface d.standing)
               (fits-so _ shows_now (known (Some (step x))) (true, true, false) (now ∙ ap (λ (b : Bool). table b (Some stage.Mapped)) is_top)
               (mapped-here d.mappings c x.surface d.standing, λ mapped. shows, λ waiting. absurd (differ (sym waiting))))
               (λ surface other. mapped-another d.mappings c x.surface surface d.standing other)
           at false is_top =
-              finished step (λ y. refl) d.standing
+              finished step same d.standing
               (fits-so stood shows_now (known (Some (step x))) (false, true, false) (now ∙ ap (λ (b : Bool). table b (Some stage.Mapped)) is_top)
               (stood-at ∙ ap (λ (b : Bool). (table b (Some s)).0) is_top, λ mapped. shows, λ waiting. absurd (differ (sym waiting))))
               (λ surface other. refl)
@@ -275,7 +290,7 @@ module _ (c : ℕ) (r : Resident) (d : Desktop) (is : IsRooted r) (fit : AllFit 
           step y = with_effect r.peer.serial (asked_so_far x.surface (tree_committed x.surface r)) where_to Unmaps y
 
           now : known (Some (step x)) ≡ table top (Some stage.Fresh)
-          now = popup-known without_grab (λ p. refl) (unmapping (asked_so_far x.surface (tree_committed x.surface r)) x).role ∙ staged s stage.Fresh x.role live
+          now = popup-known unmapped_popup (λ p. refl) (unmapping (asked_so_far x.surface (tree_committed x.surface r)) x).role ∙ staged s stage.Fresh x.role live
 
           at : (b : Bool) → top ≡ b → AllFit c (done (stepped step)) (stacked_by Unmaps b c x.surface d).standing
           at true is_top =
@@ -455,6 +470,15 @@ module _ (c : ℕ) (r : Resident) (d : Desktop) (is : IsRooted r) (fit : AllFit 
   drawn-fits true q fits = fits
   drawn-fits false q fits = fits
 
+  repositioned-fits : (where_to : Placing) (p : Positioner) (o : Option Popped) → AllFit c (popup_repositioned where_to p o r).owned d.standing
+  repositioned-fits where_to p None = fit
+  repositioned-fits where_to p (Some q) =
+      let step : XdgSurface → XdgSurface = repositioning (is_configured q) r.peer.serial (where_to (copying p q.popup)) p in
+      drawn-fits (is_configured q) (xdg_changed q.xdg.id step r)
+      (with-shell c r.owned d.standing fit (with_xdg_change q.xdg.id step r.owned.shell)
+      (λ surface. less-changed q.xdg.id surface step r.owned.shell (repositioning-surface (is_configured q) r.peer.serial (where_to (copying p q.popup)) p)
+      (repositioning-less (is_configured q) r.peer.serial (where_to (copying p q.popup)) p)))
+
   grabbed-fits : (b : Bool) (xdg : ℕ) → AllFit c (grabbed b xdg r).owned d.standing
   grabbed-fits true xdg =
       with-shell c r.owned d.standing fit (with_xdg_change xdg (popup_changed with_grab) r.owned.shell)
@@ -478,6 +502,7 @@ module _ (c : ℕ) (r : Resident) (d : Desktop) (is : IsRooted r) (fit : AllFit 
   demand-fits (MakeCursor surface) windows allowed well =
       with-surfaces (with_change surface (with_role AsCursor) r.owned.surfaces) (role-shows r.owned.shell surface AsCursor r.owned.surfaces)
   demand-fits (GetPopup id version xdg parent p) windows allowed well = popup-made id xdg parent p (bare-at r.owned.shell is.apart xdg allowed.1)
+  demand-fits (Reposition xdg token p) windows allowed well = repositioned-fits (placement_now c r d) p (popup_at xdg r.owned.shell)
   demand-fits (Grab xdg serial) windows allowed well = grabbed-fits (grab_allowed c xdg serial r d) xdg
   demand-fits (EndPopup id xdg) windows allowed well = popup-gone id xdg allowed.0 allowed.1
   demand-fits (EndToplevel id xdg top) windows allowed well = toplevel-ended id xdg top (top-with r.owned.shell is.apart id xdg top allowed.1 allowed.2)

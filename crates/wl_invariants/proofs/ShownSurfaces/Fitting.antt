@@ -6,9 +6,12 @@ use Rattle.std.specs.Option.{option_map, option_map_or}
 use Rattle.std.proofs.lemmas.Bool.{eqb-false, eqb-true}
 use Rattle.wl_surface.specs.Surfaces.{history_in}
 use Rattle.wl_xdg_state.specs.Popups.{dismiss, dismissed_among, is_among, is_parent_of, is_toplevel_kind, orphan, popup_changed, with_popup, with_popup_role}
+use Rattle.wl_xdg_state.specs.Popups.{arrive, arriving, copying, repositioning}
 use Rattle.wl_xdg_state.specs.Shell.{IsPopup, Kind, Popup, RoleObject, Shell, Toplevel, XdgSurface, acknowledged, acknowledging, at_stage, role_acknowledged, with_change as with_xdg_change, xdg_of}
+use Rattle.wl_xdg_state.specs.Shell.{Configure, awaiting, up_to}
 use Rattle.wl_xdg_state.specs.declared.stage.Stage.{Stage}
 use Rattle.wl_xdg_state.specs.declared.stage.Stage.TheVariants as stage
+use Rattle.wl_xdg_state.specs.Positioner.{Placed, Positioner}
 use Rattle.wl_stacking.specs.Stacking.{Owned, Standing, is_of, shows_buffer}
 use Rattle.wl_laws.proofs.Lists.Keys.{differ, found-map}
 use Rattle.wl_invariants.specs.Shown.{AreShown, heeded_stage, is_dismissed_kind, is_mapped_now, is_mapped_toplevel, waits_now}
@@ -185,7 +188,7 @@ pub orphaned-less : (xdg : ℕ) → Lessens (popup_changed (orphan xdg))
 orphaned-less xdg y = less-same _ _ (popup-known (orphan xdg) (orphan-dismissed xdg) y.role)
 
 pub acknowledging-less : (serial : ℕ) → Lessens (acknowledging serial)
-acknowledging-less serial y = less-same _ _ (at y.role)
+acknowledging-less serial y = less-same _ _ (at (up_to serial y.configures) y.role)
   where
     by : (b : Bool) (s : Stage) → table b (Some (acknowledged s)) ≡ table b (Some s)
     by b stage.Fresh = refl
@@ -197,9 +200,28 @@ acknowledging-less serial y = less-same _ _ (at y.role)
     heeded top true s = refl
     heeded top false s = by top s
 
-    at : (o : Option RoleObject) → role_known (option_map role_acknowledged o) ≡ role_known o
-    at None = refl
-    at (Some object) = heeded (is_toplevel_kind object.kind) (is_dismissed_kind object.kind) object.stage
+    at : (configures : List Configure) (o : Option RoleObject) → role_known (option_map (role_acknowledged configures) o) ≡ role_known o
+    at configures None = refl
+    at configures (Some object) = by-kind object.kind
+      where
+        by-kind : (k : Kind) → kind_known (acknowledged object.stage) (awaiting configures k) ≡ kind_known object.stage k
+        by-kind Toplevel = heeded true false object.stage
+        by-kind (IsPopup popup) = heeded false popup.is_dismissed object.stage
+
+-- a placement that waits is nothing to it
+pub arriving-known : (o : Option Placed) (x : XdgSurface) → role_known (arriving o x).role ≡ role_known x.role
+arriving-known None x = refl
+arriving-known (Some placed) x = popup-known (arrive placed) (λ p. refl) x.role
+
+pub repositioning-less : (b : Bool) (serial : ℕ) (placement : Option Placed) (positioner : Positioner) → Lessens (repositioning b serial placement positioner)
+repositioning-less true serial placement positioner y = less-same _ _ (popup-known (copying positioner) (λ p. refl) y.role)
+repositioning-less false serial placement positioner y = less-same _ _ (popup-known (copying positioner) (λ p. refl) y.role)
+
+-- a popup's change and that of the stage go in either order
+pub popup-staged : (change : Popup → Popup) (t : Stage) (o : Option RoleObject)
+    → option_map (at_stage t) (option_map (with_popup_role change) o) ≡ option_map (with_popup_role change) (option_map (at_stage t) o)
+popup-staged change t None = refl
+popup-staged change t (Some object) = refl
 
 -- a role object that is in a stage that is heeded is in another one then
 pub staged : (s t : Stage) (o : Option RoleObject) → heeded_stage o ≡ Some s → role_known (option_map (at_stage t) o) ≡ table (is_top o) (Some t)

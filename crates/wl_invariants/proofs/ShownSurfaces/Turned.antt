@@ -15,13 +15,15 @@ use Rattle.wl_tree_laws.proofs.Coming.{history-without}
 use Rattle.wl_invariants.proofs.TreeSteps.Commits.{asked_more, history-asked, role-keeps-all}
 use Rattle.wl_xdg_state.specs.Positioner.{Positioner}
 use Rattle.wl_xdg_state.specs.Shell.{Configures, Effect, Maps, Stays, Unconfigured, Unmaps, XdgSurface, xdg_at, xdg_of}
+use Rattle.wl_xdg_state.specs.Popups.{Popped, copying, is_configured, popup_at, repositioning}
 use Rattle.wl_plain.specs.Ask.{Ask, AskSurface, CreateSurface, GetToplevel}
 use Rattle.wl_plain.specs.Changing.{Placing, changed_for, drawing, effect_placing, grab_allowed, grabbed, has_focus, in_rising_order, link_with_id, mode_set, placement_now, popup_given_to}
-use Rattle.wl_plain.specs.Changing.{tree_committed, unlinked_at}
+use Rattle.wl_plain.specs.Changing.{tree_committed, unlinked_at, popup_repositioned}
 use Rattle.wl_plain.specs.Demand.{AskFrame, Asks, CommitTree, Demand, EndPopup, EndSubsurface, EndSurface, EndToplevel, GetPointer, GetPopup, GetSubsurface, Grab, MakeCursor, Move, SetMode}
+use Rattle.wl_plain.specs.Demand.{Reposition}
 use Rattle.wl_plain.specs.Demanding.{effect_of_commit}
 use Rattle.wl_plain.specs.Desktop.{Desktop, Resident}
-use Rattle.wl_plain.specs.Step.{changed_by, toplevel_given}
+use Rattle.wl_plain.specs.Step.{changed_by, toplevel_given, xdg_changed}
 use Rattle.wl_laws.proofs.Lists.Keys.{none-some, some-same}
 use Rattle.wl_laws.proofs.Lists.Surfaces.{has_id}
 use Rattle.wl_laws.proofs.Soundness.Moves.{Moves, moves-committed, moves-desynchronised, moves-those, moves-unlinked}
@@ -129,6 +131,11 @@ drawn-turned : (b : Bool) (r : Resident) → AreTurned r.owned.surfaces → AreT
 drawn-turned true r is = is
 drawn-turned false r is = is
 
+repositioned-turned : (where_to : Placing) (p : Positioner) (o : Option Popped) (r : Resident) → AreTurned r.owned.surfaces → AreTurned (popup_repositioned where_to p o r).owned.surfaces
+repositioned-turned where_to p None r is = is
+repositioned-turned where_to p (Some q) r is =
+    drawn-turned (is_configured q) (xdg_changed q.xdg.id (repositioning (is_configured q) r.peer.serial (where_to (copying p q.popup)) p) r) is
+
 grabbed-turned : (b : Bool) (xdg : ℕ) (r : Resident) → AreTurned r.owned.surfaces → AreTurned (grabbed b xdg r).owned.surfaces
 grabbed-turned true xdg r is = is
 grabbed-turned false xdg r is = is
@@ -161,6 +168,7 @@ demand-turned c (SetMode link b) r d is well = mode-turned link b r is
 demand-turned c (GetPointer id version) r d is well = drawn-turned (has_focus c d.pointer.focus) (record r { pointers = in_rising_order id r.pointers }) is
 demand-turned c (MakeCursor surface) r d is well = λ other. subst IsTurned (sym ((role-keeps-all r.owned.surfaces surface AsCursor).0 other)) (is other)
 demand-turned c (GetPopup id version xdg parent p) r d is well = popup-turned id xdg parent p (xdg_at xdg r.owned.shell) r is
+demand-turned c (Reposition xdg token p) r d is well = repositioned-turned (placement_now c r d) p (popup_at xdg r.owned.shell) r is
 demand-turned c (Grab xdg serial) r d is well = grabbed-turned (grab_allowed c xdg serial r d) xdg r is
 demand-turned c (EndPopup id xdg) r d is well = is
 demand-turned c (EndToplevel id xdg top) r d is well = is

@@ -35,19 +35,19 @@ use Rattle.wl_peer.specs.ToplevelRequest as toplevel
 use Rattle.wl_state.specs.Request.{Request as Asked, Member, PlaceAbove, PlaceBelow}
 use Rattle.wl_surface.specs.Surfaces.{Link}
 use Rattle.wl_surface.specs.Trees.{is_bad_parent, is_too_deep}
-use Rattle.wl_xdg_state.specs.Popups.{Popped, is_parent, is_popup_mapped, popup_at}
+use Rattle.wl_xdg_state.specs.Popups.{Popped, is_parent, is_popup_mapped, popup_at, is_configured}
 use Rattle.wl_xdg_state.specs.Positioner.{Positioner, is_complete}
 use Rattle.wl_xdg_state.specs.Shell.{Effect, Stays, Unconfigured, Configures, Maps, Unmaps, XdgSurface as Xdg, answers_states, is_full, is_waiting, stage_of, xdg_at, xdg_of, xdg_with}
 use Rattle.wl_plain.specs.Ask.{Ask, AskSurface, Ignore, owns}
 use Rattle.wl_plain.specs.Demand.{Asks, CommitTree, Demand}
-use Rattle.wl_plain.specs.Demanding.{base_demand, committed_by, demand_by, demand_of, demands, effect_of_commit, effect_on_xdg, judge_all, moved_by_pointer, own_demand, surface_demand}
+use Rattle.wl_plain.specs.Demanding.{base_demand, committed_by, demand_by, demand_of, demands, effect_of_commit, effect_on_xdg, judge_all, moved_by_pointer, own_demand, surface_demand, if_whole}
 use Rattle.wl_plain.specs.Demanding.{toplevel_asked, toplevel_destroyed, xdg_asked}
 use Rattle.wl_plain.specs.Desktop.{Resident}
 use Rattle.wl_plain.specs.WlPointer.{cursor_set, is_no_cursor}
 use Rattle.wl_plain.specs.WlSubsurface.{beside, demand_by_link, has_subsurface, is_no_subsurface, link_of_subsurface, placed_beside, subsurface_made}
-use Rattle.wl_plain.specs.WlSurface.{transform_set, will_show}
+use Rattle.wl_plain.specs.WlSurface.{transform_set, will_show, will_be_whole, scale_set}
 use Rattle.wl_plain.specs.Step.{with_peer}
-use Rattle.wl_plain.specs.XdgPopup.{grab_of, is_no_popup, may_be_parent, popup_asked, popup_destroyed, popup_made, positioner_of}
+use Rattle.wl_plain.specs.XdgPopup.{grab_of, is_no_popup, may_be_parent, popup_asked, popup_destroyed, popup_made, positioner_of, repositioned_by}
 use Rattle.wl_plain.specs.XdgShell.{has_any, is_foreign, is_no_toplevel, role_of, state_asked}
 use Rattle.wl_invariants.specs.Standing.{turns_well}
 use Rattle.wl_plain.specs.LeftOut.{LeftOut}
@@ -87,6 +87,12 @@ module _ (r : Resident) where
   commit-well (Some x) object Maps here comes = some-well object Maps comes (λ e. cc)
   commit-well (Some x) object Unmaps here comes = some-well object Unmaps comes (λ e. cc)
 
+  -- where the buffer is whole, as without that
+  whole-well : (b : Bool) (object : ℕ) (judged : Result Demand Refusal) → IsWellSo r judged → IsWellSo r (if_whole b object judged)
+  whole-well true object judged well = well
+  whole-well false object (Ok demand) well = tt
+  whole-well false object (Err refusal) well = tt
+
   -- what is 0 to 7 is one of the eight
   below-eight : (z : ℤ) → (int_le (pos 0) z && int_le z (pos 7)) ≡ true → nat_lt (unsigned_abs z) 8 ≡ true
   below-eight (pos n) fits = let most = leb-true n 7 (and_parts (int_le (pos 0) (pos n)) (int_le (pos n) (pos 7)) fits).1 in lt-ltb n 8 (omega (arith, most))
@@ -95,13 +101,19 @@ module _ (r : Resident) where
   transform-well : (object : ℕ) (z : ℤ) → IsWellSo r (demands (transform_set object z))
   transform-well object z = ask-well (int_le (pos 0) z && int_le z (pos 7)) _ _ (λ fits. below-eight z fits) (λ none. tt)
 
+  scale-well : (object : ℕ) (z : ℤ) → IsWellSo r (demands (scale_set object z))
+  scale-well object z = ask-well (int_le (pos 1) z) _ _ (λ fits. refl) (λ none. tt)
+
   surface-well : (object version : ℕ) (request : WlSurfaceRequest) → IsWellSo r (surface_demand r object version request)
   surface-well object version surface.Destroy = if-well (is_some (xdg_of object r.owned.shell)) _ _ (λ there. tt) (λ none. tt)
   surface-well object version (surface.Frame callback) = tt
-  surface-well object version surface.Commit = commit-well (xdg_of object r.owned.shell) object (effect_of_commit r object) refl refl
+  surface-well object version surface.Commit =
+      whole-well (will_be_whole r object) object _ (commit-well (xdg_of object r.owned.shell) object (effect_of_commit r object) refl refl)
   surface-well object version (surface.SetBufferTransform transform) = transform-well object transform
+  surface-well object version (surface.SetBufferScale scale) = scale-well object scale
   surface-well object version (surface.Attach buffer x y) = refl
   surface-well object version (surface.Damage x y width height) = refl
+  surface-well object version (surface.DamageBuffer x y width height) = refl
   surface-well object version (surface.SetOpaqueRegion region) = refl
   surface-well object version (surface.SetInputRegion region) = refl
 
@@ -155,10 +167,17 @@ module _ (r : Resident) where
   grab-well object serial x None = tt
   grab-well object serial x (Some p) = if-well p.popup.is_dismissed _ _ (λ dismissed. tt) (λ live. if-well (is_popup_mapped p) _ _ (λ mapped. tt) (λ unmapped. tt))
 
+  repositioned-well : (x : Xdg) (token : ℕ) (p : Positioner) (o : Option Popped) → IsWellSo r (repositioned_by x token p o)
+  repositioned-well x token p None = tt
+  repositioned-well x token p (Some q) =
+      if-well (is_configured q && is_full x.configures) _ _ (λ full. tt) (λ room. if-well (is_complete p) _ _ (λ complete. tt) (λ lacks. tt))
+
   popup-asked-well : (object : ℕ) (o : Option Xdg) (request : XdgPopupRequest) → IsWellSo r (popup_asked r object o request)
   popup-asked-well object None request = tt
   popup-asked-well object (Some x) popup.Destroy = popup-gone-well object x
   popup-asked-well object (Some x) (popup.Grab by serial) = grab-well object serial x (popup_at x.id r.owned.shell)
+  popup-asked-well object (Some x) (popup.Reposition positioner token) =
+      repositioned-well x token (positioner_of (r.peer.positioners positioner)) (popup_at x.id r.owned.shell)
 
   xdg-well : (x : Option Xdg) (version : ℕ) (request : XdgSurfaceRequest) → IsWellSo r (xdg_asked r x version request)
   xdg-well None version request = tt

@@ -2,7 +2,7 @@
 use Rattle.std.proofs.Common.{◌≡◌, ℕ, zero, suc, ◌&&◌, Bool, true, false, Some, None, List, [], ◌∷◌, take, drop, refl, ap, ◌∙◌}
 use Rattle.std.specs.Prelude.{nat_lt}
 use Rattle.wl_state.specs.Request.{Request}
-use Rattle.wl_state.specs.State.{applied, between, damaged_rects, height_of, is_damaged, width_of}
+use Rattle.wl_state.specs.State.{Values, applied, between, height_of, is_damaged_by, width_of}
 use Rattle.wl_laws.proofs.Lists.Keys.{some-same}
 use Rattle.wl_invariants.specs.TreeStepsLaws.{AppliesNothing}
 
@@ -19,12 +19,14 @@ pub and-none : (a : Bool) → (a && false) ≡ false
 and-none true = refl
 and-none false = refl
 
-none-damaged : (w h : ℕ) (rs : List Request) (x y : ℕ) → rs ≡ [] → is_damaged w h (damaged_rects rs) x y ≡ false
-none-damaged w h rs x y e = ap (λ (rs : List Request). is_damaged w h (damaged_rects rs) x y) e ∙ and-none (nat_lt x w && nat_lt y h)
+none-damaged : (v : Values) (rs : List Request) (x y : ℕ) → rs ≡ [] → is_damaged_by v rs x y ≡ false
+none-damaged v rs x y e =
+    ap (λ (rs : List Request). is_damaged_by v rs x y) e
+    ∙ and-none (nat_lt x (width_of v.buffer v.transform v.scale) && nat_lt y (height_of v.buffer v.transform v.scale))
 
 pub applies-nothing : AppliesNothing
 applies-nothing None new same x y = refl
 applies-nothing (Some old) None same x y = refl
 applies-nothing (Some old) (Some new) same x y =
-    none-damaged (width_of (applied new).buffer (applied new).transform) (height_of (applied new).buffer (applied new).transform)
-    (between old.cut new.cut new.requests) x y (ap (λ n. between old.cut n new.requests) (some-same new.cut old.cut same) ∙ drop-taken old.cut new.requests)
+    none-damaged (applied new) (between old.cut new.cut new.requests) x y
+    (ap (λ n. between old.cut n new.requests) (some-same new.cut old.cut same) ∙ drop-taken old.cut new.requests)

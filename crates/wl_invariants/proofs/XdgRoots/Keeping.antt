@@ -12,14 +12,16 @@ use Rattle.wl_surface.specs.Surfaces.{Link, Surfaces, surface_at, with_change, w
 use Rattle.wl_surface.specs.Trees.{committed_in, desynchronised_in, destroyed_in, linked, synchronised_in}
 use Rattle.wl_xdg_state.specs.Positioner.{Positioner}
 use Rattle.wl_xdg_state.specs.Shell.{Effect, Stays, Unconfigured, Configures, Maps, Unmaps, XdgSurface, xdg_at, xdg_of}
+use Rattle.wl_xdg_state.specs.Popups.{Popped, copying, is_configured, popup_at, repositioning}
 use Rattle.wl_stacking.specs.Stacking.{Standing}
 use Rattle.wl_plain.specs.Ask.{Ask, Own, CreateSurface, AskSurface, EndObject, GetXdgSurface, DestroyXdgSurface, GetToplevel, Acknowledge, ConfigureAgain, Ignore}
 use Rattle.wl_plain.specs.Changing.{Placing, changed_for, drawing, effect_placing, placement_now, grab_allowed, grabbed, has_focus, in_rising_order, popup_given_to, tree_committed, unlinked_at, without_child}
-use Rattle.wl_plain.specs.Demand.{Demand, Asks, EndSurface, AskFrame, CommitTree, GetSubsurface, EndSubsurface, SetMode, GetPointer, MakeCursor}
+use Rattle.wl_plain.specs.Changing.{popup_repositioned}
+use Rattle.wl_plain.specs.Demand.{Demand, Asks, EndSurface, AskFrame, CommitTree, GetSubsurface, EndSubsurface, SetMode, GetPointer, MakeCursor, Reposition}
 use Rattle.wl_plain.specs.Demand.{GetPopup, Grab, EndPopup, EndToplevel, Move}
 use Rattle.wl_plain.specs.Demanding.{effect_of_commit}
 use Rattle.wl_plain.specs.Desktop.{Desktop, Resident, Subsurface}
-use Rattle.wl_plain.specs.Step.{changed_by, toplevel_given, with_peer}
+use Rattle.wl_plain.specs.Step.{changed_by, toplevel_given, with_peer, xdg_changed}
 use Rattle.wl_plain.specs.WlSubsurface.{has_subsurface, is_of_child}
 use Rattle.wl_laws.specs.Soundness.{IsLive}
 use Rattle.wl_laws.proofs.Soundness.Allowed.{allowed}
@@ -79,6 +81,11 @@ module _ (Holds : ℕ → Surfaces → List Subsurface → Type 0) (keeps : Keep
   drawn-kept b true r known = known
   drawn-kept b false r known = known
 
+  repositioned-kept : (b : ℕ) (where_to : Placing) (p : Positioner) (o : Option Popped) (r : Resident) → By b r → By b (popup_repositioned where_to p o r)
+  repositioned-kept b where_to p None r known = known
+  repositioned-kept b where_to p (Some q) r known =
+      drawn-kept b (is_configured q) (xdg_changed q.xdg.id (repositioning (is_configured q) r.peer.serial (where_to (copying p q.popup)) p) r) known
+
   toplevel-kept : (b id xdg : ℕ) (x : Option XdgSurface) (r : Resident) → By b r → By b (toplevel_given id xdg x r)
   toplevel-kept b id xdg None r known = known
   toplevel-kept b id xdg (Some x) r known = keeps.role b x.surface AsToplevel r.owned.surfaces r.subsurfaces known
@@ -125,6 +132,8 @@ module _ (Holds : ℕ → Surfaces → List Subsurface → Type 0) (keeps : Keep
     demand-kept c (MakeCursor surface) tops d ok names it known = keeps.later p.requests _ _ (keeps.role p.requests surface AsCursor r.owned.surfaces r.subsurfaces known)
     demand-kept c (GetPopup id version xdg parent q) tops d ok names it known =
         keeps.later p.requests _ _ (popup-kept p.requests id xdg parent q (xdg_at xdg r.owned.shell) Now known)
+    demand-kept c (Reposition xdg token q) tops d ok names it known =
+        keeps.later p.requests _ _ (repositioned-kept p.requests (placement_now c Now d) q (popup_at xdg r.owned.shell) Now known)
     demand-kept c (Grab xdg serial) tops d ok names it known = keeps.later p.requests _ _ (grab-kept p.requests (grab_allowed c xdg serial Now d) xdg Now known)
     demand-kept c (EndPopup id xdg) tops d ok names it known = keeps.later p.requests _ _ known
     demand-kept c (EndToplevel id xdg top) tops d ok names it known = keeps.later p.requests _ _ known

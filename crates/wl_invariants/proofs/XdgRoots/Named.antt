@@ -39,19 +39,20 @@ use Rattle.wl_peer.specs.ToplevelRequest as toplevel
 use Rattle.wl_state.specs.Request.{Member, PlaceAbove, PlaceBelow, Request, SetPosition}
 use Rattle.wl_surface.specs.Surfaces.{Link, Surfaces}
 use Rattle.wl_surface.specs.Trees.{is_bad_parent, is_too_deep}
-use Rattle.wl_xdg_state.specs.Popups.{Popped, is_parent, is_popup_mapped, popup_at}
-use Rattle.wl_xdg_state.specs.Positioner.{is_complete}
+use Rattle.wl_xdg_state.specs.Popups.{Popped, is_parent, is_popup_mapped, popup_at, is_configured}
+use Rattle.wl_xdg_state.specs.Positioner.{is_complete, Positioner}
 use Rattle.wl_xdg_state.specs.Shell.{Effect, Stays, Unconfigured, Configures, Maps, Unmaps, XdgSurface as Xdg, answers_states, is_full, is_waiting, stage_of, xdg_at, xdg_of, xdg_with}
 use Rattle.wl_plain.specs.Ask.{Ask, AskSurface, owns}
 use Rattle.wl_plain.specs.Demand.{Demand, Asks, GetSubsurface}
 use Rattle.wl_plain.specs.Demanding.{base_demand, committed_by, compositor_demand, demand_by, demand_of, demands, effect_of_commit, judge_all, moved_by_pointer, own_demand, surface_demand}
-use Rattle.wl_plain.specs.Demanding.{toplevel_asked, toplevel_destroyed, xdg_asked}
+use Rattle.wl_plain.specs.Demanding.{toplevel_asked, toplevel_destroyed, xdg_asked, if_whole}
 use Rattle.wl_plain.specs.Desktop.{Resident}
 use Rattle.wl_plain.specs.LeftOut.{LeftOut}
 use Rattle.wl_plain.specs.WlPointer.{is_no_cursor, pointer_demand, seat_demand}
 use Rattle.wl_plain.specs.WlSubsurface.{beside, demand_by_link, has_subsurface, is_no_subsurface, link_of_subsurface, placed_beside, subcompositor_demand, subsurface_made}
-use Rattle.wl_plain.specs.XdgPopup.{grab_of, is_no_popup, may_be_parent, popup_asked, positioner_of}
+use Rattle.wl_plain.specs.XdgPopup.{grab_of, is_no_popup, may_be_parent, popup_asked, positioner_of, repositioned_by}
 use Rattle.wl_plain.specs.XdgShell.{has_any, is_foreign, is_no_toplevel, role_of, state_asked}
+use Rattle.wl_plain.specs.WlSurface.{will_be_whole}
 use Rattle.wl_laws.proofs.Soundness.Allowed.{link-lives}
 use Rattle.wl_laws.proofs.Soundness.AllowedHeard.{judged-hears}
 use Rattle.wl_laws.proofs.Soundness.AllowedOwn.{IsHeardBy}
@@ -162,6 +163,12 @@ committed-named r (Some x) object Stays = tt
 committed-named r (Some x) object Maps = tt
 committed-named r (Some x) object Unmaps = tt
 
+-- where the buffer is whole, as without that
+whole-named : (r : Resident) (b : Bool) (object : ℕ) (judged : Result Demand Refusal) → AllNamed r judged → AllNamed r (if_whole b object judged)
+whole-named r true object judged named = named
+whole-named r false object (Ok demand) named = tt
+whole-named r false object (Err refusal) named = tt
+
 compositor-named : (r : Resident) (object version : ℕ) (request : WlCompositorRequest) → AllNamed r (compositor_demand r object version request)
 compositor-named r object version (compositor.CreateSurface id) = ask-either r (nat_le 256 (length r.owned.surfaces.surfaces)) _ _ tt tt
 compositor-named r object version (compositor.CreateRegion id) = own-request r object version (to.ToCompositor (compositor.CreateRegion id))
@@ -173,8 +180,11 @@ surface-named r object version (surface.Damage x y width height) = tt
 surface-named r object version (surface.Frame callback) = tt
 surface-named r object version (surface.SetOpaqueRegion region) = tt
 surface-named r object version (surface.SetInputRegion region) = tt
-surface-named r object version surface.Commit = committed-named r (xdg_of object r.owned.shell) object (effect_of_commit r object)
+surface-named r object version surface.Commit =
+    whole-named r (will_be_whole r object) object _ (committed-named r (xdg_of object r.owned.shell) object (effect_of_commit r object))
 surface-named r object version (surface.SetBufferTransform transform) = ask-either r (int_le (pos 0) transform && int_le transform (pos 7)) _ _ tt tt
+surface-named r object version (surface.SetBufferScale scale) = ask-either r (int_le (pos 1) scale) _ _ tt tt
+surface-named r object version (surface.DamageBuffer x y width height) = tt
 
 -- ---- the seat
 
@@ -235,10 +245,16 @@ grab-named : (r : Resident) (object serial : ℕ) (x : Xdg) (o : Option Popped) 
 grab-named r object serial x None = tt
 grab-named r object serial x (Some p) = either r p.popup.is_dismissed _ _ tt (either r (is_popup_mapped p) _ _ tt tt)
 
+repositioned-named : (r : Resident) (x : Xdg) (token : ℕ) (p : Positioner) (o : Option Popped) → AllNamed r (repositioned_by x token p o)
+repositioned-named r x token p None = tt
+repositioned-named r x token p (Some q) = either r (is_configured q && is_full x.configures) _ _ tt (either r (is_complete p) _ _ tt tt)
+
 popup-named : (r : Resident) (object : ℕ) (o : Option Xdg) (request : XdgPopupRequest) → AllNamed r (popup_asked r object o request)
 popup-named r object None request = tt
 popup-named r object (Some x) popup.Destroy = either r (is_parent x.id r.owned.shell) _ _ tt tt
 popup-named r object (Some x) (popup.Grab seat serial) = grab-named r object serial x (popup_at x.id r.owned.shell)
+popup-named r object (Some x) (popup.Reposition positioner token) =
+    repositioned-named r x token (positioner_of (r.peer.positioners positioner)) (popup_at x.id r.owned.shell)
 
 -- ---- every interface
 

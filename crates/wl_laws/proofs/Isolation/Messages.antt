@@ -28,6 +28,7 @@ use Rattle.wl_laws.proofs.Isolation.Others.{IsLeft, become-left, left_out, on_to
 use Rattle.wl_laws.proofs.Runs.Places.{number-other}
 use Rattle.wl_laws.proofs.Isolation.Settling.{IsIn, IsWithin, Stays as Keeps, settling-in, struck-so}
 use Rattle.wl_laws.proofs.Isolation.Told.{ToldSo, told-focus}
+use Rattle.wl_plain.specs.Demand.{Reposition}
 
 -- ---- the changes of a desktop
 
@@ -65,6 +66,7 @@ stacked_for-left c other (SetMode link synchronised) r windows d differ = (refl,
 stacked_for-left c other (GetPointer id version) r windows d differ = (refl, refl)
 stacked_for-left c other (MakeCursor surface) r windows d differ = (refl, refl)
 stacked_for-left c other (GetPopup id version xdg parent p) r windows d differ = (refl, refl)
+stacked_for-left c other (Reposition xdg token p) r windows d differ = (refl, refl)
 stacked_for-left c other (Grab xdg serial) r windows d differ = (refl, refl)
 stacked_for-left c other (EndPopup id xdg) r windows d differ = (refl, refl)
 stacked_for-left c other (Move surface serial) r windows d differ = (refl, refl)

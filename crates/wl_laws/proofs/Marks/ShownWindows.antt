@@ -1,9 +1,8 @@
--- Each window shows the buffer that its surface has applied, and none is scaled.
+-- Each window shows the buffer that its surface has applied.
 use Rattle.std.proofs.Common.{◌≡◌, ℕ, zero, suc, Bool, true, false, List, [], ◌∷◌, ◌++◌, Option, Some, None, refl}
 use Rattle.std.specs.Prelude.{◌+ℤ◌, flat_map, cond, map}
 use Rattle.wl_state.specs.Request.{Buffer, Member, Itself, Child}
 use Rattle.wl_state.specs.State.{History, applied, counting, height_of, order, position, width_of}
-use Rattle.wl_state.proofs.Scales.{applied-unscaled}
 use Rattle.wl_surface.specs.Surfaces.{Link, history_in, link_at}
 use Rattle.wl_stacking.specs.Stacking.{Owned, root_of}
 use Rattle.wl_stacking.specs.Windows.{Owner, Place, Root, StackedPopup, Window, child_windows, corner_at, member_windows, owner_of, roots_of, shown_windows, surface_windows, tree}
@@ -16,7 +15,7 @@ use Rattle.wl_laws.proofs.Marks.Stacks.{Each}
 abbrev pub IsShown : (ℕ → Owned) → Window → Type 0
 IsShown owned w =
     (h : History) × (history_in w.surface (owned w.owner.client).surfaces ≡ Some h) × ((applied h).buffer ≡ Some w.buffer)
-    × (w.width ≡ width_of (Some w.buffer) w.transform) × (w.height ≡ height_of (Some w.buffer) w.transform) × (w.scale ≡ 1)
+    × (w.width ≡ width_of (Some w.buffer) w.transform w.scale) × (w.height ≡ height_of (Some w.buffer) w.transform w.scale)
 
 each-append : {X : Type 0} (P : X → Type 0) (xs ys : List X) → Each P xs → Each P ys → Each P (xs ++ ys)
 each-append P [] ys e f = f
@@ -30,7 +29,7 @@ shown-window : (owned : ℕ → Owned) (owner : Owner) (surface : ℕ) (corner :
     → (applied h).buffer ≡ buffer
     → Each (IsShown owned) (window_with owner surface corner (applied h) buffer)
 shown-window owned owner surface corner h None e f = tt
-shown-window owned owner surface corner h (Some buffer) e f = ((h, e, f, refl, refl, applied-unscaled h), tt)
+shown-window owned owner surface corner h (Some buffer) e f = ((h, e, f, refl, refl), tt)
 
 shown-child : (owned : ℕ → Owned) (next : ℕ → Place → List Window) → ((child : ℕ) (at : Place) → Each (IsShown owned) (next child at)) → (h : History) (corner : Place) (l : ℕ) (link : Option Link)
     → Each (IsShown owned) (child_windows next h corner l link)

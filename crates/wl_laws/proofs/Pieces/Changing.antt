@@ -30,21 +30,21 @@ use Rattle.wl_peer.specs.Told.{Said, display_error}
 use Rattle.wl_surface.specs.Surfaces.{Link}
 use Rattle.wl_surface.specs.Trees.{destroyed_in}
 use Rattle.wl_surface.specs.Waiting.{Callback}
-use Rattle.wl_xdg_state.specs.Popups.{is_toplevel, parent_allows, parent_of, popup_at}
+use Rattle.wl_xdg_state.specs.Popups.{Popped, copying, is_configured, is_toplevel, parent_allows, parent_of, popup_at, repositioning}
 use Rattle.wl_xdg_state.specs.Positioner.{Positioner}
 use Rattle.wl_xdg_state.specs.Shell.{Effect, Stays, Unconfigured, Configures, Maps, Unmaps, Kind, Toplevel, IsPopup, RoleObject, XdgSurface as Xdg, xdg_at, xdg_of, xdg_with}
 use Rattle.wl_stacking.specs.Windows.{Window}
 use Rattle.wl_plain.specs.Changing.{Placing, after_all, callbacks_of, changed_for, drawing, effect_placing, placement_now, grab_allowed, grabbed, has_focus, in_rising_order, is_held_elsewhere, is_latest, mode_set}
-use Rattle.wl_plain.specs.Changing.{popup_given_to, stacked_by, stacked_for, tree_committed, with_kept_move, without_callbacks, without_child}
+use Rattle.wl_plain.specs.Changing.{popup_given_to, popup_repositioned, stacked_by, stacked_for, tree_committed, with_kept_move, without_callbacks, without_child}
 use Rattle.wl_plain.specs.Demand.{Demand, Asks, EndSurface, AskFrame, CommitTree, GetSubsurface, EndSubsurface, SetMode, GetPointer, MakeCursor}
-use Rattle.wl_plain.specs.Demand.{GetPopup, Grab, EndPopup, EndToplevel, Move}
+use Rattle.wl_plain.specs.Demand.{GetPopup, Reposition, Grab, EndPopup, EndToplevel, Move}
 use Rattle.wl_plain.specs.Demanding.{base_demand, demand_by, demand_of, effect_of_commit, judge_all, surface_demand, xdg_asked}
 use Rattle.wl_plain.specs.Desktop.{Desktop, Resident}
 use Rattle.wl_plain.specs.LeftOut.{LeftOut}
 use Rattle.wl_peer.specs.Requests.{Request, ToCompositor, ToSurface, ToSubcompositor, ToSubsurface, ToSeat, ToPointer, ToBase, ToPositioner, ToXdgSurface, ToToplevel, ToPopup, request_of}
-use Rattle.wl_plain.specs.Replies.{commit_told, configure_told, new_pointer_told, own_answers, popups_done, releases_unless, replies, role_told}
+use Rattle.wl_plain.specs.Replies.{commit_told, configure_told, new_pointer_told, own_answers, popups_done, releases_unless, replies, reposition_told, role_told}
 use Rattle.wl_plain.specs.Stacked.{all_windows}
-use Rattle.wl_plain.specs.Step.{making, removing, with_peer, with_surfaces, xdg_configured}
+use Rattle.wl_plain.specs.Step.{making, removing, with_peer, with_surfaces, xdg_changed, xdg_configured}
 use Rattle.wl_plain.specs.Happens.{done_for}
 use Rattle.wl_plain.specs.WlSubsurface.{demand_by_link, link_of_subsurface, past_limit}
 use Rattle.wl_plain.specs.XdgPopup.{popup_asked}
@@ -78,6 +78,7 @@ popup-asks : (x : Option Xdg) (r : Resident) (object : ℕ) (request : XdgPopupR
 popup-asks None r object request rest = refl
 popup-asks (Some x) r object popup.Destroy rest = refl
 popup-asks (Some x) r object (popup.Grab seat serial) rest = refl
+popup-asks (Some x) r object (popup.Reposition positioner token) rest = refl
 
 surface-asks : (r : Resident) (object version : ℕ) (request : WlSurfaceRequest) (rest : List ℕ) → surface_demand (with_behind rest r) object version request ≡ surface_demand r object version request
 surface-asks r object version surface.Destroy rest = refl
@@ -88,6 +89,8 @@ surface-asks r object version (surface.SetOpaqueRegion region) rest = refl
 surface-asks r object version (surface.SetInputRegion region) rest = refl
 surface-asks r object version surface.Commit rest = refl
 surface-asks r object version (surface.SetBufferTransform transform) rest = refl
+surface-asks r object version (surface.SetBufferScale scale) rest = refl
+surface-asks r object version (surface.DamageBuffer x y width height) rest = refl
 
 base-asks : (r : Resident) (object version : ℕ) (request : XdgWmBaseRequest) (rest : List ℕ) → base_demand (with_behind rest r) object version request ≡ base_demand r object version request
 base-asks r object version base.Destroy rest = refl
@@ -154,6 +157,12 @@ popup-behind : (id xdg parent : ℕ) (p : Positioner) (x : Option Xdg) (r : Resi
 popup-behind id xdg parent p None r rest = refl
 popup-behind id xdg parent p (Some x) r rest = refl
 
+repositioned-behind : (where_to : Placing) (p : Positioner) (o : Option Popped) (r : Resident) (rest : List ℕ)
+    → popup_repositioned where_to p o (with_behind rest r) ≡ with_behind rest (popup_repositioned where_to p o r)
+repositioned-behind where_to p None r rest = refl
+repositioned-behind where_to p (Some q) r rest =
+    drawing-behind (is_configured q) (xdg_changed q.xdg.id (repositioning (is_configured q) r.peer.serial (where_to (copying p q.popup)) p) r) rest
+
 grab-behind : (b : Bool) (xdg : ℕ) (r : Resident) (rest : List ℕ) → grabbed b xdg (with_behind rest r) ≡ with_behind rest (grabbed b xdg r)
 grab-behind true xdg r rest = refl
 grab-behind false xdg r rest = refl
@@ -187,6 +196,7 @@ module _ (c : ℕ) (more : List ℕ) where
       ap (λ (q : Resident). making WlPointer id version q) (drawing-behind (has_focus c d.pointer.focus) (record r { pointers = in_rising_order id r.pointers }) rest)
   done-behind (MakeCursor surface) r d rest = refl
   done-behind (GetPopup id version xdg parent p) r d rest = ap (λ (q : Resident). making XdgPopup id version q) (popup-behind id xdg parent p (xdg_at xdg r.owned.shell) r rest)
+  done-behind (Reposition xdg token p) r d rest = repositioned-behind (placement_now c r d) p (popup_at xdg r.owned.shell) r rest
   done-behind (Grab xdg serial) r d rest =
       ap (λ (b : Bool). grabbed b xdg (with_behind rest r)) (allowed-behind xdg serial r d rest) ∙ grab-behind (grab_allowed c xdg serial r d) xdg r rest
   done-behind (EndPopup id xdg) r d rest = refl
@@ -211,6 +221,11 @@ module _ (c : ℕ) (more : List ℕ) where
   commit-behind Maps x r d rest = refl
   commit-behind Unmaps x r d rest = refl
 
+  reposition-behind : (o : Option Popped) (token : ℕ) (p : Positioner) (r : Resident) (d : Desktop) (rest : List ℕ)
+      → reposition_told c (with_behind rest r) (longer_in c more d) token p o ≡ reposition_told c r d token p o
+  reposition-behind None token p r d rest = refl
+  reposition-behind (Some q) token p r d rest = refl
+
   pointer-behind : (b : Bool) (id serial : ℕ) (windows : List Window) (d : Desktop) → new_pointer_told b id serial windows (longer_in c more d) ≡ new_pointer_told b id serial windows d
   pointer-behind true id serial windows d = refl
   pointer-behind false id serial windows d = refl
@@ -227,6 +242,7 @@ module _ (c : ℕ) (more : List ℕ) where
   own-behind (GetPointer id version) r windows d rest = pointer-behind (has_focus c d.pointer.focus) id r.peer.serial windows d
   own-behind (MakeCursor surface) r windows d rest = refl
   own-behind (GetPopup id version xdg parent p) r windows d rest = refl
+  own-behind (Reposition xdg token p) r windows d rest = reposition-behind (popup_at xdg r.owned.shell) token p r d rest
   own-behind (Grab xdg serial) r windows d rest = refl
   own-behind (EndPopup id xdg) r windows d rest = refl
   own-behind (EndToplevel id xdg top) r windows d rest = refl
@@ -267,6 +283,7 @@ module _ (c : ℕ) (more : List ℕ) where
   stacks (GetPointer id version) r windows d rest = refl
   stacks (MakeCursor surface) r windows d rest = refl
   stacks (GetPopup id version xdg parent p) r windows d rest = refl
+  stacks (Reposition xdg token p) r windows d rest = refl
   stacks (Grab xdg serial) r windows d rest = refl
   stacks (EndPopup id xdg) r windows d rest = refl
   stacks (EndToplevel id xdg top) r windows d rest = refl

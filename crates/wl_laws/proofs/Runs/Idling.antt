@@ -36,6 +36,10 @@ use Rattle.wl_plain.specs.Stacked.{all_windows}
 use Rattle.wl_plain.specs.Step.{with_peer}
 use Rattle.wl_laws.proofs.Pieces.Behind.{ask-rest, ask-status}
 use Rattle.wl_laws.proofs.Runs.Places.{number-same}
+use Rattle.wl_xdg_state.specs.Popups.{Popped, copying, is_configured, popup_at, repositioning}
+use Rattle.wl_plain.specs.Changing.{popup_repositioned}
+use Rattle.wl_plain.specs.Demand.{Reposition}
+use Rattle.wl_plain.specs.Step.{xdg_changed}
 
 -- ---- what has come of a client that is there: it ended, or this is left of it
 
@@ -178,6 +182,12 @@ popup-quiet : (id xdg parent : ℕ) (p : Positioner) (x : Option XdgSurface) (r 
 popup-quiet id xdg parent p None r = (refl, refl)
 popup-quiet id xdg parent p (Some x) r = (refl, refl)
 
+repositioned-quiet : (where_to : Placing) (p : Positioner) (o : Option Popped) (r : Resident) → ((popup_repositioned where_to p o r).peer.status ≡ r.peer.status)
+    × ((popup_repositioned where_to p o r).peer.rest ≡ r.peer.rest)
+repositioned-quiet where_to p None r = (refl, refl)
+repositioned-quiet where_to p (Some q) r =
+    drawing-quiet (is_configured q) (xdg_changed q.xdg.id (repositioning (is_configured q) r.peer.serial (where_to (copying p q.popup)) p) r)
+
 grab-quiet : (b : Bool) (xdg : ℕ) (r : Resident) → ((grabbed b xdg r).peer.status ≡ r.peer.status) × ((grabbed b xdg r).peer.rest ≡ r.peer.rest)
 grab-quiet true xdg r = (refl, refl)
 grab-quiet false xdg r = (refl, refl)
@@ -193,6 +203,7 @@ change-quiet c (SetMode link synchronised) d r = mode-quiet link synchronised r
 change-quiet c (GetPointer id version) d r = drawing-quiet (has_focus c d.pointer.focus) (record r { pointers = in_rising_order id r.pointers })
 change-quiet c (MakeCursor surface) d r = (refl, refl)
 change-quiet c (GetPopup id version xdg parent p) d r = popup-quiet id xdg parent p (xdg_at xdg r.owned.shell) r
+change-quiet c (Reposition xdg token p) d r = repositioned-quiet (placement_now c r d) p (popup_at xdg r.owned.shell) r
 change-quiet c (Grab xdg serial) d r = grab-quiet (grab_allowed c xdg serial r d) xdg r
 change-quiet c (EndPopup id xdg) d r = (refl, refl)
 change-quiet c (EndToplevel id xdg top) d r = (refl, refl)
@@ -219,6 +230,7 @@ stacked-for c (SetMode link synchronised) r windows d = refl
 stacked-for c (GetPointer id version) r windows d = refl
 stacked-for c (MakeCursor surface) r windows d = refl
 stacked-for c (GetPopup id version xdg parent p) r windows d = refl
+stacked-for c (Reposition xdg token p) r windows d = refl
 stacked-for c (Grab xdg serial) r windows d = refl
 stacked-for c (EndPopup id xdg) r windows d = refl
 stacked-for c (EndToplevel id xdg top) r windows d = refl

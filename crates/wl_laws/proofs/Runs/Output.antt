@@ -29,6 +29,7 @@ use Rattle.wl_plain.specs.Step.{with_peer}
 use Rattle.wl_plain.specs.Act.{Act, Connect, Feed, Store, Leave, Tick, Send, Close, Motion, Button, lowest}
 use Rattle.wl_laws.proofs.Runs.Forms.{ConnectsAt, Answers, Becomes, ChangesAt, Does, LeavesAt, MovesTo, PressesIf, ReleasesIf, ServesAt, Takes, WantsOr, after_why}
 use Rattle.wl_plain.specs.Happens.{FeedsAt, Happens, IsFedAt, Reaches, StopsAt, TellsFrames, done_for, placed, point_in, wants_memory, with_press, with_release}
+use Rattle.wl_plain.specs.Demand.{Reposition}
 
 -- ---- what a step is made of
 
@@ -135,6 +136,7 @@ stacked-same c (SetMode link synchronised) r windows d = refl
 stacked-same c (GetPointer id version) r windows d = refl
 stacked-same c (MakeCursor surface) r windows d = refl
 stacked-same c (GetPopup id version xdg parent p) r windows d = refl
+stacked-same c (Reposition xdg token p) r windows d = refl
 stacked-same c (Grab xdg serial) r windows d = refl
 stacked-same c (EndPopup id xdg) r windows d = refl
 stacked-same c (Move surface serial) r windows d = refl

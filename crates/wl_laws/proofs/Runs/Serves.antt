@@ -31,6 +31,7 @@ use Rattle.wl_laws.proofs.Lists.Keys.{none-some}
 use Rattle.wl_laws.proofs.Runs.Ends.{end_all-leads, queues-once, same-pair}
 use Rattle.wl_laws.proofs.Runs.Fates.{Follows, Lives, follows-on, lasting, put-follows, status-here, status-lives, still}
 use Rattle.wl_laws.proofs.Runs.Leads.{After, Leads, Spares, chained, from, given, nowhere, only, spares-first, spares-rest, unless, worded}
+use Rattle.wl_plain.specs.Demand.{Reposition}
 
 -- ---- what becomes of a client
 
@@ -151,6 +152,7 @@ demand-clients c (SetMode link synchronised) r windows d = refl
 demand-clients c (GetPointer id version) r windows d = refl
 demand-clients c (MakeCursor surface) r windows d = refl
 demand-clients c (GetPopup id version xdg parent p) r windows d = refl
+demand-clients c (Reposition xdg token p) r windows d = refl
 demand-clients c (Grab xdg serial) r windows d = refl
 demand-clients c (EndPopup id xdg) r windows d = refl
 demand-clients c (EndToplevel id xdg top) r windows d = refl

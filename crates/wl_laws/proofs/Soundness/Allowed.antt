@@ -33,6 +33,13 @@ use Rattle.wl_laws.proofs.Soundness.AllowedHeard.{fresh-first, judged-hears, nam
 use Rattle.wl_laws.proofs.Soundness.AllowedOwn.{IsHeardBy}
 use Rattle.wl_laws.proofs.Lists.Keys.{found-passes, some-same}
 use Rattle.wl_laws.proofs.Marks.Stacks.{or-left, or-right}
+use Rattle.wl_xdg_state.specs.Popups.{is_configured}
+use Rattle.wl_xdg_state.specs.Positioner.{Positioner, is_complete}
+use Rattle.wl_plain.specs.Demanding.{if_whole}
+use Rattle.wl_plain.specs.WlSurface.{will_be_whole}
+use Rattle.wl_plain.specs.XdgPopup.{positioner_of, repositioned_by}
+use Rattle.std.specs.Prelude.{Err, Result}
+use Rattle.wl_peer.specs.declared.refusals.Refusal.{Refusal}
 
 -- ---- surfaces
 
@@ -44,6 +51,11 @@ committed-allowed r (Some x) object Stays = tt
 committed-allowed r (Some x) object Maps = tt
 committed-allowed r (Some x) object Unmaps = tt
 
+whole-allowed : (r : Resident) (b : Bool) (object : ℕ) (demand : Result Demand Refusal) → Allows r demand → Allows r (if_whole b object demand)
+whole-allowed r true object demand is = is
+whole-allowed r false object (Ok demand) is = tt
+whole-allowed r false object (Err refusal) is = tt
+
 surface-allowed : (r : Resident) (object version opcode : ℕ) (fields : List Field) → IsHeardBy WlSurface r object opcode fields
     → Allows r (surface_demand r object version (surface_request opcode fields))
 surface-allowed r object version zero fields heard =
@@ -53,10 +65,13 @@ surface-allowed r object version (suc (suc zero)) fields heard = tt
 surface-allowed r object version (suc (suc (suc zero))) fields heard = fresh-first r.peer.objects _ [] _ fields heard.kinds heard.fresh
 surface-allowed r object version (suc (suc (suc (suc zero)))) fields heard = tt
 surface-allowed r object version (suc (suc (suc (suc (suc zero))))) fields heard = tt
-surface-allowed r object version (suc (suc (suc (suc (suc (suc zero)))))) fields heard = committed-allowed r (xdg_of object r.owned.shell) object (effect_of_commit r object)
+surface-allowed r object version (suc (suc (suc (suc (suc (suc zero)))))) fields heard =
+    whole-allowed r (will_be_whole r object) object _ (committed-allowed r (xdg_of object r.owned.shell) object (effect_of_commit r object))
 surface-allowed r object version (suc (suc (suc (suc (suc (suc (suc zero))))))) fields heard =
     ask-either r (int_le (pos 0) (number_in 0 fields) && int_le (number_in 0 fields) (pos 7)) _ _ (λ l. tt) (λ l. tt)
-surface-allowed r object version (suc (suc (suc (suc (suc (suc (suc (suc opcode)))))))) fields heard = absurd heard.kinds
+surface-allowed r object version (suc (suc (suc (suc (suc (suc (suc (suc zero)))))))) fields heard = ask-either r (int_le (pos 1) (number_in 0 fields)) _ _ (λ l. tt) (λ l. tt)
+surface-allowed r object version (suc (suc (suc (suc (suc (suc (suc (suc (suc zero))))))))) fields heard = tt
+surface-allowed r object version (suc (suc (suc (suc (suc (suc (suc (suc (suc (suc opcode)))))))))) fields heard = absurd heard.kinds
 
 -- ---- subsurfaces
 
@@ -176,10 +191,17 @@ grab-allowed : (r : Resident) (object serial : ℕ) (x : Xdg) (o : Option Popped
 grab-allowed r object serial x None = tt
 grab-allowed r object serial x (Some p) = either r p.popup.is_dismissed _ _ (λ e. tt) (λ e. either r (is_popup_mapped p) _ _ (λ f. tt) (λ f. tt))
 
+repositioned-allowed : (r : Resident) (x : Xdg) (token : ℕ) (p : Positioner) (o : Option Popped) → Allows r (repositioned_by x token p o)
+repositioned-allowed r x token p None = tt
+repositioned-allowed r x token p (Some q) =
+    either r (is_configured q && is_full x.configures) _ _ (λ e. tt) (λ e. either r (is_complete p) _ _ (λ f. tt) (λ f. tt))
+
 popup-allowed : (r : Resident) (object : ℕ) (o : Option Xdg) → xdg_with object r.owned.shell ≡ o → IsObject XdgPopup object r → (request : XdgPopupRequest) → Allows r (popup_asked r object o request)
 popup-allowed r object None is live request = tt
 popup-allowed r object (Some x) is live popup.Destroy = either r (is_parent x.id r.owned.shell) _ _ (λ f. tt) (λ f. (live, subst (λ o. HasId x.id o) (sym is) refl))
 popup-allowed r object (Some x) is live (popup.Grab seat serial) = grab-allowed r object serial x (popup_at x.id r.owned.shell)
+popup-allowed r object (Some x) is live (popup.Reposition positioner token) =
+    repositioned-allowed r x token (positioner_of (r.peer.positioners positioner)) (popup_at x.id r.owned.shell)
 
 -- ---- every interface
 

@@ -22,6 +22,7 @@ use Rattle.wl_proto.specs.declared.xdg_positioner.XdgPositionerRequest.TheVarian
 use Rattle.wl_xdg_state.specs.Settings.{is_allowed}
 use Rattle.wl_xdg_state.specs.declared.settings.Setting.{Setting}
 use Rattle.wl_xdg_state.specs.declared.settings.Setting.TheVariants.{Size, AnchorRect, Anchor, Gravity, Adjustment, Offset}
+use Rattle.wl_xdg_state.specs.declared.settings.Setting.TheVariants.{ParentConfigure, ParentSize, Reactive}
 use Rattle.wl_peer.specs.Requests.{pool_request, positioner_request, region_request, rect, request_in, number_in, text_in, word_in}
 use Rattle.wl_peer.specs.Objects.{Global, bound_interface, globals, is_bound}
 use Rattle.wl_plain.specs.Desktop.{Resident}
@@ -146,6 +147,9 @@ positioner-allowed r object (positioner.SetAnchor anchor) live = set-allowed r o
 positioner-allowed r object (positioner.SetGravity gravity) live = set-allowed r object (Gravity gravity)
 positioner-allowed r object (positioner.SetConstraintAdjustment adjustment) live = set-allowed r object (Adjustment adjustment)
 positioner-allowed r object (positioner.SetOffset x y) live = set-allowed r object (Offset x y)
+positioner-allowed r object positioner.SetReactive live = set-allowed r object Reactive
+positioner-allowed r object (positioner.SetParentSize width height) live = set-allowed r object (ParentSize width height)
+positioner-allowed r object (positioner.SetParentConfigure serial) live = set-allowed r object (ParentConfigure serial)
 
 -- what a client's own interfaces accept
 pub own-allowed : (interface : Interface) (r : Resident) (object opcode : ℕ) (fields : List Field) → IsHeardBy interface r object opcode fields → (known : Known) (version : ℕ)

@@ -27,6 +27,10 @@ use Rattle.wl_laws.proofs.Soundness.Roles.{roles-kept, roles-same}
 use Rattle.wl_laws.proofs.Soundness.RunMessages.{MessageKeeps}
 use Rattle.wl_laws.proofs.Soundness.Standing.{standing-kept}
 use Rattle.wl_laws.proofs.Marks.Stacks.{and-right, any-more, differ}
+use Rattle.wl_xdg_state.specs.Popups.{Popped, copying, is_configured, popup_at, repositioning}
+use Rattle.wl_plain.specs.Changing.{popup_repositioned}
+use Rattle.wl_plain.specs.Demand.{Reposition}
+use Rattle.wl_plain.specs.Step.{xdg_changed}
 
 -- ---- what is allowed is so once the message is counted
 
@@ -74,6 +78,7 @@ module _ (r : Resident) (rest : List ℕ) where
   allowed-counted (GetPointer id version) h = h
   allowed-counted (MakeCursor surface) h = h
   allowed-counted (GetPopup id version xdg parent p) h = h
+  allowed-counted (Reposition xdg token p) h = h
   allowed-counted (Grab xdg serial) h = h
   allowed-counted (EndPopup id xdg) h = h
   allowed-counted (EndToplevel id xdg top) h = h
@@ -97,6 +102,11 @@ grab-surfaces false xdg r = refl
 drawn-surfaces : (b : Bool) (r : Resident) → (drawing b r).owned.surfaces ≡ r.owned.surfaces
 drawn-surfaces true r = refl
 drawn-surfaces false r = refl
+
+repositioned-surfaces : (where_to : Placing) (p : Positioner) (o : Option Popped) (r : Resident) → (popup_repositioned where_to p o r).owned.surfaces ≡ r.owned.surfaces
+repositioned-surfaces where_to p None r = refl
+repositioned-surfaces where_to p (Some q) r =
+    drawn-surfaces (is_configured q) (xdg_changed q.xdg.id (repositioning (is_configured q) r.peer.serial (where_to (copying p q.popup)) p) r)
 
 -- a surface that has no wl_subsurface is nobody's child
 no-child : (r : Resident) (child : ℕ) → HasRoles r → has_subsurface child r ≡ false → (n : ℕ) (link : Link) → IsLive n link r.owned.surfaces → link.child ≡ child → ⊥
@@ -153,6 +163,8 @@ forest-kept c (GetPointer id version) r d ok roles forest =
     by-same r.peer.requests r.owned.surfaces _ (drawn-surfaces (has_focus c d.pointer.focus) (record r { pointers = in_rising_order id r.pointers })) forest
 forest-kept c (MakeCursor surface) r d ok roles forest = next r.peer.requests _ (forest-role r.peer.requests surface _ r.owned.surfaces forest)
 forest-kept c (GetPopup id version xdg parent p) r d ok roles forest = popup-forest r.peer.requests id xdg parent p (xdg_at xdg r.owned.shell) r forest
+forest-kept c (Reposition xdg token p) r d ok roles forest =
+    by-same r.peer.requests r.owned.surfaces _ (repositioned-surfaces (placement_now c r d) p (popup_at xdg r.owned.shell) r) forest
 forest-kept c (Grab xdg serial) r d ok roles forest =
     by-same r.peer.requests r.owned.surfaces _ (grab-surfaces (grab_allowed c xdg serial r d) xdg r) forest
 forest-kept c (EndPopup id xdg) r d ok roles forest = next r.peer.requests r.owned.surfaces forest

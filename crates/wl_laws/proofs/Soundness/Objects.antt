@@ -17,7 +17,7 @@ use Rattle.wl_surface.specs.Surfaces.{Surfaces, history_in, is_used, with_new, w
 use Rattle.wl_surface.specs.Trees.{committed_in, desynchronised_in, destroyed_in, linked, synchronised_in}
 use Rattle.wl_state.specs.declared.role.Role.TheVariants as role
 use Rattle.wl_surface.specs.Waiting.{Callback}
-use Rattle.wl_xdg_state.specs.Popups.{Popped, dismissed_among, dismissed_with, dismissing, is_parent_of, orphan, orphaning, placing, popup_changed, with_grab, without_grab}
+use Rattle.wl_xdg_state.specs.Popups.{Popped, dismissed_among, dismissed_with, dismissing, is_parent_of, orphan, orphaning, placing, popup_changed, with_grab}
 use Rattle.wl_xdg_state.specs.Positioner.{Positioner}
 use Rattle.wl_xdg_state.specs.Shell.{Effect, Stays, Unconfigured, Configures, Maps, Unmaps, Waiting, Mapped, Shell, XdgSurface as Xdg, acknowledging, configuring, in_stage, unmapping, with_change}
 use Rattle.wl_xdg_state.specs.Shell.{without_role, xdg_at, xdg_of}
@@ -36,10 +36,14 @@ use Rattle.wl_laws.proofs.Soundness.ObjectsHas.{Has, HasOf, has-made, has-of, ha
 use Rattle.wl_laws.proofs.Soundness.ObjectsKeys.{free-none, none-of-gone, objects-map}
 use Rattle.wl_laws.proofs.Soundness.ObjectsNew.{has-callback-more, has-object, has-object-gone, has-popup-more, has-subsurface-gone, has-subsurface-more, has-toplevel-more, has-xdg-gone, has-xdg-more}
 use Rattle.wl_laws.proofs.Soundness.ObjectsRoles.{has-popup-gone, has-toplevel-gone, only-mapped, only-popup, only-toplevel}
-use Rattle.wl_laws.proofs.Soundness.ObjectsShell.{BringsNoId, has-mapped, no-id-acknowledged, no-id-change, no-id-configured, no-id-dismissed, no-id-itself, no-id-popup, no-id-stage, no-id-then}
+use Rattle.wl_laws.proofs.Soundness.ObjectsShell.{BringsNoId, has-mapped, no-id-acknowledged, no-id-arriving, no-id-repositioned, no-id-change, no-id-configured, no-id-dismissed, no-id-itself, no-id-popup, no-id-stage, no-id-then}
 use Rattle.wl_laws.proofs.Soundness.ObjectsShell.{no-id-unmapped}
 use Rattle.wl_laws.proofs.Soundness.ObjectsThere.{There, there-changed, there-committed, there-desynchronised, there-destroyed, there-linked, there-more, there-new, there-unlinked}
 use Rattle.wl_laws.proofs.Lists.Keys.{differ}
+use Rattle.wl_xdg_state.specs.Popups.{arriving, copying, is_configured, popup_at, repositioning, unmapped, waiting_in}
+use Rattle.wl_xdg_state.specs.Positioner.{Placed}
+use Rattle.wl_plain.specs.Changing.{popup_repositioned}
+use Rattle.wl_plain.specs.Demand.{Reposition}
 
 -- where nothing of it changes
 pub objects-same : (r q : Resident) → q.peer.objects ≡ r.peer.objects → q.owned ≡ r.owned → q.subsurfaces ≡ r.subsurfaces → q.callbacks ≡ r.callbacks → HasObjects r → HasObjects q
@@ -79,17 +83,19 @@ configured-has r id h = xdg-has r id (configuring r.peer.serial) (no-id-configur
 
 effect-has : (where_to : Placing) (surface : ℕ) (effect : Effect) (x : Option Xdg) (q : Resident) → HasOf q → HasOf (effect_placing where_to surface effect x q)
 effect-has where_to surface effect None q h = h
-effect-has where_to surface Stays (Some x) q h = xdg-has q x.id (λ y. y) no-id-itself h
+effect-has where_to surface Stays (Some x) q h = xdg-has q x.id (λ y. arriving (waiting_in y.role) y) no-id-arriving h
 effect-has where_to surface Unconfigured (Some x) q h = xdg-has q x.id (λ y. y) no-id-itself h
 effect-has where_to surface Configures (Some x) q h =
     let placed : Xdg → Xdg = λ y. popup_changed (placing where_to) (in_stage Waiting y) in
     xdg-has q x.id (λ y. configuring q.peer.serial (placed y))
     (no-id-then placed (configuring q.peer.serial) (no-id-then (in_stage Waiting) (popup_changed (placing where_to)) (no-id-stage Waiting) (no-id-popup (placing where_to)))
     (no-id-configured q.peer.serial)) h
-effect-has where_to surface Maps (Some x) q h = xdg-has q x.id (in_stage Mapped) (no-id-stage Mapped) h
+effect-has where_to surface Maps (Some x) q h =
+    xdg-has q x.id (λ y. in_stage Mapped (arriving (waiting_in y.role) y))
+    (no-id-then (λ y. arriving (waiting_in y.role) y) (in_stage Mapped) no-id-arriving (no-id-stage Mapped)) h
 effect-has where_to surface Unmaps (Some x) q h =
-    xdg-has q x.id (λ x. popup_changed without_grab (unmapping (asked_so_far surface q) x))
-    (no-id-then (unmapping (asked_so_far surface q)) (popup_changed without_grab) (no-id-unmapped (asked_so_far surface q)) (no-id-popup without_grab)) h
+    xdg-has q x.id (λ x. popup_changed unmapped (unmapping (asked_so_far surface q) x))
+    (no-id-then (unmapping (asked_so_far surface q)) (popup_changed unmapped) (no-id-unmapped (asked_so_far surface q)) (no-id-popup unmapped)) h
 
 -- ---- the end of a surface
 
@@ -197,6 +203,15 @@ toplevel-gone id xdg top r ok h =
     has-toplevel-gone r.peer.objects r.owned.surfaces r.subsurfaces (orphaning xdg dismissed) r.callbacks second id xdg ok.0
     (only-mapped has_toplevel id xdg (popup_changed (orphan xdg)) dismissed (no-id-popup (orphan xdg)).id ((no-id-popup (orphan xdg)).toplevel id) only_first)
 
+reposition-has : (b : Bool) (xdg serial : ℕ) (placement : Option Placed) (p : Positioner) (r : Resident) → HasOf r
+    → HasOf (drawing b (xdg_changed xdg (repositioning b serial placement p) r))
+reposition-has true xdg serial placement p r h = xdg-has r xdg (repositioning true serial placement p) (no-id-repositioned true serial placement p) h
+reposition-has false xdg serial placement p r h = xdg-has r xdg (repositioning false serial placement p) (no-id-repositioned false serial placement p) h
+
+repositioned-has : (where_to : Placing) (p : Positioner) (o : Option Popped) (r : Resident) → HasOf r → HasOf (popup_repositioned where_to p o r)
+repositioned-has where_to p None r h = h
+repositioned-has where_to p (Some q) r h = reposition-has (is_configured q) q.xdg.id r.peer.serial (where_to (copying p q.popup)) p r h
+
 grabbed-has : (b : Bool) (xdg : ℕ) (r : Resident) → HasOf r → HasOf (grabbed b xdg r)
 grabbed-has true xdg r h = xdg-has r xdg (popup_changed with_grab) (no-id-popup with_grab) h
 grabbed-has false xdg r h =
@@ -247,6 +262,7 @@ changed-has c (GetPointer id version) r d ok h = pointer-made (has_focus c d.poi
 changed-has c (MakeCursor surface) r d ok h =
     there-has r (with_surface_change surface (with_role role.Cursor) r.owned.surfaces) (there-changed surface (with_role role.Cursor) r.owned.surfaces (λ s. refl)) h
 changed-has c (GetPopup id version xdg parent p) r d ok h = popup-made id version xdg parent p r (xdg_at xdg r.owned.shell) ok.0 refl h
+changed-has c (Reposition xdg token p) r d ok h = repositioned-has (placement_now c r d) p (popup_at xdg r.owned.shell) r h
 changed-has c (Grab xdg serial) r d ok h = grabbed-has (grab_allowed c xdg serial r d) xdg r h
 changed-has c (EndPopup id xdg) r d ok h = popup-ended id xdg r ok h
 changed-has c (EndToplevel id xdg top) r d ok h = toplevel-gone id xdg top r ok h

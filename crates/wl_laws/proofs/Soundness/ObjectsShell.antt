@@ -13,6 +13,9 @@ use Rattle.wl_plain.specs.Desktop.{Subsurface}
 use Rattle.wl_laws.proofs.Soundness.Orderly.{is_popup_at, is_toplevel_at}
 use Rattle.wl_laws.proofs.Soundness.ObjectsHas.{Has, has-shell, has_popup, has_toplevel, has_xdg}
 use Rattle.wl_laws.proofs.Soundness.ObjectsKeys.{objects-map}
+use Rattle.wl_xdg_state.specs.Popups.{arrive, arriving, copying, repositioning, waiting_in}
+use Rattle.wl_xdg_state.specs.Shell.{Configure, awaiting, configuring_with, up_to}
+use Rattle.wl_xdg_state.specs.Positioner.{Placed, Positioner}
 
 -- ---- a change by which no new id comes
 
@@ -73,18 +76,50 @@ no-id-stage stage = record {
   popup = λ key x e. sym (role-popup key (at_stage stage) (λ object. refl) (λ object. refl) x.role) ∙ e;
 }
 
+awaiting-kind : (configures : List Configure) (kind : Kind) → is_toplevel_kind (awaiting configures kind) ≡ is_toplevel_kind kind
+awaiting-kind configures Toplevel = refl
+awaiting-kind configures (IsPopup popup) = refl
+
 pub no-id-acknowledged : (serial : ℕ) → BringsNoId (acknowledging serial)
 no-id-acknowledged serial = record {
   id = λ x. refl;
-  toplevel = λ key x e. sym (role-toplevel key role_acknowledged (λ object. refl) (λ object. refl) x.role) ∙ e;
-  popup = λ key x e. sym (role-popup key role_acknowledged (λ object. refl) (λ object. refl) x.role) ∙ e;
+  toplevel = λ key x e.
+      let cs = up_to serial x.configures in
+      sym (role-toplevel key (role_acknowledged cs) (λ object. refl) (λ object. awaiting-kind cs object.kind) x.role) ∙ e;
+  popup = λ key x e.
+      let cs = up_to serial x.configures in
+      sym (role-popup key (role_acknowledged cs) (λ object. refl) (λ object. awaiting-kind cs object.kind) x.role) ∙ e;
 }
+
+-- a placement that waits comes into force
+pub no-id-arriving : BringsNoId (λ x. arriving (waiting_in x.role) x)
+no-id-arriving = record { id = λ x. id x (waiting_in x.role); toplevel = λ key x. toplevel key x (waiting_in x.role); popup = λ key x. popup key x (waiting_in x.role) }
+  where
+    id : (x : Xdg) (o : Option Placed) → (arriving o x).id ≡ x.id
+    id x None = refl
+    id x (Some placed) = refl
+
+    toplevel : (key : ℕ) (x : Xdg) (o : Option Placed) → has_toplevel key (arriving o x) ≡ true → has_toplevel key x ≡ true
+    toplevel key x None e = e
+    toplevel key x (Some placed) e = (no-id-popup (arrive placed)).toplevel key x e
+
+    popup : (key : ℕ) (x : Xdg) (o : Option Placed) → has_popup key (arriving o x) ≡ true → has_popup key x ≡ true
+    popup key x None e = e
+    popup key x (Some placed) e = (no-id-popup (arrive placed)).popup key x e
 
 pub no-id-itself : BringsNoId (λ x. x)
 no-id-itself = record { id = λ x. refl; toplevel = λ key x e. e; popup = λ key x e. e }
 
 pub no-id-configured : (serial : ℕ) → BringsNoId (configuring serial)
 no-id-configured serial = record { id = λ x. refl; toplevel = λ key x e. e; popup = λ key x e. e }
+
+pub no-id-configured-with : (serial : ℕ) (placement : Option Placed) → BringsNoId (configuring_with serial placement)
+no-id-configured-with serial placement = record { id = λ x. refl; toplevel = λ key x e. e; popup = λ key x e. e }
+
+pub no-id-repositioned : (b : Bool) (serial : ℕ) (placement : Option Placed) (p : Positioner) → BringsNoId (repositioning b serial placement p)
+no-id-repositioned true serial placement p =
+    no-id-then (popup_changed (copying p)) (configuring_with serial placement) (no-id-popup (copying p)) (no-id-configured-with serial placement)
+no-id-repositioned false serial placement p = no-id-popup (copying p)
 
 pub no-id-unmapped : (since : ℕ) → BringsNoId (unmapping since)
 no-id-unmapped since = record { id = λ x. refl; toplevel = (no-id-stage _).toplevel; popup = (no-id-stage _).popup }

@@ -30,6 +30,7 @@ use Rattle.wl_laws.specs.Soundness.{AreOnce, IsLive}
 use Rattle.wl_plain.specs.WlPointer.{is_no_cursor}
 use Rattle.wl_plain.specs.WlSubsurface.{has_subsurface, is_no_subsurface, is_of_child}
 use Rattle.wl_plain.specs.XdgShell.{is_foreign, role_of}
+use Rattle.wl_plain.specs.Demand.{Reposition}
 
 -- ---- objects
 
@@ -196,6 +197,7 @@ IsAllowed r (SetMode link synchronised) = Unit {0}
 IsAllowed r (GetPointer id version) = IsNew id r
 IsAllowed r (MakeCursor surface) = (is_no_cursor (role_of r surface) ≡ false) × (xdg_of surface r.owned.shell ≡ None)
 IsAllowed r (GetPopup id version xdg parent p) = IsNew id r × HasNoRole (xdg_at xdg r.owned.shell)
+IsAllowed r (Reposition xdg token p) = Unit {0}
 IsAllowed r (Grab xdg serial) = Unit {0}
 IsAllowed r (EndPopup id xdg) = IsObject XdgPopup id r × HasId xdg (xdg_with id r.owned.shell)
 IsAllowed r (EndToplevel id xdg top) = IsObject XdgToplevel id r × HasId xdg (xdg_with id r.owned.shell) × IsOn top (xdg_with id r.owned.shell)

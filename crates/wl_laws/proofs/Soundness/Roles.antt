@@ -37,6 +37,10 @@ use Rattle.wl_plain.specs.Demanding.{effect_of_commit}
 use Rattle.wl_plain.specs.Ask.{Ask, Own, CreateSurface, AskSurface, EndObject, GetXdgSurface, DestroyXdgSurface, GetToplevel, Acknowledge, ConfigureAgain, Ignore}
 use Rattle.wl_plain.specs.Demand.{Demand, Asks, EndSurface, AskFrame, CommitTree, GetSubsurface, EndSubsurface, SetMode, GetPointer, MakeCursor}
 use Rattle.wl_plain.specs.Demand.{GetPopup, Grab, EndPopup, EndToplevel, Move}
+use Rattle.wl_xdg_state.specs.Popups.{arriving, copying, is_configured, popup_at, repositioning, waiting_in}
+use Rattle.wl_xdg_state.specs.Positioner.{Placed}
+use Rattle.wl_plain.specs.Changing.{popup_repositioned}
+use Rattle.wl_plain.specs.Demand.{Reposition}
 
 -- ---- what is kept
 
@@ -349,13 +353,18 @@ roles-destroyed surface r links has =
 
 -- ---- a commit
 
+pub arriving-surface : (o : Option Placed) (x : XdgSurface) → (arriving o x).surface ≡ x.surface
+arriving-surface None x = refl
+arriving-surface (Some placed) x = refl
+
 roles-effect : (where_to : Placing) (surface : ℕ) (effect : Effect) (o : Option XdgSurface) (r : Resident) → HasRoles r → HasRoles (effect_placing where_to surface effect o r)
 roles-effect where_to surface effect None r has = has
-roles-effect where_to surface Stays (Some x) r has = roles-shell r (with_change x.id (λ y. y) r.owned.shell) (shell-changed x.id (λ y. y) r.owned.shell (λ y. refl)) has
+roles-effect where_to surface Stays (Some x) r has = roles-shell r _ (shell-changed x.id (λ y. arriving (waiting_in y.role) y) r.owned.shell (λ y. arriving-surface (waiting_in y.role) y)) has
 roles-effect where_to surface Unconfigured (Some x) r has = roles-shell r (with_change x.id (λ y. y) r.owned.shell) (shell-changed x.id (λ y. y) r.owned.shell (λ y. refl)) has
 roles-effect where_to surface Configures (Some x) r has =
     roles-trees r (effect_placing where_to surface Configures (Some x) r) (trees-same r.owned.surfaces) (shell-changed x.id _ r.owned.shell (λ y. refl)) refl has
-roles-effect where_to surface Maps (Some x) r has = roles-shell r (with_change x.id (in_stage Mapped) r.owned.shell) (shell-changed x.id (in_stage Mapped) r.owned.shell (λ y. refl)) has
+roles-effect where_to surface Maps (Some x) r has =
+    roles-shell r _ (shell-changed x.id (λ y. in_stage Mapped (arriving (waiting_in y.role) y)) r.owned.shell (λ y. arriving-surface (waiting_in y.role) y)) has
 roles-effect where_to surface Unmaps (Some x) r has = roles-shell r _ (shell-changed x.id _ r.owned.shell (λ y. refl)) has
 
 pub roles-committed : (c surface : ℕ) (r : Resident) (d : Desktop) → HasRoles r → HasRoles (commit_done c surface r d)
@@ -375,6 +384,17 @@ roles-grabbed false xdg r has = roles-dismissed (λ p. p.xdg.id == xdg) r has
 roles-drawn : (b : Bool) (r : Resident) → HasRoles r → HasRoles (drawing b r)
 roles-drawn true r has = roles-same r (drawing true r) refl refl has
 roles-drawn false r has = has
+
+pub repositioning-surface : (b : Bool) (serial : ℕ) (placement : Option Placed) (p : Positioner) (x : XdgSurface) → (repositioning b serial placement p x).surface ≡ x.surface
+repositioning-surface true serial placement p x = refl
+repositioning-surface false serial placement p x = refl
+
+roles-repositioned : (where_to : Placing) (p : Positioner) (o : Option Popped) (r : Resident) → HasRoles r → HasRoles (popup_repositioned where_to p o r)
+roles-repositioned where_to p None r has = has
+roles-repositioned where_to p (Some q) r has =
+    let change : XdgSurface → XdgSurface = repositioning (is_configured q) r.peer.serial (where_to (copying p q.popup)) p in
+    roles-drawn (is_configured q) (xdg_changed q.xdg.id change r)
+    (roles-changed q.xdg.id change r (repositioning-surface (is_configured q) r.peer.serial (where_to (copying p q.popup)) p) has)
 
 roles-ended : (id xdg : ℕ) (r : Resident) → HasRoles r → HasRoles (toplevel_ended id xdg r)
 roles-ended id xdg r has =
@@ -426,6 +446,7 @@ roles-kept c (GetPointer id version) r d is objects forest has =
 roles-kept c (MakeCursor surface) r d is objects forest has = roles-cursor surface r is.0 has
 roles-kept c (GetPopup id version xdg parent p) r d is objects forest has =
     roles-same (popup_given_to id xdg parent p (xdg_at xdg r.owned.shell) r) (popup_given id version xdg parent p r) refl refl (roles-popup id xdg parent p r has)
+roles-kept c (Reposition xdg token p) r d is objects forest has = roles-repositioned (placement_now c r d) p (popup_at xdg r.owned.shell) r has
 roles-kept c (Grab xdg serial) r d is objects forest has = roles-grabbed (grab_allowed c xdg serial r d) xdg r has
 roles-kept c (EndPopup id xdg) r d is objects forest has = roles-same (xdg_changed xdg without_role r) (changed_for c (EndPopup id xdg) r d) refl refl
     (roles-changed xdg without_role r (λ x. refl) has)

@@ -18,6 +18,10 @@ use Rattle.wl_plain.specs.Demand.{GetPopup, Grab, EndPopup, EndToplevel, Move}
 use Rattle.wl_plain.specs.Demanding.{effect_of_commit}
 use Rattle.wl_plain.specs.Desktop.{Desktop, Resident}
 use Rattle.wl_plain.specs.Step.{changed_by, toplevel_given}
+use Rattle.wl_xdg_state.specs.Popups.{Popped, copying, is_configured, popup_at, repositioning}
+use Rattle.wl_plain.specs.Changing.{popup_repositioned}
+use Rattle.wl_plain.specs.Demand.{Reposition}
+use Rattle.wl_plain.specs.Step.{xdg_changed}
 
 abbrev pub IsSteady : Peer → Peer → Type 0
 IsSteady p q = (q.status ≡ p.status) × (q.requests ≡ p.requests)
@@ -87,6 +91,11 @@ drawing-steady : (b : Bool) (r : Resident) → IsSteady r.peer (drawing b r).pee
 drawing-steady true r = (refl, refl)
 drawing-steady false r = (refl, refl)
 
+repositioned-steady : (where_to : Placing) (p : Positioner) (o : Option Popped) (r : Resident) → IsSteady r.peer (popup_repositioned where_to p o r).peer
+repositioned-steady where_to p None r = (refl, refl)
+repositioned-steady where_to p (Some q) r =
+    drawing-steady (is_configured q) (xdg_changed q.xdg.id (repositioning (is_configured q) r.peer.serial (where_to (copying p q.popup)) p) r)
+
 pub changed-steady : (c : ℕ) (demand : Demand) (d : Desktop) (r : Resident) → IsSteady r.peer (changed_for c demand r d).peer
 changed-steady c (Asks ask) d r = asked-steady ask r
 changed-steady c (EndSurface id) d r = callbacks-steady (callbacks_of id r) _
@@ -98,6 +107,7 @@ changed-steady c (SetMode link synchronised) d r = mode-steady link synchronised
 changed-steady c (GetPointer id version) d r = drawing-steady (has_focus c d.pointer.focus) (record r { pointers = in_rising_order id r.pointers })
 changed-steady c (MakeCursor surface) d r = (refl, refl)
 changed-steady c (GetPopup id version xdg parent p) d r = popup-steady id xdg parent p (xdg_at xdg r.owned.shell) r
+changed-steady c (Reposition xdg token p) d r = repositioned-steady (placement_now c r d) p (popup_at xdg r.owned.shell) r
 changed-steady c (Grab xdg serial) d r = grab-steady (grab_allowed c xdg serial r d) xdg r
 changed-steady c (EndPopup id xdg) d r = (refl, refl)
 changed-steady c (EndToplevel id xdg top) d r = (refl, refl)

@@ -6,7 +6,7 @@ use Rattle.std.specs.Option.{option_map, option_map_or}
 use Rattle.std.proofs.lemmas.Bool.{eqb-true, ne_eqb, or_left, or_right}
 use Rattle.std.proofs.lemmas.List.Elements.{filter-append}
 use Rattle.wl_xdg_state.specs.Popups.{Popped, dismiss, dismissed_among, dismissed_with, dismissing, is_among, is_parent_of, is_toplevel, is_toplevel_kind, new_popup, orphan, orphaning, popped_of}
-use Rattle.wl_xdg_state.specs.Popups.{popup_changed, with_grab, with_popup, with_popup_role, without_grab}
+use Rattle.wl_xdg_state.specs.Popups.{popup_changed, with_grab, with_popup, with_popup_role}
 use Rattle.wl_xdg_state.specs.declared.stage.Stage.{Stage}
 use Rattle.wl_xdg_state.specs.Shell.{Configures, Effect, IsPopup, Kind, Mapped, Maps, Popup, RoleObject, Shell, Stays, Toplevel, Unconfigured, Unmaps, XdgSurface, at_stage, in_stage, on_commit}
 use Rattle.wl_xdg_state.specs.Shell.{with_change, with_new, without_xdg, xdg_at, xdg_of, configuring, unmapping, acknowledged, acknowledging, is_role, new_toplevel, role_acknowledged, without_role}
@@ -31,6 +31,12 @@ use Rattle.wl_interface.specs.declared.interface.Interface.TheVariants.{XdgPopup
 use Rattle.wl_plain.specs.Ask.{Ask, Own, CreateSurface, AskSurface, EndObject, GetXdgSurface, DestroyXdgSurface, GetToplevel, Acknowledge, ConfigureAgain, Ignore}
 use Rattle.wl_plain.specs.Demand.{Demand, Asks, EndSurface, AskFrame, CommitTree, GetSubsurface, EndSubsurface, SetMode, GetPointer, MakeCursor}
 use Rattle.wl_plain.specs.Demand.{GetPopup, Grab, EndPopup, EndToplevel, Move}
+use Rattle.wl_xdg_state.specs.Popups.{arrive, arriving, copying, is_configured, popup_at, repositioning, unmapped, waiting_in}
+use Rattle.wl_xdg_state.specs.Shell.{Configure, awaiting, up_to}
+use Rattle.wl_xdg_state.specs.Positioner.{Placed}
+use Rattle.wl_plain.specs.Changing.{popup_repositioned}
+use Rattle.wl_plain.specs.Demand.{Reposition}
+use Rattle.wl_plain.specs.Step.{xdg_changed}
 
 -- ---- lists
 
@@ -265,6 +271,35 @@ mapped-stays : (o : Option RoleObject) → IsMappedRole o → IsMappedRole (opti
 mapped-stays None is = is
 mapped-stays (Some object) is = (is.0, refl)
 
+arriving-surface : (o : Option Placed) (y : XdgSurface) → (arriving o y).surface ≡ y.surface
+arriving-surface None y = refl
+arriving-surface (Some placed) y = refl
+
+arriving-role : (o : Option Placed) (y : XdgSurface) → IsMappedRole y.role → IsMappedRole (arriving o y).role
+arriving-role None y is = is
+arriving-role (Some placed) y is = popup-role (arrive placed) y.role is
+
+popup-kind : (change : Popup → Popup) (o : Option RoleObject)
+    → option_map_or (λ object. is_toplevel_kind object.kind) (option_map (with_popup_role change) o) false ≡ option_map_or (λ object. is_toplevel_kind object.kind) o false
+popup-kind change None = refl
+popup-kind change (Some object) = of object.kind
+  where
+    of : (kind : Kind) → is_toplevel_kind (with_popup change kind) ≡ is_toplevel_kind kind
+    of Toplevel = refl
+    of (IsPopup popup) = refl
+
+arriving-kind : (o : Option Placed) (y : XdgSurface)
+    → option_map_or (λ object. is_toplevel_kind object.kind) (arriving o y).role false ≡ option_map_or (λ object. is_toplevel_kind object.kind) y.role false
+arriving-kind None y = refl
+arriving-kind (Some placed) y = popup-kind (arrive placed) y.role
+
+-- it is mapped where it was placed
+abbrev mapping : XdgSurface → XdgSurface
+mapping y = in_stage Mapped (arriving (waiting_in y.role) y)
+
+mapping-surface : (y : XdgSurface) → (mapping y).surface ≡ y.surface
+mapping-surface y = arriving-surface (waiting_in y.role) y
+
 becomes-mapped : (o : Option RoleObject) → option_map_or (λ object. is_toplevel_kind object.kind) o false ≡ true → IsMappedRole (option_map (at_stage Mapped) o)
 becomes-mapped None is = absurd (differ (sym is))
 becomes-mapped (Some object) is = (toplevel-kind object.kind is, refl)
@@ -299,23 +334,31 @@ module _ (c surface : ℕ) (shell : Shell) (x : XdgSurface) (apart : AreApartBy 
       mapped-changed x.id change shell other keeps
       (λ y here same role. absurd (differ (sym (mapped-kind x.role (subst (λ (z : XdgSurface). IsMappedRole z.role) (it-changes other y here same) role)) ∙ none))) is
 
-  stays-mapped : (other : ℕ) → IsMapped (xdg_of other shell) → IsMapped (xdg_of other (with_change x.id (in_stage Mapped) shell))
-  stays-mapped other is = mapped-changed x.id (in_stage Mapped) shell other (λ y. refl) (λ y here same role. mapped-stays y.role role) is
+  stays-mapped : (other : ℕ) → IsMapped (xdg_of other shell) → IsMapped (xdg_of other (with_change x.id mapping shell))
+  stays-mapped other is =
+      mapped-changed x.id mapping shell other mapping-surface
+      (λ y here same role. mapped-stays (arriving (waiting_in y.role) y).role (arriving-role (waiting_in y.role) y role)) is
 
-  now-mapped : is_toplevel (Some x) ≡ true → IsMapped (xdg_of surface (with_change x.id (in_stage Mapped) shell))
+  now-mapped : is_toplevel (Some x) ≡ true → IsMapped (xdg_of surface (with_change x.id mapping shell))
   now-mapped is =
       subst IsMapped
-      (sym (found-map (λ x. x.surface == surface) (λ y. cond (y.id == x.id) (in_stage Mapped y) y) shell
-      (λ y. ap (λ n. n == surface) (changed-surface x.id (in_stage Mapped) (λ y. refl) y (y.id == x.id)))
-      ∙ ap (option_map (λ (y : XdgSurface). cond (y.id == x.id) (in_stage Mapped y) y)) found
-      ∙ ap (λ b. Some (cond b (in_stage Mapped x) x)) (equal-numbers x.id x.id refl)))
-      (becomes-mapped x.role is)
+      (sym (found-map (λ x. x.surface == surface) (λ y. cond (y.id == x.id) (mapping y) y) shell
+      (λ y. ap (λ n. n == surface) (changed-surface x.id mapping mapping-surface y (y.id == x.id)))
+      ∙ ap (option_map (λ (y : XdgSurface). cond (y.id == x.id) (mapping y) y)) found
+      ∙ ap (λ b. Some (cond b (mapping x) x)) (equal-numbers x.id x.id refl)))
+      (becomes-mapped (arriving (waiting_in x.role) x).role (arriving-kind (waiting_in x.role) x ∙ is))
 
   commit-maps : (m : ℕ) (shows : Bool) (ss : List Standing) → effect_for_xdg shows x ≡ Maps → is_toplevel (Some x) ≡ true → StandsSo shell (of_client c ss)
-      → StandsSo (with_change x.id (in_stage Mapped) shell) (of_client c (with_mapped m c surface ss))
+      → StandsSo (with_change x.id mapping shell) (of_client c (with_mapped m c surface ss))
   commit-maps m shows ss effect is stands =
-      standing-on m c surface ss shell (with_change x.id (in_stage Mapped) shell)
+      standing-on m c surface ss shell (with_change x.id mapping shell)
       (λ here. no-mapping (is_dismissed (popped_of x)) shows (sym (effect-mapped shows x (subst IsMapped found here)) ∙ effect)) (now-mapped is) stays-mapped stands
+
+standing-arrived : (id : ℕ) (shell : Shell) (tops : List Standing) → StandsSo shell tops → StandsSo (with_change id (λ y. arriving (waiting_in y.role) y) shell) tops
+standing-arrived id shell tops stands =
+    standing-same shell _ tops
+    (λ other here. mapped-changed id (λ y. arriving (waiting_in y.role) y) shell other (λ y. arriving-surface (waiting_in y.role) y)
+    (λ y there same role. arriving-role (waiting_in y.role) y role) here) stands
 
 standing-still : (id : ℕ) (shell : Shell) (tops : List Standing) → StandsSo shell tops → StandsSo (with_change id (λ y. y) shell) tops
 standing-still id shell tops stands =
@@ -326,19 +369,19 @@ commit-effect :
     → StandsSo r.owned.shell (toplevels_of c d)
     → (e : Effect) → effect_for_xdg shows x ≡ e → StandsSo (effect_placing where_to surface e (Some x) (tree_committed surface r)).owned.shell
     (toplevels_of c (stacked_by e (is_toplevel (Some x)) c surface d))
-commit-effect c surface where_to r d x shows apart found stands Stays is = standing-still x.id r.owned.shell (toplevels_of c d) stands
+commit-effect c surface where_to r d x shows apart found stands Stays is = standing-arrived x.id r.owned.shell (toplevels_of c d) stands
 commit-effect c surface where_to r d x shows apart found stands Unconfigured is = standing-still x.id r.owned.shell (toplevels_of c d) stands
 commit-effect c surface where_to r d x shows apart found stands Configures is =
     standing-same r.owned.shell _ (toplevels_of c d) (λ other here. commit-waits c surface r.owned.shell x apart found shows _ other (λ y. refl) is here) stands
 commit-effect c surface where_to r d x shows apart found stands Maps is = at (is_toplevel (Some x)) refl
   where
-    at : (b : Bool) → is_toplevel (Some x) ≡ b → StandsSo (with_change x.id (in_stage Mapped) r.owned.shell) (toplevels_of c (stacked_by Maps b c surface d))
+    at : (b : Bool) → is_toplevel (Some x) ≡ b → StandsSo (with_change x.id mapping r.owned.shell) (toplevels_of c (stacked_by Maps b c surface d))
     at true e = commit-maps c surface r.owned.shell x apart found d.mappings shows d.standing is e stands
-    at false e = standing-same r.owned.shell (with_change x.id (in_stage Mapped) r.owned.shell) (toplevels_of c d) (stays-mapped c surface r.owned.shell x apart found) stands
+    at false e = standing-same r.owned.shell (with_change x.id mapping r.owned.shell) (toplevels_of c d) (stays-mapped c surface r.owned.shell x apart found) stands
 commit-effect c surface where_to r d x shows apart found stands Unmaps is = at (is_toplevel (Some x)) refl
   where
     change : XdgSurface → XdgSurface
-    change y = popup_changed without_grab (unmapping (asked_so_far surface (tree_committed surface r)) y)
+    change y = popup_changed unmapped (unmapping (asked_so_far surface (tree_committed surface r)) y)
 
     at : (b : Bool) → is_toplevel (Some x) ≡ b → StandsSo (with_change x.id change r.owned.shell) (toplevels_of c (stacked_by Unmaps b c surface d))
     at true e = commit-unmaps c surface r.owned.shell x apart found change d.standing (λ y. refl) stands
@@ -479,9 +522,32 @@ standing-grabbed true xdg r tops stands =
     (λ other is. mapped-changed xdg (popup_changed with_grab) r.owned.shell other (λ y. refl) (λ y here same role. popup-role with_grab y.role role) is) stands
 standing-grabbed false xdg r tops stands = standing-dismissed (λ p. p.xdg.id == xdg) r.owned.shell tops stands
 
-acknowledged-role : (o : Option RoleObject) → IsMappedRole o → IsMappedRole (option_map role_acknowledged o)
-acknowledged-role None is = is
-acknowledged-role (Some object) is = (is.0, ap acknowledged is.1)
+acknowledged-role : (configures : List Configure) (o : Option RoleObject) → IsMappedRole o → IsMappedRole (option_map (role_acknowledged configures) o)
+acknowledged-role configures None is = is
+acknowledged-role configures (Some object) is = (ap (awaiting configures) is.0, ap acknowledged is.1)
+
+repositioned-role : (b : Bool) (serial : ℕ) (placement : Option Placed) (p : Positioner) (y : XdgSurface) → IsMappedRole y.role → IsMappedRole (repositioning b serial placement p y).role
+repositioned-role true serial placement p y is = popup-role (copying p) y.role is
+repositioned-role false serial placement p y is = popup-role (copying p) y.role is
+
+repositioned-surface : (b : Bool) (serial : ℕ) (placement : Option Placed) (p : Positioner) (y : XdgSurface) → (repositioning b serial placement p y).surface ≡ y.surface
+repositioned-surface true serial placement p y = refl
+repositioned-surface false serial placement p y = refl
+
+repositioned-drawn : (b : Bool) (r : Resident) → (drawing b r).owned ≡ r.owned
+repositioned-drawn true r = refl
+repositioned-drawn false r = refl
+
+standing-repositioned : (where_to : Placing) (p : Positioner) (o : Option Popped) (r : Resident) (tops : List Standing) → StandsSo r.owned.shell tops
+    → StandsSo (popup_repositioned where_to p o r).owned.shell tops
+standing-repositioned where_to p None r tops stands = stands
+standing-repositioned where_to p (Some q) r tops stands =
+    let b : Bool = is_configured q in
+    let placement : Option Placed = where_to (copying p q.popup) in
+    subst (λ (o : Owned). StandsSo o.shell tops) (sym (repositioned-drawn b (xdg_changed q.xdg.id (repositioning b r.peer.serial placement p) r)))
+    (standing-same r.owned.shell _ tops
+    (λ other is. mapped-changed q.xdg.id (repositioning b r.peer.serial placement p) r.owned.shell other (repositioned-surface b r.peer.serial placement p)
+    (λ y here same role. repositioned-role b r.peer.serial placement p y role) is) stands)
 
 standing-asked :
     (c : ℕ) (ask : Ask) (r : Resident) (d : Desktop) → IsAsked r ask → HasObjects r → StandsSo r.owned.shell (toplevels_of c d)
@@ -497,7 +563,7 @@ standing-asked c (DestroyXdgSurface id) r d is has stands =
 standing-asked c (GetToplevel id version xdg) r d is has stands = standing-toplevel-given id xdg r (toplevels_of c d) has.shell.0 is.1 stands
 standing-asked c (Acknowledge xdg serial) r d is has stands =
     standing-same r.owned.shell (with_change xdg (acknowledging serial) r.owned.shell) (toplevels_of c d)
-    (λ other here. mapped-changed xdg (acknowledging serial) r.owned.shell other (λ y. refl) (λ y there same role. acknowledged-role y.role role) here) stands
+    (λ other here. mapped-changed xdg (acknowledging serial) r.owned.shell other (λ y. refl) (λ y there same role. acknowledged-role (up_to serial y.configures) y.role role) here) stands
 standing-asked c (ConfigureAgain xdg) r d is has stands =
     standing-same r.owned.shell (with_change xdg (configuring r.peer.serial) r.owned.shell) (toplevels_of c d)
     (λ other here. mapped-changed xdg (configuring r.peer.serial) r.owned.shell other (λ y. refl) (λ y there same role. role) here) stands
@@ -523,6 +589,8 @@ standing-kept c (GetPointer id version) r windows d is has roles stands =
     subst (λ (o : Owned). StandsSo o.shell (toplevels_of c d)) (sym (drawing-shell (has_focus c d.pointer.focus) (record r { pointers = in_rising_order id r.pointers }))) stands
 standing-kept c (MakeCursor surface) r windows d is has roles stands = stands
 standing-kept c (GetPopup id version xdg parent p) r windows d is has roles stands = standing-popup-given id xdg parent p r (toplevels_of c d) has.shell.0 is.1 stands
+standing-kept c (Reposition xdg token p) r windows d is has roles stands =
+    standing-repositioned (placement_now c r d) p (popup_at xdg r.owned.shell) r (toplevels_of c d) stands
 standing-kept c (Grab xdg serial) r windows d is has roles stands = standing-grabbed (grab_allowed c xdg serial r d) xdg r (toplevels_of c d) stands
 standing-kept c (EndPopup id xdg) r windows d is has roles stands = standing-popup-ended id xdg r (toplevels_of c d) has is.0 is.1 stands
 standing-kept c (EndToplevel id xdg top) r windows d is has roles stands =

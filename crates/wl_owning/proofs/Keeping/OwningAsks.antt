@@ -12,15 +12,15 @@ use Rattle.wl_surface.specs.Surfaces.{history_in, with_change as with_surface_ch
 use Rattle.wl_state.specs.declared.role.Role.TheVariants.{Cursor as AsCursor, Toplevel as AsToplevel}
 use Rattle.wl_shell.specs.Agreement.{with_history}
 use Rattle.wl_xdg_state.specs.Kept.{Kept, Stands, changing, commit_answer, effect_answer, first_kept, kept_acknowledging, kept_after, kept_asking, kept_configuring, kept_toplevel}
-use Rattle.wl_xdg_state.specs.Kept.{placement_in, with_kept}
+use Rattle.wl_xdg_state.specs.Kept.{arrival, placement_in, with_kept}
 use Rattle.wl_xdg_state.specs.Laws.{one_more}
 use Rattle.wl_xdg_state.specs.Shell.{Effect, Stays, Unconfigured, Configures, Maps, Unmaps, Fresh, Waiting, Mapped, Popup, Shell, XdgSurface, acknowledging, at_stage, configuring}
 use Rattle.wl_xdg_state.specs.Shell.{Configure as Waits, in_stage, is_full}
-use Rattle.wl_xdg_state.specs.Shell.{new_toplevel, role_acknowledged, unmapping, with_change, xdg_of}
-use Rattle.wl_xdg_state.specs.Popups.{effect_in, placing, popup_in, with_effect, without_grab}
+use Rattle.wl_xdg_state.specs.Shell.{is_role, new_toplevel, role_acknowledged, unmapping, up_to, with_change, xdg_of}
+use Rattle.wl_xdg_state.specs.Popups.{arrive, arriving, effect_in, placing, popup_in, unmapped, waiting_in, with_effect}
 use Rattle.wl_xdg_state.specs.Positioner.{Placed, place}
 use Rattle.wl_xdg_state.specs.declared.acts.ShellAct.{ShellAct}
-use Rattle.wl_xdg_state.specs.declared.acts.ShellAct.TheVariants.{Configure, Map, Unmap, Nothing}
+use Rattle.wl_xdg_state.specs.declared.acts.ShellAct.TheVariants.{Configure, Map, Unmap, Place, Nothing}
 use Rattle.wl_xdg_state.specs.declared.error.ShellError.{ShellError}
 use Rattle.wl_xdg_state.specs.declared.stage.Stage.{Stage}
 use Rattle.wl_shell.proofs.Agreeing.{changed-same}
@@ -63,27 +63,51 @@ stage-keeps : (stage : Stage) → KeepsRole (in_stage stage)
 stage-keeps stage = record { id = λ x. refl; surface = λ x. refl; role = λ object x. same-role (at_stage stage) object x.role (λ r. refl) }
 
 acknowledging-keeps : (serial : ℕ) → KeepsRole (acknowledging serial)
-acknowledging-keeps serial = record { id = λ x. refl; surface = λ x. refl; role = λ object x. same-role role_acknowledged object x.role (λ r. refl) }
+acknowledging-keeps serial = record { id = λ x. refl; surface = λ x. refl; role = λ object x. same-role (role_acknowledged (up_to serial x.configures)) object x.role (λ r. refl) }
 
 configuring-keeps : (serial : ℕ) → KeepsRole (configuring serial)
 configuring-keeps serial = record { id = λ x. refl; surface = λ x. refl; role = λ object x. refl }
 
+-- a placement that waits comes into force
+arriving-id : (waiting : Option Placed) (x : XdgSurface) → (arriving waiting x).id ≡ x.id
+arriving-id None x = refl
+arriving-id (Some placed) x = refl
+
+arriving-surface : (waiting : Option Placed) (x : XdgSurface) → (arriving waiting x).surface ≡ x.surface
+arriving-surface None x = refl
+arriving-surface (Some placed) x = refl
+
+arriving-role : (waiting : Option Placed) (object : ℕ) (x : XdgSurface) → is_role object (arriving waiting x).role ≡ is_role object x.role
+arriving-role None object x = refl
+arriving-role (Some placed) object x = (popup-keeps (arrive placed)).role object x
+
+arriving-keeps : KeepsRole (λ x. arriving (waiting_in x.role) x)
+arriving-keeps = record {
+  id = λ x. arriving-id (waiting_in x.role) x;
+  surface = λ x. arriving-surface (waiting_in x.role) x;
+  role = λ object x. arriving-role (waiting_in x.role) object x;
+}
+
 effect-keeps : (serial since : ℕ) (where_to : Popup → Option Placed) (effect : Effect) → KeepsRole (with_effect serial since where_to effect)
-effect-keeps serial since where_to Stays = itself-keeps
+effect-keeps serial since where_to Stays = arriving-keeps
 effect-keeps serial since where_to Unconfigured = itself-keeps
 effect-keeps serial since where_to Configures = record {
   id = λ x. refl;
   surface = λ x. refl;
   role = λ object x. (popup-keeps (placing where_to)).role object (in_stage Waiting x) ∙ (stage-keeps Waiting).role object x;
 }
-effect-keeps serial since where_to Maps = stage-keeps Mapped
+effect-keeps serial since where_to Maps = record {
+  id = λ x. arriving-id (waiting_in x.role) x;
+  surface = λ x. arriving-surface (waiting_in x.role) x;
+  role = λ object x. (stage-keeps Mapped).role object (arriving (waiting_in x.role) x) ∙ arriving-role (waiting_in x.role) object x;
+}
 effect-keeps serial since where_to Unmaps = record {
   id = λ x. refl;
   surface = λ x. refl;
-  role = λ object x. (popup-keeps without_grab).role object (unmapping since x) ∙ (stage-keeps Fresh).role object x;
+  role = λ object x. (popup-keeps unmapped).role object (unmapping since x) ∙ (stage-keeps Fresh).role object x;
 }
 
-drawn-owned : (b : Bool) (r : Resident) → (drawing b r).owned ≡ r.owned
+pub drawn-owned : (b : Bool) (r : Resident) → (drawing b r).owned ≡ r.owned
 drawn-owned true r = refl
 drawn-owned false r = refl
 
@@ -295,13 +319,18 @@ module _ (names : Names) (slots : Slots) (tied : Tied) (kept : ℕ → Option Ke
       of-act : (a : ShellAct) → ◌≡◌ {A = Result ShellAct ShellError} (Ok a) (Ok act) → effect_by a ≡ effect_by act
       of-act a e = let same : a ≡ act = cc in ap effect_by same
 
-      by-effect : (placed : Option Placed) (effect : Effect) (configures : List Waits) (full : Bool) → is_full configures ≡ full → effect_answer placed effect configures ≡ Ok act → effect ≡ effect_by act
-      by-effect placed Stays configures full e answer = of-act Nothing answer
-      by-effect placed Unconfigured configures full e answer = absurd (cc)
-      by-effect placed Configures configures true e answer = absurd (let told = rw e at answer in cc)
-      by-effect placed Configures configures false e answer = of-act (Configure placed) (rw e at answer)
-      by-effect placed Maps configures full e answer = of-act Map answer
-      by-effect placed Unmaps configures full e answer = of-act Unmap answer
+      arrived : (waiting : Option Placed) → ◌≡◌ {A = Result ShellAct ShellError} (Ok (arrival waiting)) (Ok act) → Stays ≡ effect_by act
+      arrived None e = of-act Nothing e
+      arrived (Some placed) e = of-act (Place placed) e
+
+      by-effect : (placed waiting : Option Placed) (effect : Effect) (configures : List Waits) (full : Bool) → is_full configures ≡ full → effect_answer placed waiting effect configures ≡ Ok act
+          → effect ≡ effect_by act
+      by-effect placed waiting Stays configures full e answer = arrived waiting answer
+      by-effect placed waiting Unconfigured configures full e answer = absurd (cc)
+      by-effect placed waiting Configures configures true e answer = absurd (let told = rw e at answer in cc)
+      by-effect placed waiting Configures configures false e answer = of-act (Configure placed) (rw e at answer)
+      by-effect placed waiting Maps configures full e answer = of-act Map answer
+      by-effect placed waiting Unmaps configures full e answer = of-act Unmap answer
 
       at : (o : Option Kept) → kept number ≡ o → effect_on_xdg shows (xdg_of id r.owned.shell) ≡ effect_by act
       at None here = ap (effect_on_xdg shows) (xdg-of-none names slots tied kept r.owned is id number named here) ∙ of-act Nothing (ap (commit_answer shows bounds parent_at) (sym here) ∙ answer)
@@ -310,4 +339,4 @@ module _ (names : Names) (slots : Slots) (tied : Tied) (kept : ℕ → Option Ke
           ap (effect_on_xdg shows) xdg.3
           ∙ effect-by-role shows xdg.0
           ∙ ap (effect_in shows) (sym xdg.2.stands.role)
-          ∙ by-effect (placement_in bounds parent_at k.role) (effect_in shows k.role) k.configures (is_full k.configures) refl (ap (commit_answer shows bounds parent_at) (sym here) ∙ answer)
+          ∙ by-effect (placement_in bounds parent_at k.role) (waiting_in k.role) (effect_in shows k.role) k.configures (is_full k.configures) refl (ap (commit_answer shows bounds parent_at) (sym here) ∙ answer)

@@ -11,7 +11,7 @@ use Rattle.wl_state.specs.declared.role.Role.{Role}
 use Rattle.wl_state.specs.declared.role.Role.TheVariants.{Toplevel as AsToplevel, Popup as AsPopup, Subsurface as AsSubsurface, Cursor as AsCursor}
 use Rattle.wl_state.specs.Kept.{buffer_of}
 use Rattle.wl_family.specs.Family.{Tied}
-use Rattle.wl_surface.specs.Slots.{Numbered, Slots, StandForAll, content_at, pending_at, role_at}
+use Rattle.wl_surface.specs.Slots.{Numbered, Slots, StandForAll, content_at, is_whole_at, pending_at, role_at}
 use Rattle.wl_state.specs.Request.{Buffer, SetWindowGeometry}
 use Rattle.wl_state.specs.State.{History, pending}
 use Rattle.wl_state.specs.Surface.{Surface, has_content, is_there}
@@ -21,21 +21,21 @@ use Rattle.wl_xdg_state.specs.declared.error.ShellError.TheVariants as failed
 use Rattle.wl_xdg_state.specs.declared.stage.Stage.{Stage}
 use Rattle.wl_xdg_state.specs.Kept.{Kept, acknowledgement_answer, commit_answer, configure_answer, destruction_answer, effect_answer, geometry_answer, making_refused, placement_in, stage_configured}
 use Rattle.wl_xdg_state.specs.Kept.{toplevel_answer}
-use Rattle.wl_xdg_state.specs.Popups.{effect_in, kind_popup, popped_kind, popped_role}
+use Rattle.wl_xdg_state.specs.Popups.{effect_in, kind_popup, popped_kind, popped_role, waiting_in}
 use Rattle.wl_xdg_state.specs.Positioner.{Placed}
 use Rattle.wl_xdg_state.specs.Shell.{Configure, Effect, Stays, Unconfigured, Configures, Maps, Unmaps, Kind, Toplevel, IsPopup, RoleObject, XdgSurface, answers_states, is_full, is_waiting, on_commit, stage_of, xdg_of}
 use Rattle.wl_shell.proofs.Shells.{shells_stand}
 use Rattle.wl_plain.specs.Ask.{AskSurface, EndObject, GetXdgSurface, DestroyXdgSurface, GetToplevel, Acknowledge, ConfigureAgain, Ignore}
 use Rattle.wl_plain.specs.Desktop.{Resident}
 use Rattle.wl_owning.specs.Owning.{IsOwned, IsXdg, Names, asks_by, asks_unless, by_id, by_number, configuring_if, kept_id, shell_refusal}
-use Rattle.wl_plain.specs.WlSurface.{refuse, refuse_limit, will_show}
+use Rattle.wl_plain.specs.WlSurface.{is_whole_state, refuse, refuse_limit, will_be_whole, will_show}
 use Rattle.wl_plain.specs.XdgShell.{acknowledged_by, base_destroyed, configured_again, geometry_set, has_any, is_foreign, is_no_toplevel, role_of, toplevel_made, xdg_surface_destroyed}
 use Rattle.wl_plain.specs.XdgShell.{xdg_surface_made}
 use Rattle.wl_laws.proofs.Lists.Keys.{none-some, some-same}
 use Rattle.wl_owning.proofs.Keeping.OwningSurfaces.{surface-read}
 use Rattle.wl_owning.proofs.Keeping.OwningXdg.{xdg-of, xdg-of-none, xdg-there}
 use Rattle.wl_plain.specs.Demand.{EndSurface, CommitTree}
-use Rattle.wl_plain.specs.Demanding.{commit_demand, committed_by, effect_of_commit, effect_on_xdg, is_dismissed, surface_destroyed}
+use Rattle.wl_plain.specs.Demanding.{commit_demand, committed_by, effect_of_commit, effect_on_xdg, if_whole, is_dismissed, surface_destroyed}
 use Rattle.wl_plain.specs.WlSubsurface.{refuses}
 
 there-mapped : {X : Type 0} (f : X → Buffer) (o : Option X) → is_there (option_map f o) ≡ is_some o
@@ -90,23 +90,34 @@ module _ (names : Names) (slots : Slots) (tied : Tied) (kept : ℕ → Option Ke
       at None = refl
       at (Some s) = refl
 
+  -- whether the state that a commit would give is whole
+  pub whole-read : (id number : ℕ) (result : Bool) → names.surfaces id ≡ Some number → ((all : Numbered) → StandForAll slots all → result ≡ is_whole_at (all number)) → result ≡ will_be_whole r id
+  whole-read id number result named told = read (λ at. result ≡ is_whole_at at) id number named told ∙ at (surface_at id r.owned.surfaces)
+    where
+      at : (o : Option Surface) → is_whole_at o ≡ is_whole_state (option_map pending (option_map (λ (s : Surface). s.history) o))
+      at None = refl
+      at (Some s) = refl
+
   pub destroyed-by : (id number : ℕ) → names.surfaces id ≡ Some number → surface_destroyed r id ≡ (if is_some (kept number) then refuses id error.SurfaceHasRoleObject else Ok (EndSurface id))
   destroyed-by id number named = ap (λ b. if b then refuses id error.SurfaceHasRoleObject else Ok (EndSurface id)) (sym (xdg-there names slots tied kept r.owned is id number named))
 
   -- ---- a commit
 
+  -- what it demands, or the first error of the shell, is what the shell answers; then the size of its buffer is looked at
   pub committed-by : (bounds : Rect) (parent_at : ℤ × ℤ) (id number base object : ℕ) → names.surfaces id ≡ Some number
-      → commit_demand r id ≡ asks_by (λ act. CommitTree id) (shell_refusal base (kept_id (kept number)) object) (commit_answer (will_show r id) bounds parent_at (kept number))
-  committed-by bounds parent_at id number base object named = at (kept number) refl
+      → commit_demand r id
+      ≡ if_whole (will_be_whole r id) id (asks_by (λ act. CommitTree id) (shell_refusal base (kept_id (kept number)) object)
+      (commit_answer (will_show r id) bounds parent_at (kept number)))
+  committed-by bounds parent_at id number base object named = ap (if_whole (will_be_whole r id) id) (at (kept number) refl)
     where
-      by-effect : (x : XdgSurface) (placed : Option Placed) (effect : Effect) (full : Bool) → is_full x.configures ≡ full
-          → committed_by (Some x) id effect ≡ asks_by (λ act. CommitTree id) (shell_refusal base x.id object) (effect_answer placed effect x.configures)
-      by-effect x placed Stays full e = refl
-      by-effect x placed Unconfigured full e = refl
-      by-effect x placed Maps full e = refl
-      by-effect x placed Unmaps full e = refl
-      by-effect x placed Configures true e = rw e refl
-      by-effect x placed Configures false e = rw e refl
+      by-effect : (x : XdgSurface) (placed waiting : Option Placed) (effect : Effect) (full : Bool) → is_full x.configures ≡ full
+          → committed_by (Some x) id effect ≡ asks_by (λ act. CommitTree id) (shell_refusal base x.id object) (effect_answer placed waiting effect x.configures)
+      by-effect x placed waiting Stays full e = refl
+      by-effect x placed waiting Unconfigured full e = refl
+      by-effect x placed waiting Maps full e = refl
+      by-effect x placed waiting Unmaps full e = refl
+      by-effect x placed waiting Configures true e = rw e refl
+      by-effect x placed waiting Configures false e = rw e refl
 
       at : (o : Option Kept) → kept number ≡ o
           → committed_by (xdg_of id r.owned.shell) id (effect_of_commit r id) ≡ asks_by (λ act. CommitTree id) (shell_refusal base (kept_id o) object) (commit_answer (will_show r id) bounds parent_at o)
@@ -116,12 +127,13 @@ module _ (names : Names) (slots : Slots) (tied : Tied) (kept : ℕ → Option Ke
           let x = xdg.0 in
           let stands = xdg.2.stands in
           let placed = placement_in bounds parent_at k.role in
+          let waiting = waiting_in k.role in
           let effect = effect_in (will_show r id) k.role in
           ap (λ (o : Option XdgSurface). committed_by o id (effect_on_xdg (will_show r id) o)) xdg.3
           ∙ ap (λ effect. committed_by (Some x) id effect) (effect-by-role (will_show r id) x ∙ ap (effect_in (will_show r id)) (sym stands.role))
-          ∙ by-effect x placed effect (is_full x.configures) refl
-          ∙ ap (λ (i : ℕ). asks_by (λ act. CommitTree id) (shell_refusal base i object) (effect_answer placed effect x.configures)) (sym stands.id)
-          ∙ ap (λ (cs : List Configure). asks_by (λ act. CommitTree id) (shell_refusal base k.id object) (effect_answer placed effect cs)) (sym stands.configures)
+          ∙ by-effect x placed waiting effect (is_full x.configures) refl
+          ∙ ap (λ (i : ℕ). asks_by (λ act. CommitTree id) (shell_refusal base i object) (effect_answer placed waiting effect x.configures)) (sym stands.id)
+          ∙ ap (λ (cs : List Configure). asks_by (λ act. CommitTree id) (shell_refusal base k.id object) (effect_answer placed waiting effect cs)) (sym stands.configures)
 
   -- ---- xdg_wm_base
 

@@ -12,7 +12,7 @@ use Rattle.wl_surface.specs.Slots.{Numbered, Slots, StandForAll, StandsAt, Chang
 use Rattle.wl_state.specs.Request.{SetWindowGeometry}
 use Rattle.wl_state.specs.Surface.{Surface, asking, has, new_surface, shows}
 use Rattle.wl_surface.specs.Surfaces.{Surfaces, is_busy, is_used, surface_at, with_change, with_new, without_surface}
-use Rattle.wl_state.proofs.Records.{For-asked, still, undamaged}
+use Rattle.wl_state.proofs.Records.{For-unseen}
 use Rattle.wl_named.specs.Named.{StandBy}
 use Rattle.wl_owning.specs.Owning.{AreKept, by_number, number_in}
 use Rattle.wl_laws.specs.Apart.{AreApartBy}
@@ -366,10 +366,7 @@ geometry-stands : (rect : Rect) (slot : Option Kept) (at : Option Surface) → S
 geometry-stands rect None None t = tt
 geometry-stands rect (Some k) None t = absurd t
 geometry-stands rect None (Some s) t = absurd t
-geometry-stands rect (Some k) (Some s) t =
-    For-asked k s (SetWindowGeometry rect) k.pending_buffer k.pending_transform k.pending_opaque k.pending_input k.pending_offset k.pending_damage refl t t.history.pending
-    (still k s.history t.history)
-    (undamaged k s.history (SetWindowGeometry rect) refl t.history)
+geometry-stands rect (Some k) (Some s) t = For-unseen k s (SetWindowGeometry rect) refl refl refl refl refl t
 
 pub geometry-asked : (slots : Slots) (number : ℕ) (rect : Rect) → Changes slots slots number (asking (SetWindowGeometry rect))
 geometry-asked slots number rect = record { stand = λ all stand other. at all other (other == number) (stand other); count = refl }

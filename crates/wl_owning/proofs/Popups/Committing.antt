@@ -7,11 +7,11 @@ use Rattle.wl_peer.specs.Told.{Said}
 use Rattle.wl_family.specs.Family.{Tied}
 use Rattle.wl_surface.specs.Slots.{Slots}
 use Rattle.wl_xdg_state.specs.declared.acts.ShellAct.{ShellAct}
-use Rattle.wl_xdg_state.specs.declared.acts.ShellAct.TheVariants.{Configure, Map, Unmap, Nothing}
+use Rattle.wl_xdg_state.specs.declared.acts.ShellAct.TheVariants.{Configure, Map, Unmap, Place, Nothing}
 use Rattle.wl_xdg_state.specs.declared.error.ShellError.{ShellError}
 use Rattle.wl_xdg_state.specs.declared.error.ShellError.TheVariants.{TooMany}
 use Rattle.wl_xdg_state.specs.Kept.{Kept, changing, commit_answer, effect_answer, kept_after, placement_in, popup_placed}
-use Rattle.wl_xdg_state.specs.Popups.{effect_in, in_force, kind_popup, popup_in, with_popup, with_popup_role}
+use Rattle.wl_xdg_state.specs.Popups.{effect_in, in_force, kind_popup, popup_in, waiting_in, with_popup, with_popup_role}
 use Rattle.wl_xdg_state.specs.Positioner.{Placed, place}
 use Rattle.wl_xdg_state.specs.Shell.{Configure as Waits, Effect, Stays, Unconfigured, Configures, Maps, Unmaps, IsPopup, Kind, Popup, RoleObject, Toplevel, Waiting, XdgSurface}
 use Rattle.wl_xdg_state.specs.Shell.{at_stage, is_full, xdg_of}
@@ -28,7 +28,7 @@ use Rattle.wl_owning.proofs.Keeping.OwningXdg.{xdg-of}
 
 -- ---- where it is placed
 
-place-now : (at : ℤ × ℤ) (c : ℕ) (r : Resident) (d : Desktop) (bounds : Rect) (popup : Popup) → bounds ≡ output_rect d.output
+pub place-now : (at : ℤ × ℤ) (c : ℕ) (r : Resident) (d : Desktop) (bounds : Rect) (popup : Popup) → bounds ≡ output_rect d.output
     → at ≡ corner_of (parent_corner d.standing c r.owned popup.parent) → placement_now c r d popup ≡ place popup.positioner bounds at
 place-now at c r d bounds popup within there =
     ap (λ (b : Rect). place popup.positioner b (corner_of (parent_corner d.standing c r.owned popup.parent))) (sym within) ∙ ap (place popup.positioner bounds) (sym there)
@@ -46,16 +46,17 @@ committed names slots tied kept r c id number bounds at act d new tying after is
 -- ---- what is told of it
 
 -- it is placed where the shell answers
-answered-place : (placed by : Option Placed) (effect : Effect) (configures : List Waits) → effect_answer by effect configures ≡ Ok (Configure placed) → by ≡ placed
-answered-place placed by Stays configures e = absurd (cc)
-answered-place placed by Unconfigured configures e = absurd (cc)
-answered-place placed by Configures configures e = at (is_full configures) e
+answered-place : (placed by waiting : Option Placed) (effect : Effect) (configures : List Waits) → effect_answer by waiting effect configures ≡ Ok (Configure placed) → by ≡ placed
+answered-place placed by None Stays configures e = absurd (cc)
+answered-place placed by (Some waiting) Stays configures e = absurd (cc)
+answered-place placed by waiting Unconfigured configures e = absurd (cc)
+answered-place placed by waiting Configures configures e = at (is_full configures) e
   where
     at : (b : Bool) → ◌≡◌ {A = Result ShellAct ShellError} (if b then Err TooMany else Ok (Configure by)) (Ok (Configure placed)) → by ≡ placed
     at true e = absurd (cc)
     at false e = cc
-answered-place placed by Maps configures e = absurd (cc)
-answered-place placed by Unmaps configures e = absurd (cc)
+answered-place placed by waiting Maps configures e = absurd (cc)
+answered-place placed by waiting Unmaps configures e = absurd (cc)
 
 -- the configure of a role object that was placed
 told-so : (at : ℤ × ℤ) (c : ℕ) (r : Resident) (d : Desktop) (bounds : Rect) (placed : Option Placed) (xdg : ℕ) (o : Option RoleObject) → bounds ≡ output_rect d.output
@@ -101,7 +102,7 @@ module _ (names : Names) (slots : Slots) (tied : Tied) (kept : ℕ → Option Ke
       let now : changing number change kept number ≡ Some (change k) =
       ap (λ (b : Bool). if b then option_map change (kept number) else kept number) (eq-eqb number number refl) ∙ ap (option_map change) has.1 in
       let by : placement_in bounds at k.role ≡ placed =
-      answered-place placed (placement_in bounds at k.role) (effect_in (will_show r id) k.role) k.configures (ap (commit_answer (will_show r id) bounds at) (sym has.1) ∙ answer) in
+      answered-place placed (placement_in bounds at k.role) (waiting_in k.role) (effect_in (will_show r id) k.role) k.configures (ap (commit_answer (will_show r id) bounds at) (sym has.1) ∙ answer) in
       let its = subst (λ (o : Option XdgSurface). IfSome (option_and_then (λ x. popup_in x.role) o)
       (λ popup. at ≡ corner_of (parent_corner d.standing c r.owned popup.parent))) xdg.3 there in
       ap (λ (o : Option XdgSurface). commit_told c Configures o r d) xdg.3
@@ -115,6 +116,7 @@ module _ (names : Names) (slots : Slots) (tied : Tied) (kept : ℕ → Option Ke
   by-act (Configure placed) answer = configure-so placed answer
   by-act Map answer = mapped-told c (xdg_of id r.owned.shell) r d
   by-act Unmap answer = unmapped-told c (xdg_of id r.owned.shell) r d
+  by-act (Place placed) answer = still-told c (xdg_of id r.owned.shell) r d
   by-act Nothing answer = still-told c (xdg_of id r.owned.shell) r d
 
 told : CommitTold

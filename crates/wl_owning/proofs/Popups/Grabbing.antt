@@ -32,11 +32,11 @@ use Rattle.wl_owning.proofs.Popups.Stepping.{popup-keeps, shell-stepped}
 
 -- ---- the popup of an xdg_surface
 
-record IsPopped (x : XdgSurface) (p : Popped) : Type 0 where
-  role : x.role ≡ Some p.object
-  kind : p.object.kind ≡ IsPopup p.popup
-  xdg : p.xdg ≡ x
-  its : popped_of x ≡ p ∷ []
+pub record IsPopped (x : XdgSurface) (p : Popped) : Type 0 where
+  pub role : x.role ≡ Some p.object
+  pub kind : p.object.kind ≡ IsPopup p.popup
+  pub xdg : p.xdg ≡ x
+  pub its : popped_of x ≡ p ∷ []
 
 first-popped : (x : XdgSurface) (p : Popped) → first_of (popped_of x) ≡ Some p → IsPopped x p
 first-popped x p e = at x.role refl e
@@ -58,7 +58,7 @@ first-popped x p e = at x.role refl e
 
 module _ (names : Names) (kept : ℕ → Option Kept) (o : Owned) (number : ℕ) (k : Kept) (x : XdgSurface) (h : History) (one : IsXdg names kept o number k x h) (p : Popped)
     (here : popup_at x.id o.shell ≡ Some p) where
-  popped : IsPopped x p
+  pub popped : IsPopped x p
   popped = first-popped x p (sym (ap (option_and_then (λ (x : XdgSurface). first_of (popped_of x))) one.at_id) ∙ here)
 
   answered : (allowed : Bool)

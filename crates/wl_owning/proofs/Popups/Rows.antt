@@ -10,7 +10,7 @@ xdg id object kind = record { id = id; base = 5; surface = id + 1; role = Some (
 
 abbrev popup : ℕ → ℕ → ℕ → Bool → ℕ → XdgSurface
 popup id object parent gone number =
-    xdg id object (IsPopup (record { parent = Some parent; positioner = first_positioner; placement = None; is_dismissed = gone; has_grab = false; number = number }))
+    xdg id object (IsPopup (record { parent = Some parent; positioner = first_positioner; placement = None; waiting = None; is_dismissed = gone; has_grab = false; number = number }))
 
 -- on the toplevel 8 of the xdg_surface 7 the popups 53, which was dismissed, 17 and 43, and on 17 the popup 33
 abbrev shell : Shell

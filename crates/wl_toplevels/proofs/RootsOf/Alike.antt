@@ -2,7 +2,7 @@
 use Rattle.std.proofs.Common.{◌≡◌, ℕ, Bool, true, false, cond, Option, Some, None, refl, sym, subst, ◌∙◌}
 use Rattle.std.specs.Prelude.{◌==◌}
 use Rattle.std.specs.Option.{option_map}
-use Rattle.wl_xdg_state.specs.Popups.{placing, popped_kind, popped_of, popped_role, with_effect, with_popup, with_popup_role, without_grab}
+use Rattle.wl_xdg_state.specs.Popups.{placing, popped_kind, popped_of, popped_role, with_effect, with_popup, with_popup_role, arrive, arriving, unmapped, waiting_in}
 use Rattle.wl_xdg_state.specs.Positioner.{Placed}
 use Rattle.wl_xdg_state.specs.Shell.{Configures, Effect, IsPopup, Kind, Maps, Popup, RoleObject, Stays, Toplevel, Unconfigured, Unmaps, Waiting, Mapped, Fresh, XdgSurface, at_stage}
 use Rattle.wl_toplevels.proofs.RootsOf.Popped.{AreAlike, KeepsPopups}
@@ -73,15 +73,41 @@ changed-keeps id change keeps = record {
 placing-one : (where_to : Popup → Option Placed) → KeepsOne (placing where_to)
 placing-one where_to = record { number = λ p. refl; parent = λ p. refl }
 
-grabless-one : KeepsOne without_grab
-grabless-one = record { number = λ p. refl; parent = λ p. refl }
+unmapped-one : KeepsOne unmapped
+unmapped-one = record { number = λ p. refl; parent = λ p. refl }
+
+arrived-one : (placed : Placed) → KeepsOne (arrive placed)
+arrived-one placed = record { number = λ p. refl; parent = λ p. refl }
 
 option-twice : {A B C : Type 0} (f : A → B) (g : B → C) (o : Option A) → option_map g (option_map f o) ≡ option_map (λ a. g (f a)) o
 option-twice f g None = refl
 option-twice f g (Some a) = refl
 
+-- a placement that waits comes into force
+arriving-keeps : KeepsPopups (λ x. arriving (waiting_in x.role) x)
+arriving-keeps = record { ids = λ x. ids x (waiting_in x.role); surfaces = λ x. surfaces x (waiting_in x.role); alike = λ x. alike x (waiting_in x.role) }
+  where
+    ids : (x : XdgSurface) (o : Option Placed) → (arriving o x).id ≡ x.id
+    ids x None = refl
+    ids x (Some placed) = refl
+
+    surfaces : (x : XdgSurface) (o : Option Placed) → (arriving o x).surface ≡ x.surface
+    surfaces x None = refl
+    surfaces x (Some placed) = refl
+
+    alike : (x : XdgSurface) (o : Option Placed) → AreAlike (popped_of x) (popped_of (arriving o x))
+    alike x None = alike-role x x x.role
+    alike x (Some placed) = alike-by x (arriving (Some placed) x) (with_popup_role (arrive placed)) (arrive placed) (arrived-one placed) (λ object. refl) x.role
+
+-- and the popup is mapped
+mapping-alike : (x y : XdgSurface) (o : Option Placed) → AreAlike (popped_role x x.role) (popped_role y (option_map (at_stage Mapped) (arriving o x).role))
+mapping-alike x y None = alike-stage x y (at_stage Mapped) (λ object. refl) x.role
+mapping-alike x y (Some placed) =
+    subst (λ (o : Option RoleObject). AreAlike (popped_role x x.role) (popped_role y o)) (sym (option-twice (with_popup_role (arrive placed)) (at_stage Mapped) x.role))
+    (alike-by x y (λ object. at_stage Mapped (with_popup_role (arrive placed) object)) (arrive placed) (arrived-one placed) (λ object. refl) x.role)
+
 pub effect-keeps : (serial since : ℕ) (where_to : Popup → Option Placed) (effect : Effect) → KeepsPopups (with_effect serial since where_to effect)
-effect-keeps serial since where_to Stays = keeps-same
+effect-keeps serial since where_to Stays = arriving-keeps
 effect-keeps serial since where_to Unconfigured = keeps-same
 effect-keeps serial since where_to Configures = record {
   ids = λ x. refl;
@@ -92,15 +118,15 @@ effect-keeps serial since where_to Configures = record {
       (alike-by x y (λ object. with_popup_role (placing where_to) (at_stage Waiting object)) (placing where_to) (placing-one where_to) (λ object. refl) x.role);
 }
 effect-keeps serial since where_to Maps = record {
-  ids = λ x. refl;
-  surfaces = λ x. refl;
-  alike = λ x. alike-stage x (with_effect serial since where_to Maps x) (at_stage Mapped) (λ object. refl) x.role;
+  ids = λ x. arriving-keeps.ids x;
+  surfaces = λ x. arriving-keeps.surfaces x;
+  alike = λ x. mapping-alike x (with_effect serial since where_to Maps x) (waiting_in x.role);
 }
 effect-keeps serial since where_to Unmaps = record {
   ids = λ x. refl;
   surfaces = λ x. refl;
   alike = λ x.
       let y = with_effect serial since where_to Unmaps x in
-      subst (λ (o : Option RoleObject). AreAlike (popped_role x x.role) (popped_role y o)) (sym (option-twice (at_stage Fresh) (with_popup_role without_grab) x.role))
-      (alike-by x y (λ object. with_popup_role without_grab (at_stage Fresh object)) without_grab grabless-one (λ object. refl) x.role);
+      subst (λ (o : Option RoleObject). AreAlike (popped_role x x.role) (popped_role y o)) (sym (option-twice (at_stage Fresh) (with_popup_role unmapped) x.role))
+      (alike-by x y (λ object. with_popup_role unmapped (at_stage Fresh object)) unmapped unmapped-one (λ object. refl) x.role);
 }

@@ -8,13 +8,14 @@ use Rattle.wl_state.specs.Request.{Frame}
 use Rattle.wl_state.specs.declared.role.Role.TheVariants.{Cursor as AsCursor, Popup as AsPopup, Toplevel as AsToplevel}
 use Rattle.wl_surface.specs.Surfaces.{Surfaces, link_at, with_new}
 use Rattle.wl_xdg_state.specs.Popups.{Popped, dismissing, first_of, is_parent_of, is_popup_mapped, new_popup, orphaning, popped_of, popup_at, popup_changed, with_grab}
+use Rattle.wl_xdg_state.specs.Popups.{copying, is_configured, repositioning}
 use Rattle.wl_xdg_state.specs.Shell.{Shell, XdgSurface, acknowledging, configuring, new_toplevel, with_change as with_xdg, without_role, without_xdg, xdg_at}
 use Rattle.wl_stacking.specs.Stacking.{Owned}
 use Rattle.wl_plain.specs.Ask.{Acknowledge, AskSurface, ConfigureAgain, CreateSurface, DestroyXdgSurface, EndObject, GetToplevel, GetXdgSurface, Ignore, Own}
-use Rattle.wl_plain.specs.Changing.{drawing, grab_allowed, grabbed, has_focus, popup_given_to}
-use Rattle.wl_plain.specs.Demand.{AskFrame, Asks, Demand, EndPopup, EndSubsurface, EndSurface, GetPointer, GetPopup, GetSubsurface, Grab, MakeCursor, Move, SetMode}
+use Rattle.wl_plain.specs.Changing.{drawing, grab_allowed, grabbed, has_focus, popup_given_to, Placing, placement_now, popup_repositioned}
+use Rattle.wl_plain.specs.Demand.{AskFrame, Asks, Demand, EndPopup, EndSubsurface, EndSurface, GetPointer, GetPopup, GetSubsurface, Grab, MakeCursor, Move, SetMode, Reposition}
 use Rattle.wl_plain.specs.Desktop.{Desktop, Resident, client_at, owned_in, owned_of}
-use Rattle.wl_plain.specs.Step.{asked_so_far, toplevel_given, with_peer}
+use Rattle.wl_plain.specs.Step.{asked_so_far, toplevel_given, with_peer, xdg_changed}
 use Rattle.wl_plain.specs.WlSubsurface.{subsurface_at}
 use Rattle.wl_tree_laws.specs.Hanging.{AreNumbered, AreTied}
 use Rattle.wl_tree_laws.specs.Laws.{AreOnceLinked}
@@ -25,7 +26,7 @@ use Rattle.wl_invariants.proofs.TreeSteps.Modes.{mode-keeps-all}
 use Rattle.wl_toplevels.specs.Changes.{HasTrees, StaysPainted}
 use Rattle.wl_toplevels.specs.Done.{HasNoRole, IsDone, IsMeant}
 use Rattle.wl_toplevels.specs.DemandLaws.{CommitsChangeOneToplevel, GrabsChangeNoWindow, ModesChangeOneToplevel, PopupEndsChangeOneToplevel, RequestsChangeNoWindow, RolesChangeNoWindow}
-use Rattle.wl_toplevels.specs.DemandLaws.{StatesChangeNoWindow, SubsurfaceEndsChangeOneToplevel, SurfaceEndsChangeOneToplevel, ToplevelEndsChangeOneToplevel}
+use Rattle.wl_toplevels.specs.DemandLaws.{StatesChangeNoWindow, SubsurfaceEndsChangeOneToplevel, SurfaceEndsChangeOneToplevel, ToplevelEndsChangeOneToplevel, RepositionsChangeNoWindow}
 use Rattle.wl_toplevels.specs.StackedWith.{ChangesAt, ChangesWith, IsStackedAs, popup_of}
 use Rattle.wl_toplevels.specs.Toplevel.{ChangesToplevel}
 use Rattle.wl_toplevels.proofs.RootsOf.Toplevels.{toplevel-end-changes}
@@ -43,7 +44,7 @@ use Rattle.wl_toplevels.proofs.RootsOf.Painted.{KeepsStacked}
 use Rattle.wl_toplevels.proofs.RootsOf.PopupEnds.{popup-end-changes}
 use Rattle.wl_toplevels.proofs.RootsOf.Popped.{IsPopped, IsThere, KeepsPopups}
 use Rattle.wl_toplevels.proofs.RootsOf.Requests.{acknowledging-keeps, acknowledging-stacked, changed-stacked, configuring-keeps, configuring-stacked, desynchronised, ended, given, grab-keeps}
-use Rattle.wl_toplevels.proofs.RootsOf.Requests.{grab-stacked, kept, kept-by, same-keeps, tree-kept}
+use Rattle.wl_toplevels.proofs.RootsOf.Requests.{grab-stacked, kept, kept-by, same-keeps, tree-kept, repositioning-keeps, repositioning-stacked}
 use Rattle.wl_toplevels.proofs.RootsOf.Unroled.{changed-painted, gone-painted, new-painted}
 use Rattle.wl_xdg_state.specs.Positioner.{Positioner}
 
@@ -153,6 +154,22 @@ grab-changes-by xdg serial c r p d e had has here meant done false own =
 pub grabs-change : GrabsChangeNoWindow
 grabs-change xdg serial c r p d e had has here meant done =
     grab-changes-by xdg serial c r p d e had has here meant done (grab_allowed c xdg serial (with_peer p r) d) done.own
+
+-- a popup is placed anew
+repositions-by : (xdg token : ℕ) (q : Positioner) (c : ℕ) (r : Resident) (p : Peer) (d e : Desktop) → HasTrees d → HasTrees e → client_at c d ≡ Some r
+    → IsDone c (Reposition xdg token q) (with_peer p r) d e → (where_to : Placing) (o : Option Popped) → owned_in e c ≡ (popup_repositioned where_to q o (with_peer p r)).owned → StaysPainted d e
+repositions-by xdg token q c r p d e had has here done where_to None own =
+    still c r p d e had has here (Reposition xdg token q) done done.stack _ own refl (same-keeps r.owned.surfaces)
+repositions-by xdg token q c r p d e had has here done where_to (Some popped) own =
+    let change : XdgSurface → XdgSurface = repositioning (is_configured popped) p.serial (where_to (copying q popped.popup)) q in
+    still-by c r p d e had has here (Reposition xdg token q) done done.stack _ (own ∙ drawn (is_configured popped) (xdg_changed popped.xdg.id change (with_peer p r))) refl
+    (λ x. cond (x.id == popped.xdg.id) (change x) x)
+    (changed-keeps popped.xdg.id change (repositioning-keeps (is_configured popped) p.serial (where_to (copying q popped.popup)) q))
+    (changed-stacked popped.xdg.id change (repositioning-stacked (is_configured popped) p.serial (where_to (copying q popped.popup)) q)) refl
+
+pub repositions-change : RepositionsChangeNoWindow
+repositions-change xdg token q c r p d e had has here meant done =
+    repositions-by xdg token q c r p d e had has here done (placement_now c (with_peer p r) d) (popup_at xdg r.owned.shell) done.own
 
 -- a tree whose root is no popup is stacked with its own toplevel
 its-own : (c root : ℕ) (d : Desktop) (o : Option ℕ) (q : Option StackedPopup) → q ≡ None → IsStackedAs c root d q o → o ≡ Some root

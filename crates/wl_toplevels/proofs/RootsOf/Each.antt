@@ -1,8 +1,8 @@
 -- What any demand changes of the windows.
 use Rattle.wl_plain.specs.Ask.{Acknowledge, AskSurface, ConfigureAgain, CreateSurface, DestroyXdgSurface, EndObject, GetToplevel, GetXdgSurface, Ignore, Own}
-use Rattle.wl_plain.specs.Demand.{AskFrame, Asks, CommitTree, EndPopup, EndSubsurface, EndSurface, EndToplevel, GetPointer, GetPopup, GetSubsurface, Grab, MakeCursor, Move, SetMode}
+use Rattle.wl_plain.specs.Demand.{AskFrame, Asks, CommitTree, EndPopup, EndSubsurface, EndSurface, EndToplevel, GetPointer, GetPopup, GetSubsurface, Grab, MakeCursor, Move, SetMode, Reposition}
 use Rattle.wl_toplevels.specs.DemandLaws.{DemandsChangeOneToplevel}
-use Rattle.wl_toplevels.proofs.RootsOf.Demands.{commits-change, grabs-change, modes-change, popup-ends-change, requests-change, roles-change, states-change}
+use Rattle.wl_toplevels.proofs.RootsOf.Demands.{commits-change, grabs-change, modes-change, popup-ends-change, requests-change, roles-change, states-change, repositions-change}
 use Rattle.wl_toplevels.proofs.RootsOf.Demands.{subsurface-ends-change, surface-ends-change, toplevel-ends-change}
 
 pub demands-change : DemandsChangeOneToplevel
@@ -25,6 +25,7 @@ demands-change (SetMode link synchronised) = modes-change link synchronised
 demands-change (GetPointer id version) = requests-change.get_pointer id version
 demands-change (MakeCursor surface) = requests-change.make_cursor surface
 demands-change (GetPopup id version xdg parent positioner) = roles-change.get_popup id version xdg parent positioner
+demands-change (Reposition xdg token positioner) = repositions-change xdg token positioner
 demands-change (Grab xdg serial) = grabs-change xdg serial
 demands-change (EndPopup id xdg) = popup-ends-change id xdg
 demands-change (EndToplevel id xdg surface) = toplevel-ends-change id xdg surface

@@ -1,6 +1,6 @@
 -- A grab that is accepted is asked for by a popup that isn't mapped.
 use Rattle.std.proofs.Common.{◌≡◌, ℕ, List, Bool, true, false, Option, Some, None, Result, refl, subst, ◌∙◌, sym, ap}
-use Rattle.std.specs.Prelude.{Ok, Err, ◌==◌, ◌||◌, if◌then◌else◌, is_some, nat_le}
+use Rattle.std.specs.Prelude.{Ok, Err, ◌==◌, ◌||◌, if◌then◌else◌, is_some, nat_le, ◌&&◌}
 use Rattle.std.specs.List.{list_all}
 use Rattle.wl_proto.specs.declared.argument.NewId.{NewId}
 use Rattle.wl_proto.specs.declared.error.ProtoError.{ProtoError}
@@ -31,18 +31,18 @@ use Rattle.wl_peer.specs.ToplevelRequest as toplevel
 use Rattle.wl_state.specs.Request.{Request as Asked, Member, PlaceAbove, PlaceBelow}
 use Rattle.wl_surface.specs.Surfaces.{Link}
 use Rattle.wl_surface.specs.Trees.{is_bad_parent, is_too_deep}
-use Rattle.wl_xdg_state.specs.Popups.{Popped, is_parent, is_popup_mapped, popup_at}
+use Rattle.wl_xdg_state.specs.Popups.{Popped, is_parent, is_popup_mapped, popup_at, is_configured}
 use Rattle.wl_xdg_state.specs.Positioner.{Positioner, is_complete}
 use Rattle.wl_xdg_state.specs.Shell.{Effect, Stays, Unconfigured, Configures, Maps, Unmaps, XdgSurface as Xdg, is_full, xdg_at, xdg_of, xdg_with}
 use Rattle.wl_plain.specs.Ask.{Ask, Ignore, owns}
 use Rattle.wl_plain.specs.Demand.{Asks, Demand, Grab}
-use Rattle.wl_plain.specs.Demanding.{base_demand, committed_by, demand_by, demand_of, demands, effect_of_commit, judge_all, moved_by_pointer, own_demand, surface_demand}
+use Rattle.wl_plain.specs.Demanding.{base_demand, committed_by, demand_by, demand_of, demands, effect_of_commit, judge_all, moved_by_pointer, own_demand, surface_demand, if_whole}
 use Rattle.wl_plain.specs.Demanding.{toplevel_asked, toplevel_destroyed, xdg_asked}
 use Rattle.wl_plain.specs.Desktop.{Resident}
 use Rattle.wl_plain.specs.WlPointer.{cursor_set, is_no_cursor}
 use Rattle.wl_plain.specs.WlSubsurface.{beside, demand_by_link, has_subsurface, is_no_subsurface, link_of_subsurface, placed_beside, subsurface_made}
-use Rattle.wl_plain.specs.WlSurface.{surface_created, transform_set}
-use Rattle.wl_plain.specs.XdgPopup.{grab_of, is_no_popup, may_be_parent, popup_asked, popup_destroyed, popup_made, positioner_of}
+use Rattle.wl_plain.specs.WlSurface.{surface_created, transform_set, will_be_whole, scale_set}
+use Rattle.wl_plain.specs.XdgPopup.{grab_of, is_no_popup, may_be_parent, popup_asked, popup_destroyed, popup_made, positioner_of, repositioned_by}
 use Rattle.wl_plain.specs.XdgShell.{acknowledged_by, base_destroyed, geometry_set, role_of, state_asked, toplevel_made, xdg_surface_destroyed, xdg_surface_made}
 use Rattle.wl_plain.specs.LeftOut.{LeftOut}
 use Rattle.wl_laws.proofs.Lists.Keys.{some-same}
@@ -79,13 +79,22 @@ module _ (r : Resident) where
   commit-before (Some x) object Maps = tt
   commit-before (Some x) object Unmaps = tt
 
+  -- where the buffer is whole, as without that
+  whole-before : (b : Bool) (object : ℕ) (judged : Result Demand Refusal) → IsBeforeSo r judged → IsBeforeSo r (if_whole b object judged)
+  whole-before true object judged before = before
+  whole-before false object (Ok demand) before = tt
+  whole-before false object (Err refusal) before = tt
+
   surface-before : (object version : ℕ) (request : WlSurfaceRequest) → IsBeforeSo r (surface_demand r object version request)
   surface-before object version surface.Destroy = if-before (is_some (xdg_of object r.owned.shell)) _ _ (λ there. tt) (λ none. tt)
   surface-before object version (surface.Frame callback) = tt
-  surface-before object version surface.Commit = commit-before (xdg_of object r.owned.shell) object (effect_of_commit r object)
+  surface-before object version surface.Commit =
+      whole-before (will_be_whole r object) object _ (commit-before (xdg_of object r.owned.shell) object (effect_of_commit r object))
   surface-before object version (surface.SetBufferTransform transform) = asks-before (transform_set object transform)
+  surface-before object version (surface.SetBufferScale scale) = asks-before (scale_set object scale)
   surface-before object version (surface.Attach buffer x y) = tt
   surface-before object version (surface.Damage x y width height) = tt
+  surface-before object version (surface.DamageBuffer x y width height) = tt
   surface-before object version (surface.SetOpaqueRegion region) = tt
   surface-before object version (surface.SetInputRegion region) = tt
 
@@ -140,10 +149,17 @@ module _ (r : Resident) where
       if-before p.popup.is_dismissed _ _ (λ dismissed. tt)
       (λ live. if-before (is_popup_mapped p) _ _ (λ mapped. tt) (λ unmapped q there. ap is_popup_mapped (some-same q p (sym there ∙ here)) ∙ unmapped))
 
+  repositioned-before : (x : Xdg) (token : ℕ) (p : Positioner) (o : Option Popped) → IsBeforeSo r (repositioned_by x token p o)
+  repositioned-before x token p None = tt
+  repositioned-before x token p (Some q) =
+      if-before (is_configured q && is_full x.configures) _ _ (λ full. tt) (λ room. if-before (is_complete p) _ _ (λ complete. tt) (λ lacks. tt))
+
   popup-asked-before : (object : ℕ) (o : Option Xdg) (request : XdgPopupRequest) → IsBeforeSo r (popup_asked r object o request)
   popup-asked-before object None request = tt
   popup-asked-before object (Some x) popup.Destroy = popup-gone-before object x
   popup-asked-before object (Some x) (popup.Grab by serial) = grab-before object serial x (popup_at x.id r.owned.shell) refl
+  popup-asked-before object (Some x) (popup.Reposition positioner token) =
+      repositioned-before x token (positioner_of (r.peer.positioners positioner)) (popup_at x.id r.owned.shell)
 
   xdg-before : (x : Option Xdg) (version : ℕ) (request : XdgSurfaceRequest) → IsBeforeSo r (xdg_asked r x version request)
   xdg-before None version request = tt

@@ -1,13 +1,15 @@
 -- What each request of surfaces, of links and of the shell's states changes of the windows.
-use Rattle.std.proofs.Common.{◌≡◌, ℕ, Bool, true, false, cond, Option, Some, None, map, refl, ap, sym, subst, ◌∙◌}
+use Rattle.std.proofs.Common.{List, ◌≡◌, ℕ, Bool, true, false, cond, Option, Some, None, map, refl, ap, sym, subst, ◌∙◌}
 use Rattle.std.specs.Prelude.{◌==◌, ◌&&◌, ◌≢◌, not}
 use Rattle.std.specs.Option.{option_and_then, option_map}
 use Rattle.wl_surface.specs.Surfaces.{Link, Surfaces, link_at}
 use Rattle.wl_surface.specs.Trees.{desynchronised_in, in_mode, linked, released_in, unlinked, with_link}
 use Rattle.wl_xdg_state.specs.declared.stage.Stage.{Stage}
 use Rattle.wl_xdg_state.specs.declared.stage.Stage.TheVariants as stage
-use Rattle.wl_xdg_state.specs.Popups.{is_mapped_stage, popped_kind, popped_of, popped_role, popup_changed, with_grab, with_popup, with_popup_role}
+use Rattle.wl_xdg_state.specs.Popups.{is_mapped_stage, popped_kind, popped_of, popped_role, popup_changed, with_grab, with_popup, with_popup_role, copying, repositioning}
 use Rattle.wl_xdg_state.specs.Shell.{IsPopup, Kind, RoleObject, Toplevel, XdgSurface, acknowledged, acknowledging, configuring, role_acknowledged}
+use Rattle.wl_xdg_state.specs.Shell.{Configure, Popup, awaiting, latest_placement, up_to}
+use Rattle.wl_xdg_state.specs.Positioner.{Placed, Positioner}
 use Rattle.wl_plain.specs.Changing.{unlinked_at}
 use Rattle.wl_plain.specs.Desktop.{Desktop, Subsurface, owned_in}
 use Rattle.wl_plain.specs.WlSubsurface.{living}
@@ -19,7 +21,7 @@ use Rattle.wl_invariants.proofs.TreeSteps.Ends.{end-keeps-others}
 use Rattle.wl_invariants.proofs.TreeSteps.Modes.{mode-keeps-all, mode-keeps-others}
 use Rattle.wl_toplevels.specs.Changes.{HasTrees, StaysPainted}
 use Rattle.wl_toplevels.specs.StackedWith.{ChangesAt}
-use Rattle.wl_toplevels.proofs.RootsOf.Alike.{KeepsOne, alike-by, alike-role, alike-stage, keeps-same}
+use Rattle.wl_toplevels.proofs.RootsOf.Alike.{KeepsOne, alike-by, alike-role, keeps-same}
 use Rattle.wl_toplevels.proofs.RootsOf.Kept.{surfaces_in}
 use Rattle.wl_toplevels.proofs.RootsOf.Links.{last-number, unlinked-ended, unlinked-none}
 use Rattle.wl_toplevels.proofs.RootsOf.One.{same-standing}
@@ -59,12 +61,25 @@ configuring-keeps serial = record { ids = λ x. refl; surfaces = λ x. refl; ali
 pub configuring-stacked : (serial : ℕ) → KeepsStacked (configuring serial)
 configuring-stacked serial = record { since = λ x. refl; popups = λ x. as-role x (configuring serial x) x.role }
 
+-- the latest placement of these waits
+abbrev awaiting_those : List Configure → Popup → Popup
+awaiting_those configures p = record p { waiting = latest_placement p.waiting configures }
+
+awaited-one : (configures : List Configure) → KeepsOne (awaiting_those configures)
+awaited-one configures = record { number = λ p. refl; parent = λ p. refl }
+
+awaited-kind : (configures : List Configure) (k : Kind) → awaiting configures k ≡ with_popup (awaiting_those configures) k
+awaited-kind configures Toplevel = refl
+awaited-kind configures (IsPopup popup) = refl
+
 -- it is acknowledged
 pub acknowledging-keeps : (serial : ℕ) → KeepsPopups (acknowledging serial)
 acknowledging-keeps serial = record {
   ids = λ x. refl;
   surfaces = λ x. refl;
-  alike = λ x. alike-stage x (acknowledging serial x) role_acknowledged (λ object. refl) x.role;
+  alike = λ x.
+      let configures = up_to serial x.configures in
+      alike-by x (acknowledging serial x) (role_acknowledged configures) (awaiting_those configures) (awaited-one configures) (λ object. awaited-kind configures object.kind) x.role;
 }
 
 acknowledged-mapped : (s : Stage) → is_mapped_stage (acknowledged s) ≡ is_mapped_stage s
@@ -74,15 +89,46 @@ acknowledged-mapped stage.Ready = refl
 acknowledged-mapped stage.Mapped = refl
 
 pub acknowledging-stacked : (serial : ℕ) → KeepsStacked (acknowledging serial)
-acknowledging-stacked serial = record { since = λ x. refl; popups = λ x. role x (acknowledging serial x) x.role }
+acknowledging-stacked serial = record { since = λ x. refl; popups = λ x. role (up_to serial x.configures) x (acknowledging serial x) x.role }
   where
-    kind : (x y : XdgSurface) (object : RoleObject) (k : Kind) → AreAsStacked (popped_kind x object k) (popped_kind y (role_acknowledged object) k)
-    kind x y object Toplevel = tt
-    kind x y object (IsPopup popup) = (refl, ap (λ b. b && not popup.is_dismissed) (acknowledged-mapped object.stage))
+    kind : (configures : List Configure) (x y : XdgSurface) (object : RoleObject) (k : Kind)
+        → AreAsStacked (popped_kind x object k) (popped_kind y (role_acknowledged configures object) (awaiting configures k))
+    kind configures x y object Toplevel = tt
+    kind configures x y object (IsPopup popup) = (refl, ap (λ b. b && not popup.is_dismissed) (acknowledged-mapped object.stage))
 
-    role : (x y : XdgSurface) (o : Option RoleObject) → AreAsStacked (popped_role x o) (popped_role y (option_map role_acknowledged o))
-    role x y None = tt
-    role x y (Some object) = kind x y object object.kind
+    role : (configures : List Configure) (x y : XdgSurface) (o : Option RoleObject) → AreAsStacked (popped_role x o) (popped_role y (option_map (role_acknowledged configures) o))
+    role configures x y None = tt
+    role configures x y (Some object) = kind configures x y object object.kind
+
+-- a popup is placed anew: it stands where it stood
+copied-one : (positioner : Positioner) → KeepsOne (copying positioner)
+copied-one positioner = record { number = λ p. refl; parent = λ p. refl }
+
+pub repositioning-keeps : (b : Bool) (serial : ℕ) (placement : Option Placed) (positioner : Positioner) → KeepsPopups (repositioning b serial placement positioner)
+repositioning-keeps true serial placement positioner = record {
+  ids = λ x. refl;
+  surfaces = λ x. refl;
+  alike = λ x. alike-by x (repositioning true serial placement positioner x) (with_popup_role (copying positioner)) (copying positioner) (copied-one positioner) (λ object. refl) x.role;
+}
+repositioning-keeps false serial placement positioner = record {
+  ids = λ x. refl;
+  surfaces = λ x. refl;
+  alike = λ x. alike-by x (repositioning false serial placement positioner x) (with_popup_role (copying positioner)) (copying positioner) (copied-one positioner) (λ object. refl) x.role;
+}
+
+copied-stacked : (positioner : Positioner) (x y : XdgSurface) (o : Option RoleObject) → AreAsStacked (popped_role x o) (popped_role y (option_map (with_popup_role (copying positioner)) o))
+copied-stacked positioner x y None = tt
+copied-stacked positioner x y (Some object) = at object.kind
+  where
+    at : (k : Kind) → AreAsStacked (popped_kind x object k) (popped_kind y (with_popup_role (copying positioner) object) (with_popup (copying positioner) k))
+    at Toplevel = tt
+    at (IsPopup popup) = (refl, refl)
+
+pub repositioning-stacked : (b : Bool) (serial : ℕ) (placement : Option Placed) (positioner : Positioner) → KeepsStacked (repositioning b serial placement positioner)
+repositioning-stacked true serial placement positioner =
+    record { since = λ x. refl; popups = λ x. copied-stacked positioner x (repositioning true serial placement positioner x) x.role }
+repositioning-stacked false serial placement positioner =
+    record { since = λ x. refl; popups = λ x. copied-stacked positioner x (repositioning false serial placement positioner x) x.role }
 
 -- a popup takes a grab
 grab-one : KeepsOne with_grab

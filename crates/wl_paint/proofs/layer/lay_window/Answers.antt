@@ -14,7 +14,7 @@ returns-in_default-offset_in g c i h =
     let part = c.part_in-first in
     let fits : FitsSigned w32 c.args.window.now.x = search rules in
     let first = simp to_z-of_z at c.in_default-offset_in.ensures in
-    let none = none_in_part (λ k. in_span w.x (pos (surface_width w.picture.transform w.picture.layout)) (pos (c.args.x + k))) part.result.0 part.result.1
+    let none = none_in_part (λ k. in_span w.x (pos (surface_width w.picture)) (pos (c.args.x + k))) part.result.0 part.result.1
     (length c.args.run.now / 4) (λ k l. (let e = simp to_z-of_z at (part.ensures.same k l) in rw c.width.ensures at e)) part.ensures.within (rw c.width-2.ensures at first) i (omega arith) in
     kept_pixel c.args.run.now i _ (c.requires.fourths i h) (over-beside (pos (c.args.x + i)) (pos c.args.y) (color_of c.args.run.now i) w none)
 
@@ -25,7 +25,7 @@ lay_part-requires-clause-columns g c =
     let fits : FitsSigned w32 c.args.window.now.x = search rules in
     let inside = simp to_z-of_z at c.in-Some-offset_in.ensures.0 in
     let is = simp to_z-of_z at c.in-Some-offset_in.ensures.1 in
-    part_fits w.x (surface_width w.picture.transform w.picture.layout) c.args.x c.in-Some-offset_in.i part.result.0 part.result.1 (length c.args.run.now / 4)
+    part_fits w.x (surface_width w.picture) c.args.x c.in-Some-offset_in.i part.result.0 part.result.1 (length c.args.run.now / 4)
     (λ k l. (let e = simp to_z-of_z at (part.ensures.same k l) in rw c.width.ensures at e)) part.ensures.order part.ensures.within is (rw c.width-2.ensures at inside)
     (rw c.width-2.ensures at c.in-Some-offset_in.ensures.2)
 

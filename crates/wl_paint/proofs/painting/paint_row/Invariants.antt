@@ -1,4 +1,4 @@
-use Rattle.std.proofs.Common.{◌-◌, pos}
+use Rattle.std.proofs.Common.{◌-◌, ◌*◌, pos}
 use Rattle.wl_paint.specs.Painting.{pixel_of}
 use Rattle.wl_paint.specs.Window.{AreOpaqueAsSaid, scratch}
 use Rattle.wl_paint.specs.Damage.{has}
@@ -9,7 +9,8 @@ use Rattle.wl_paint.proofs.painting.paint_row.Given as goal
 abbrev pub invariant-loop-start : goal.invariant-loop-start
 invariant-loop-start g l =
     IsPaintedTo (pixel_of l.initial.pixels) (pixel_of l.pixels) (λ x. AreOpaqueAsSaid (pos x) (pos l.y) (g.W.Windows.windows l.layers.windows.now))
-    (λ x. scratch l.layers.background (g.W.Windows.windows l.layers.windows.now) (pos x) (pos l.y)) (λ x. has l.damage x l.y) l.base l.damage.width l.from
+    (λ x. scratch l.layers.background (g.W.Windows.windows l.layers.windows.now) (pos x) (pos l.y)) (λ x. has l.damage x l.y) (l.y * l.damage.width)
+    l.columns.first l.columns.end l.from
 
 abbrev pub decreases-loop-start : goal.decreases-loop-start
-decreases-loop-start g l = l.damage.width - l.from
+decreases-loop-start g l = l.columns.end - l.from

@@ -1,16 +1,28 @@
-use Rattle.std.proofs.Common.{pos, arith}
-use Rattle.wl_paint.specs.Painting.{pixel_of}
-use Rattle.wl_paint.specs.Window.{AreOpaqueAsSaid, scratch}
+use Rattle.std.proofs.Common.{◌≡◌, ℕ, pos, sym, subst, arith}
 use Rattle.wl_paint.specs.Damage.{has}
-use Rattle.wl_paint.proofs.PaintedRows.{IsPaintedAbove-row}
+use Rattle.wl_paint.specs.Painting.{IsPaintedIn, is_in, pixel_of}
+use Rattle.wl_paint.specs.Window.{AreOpaqueAsSaid, scratch}
+use Rattle.wl_paint.proofs.PaintedRows.{painted-no_rows, painted-rows}
 use Rattle.wl_paint.proofs.painting.paint_rows.Goals as goal
 
-pub loop-y-preserved : goal.loop-y-preserved
-loop-y-preserved g c =
-    let wide = c.requires.wide in
-    let row = c.paint_row.ensures in
-    IsPaintedAbove-row (pixel_of c.args.pixels.now) (pixel_of c.loop-y.pixels) (pixel_of c.paint_row.new.pixels)
+pub loop-first-init : goal.loop-first-init
+loop-first-init g c = (omega arith, painted-no_rows _ _ _ _ _ (record { first = 0; end = c.args.width }) 0)
+
+pub loop-first-preserved : goal.loop-first-preserved
+loop-first-preserved g c =
+    let band = subst (λ (w : ℕ). IsPaintedIn (pixel_of c.loop-first.pixels) (pixel_of c.paint_band.new.pixels)
     (λ x y. AreOpaqueAsSaid (pos x) (pos y) (g.W.Windows.windows c.args.layers.now.windows.now))
     (λ x y. scratch c.args.layers.now.background (g.W.Windows.windows c.args.layers.now.windows.now) (pos x) (pos y)) (has c.args.damage.now)
-    c.args.width c.loop-y.y c.loop-y.invariant (λ x w d. row.damaged x (omega arith) d) (λ x w d. row.kept x (omega arith) d)
-    (λ k h. row.outside k (rw (← wide) h))
+    w (is_in (record { first = 0; end = w }) (record { first = c.loop-first.first; end = c.min.result }))) (sym c.requires.wide) c.paint_band.ensures in (
+      omega (arith, c.min.ensures),
+      painted-rows _ _ _ _ _ _ _ (record { first = 0; end = c.args.width }) 0 c.loop-first.first c.min.result (omega arith) (omega (arith, c.min.ensures))
+          c.loop-first.invariant.1 band,
+    )
+
+pub returns : goal.returns
+returns g c =
+    let done : c.loop-first.first ≡ c.args.height = omega (arith, c.loop-first.invariant.0) in
+    subst (λ (end : ℕ). IsPaintedIn (pixel_of c.args.pixels.now) (pixel_of c.loop-first.pixels)
+    (λ x y. AreOpaqueAsSaid (pos x) (pos y) (g.W.Windows.windows c.args.layers.now.windows.now))
+    (λ x y. scratch c.args.layers.now.background (g.W.Windows.windows c.args.layers.now.windows.now) (pos x) (pos y)) (has c.args.damage.now)
+    c.args.width (is_in (record { first = 0; end = c.args.width }) (record { first = 0; end = end }))) done c.loop-first.invariant.1

@@ -3,5 +3,5 @@ use Rattle.wl_interface.specs.declared.interface.Interface.TheVariants.{XdgPosit
 use Rattle.wl_proto.proofs.Past.{past}
 use Rattle.wl_proto.proofs.xdg_positioner.decode.Goals as goal
 
-pub returns-in_default : goal.returns-in_default
-returns-in_default c = past XdgPositioner c.args._version c.args.opcode c.args.body.now (omega arith)
+pub returns-in_default-4 : goal.returns-in_default-4
+returns-in_default-4 c = past XdgPositioner c.args.version c.args.opcode c.args.body.now (omega arith)

@@ -8,6 +8,6 @@ use Rattle.wl_repaint.proofs.marking.are_same.Goals as goal
 pub returns : goal.returns
 returns c =
     same_from_decides c.eq.result (same_windows c.args.was.now c.args.is.now)
-    (slice_eq-Decides (λ w v. fields-Decide w v _ _ _ _ _ _ _ (Decides-eqb w.surface v.surface) (Decides-eqb w.root v.root) (Decides-int_eq w.x v.x) (Decides-int_eq w.y v.y) (Decides-eqb w.w v.w)
-    (Decides-eqb w.h v.h) (λ e. search rules, λ e. search rules)) _ _ _ c.eq.ensures)
+    (slice_eq-Decides (λ w v. fields-Decide w v _ _ _ _ _ _ _ _ (Decides-eqb w.surface v.surface) (Decides-eqb w.root v.root) (Decides-int_eq w.x v.x) (Decides-int_eq w.y v.y) (Decides-eqb w.w v.w)
+    (Decides-eqb w.h v.h) (λ e. search rules, λ e. search rules) (Decides-eqb w.scale v.scale)) _ _ _ c.eq.ensures)
     (slice_eq-Decides window-Decides c.args.was.now c.args.is.now _ refl)

@@ -18,7 +18,7 @@ returns-clause-painted g c =
     let color : IsColor c.args.framebuffer.now.background = record { r = c.paint.ensures.channels.0; g = c.paint.ensures.channels.1; b = c.paint.ensures.channels.2 } in
     c.paint.ensures.damaged x y wide high (ap (λ w. has w.damage x y) c.self.view_is ∙ marked)
     (desk-said c.self.inside.output c.self.inside.residents.items c.deref.result.now pile c.windows.result.now _ c.deref.ensures.value c.windows.ensures.windows d
-    (rw (← c.self.view_is) at a) (pos x) (pos y) said)
+    (rw (← c.self.view_is) at a) (pos x) (pos y) c.new-nowhere.ensures said)
     ∙ desk-painted c.self.inside.output c.self.inside.residents.items c.deref.result.now pile c.windows.result.now _ c.deref.ensures.value c.windows.ensures.windows d
     (rw (← c.self.view_is) at a) (pos x) (pos y)
     c.args.framebuffer.now.background color

@@ -50,13 +50,13 @@ returns-clause-releases g c = λ m mid.
 
 pub returns-clause-numbers : goal.returns-clause-numbers
 returns-clause-numbers g c =
-    rw (← c.self.view_is) (told-numbers c.self.inside.output c.self.inside.residents.items (pile_of c.self.inside.screen) c.args.client c.in-Some.k c.in-Some-index_mut.resident
+    rw (← c.self.view_is) (told-numbers c.self.inside.output c.self.inside.residents.items (pile_of c.self.inside.screen) _ c.in-Some.k c.in-Some-index_mut.resident
     (found _ _ _ _ _ _ c.deref.ensures.value c.in-Some.ensures.some c.index_mut.ensures.value c.in-Some-index_mut.is) c.release_of.new.resident
     (ap (λ (v : ClientView). v.objects) c.release_of.ensures.client))
 
 pub returns-clause-rests : goal.returns-clause-rests
 returns-clause-rests g c = λ other.
-    rw (← c.self.view_is) (rest-no-more c.self.inside.output c.self.inside.residents.items (pile_of c.self.inside.screen) _ c.args.client c.in-Some.k c.in-Some-index_mut.resident
+    rw (← c.self.view_is) (rest-no-more c.self.inside.output c.self.inside.residents.items (pile_of c.self.inside.screen) _ _ c.in-Some.k c.in-Some-index_mut.resident
     (found _ _ _ _ _ _ c.deref.ensures.value c.in-Some.ensures.some c.index_mut.ensures.value c.in-Some-index_mut.is) c.release_of.new.resident
     (rest-released c.in-Some-index_mut.resident c.release_of.new.resident c.release_of.ensures.client) other)
 

@@ -1,6 +1,7 @@
 use Rattle.std.proofs.Common.{◌≡◌, None, ap, refl, subst, sym, ◌∙◌}
 use Rattle.std.proofs.lemmas.List.{length-set}
 use Rattle.wl_resident.specs.Agreement.{numbers_in}
+use Rattle.wl_resident.specs.Screens.{IsTouchedBy}
 use Rattle.wl_resident.specs.View.{MarkedDesk, pile_of}
 use Rattle.wl_clients.specs.Feeding.{served_as}
 use Rattle.wl_clients.specs.Residents.{client_views, resident_at}
@@ -12,6 +13,7 @@ use Rattle.wl_clients.proofs.Kept.{idles, rest-less, served-answer, served-idle,
 use Rattle.wl_clients.proofs.Leading.{message-led}
 use Rattle.wl_clients.proofs.Steps.{idles-nobody, idles-whole, through-whole}
 use Rattle.wl_clients.proofs.Seats.{as-large, empty-slot, found, here-is, missing, still}
+use Rattle.wl_clients.proofs.Untouched.{no-window}
 use Rattle.wl_clients.proofs.clients.Clients.take.Goals as goal
 
 pub returns-in_default-clause-less : goal.returns-in_default-clause-less
@@ -145,3 +147,20 @@ serve-taken-requires g c =
     subst (λ v. IsAsked v.client c.asked-asked.result) (here-is rs c.args.client c.in-Some-place_of.k c.in-Some-index_mut.resident c.in-Some.resident.now
     (found _ _ _ _ _ _ c.deref-2.ensures.value c.in-Some-place_of.ensures.some c.index_mut.ensures.value c.in-Some-index_mut.is)
     (c.in-Some.ensures ∙ ap (λ rs. resident_at rs c.args.client) c.deref.ensures.value)) c.asked-asked.ensures
+
+pub returns-in_default-clause-untouched : goal.returns-in_default-clause-untouched
+returns-in_default-clause-untouched g c = λ some. absurd (some (none-served c.none.result c.none.ensures))
+
+pub returns-in_default-index_mut-clause-untouched : goal.returns-in_default-index_mut-clause-untouched
+returns-in_default-index_mut-clause-untouched g c = λ some. absurd (some (none-served c.none-in_default-index_mut.result c.none-in_default-index_mut.ensures))
+
+pub returns-clause-untouched : goal.returns-clause-untouched
+returns-clause-untouched g c = λ some untouched d a.
+    let rs = c.self.inside.residents.items in
+    let put = found _ _ _ _ _ _ c.deref-2.ensures.value c.in-Some-place_of.ensures.some c.index_mut.ensures.value c.in-Some-index_mut.is in
+    let here = here-is rs c.args.client c.in-Some-place_of.k c.in-Some-index_mut.resident c.in-Some.resident.now put (c.in-Some.ensures ∙ ap (λ rs. resident_at rs c.args.client) c.deref.ensures.value) in
+    let asks = asks-of c.serve-taken.result _ (λ asked. (c.in-Some-index_mut.resident.client.ended ≡ None) × MessageAsksPointer c.in-Some-index_mut.resident asked) (sym c.is_some.ensures
+    ∙ served-took _ _ _ c.served_of.ensures some) c.unwrap_or.ensures c.serve-taken.ensures.asks in
+    no-window c.self.inside.output rs (pile_of c.self.inside.screen) c.args.client c.in-Some-place_of.k c.in-Some-index_mut.resident put d (rw (← c.self.view_is) at a.matches)
+    a.ordered asks.0 c.asked-asked.result (subst (λ v. IsAsked v.client c.asked-asked.result) here c.asked-asked.ensures)
+    (subst (λ v. IsTouchedBy v c.asked-asked.result None) here (c.touches_windows-touches_windows.ensures untouched))

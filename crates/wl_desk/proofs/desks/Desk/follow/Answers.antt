@@ -30,7 +30,7 @@ returns-in_default-request g c =
 
 pub returns : goal.returns
 returns g c = record {
-  follows = asked-whole c.args.client c.in-NewPointer.id c.args.request c.args.self.now c.tell_new.new.self c.status.result
+  follows = asked-whole c.args.client c.in-NewPointer.id c.tell_new.result c.args.request c.args.self.now c.tell_new.new.self c.status.result
       (status-at c.args.client c.self.inside.clients _ _ c.self.inside.pointer c.args.self.now c.status.result c.self.view_is c.status.ensures) c.in_default.not-Ended
       c.in-NewPointer.is c.tell_new.ensures.tells (target_or_none c.args.toplevel);
   sides = c.tell_new.ensures.sides;

@@ -1,4 +1,4 @@
-use Rattle.std.proofs.Common.{◌≡◌, ℕ, List, ap, false, sym, true, ◌∙◌}
+use Rattle.std.proofs.Common.{List, ap, sym, ◌∙◌}
 use Rattle.wl_client.specs.Pointers.{has_any}
 use Rattle.wl_laws.proofs.Lists.Keys.{differ, none-some}
 use Rattle.wl_clients.specs.declared.grabs.Latest.{Latest}

@@ -9,10 +9,10 @@ use Rattle.wl_desk.proofs.desks.Desk.serve.Goals as goal
 pub returns-clause-leads : goal.returns-clause-leads
 returns-clause-leads g c = λ more.
     let some : c.take-taken.result.served ≢ served.More = search (rules, tests) in
-    served-whole c.args.client c.take-taken.result.pointer c.movable-movable.result (target_or_none c.to_move.result) c.args.self.now c.take-taken.new.self c.follow.new.self c.settle.new.self
-    c.movable-movable.ensures c.to_move.ensures (c.take-taken.ensures.took some) c.follow.ensures.follows c.settle.ensures.settles
+    served-whole c.args.client c.follow-lives.result c.take-taken.result.touches_windows c.take-taken.result.pointer c.movable-movable.result (target_or_none c.to_move.result) c.args.self.now c.take-taken.new.self c.follow-lives.new.self c.settle_after.new.self
+    c.movable-movable.ensures c.to_move.ensures (c.take-taken.ensures.took some) c.follow-lives.ensures.follows (c.take-taken.ensures.untouched some) c.settle_after.ensures.settles
 
 pub returns-clause-told : goal.returns-clause-told
 returns-clause-told g c = λ more d a.
     c.served_of.ensures
-    ∙ ap served_of (status-at c.args.client c.self.inside.clients _ _ c.self.inside.pointer c.settle.new.self c.status.result c.self.view_is c.status.ensures (unpointed d) a.kept)
+    ∙ ap served_of (status-at c.args.client c.self.inside.clients _ _ c.self.inside.pointer c.settle_after.new.self c.status.result c.self.view_is c.status.ensures (unpointed d) a.kept)

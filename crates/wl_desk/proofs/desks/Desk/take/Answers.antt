@@ -2,7 +2,7 @@ use Rattle.std.proofs.Common.{◌<◌, ℕ, List, map, ap, subst, ◌∙◌, vec
 use Rattle.std.specs.Vec.{with_items}
 use Rattle.wl_desk.specs.Seating.{seats_after}
 use Rattle.wl_desk.proofs.Seated.{IsPlaced, held-placed}
-use Rattle.wl_desk.proofs.Taking.{rested-whole, took-whole, written}
+use Rattle.wl_desk.proofs.Taking.{rested-whole, took-whole, untouched-whole, written}
 use Rattle.wl_desk.proofs.desks.Desk.take.Goals as goal
 
 pub returns-then-eq-clause-more : goal.returns-then-eq-clause-more
@@ -23,3 +23,7 @@ returns-clause-took g c = λ some.
     (λ room. subst (λ (seats : List (List ℕ)). IsPlaced c.args.client seats) same
     (held-placed (λ v. vec_len v < vec_capacity v) (λ s. s.items) c.args.client c.make_room-has_room.new.seats (c.make_room-has_room.ensures.room room)))
     c.serials-latest.result (λ d a. c.serials-latest.ensures d (rw (← c.self.view_is) a)) (c.take-taken.ensures.leads some) (c.take-taken.ensures.asks some) c.take-taken.ensures.seat c.take-taken.ensures.sides
+
+pub returns-clause-untouched : goal.returns-clause-untouched
+returns-clause-untouched g c = λ some none.
+    untouched-whole c.args.client c.self.inside.clients _ _ c.self.inside.pointer c.args.self.now c.self.view_is (c.take-taken.ensures.untouched some none)

@@ -1,7 +1,9 @@
-use Rattle.std.proofs.Common.{◌==◌, map, sym, subst}
+use Rattle.std.proofs.Common.{◌≡◌, ◌==◌, Bool, true, false, map, refl, sym, subst, ◌∙◌}
+use Rattle.std.specs.Prelude.{MatchBool}
 use Rattle.wl_state.specs.Kept.{buffer_of}
 use Rattle.wl_surface.specs.Applied.{AreFreed}
-use Rattle.wl_surface.specs.Surfaces.{Surfaces}
+use Rattle.wl_surface.specs.Slots.{is_whole_at}
+use Rattle.wl_surface.specs.Surfaces.{Surfaces, surface_at}
 use Rattle.wl_surface.specs.Trees.{descends_from}
 use Rattle.wl_surface.specs.Waiting.{AreWaiting}
 use Rattle.wl_linked.specs.Linked.{Stand, numbered}
@@ -10,6 +12,14 @@ use Rattle.wl_linked.proofs.Committing.{commit-held, commit-now, committed-held,
 use Rattle.wl_linked.proofs.Refusing.{on-ok}
 use Rattle.wl_linked.proofs.Showing.{shown-such}
 use Rattle.wl_linked.proofs.linked.Linked.commit.Goals as goal
+
+at-yes : (b : Bool) (P Q : Type 0) → b ≡ true → P → MatchBool b P Q
+at-yes true P Q e p = p
+at-yes false P Q e p = absurd (cc)
+
+at-no : (b : Bool) (P Q : Type 0) → b ≡ false → Q → MatchBool b P Q
+at-no true P Q e q = absurd (cc)
+at-no false P Q e q = q
 
 pub returns-then-behaves_synchronised-clause-ok : goal.returns-then-behaves_synchronised-clause-ok
 returns-then-behaves_synchronised-clause-ok g c = on-ok c.hold.result c.hold.ensures.ok (λ stands all stand.
@@ -68,3 +78,14 @@ returns-clause-shown g c = if-ok c.commit_now.result c.commit_now.ensures.shown 
     let v = c.args.self.now in
     shown-such (descends_from 16 all c.args.surface) (is_committed c.args.surface all) all (map buffer_of told.shown.items)
     (committed-now v.surfaces v.family all c.args.surface c.behaves_synchronised.result c.behaves_synchronised.ensures stand c.if-behaves_synchronised.false) (shown all stand))
+
+pub returns-then-not-is_whole-clause-cause : goal.returns-then-not-is_whole-clause-cause
+returns-then-not-is_whole-clause-cause g c = λ all stand. at-no (is_whole_at (surface_at c.args.surface all)) _ _ (sym (c.is_whole.ensures (numbered all) stand.surfaces) ∙ c.if-not-is_whole.true) refl
+
+pub returns-then-behaves_synchronised-clause-cause : goal.returns-then-behaves_synchronised-clause-cause
+returns-then-behaves_synchronised-clause-cause g c = λ all stand.
+    at-yes (is_whole_at (surface_at c.args.surface all)) _ _ (sym (c.is_whole.ensures (numbered all) stand.surfaces) ∙ c.if-not-is_whole.false) c.hold.ensures.cause
+
+pub returns-clause-cause : goal.returns-clause-cause
+returns-clause-cause g c = λ all stand.
+    at-yes (is_whole_at (surface_at c.args.surface all)) _ _ (sym (c.is_whole.ensures (numbered all) stand.surfaces) ∙ c.if-not-is_whole.false) c.commit_now.ensures.cause

@@ -24,7 +24,7 @@ use Rattle.wl_requests.specs.declared.residents.Placing.{Placing}
 use Rattle.wl_requests.specs.declared.residents.Resident.{Resident as Kept}
 use Rattle.wl_requests.specs.declared.residents.Stacking.{Stacking}
 use Rattle.wl_requests.specs.declared.residents.Stacking.TheVariants.{Stays}
-use Rattle.wl_requests.specs.Residents.{AnswersAllowed, AnswersAs, AnswersDemand, AnswersDemandAs, AnswersGiven, AnswersPlaced, AnswersPlacedAs, AnswersSo, NewIsFree, ObjectsFit, Stacks, StacksSo}
+use Rattle.wl_requests.specs.Residents.{AnswersAs, AnswersDemand, AnswersDemandAs, AnswersGiven, AnswersPlaced, AnswersPlacedAs, AnswersSo, NewIsFree, ObjectsFit, Stacks, StacksSo}
 use Rattle.wl_requests.proofs.Doing.{named-by}
 use Rattle.wl_requests.proofs.Interfaces.{object-is, of-base, of-popup, of-subcompositor, of-subsurface, of-surface, of-xdg-surface}
 use Rattle.wl_requests.proofs.Meeting.{asks-stay}
@@ -56,14 +56,14 @@ placed-so old new placing grabbing object version k request m is told h = λ c r
     subst (λ (x : Message). AnswersSo (demand_of nothing_left_out r object version x) c r d old new) (sym told)
     (h c r d its only (subst (λ (j : Kind). IsPlacingFor placing object j c r d) is placed))
 
--- and a request for a grab is what it is allowed for
-allowed-so : {A : Type 0} (old new : Kept A) (placing : Placing) (grabbing : Grabbing) (object version : ℕ) (k : Kind) (request : XdgPopupRequest) (m : Message) → k ≡ kinds.Popup request
+-- and the popup of a request for a grab, or to be placed anew, is what these are handed in for
+given-so : {A : Type 0} (old new : Kept A) (placing : Placing) (grabbing : Grabbing) (object version : ℕ) (k : Kind) (request : XdgPopupRequest) (m : Message) → k ≡ kinds.Popup request
     → m ≡ xdg_popup_request request
-    → AnswersAllowed grabbing (kinds.Popup request) (λ r. demand_of nothing_left_out r object version (xdg_popup_request request)) old new
+    → AnswersGiven placing grabbing (kinds.Popup request) object (λ r. demand_of nothing_left_out r object version (xdg_popup_request request)) old new
     → AnswersGiven placing grabbing k object (λ r. demand_of nothing_left_out r object version m) old new
-allowed-so old new placing grabbing object version k request m is told h = λ c r d its only placed given.
+given-so old new placing grabbing object version k request m is told h = λ c r d its only placed given.
     subst (λ (x : Message). AnswersSo (demand_of nothing_left_out r object version x) c r d old new) (sym told)
-    (h c r d its only (subst (λ (j : Kind). IsGrabbingFor grabbing j c r d) is given))
+    (h c r d its only (subst (λ (j : Kind). IsPlacingFor placing object j c r d) is placed) (subst (λ (j : Kind). IsGrabbingFor grabbing j c r d) is given))
 
 placed-as : {A : Type 0} (done : Bool) (old new : Kept A) (placing : Placing) (object version : ℕ) (k : Kind) (request : WlSurfaceRequest) (m : Message) → k ≡ kinds.Surface request
     → m ≡ wl_surface_request request
@@ -93,7 +93,7 @@ returns-in-Surface-clause-answers g c = λ m kind entry free fit.
     let v = c.args.self.now in
     let told : m ≡ wl_surface_request c.in-Surface.request = rw c.in-Surface.is at kind in
     let named = named-by v.client.objects c.args.object c.args.target _ entry (ap (λ (n : Message). n.interface) told ∙ of-surface c.in-Surface.request) refl in
-    placed-so v c.wl_surface.new.self c.args.placing c.args.grabbing c.args.object c.args.version c.args.kind c.in-Surface.request m c.in-Surface.is told
+    placed-so v c.wl_surface.new.self c.args.given.placing c.args.given.grabbing c.args.object c.args.version c.args.kind c.in-Surface.request m c.in-Surface.is told
     (c.wl_surface.ensures.answers named (subst (λ (n : Message). NewIsFree v n) told free))
 
 pub returns-in-Toplevel-clause-answers : goal.returns-in-Toplevel-clause-answers
@@ -160,7 +160,7 @@ returns-in-Popup-clause-answers g c = λ m kind entry free fit.
     let v = c.args.self.now in
     let told : m ≡ xdg_popup_request c.in-Popup.request = rw c.in-Popup.is at kind in
     let named = targets-at AnXdgPopup v.client.objects c.args.object _ entry (ap (λ (n : Message). n.interface) told ∙ of-popup c.in-Popup.request) in
-    allowed-so v c.xdg_popup.new.self c.args.placing c.args.grabbing c.args.object c.args.version c.args.kind c.in-Popup.request m c.in-Popup.is told (c.xdg_popup.ensures.answers named)
+    given-so v c.xdg_popup.new.self c.args.given.placing c.args.given.grabbing c.args.object c.args.version c.args.kind c.in-Popup.request m c.in-Popup.is told (c.xdg_popup.ensures.answers named)
 
 -- ---- what becomes of the stack
 
@@ -231,7 +231,7 @@ returns-in-Surface-clause-decides g c = λ touch touches m kind entry.
     let v = c.args.self.now in
     let told : m ≡ wl_surface_request c.in-Surface.request = rw c.in-Surface.is at kind in
     let named = named-by v.client.objects c.args.object c.args.target _ entry (ap (λ (n : Message). n.interface) told ∙ of-surface c.in-Surface.request) refl in
-    placed-as (is_some c.wl_surface.result.applied) v c.wl_surface.new.self c.args.placing c.args.object c.args.version c.args.kind c.in-Surface.request m c.in-Surface.is told
+    placed-as (is_some c.wl_surface.result.applied) v c.wl_surface.new.self c.args.given.placing c.args.object c.args.version c.args.kind c.in-Surface.request m c.in-Surface.is told
     (c.wl_surface.ensures.decides touch (rw c.in-Surface.is at touches) named)
 
 pub returns-in-Surface-clause-touched : goal.returns-in-Surface-clause-touched
@@ -404,7 +404,7 @@ returns-in-Surface-clause-holds g c = λ touch touches m kind entry.
     let v = c.args.self.now in
     let told : m ≡ wl_surface_request c.in-Surface.request = rw c.in-Surface.is at kind in
     let named = named-by v.client.objects c.args.object c.args.target _ entry (ap (λ (n : Message). n.interface) told ∙ of-surface c.in-Surface.request) refl in
-    held-placed (is_some c.wl_surface.result.applied) v c.wl_surface.new.self c.args.placing c.args.object c.args.version c.args.kind c.in-Surface.request m c.in-Surface.is told
+    held-placed (is_some c.wl_surface.result.applied) v c.wl_surface.new.self c.args.given.placing c.args.object c.args.version c.args.kind c.in-Surface.request m c.in-Surface.is told
     (c.wl_surface.ensures.holds touch (rw c.in-Surface.is at touches) named)
 
 pub returns-in-Subsurface-clause-holds : goal.returns-in-Subsurface-clause-holds
@@ -412,7 +412,7 @@ returns-in-Subsurface-clause-holds g c = λ touch touches m kind entry.
     let v = c.args.self.now in
     let told : m ≡ wl_subsurface_request c.in-Subsurface.request = rw c.in-Subsurface.is at kind in
     let is = object-is WlSubsurface v.client.objects c.args.object _ entry (ap (λ (n : Message). n.interface) told ∙ of-subsurface c.in-Subsurface.request) in
-    held-message (is_some c.wl_subsurface.result.applied) v c.wl_subsurface.new.self c.args.placing c.args.object c.args.version c.args.kind m _ told
+    held-message (is_some c.wl_subsurface.result.applied) v c.wl_subsurface.new.self c.args.given.placing c.args.object c.args.version c.args.kind m _ told
     (c.wl_subsurface.ensures.holds c.args.target touch (rw c.in-Subsurface.is at touches) is)
 
 pub returns-in-Popup-clause-holds : goal.returns-in-Popup-clause-holds
@@ -420,7 +420,7 @@ returns-in-Popup-clause-holds g c = λ touch touches m kind entry.
     let v = c.args.self.now in
     let told : m ≡ xdg_popup_request c.in-Popup.request = rw c.in-Popup.is at kind in
     let named = targets-at AnXdgPopup v.client.objects c.args.object _ entry (ap (λ (n : Message). n.interface) told ∙ of-popup c.in-Popup.request) in
-    held-message (is_some c.xdg_popup.result.applied) v c.xdg_popup.new.self c.args.placing c.args.object c.args.version c.args.kind m _ told
+    held-message (is_some c.xdg_popup.result.applied) v c.xdg_popup.new.self c.args.given.placing c.args.object c.args.version c.args.kind m _ told
     (c.xdg_popup.ensures.holds touch (rw c.in-Popup.is at touches) named)
 
 pub returns-in-Toplevel-clause-holds : goal.returns-in-Toplevel-clause-holds

@@ -3,7 +3,7 @@ use Rattle.std.specs.Prelude.{FitsSigned, Ok, is_some, if◌then◌else◌}
 use Rattle.std.proofs.lemmas.Int.{to_z-of_z}
 use Rattle.wl_geom.specs.declared.rect.Rect.{Rect}
 use Rattle.wl_peer.specs.Peer.{counted}
-use Rattle.wl_state.specs.Request.{Attach, Damage, SetInputRegion, SetOpaqueRegion}
+use Rattle.wl_state.specs.Request.{Attach, Damage, DamageBuffer, SetInputRegion, SetOpaqueRegion}
 use Rattle.wl_plain.specs.Ask.{AskSurface}
 use Rattle.wl_peer.specs.declared.refusals.ErrorCode.TheVariants.{SurfaceHasRoleObject}
 use Rattle.wl_plain.specs.Demand.{EndSurface}
@@ -11,7 +11,7 @@ use Rattle.wl_plain.specs.Desktop.{Resident}
 use Rattle.wl_owning.specs.RoleNames.{names_of}
 use Rattle.wl_plain.specs.Step.{with_peer}
 use Rattle.wl_plain.specs.WlSubsurface.{refuses}
-use Rattle.wl_plain.specs.WlSurface.{buffer_named, region_named, transform_set}
+use Rattle.wl_plain.specs.WlSurface.{buffer_named, region_named, scale_set, transform_set}
 use Rattle.wl_xdg_state.specs.Shell.{xdg_of}
 use Rattle.wl_requests.specs.declared.residents.Resident.{Resident as Kept}
 use Rattle.wl_requests.specs.declared.residents.Stacking.TheVariants.{Stays}
@@ -56,6 +56,24 @@ returns-in-Damage-clause-answers g c = λ named new client r on is only placed.
     (asked-releases (names_of v.client.objects).surfaces v.owned.linked.surfaces v.owned.linked.family (with_peer (counted r.peer) r) id c.args.surface (Damage rect) refl is.owns.surfaces named)
     (does (surface-counted v.client count.new.self id c.args.surface count.ensures.only named))))
 
+pub returns-in-DamageBuffer-clause-answers : goal.returns-in-DamageBuffer-clause-answers
+returns-in-DamageBuffer-clause-answers g c = λ named new client r on is only placed.
+    let v = c.args.self.now in
+    let id = c.args.object in
+    let rect : Rect = record { x = c.in-DamageBuffer.x; y = c.in-DamageBuffer.y; w = c.in-DamageBuffer.w; h = c.in-DamageBuffer.h } in
+    let count = c.count-in-DamageBuffer in
+    let x-fits : FitsSigned w32 c.in-DamageBuffer.x = search rules in
+    let y-fits : FitsSigned w32 c.in-DamageBuffer.y = search rules in
+    let w-fits : FitsSigned w32 c.in-DamageBuffer.w = search rules in
+    let h-fits : FitsSigned w32 c.in-DamageBuffer.h = search rules in
+    let does = simp (to_z-of_z w32 c.in-DamageBuffer.x x-fits, to_z-of_z w32 c.in-DamageBuffer.y y-fits, to_z-of_z w32 c.in-DamageBuffer.w w-fits, to_z-of_z w32 c.in-DamageBuffer.h h-fits) at c.damage_buffer.ensures.does in
+    rw c.in-DamageBuffer.is
+    (as-asked _ _ client on r only (Ok (AskSurface id (DamageBuffer rect)))
+    (counted-does v (record v { client = count.new.self }) c.damage_buffer.new.self r (λ (q : Resident). AskSurface id (DamageBuffer rect)) is count.ensures.only refl refl
+    (count.ensures.counts r.peer is.peer)
+    (asked-releases (names_of v.client.objects).surfaces v.owned.linked.surfaces v.owned.linked.family (with_peer (counted r.peer) r) id c.args.surface (DamageBuffer rect) refl is.owns.surfaces named)
+    (does (surface-counted v.client count.new.self id c.args.surface count.ensures.only named))))
+
 pub returns-in-SetOpaqueRegion-clause-answers : goal.returns-in-SetOpaqueRegion-clause-answers
 returns-in-SetOpaqueRegion-clause-answers g c = λ named new client r on is only placed.
     let v = c.args.self.now in
@@ -90,6 +108,9 @@ returns-in-Attach-clause-rest g c = rw (← c.count.ensures.rest) c.attach.ensur
 pub returns-in-Damage-clause-rest : goal.returns-in-Damage-clause-rest
 returns-in-Damage-clause-rest g c = rw (← c.count-in-Damage.ensures.rest) c.damage.ensures.rest
 
+pub returns-in-DamageBuffer-clause-rest : goal.returns-in-DamageBuffer-clause-rest
+returns-in-DamageBuffer-clause-rest g c = rw (← c.count-in-DamageBuffer.ensures.rest) c.damage_buffer.ensures.rest
+
 pub returns-in-SetOpaqueRegion-clause-rest : goal.returns-in-SetOpaqueRegion-clause-rest
 returns-in-SetOpaqueRegion-clause-rest g c = rw (← c.count-in-SetOpaqueRegion.ensures.rest) c.set_opaque_region.ensures.rest
 
@@ -107,6 +128,9 @@ returns-in-Frame-clause-rest g c = c.frame.ensures.rest
 
 pub returns-in-SetBufferTransform-clause-rest : goal.returns-in-SetBufferTransform-clause-rest
 returns-in-SetBufferTransform-clause-rest g c = c.transform.ensures.rest
+
+pub returns-in-SetBufferScale-clause-rest : goal.returns-in-SetBufferScale-clause-rest
+returns-in-SetBufferScale-clause-rest g c = c.scale.ensures.rest
 
 -- ---- the stack
 
@@ -127,6 +151,9 @@ returns-in-Attach-clause-stacks g c = rw (c.in-Attach.is, c.of.ensures) (λ name
 pub returns-in-Damage-clause-stacks : goal.returns-in-Damage-clause-stacks
 returns-in-Damage-clause-stacks g c = rw (c.in-Damage.is, c.of-in-Damage.ensures) (λ named r is only. refl)
 
+pub returns-in-DamageBuffer-clause-stacks : goal.returns-in-DamageBuffer-clause-stacks
+returns-in-DamageBuffer-clause-stacks g c = rw (c.in-DamageBuffer.is, c.of-in-DamageBuffer.ensures) (λ named r is only. refl)
+
 pub returns-in-Frame-clause-stacks : goal.returns-in-Frame-clause-stacks
 returns-in-Frame-clause-stacks g c = rw (c.in-Frame.is, c.of-in-Frame.ensures) (λ named r is only. refl)
 
@@ -139,6 +166,10 @@ returns-in-SetInputRegion-clause-stacks g c = rw (c.in-SetInputRegion.is, c.of-i
 pub returns-in-SetBufferTransform-clause-stacks : goal.returns-in-SetBufferTransform-clause-stacks
 returns-in-SetBufferTransform-clause-stacks g c = rw (c.in-SetBufferTransform.is, c.of-in-SetBufferTransform.ensures) (λ named r is only.
     asks-stay c.args.self.now r (transform_set c.args.object c.in-SetBufferTransform.transform))
+
+pub returns-in-SetBufferScale-clause-stacks : goal.returns-in-SetBufferScale-clause-stacks
+returns-in-SetBufferScale-clause-stacks g c = rw (c.in-SetBufferScale.is, c.of-in-SetBufferScale.ensures) (λ named r is only.
+    asks-stay c.args.self.now r (scale_set c.args.object c.in-SetBufferScale.scale))
 
 -- ---- what touches several surfaces, and what doesn't
 
@@ -181,6 +212,13 @@ returns-in-SetBufferTransform-clause-answers g c = λ named new.
     let answers = simp (to_z-of_z w32 z fits) at c.transform.ensures.answers in
     λ client r on is only placed. rw c.in-SetBufferTransform.is (answers named client r on is only)
 
+pub returns-in-SetBufferScale-clause-answers : goal.returns-in-SetBufferScale-clause-answers
+returns-in-SetBufferScale-clause-answers g c = λ named new.
+    let z = c.in-SetBufferScale.scale in
+    let fits : FitsSigned w32 z = search rules in
+    let answers = simp (to_z-of_z w32 z fits) at c.scale.ensures.answers in
+    λ client r on is only placed. rw c.in-SetBufferScale.is (answers named client r on is only)
+
 pub returns-in-Attach-clause-decides : goal.returns-in-Attach-clause-decides
 returns-in-Attach-clause-decides g c = λ touch touches. absurd (rw c.in-Attach.is at touches)
 
@@ -193,11 +231,20 @@ returns-in-Attach-clause-nothing g c = λ none. rw c.of.ensures
 pub returns-in-Damage-clause-decides : goal.returns-in-Damage-clause-decides
 returns-in-Damage-clause-decides g c = λ touch touches. absurd (rw c.in-Damage.is at touches)
 
+pub returns-in-DamageBuffer-clause-decides : goal.returns-in-DamageBuffer-clause-decides
+returns-in-DamageBuffer-clause-decides g c = λ touch touches. absurd (rw c.in-DamageBuffer.is at touches)
+
 pub returns-in-Damage-clause-touched : goal.returns-in-Damage-clause-touched
 returns-in-Damage-clause-touched g c = λ touch touches. absurd (rw c.in-Damage.is at touches)
 
+pub returns-in-DamageBuffer-clause-touched : goal.returns-in-DamageBuffer-clause-touched
+returns-in-DamageBuffer-clause-touched g c = λ touch touches. absurd (rw c.in-DamageBuffer.is at touches)
+
 pub returns-in-Damage-clause-nothing : goal.returns-in-Damage-clause-nothing
 returns-in-Damage-clause-nothing g c = λ none. rw c.of-in-Damage.ensures
+
+pub returns-in-DamageBuffer-clause-nothing : goal.returns-in-DamageBuffer-clause-nothing
+returns-in-DamageBuffer-clause-nothing g c = λ none. rw c.of-in-DamageBuffer.ensures
 
 pub returns-in-Frame-clause-decides : goal.returns-in-Frame-clause-decides
 returns-in-Frame-clause-decides g c = λ touch touches. absurd (rw c.in-Frame.is at touches)
@@ -229,11 +276,20 @@ returns-in-SetInputRegion-clause-nothing g c = λ none. rw c.of-in-SetInputRegio
 pub returns-in-SetBufferTransform-clause-decides : goal.returns-in-SetBufferTransform-clause-decides
 returns-in-SetBufferTransform-clause-decides g c = λ touch touches. absurd (rw c.in-SetBufferTransform.is at touches)
 
+pub returns-in-SetBufferScale-clause-decides : goal.returns-in-SetBufferScale-clause-decides
+returns-in-SetBufferScale-clause-decides g c = λ touch touches. absurd (rw c.in-SetBufferScale.is at touches)
+
 pub returns-in-SetBufferTransform-clause-touched : goal.returns-in-SetBufferTransform-clause-touched
 returns-in-SetBufferTransform-clause-touched g c = λ touch touches. absurd (rw c.in-SetBufferTransform.is at touches)
 
+pub returns-in-SetBufferScale-clause-touched : goal.returns-in-SetBufferScale-clause-touched
+returns-in-SetBufferScale-clause-touched g c = λ touch touches. absurd (rw c.in-SetBufferScale.is at touches)
+
 pub returns-in-SetBufferTransform-clause-nothing : goal.returns-in-SetBufferTransform-clause-nothing
 returns-in-SetBufferTransform-clause-nothing g c = λ none. rw c.of-in-SetBufferTransform.ensures
+
+pub returns-in-SetBufferScale-clause-nothing : goal.returns-in-SetBufferScale-clause-nothing
+returns-in-SetBufferScale-clause-nothing g c = λ none. rw c.of-in-SetBufferScale.ensures
 
 -- ---- what is kept stands by the numbers from before
 
@@ -250,6 +306,9 @@ returns-in-Attach-clause-holds g c = λ touch touches. absurd (rw c.in-Attach.is
 pub returns-in-Damage-clause-holds : goal.returns-in-Damage-clause-holds
 returns-in-Damage-clause-holds g c = λ touch touches. absurd (rw c.in-Damage.is at touches)
 
+pub returns-in-DamageBuffer-clause-holds : goal.returns-in-DamageBuffer-clause-holds
+returns-in-DamageBuffer-clause-holds g c = λ touch touches. absurd (rw c.in-DamageBuffer.is at touches)
+
 pub returns-in-Frame-clause-holds : goal.returns-in-Frame-clause-holds
 returns-in-Frame-clause-holds g c = λ touch touches. absurd (rw c.in-Frame.is at touches)
 
@@ -261,3 +320,6 @@ returns-in-SetInputRegion-clause-holds g c = λ touch touches. absurd (rw c.in-S
 
 pub returns-in-SetBufferTransform-clause-holds : goal.returns-in-SetBufferTransform-clause-holds
 returns-in-SetBufferTransform-clause-holds g c = λ touch touches. absurd (rw c.in-SetBufferTransform.is at touches)
+
+pub returns-in-SetBufferScale-clause-holds : goal.returns-in-SetBufferScale-clause-holds
+returns-in-SetBufferScale-clause-holds g c = λ touch touches. absurd (rw c.in-SetBufferScale.is at touches)

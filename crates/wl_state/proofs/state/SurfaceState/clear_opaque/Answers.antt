@@ -7,6 +7,6 @@ pub returns : goal.returns
 returns g c = λ s u.
     let v = rw (← c.self.view_is) at u in
     let t = v.history in
-    For-asked _ s (SetOpaqueRegion None) _ _ (Some c.new.result) _ _ _ refl v
-    (record { buffer_is = t.pending.buffer_is; transform_is = t.pending.transform_is; opaque_is = c.new.ensures; input_is = t.pending.input_is }) (still _ s.history t)
-    (undamaged _ s.history (SetOpaqueRegion None) refl t)
+    For-asked _ s (SetOpaqueRegion None) _ _ _ (Some c.new.result) _ _ _ _ refl v
+    (record { buffer_is = t.pending.buffer_is; transform_is = t.pending.transform_is; scale_is = t.pending.scale_is; opaque_is = c.new.ensures; input_is = t.pending.input_is }) (still _ s.history t)
+    (undamaged _ s.history (SetOpaqueRegion None) refl refl t)

@@ -7,5 +7,5 @@ use Rattle.wl_store.proofs.picture.Picture.transparent.Goals as goal
 
 pub returns : goal.returns
 returns c =
-    let shown : Layout → Shown = λ l. record { bytes = 0 ∷ 0 ∷ 0 ∷ 0 ∷ []; layout = l; transform = Normal } in
+    let shown : Layout → Shown = λ l. record { bytes = 0 ∷ 0 ∷ 0 ∷ 0 ∷ []; layout = l; transform = Normal; scale = 1 } in
     ap shown (one-pixel _ _ _ _ _ _)
