@@ -3,14 +3,15 @@
 
     bench/frames.py [--ticks N] [--rounds N] [--only WORDS]
 
-It writes recordings of clients with a window each, whose every tick is preceded by a commit of all of them, and plays them by the built
-program: one client with a window of the whole output that damages all of it, 8 by 8 points, or one; the same whole window in each format, in
-argb8888 opaque by its pixels, by its region, half through and letting all through; 8 such windows on each other of which the topmost commits; one
-client with a window of 8 by 8 points; 8 and 32 clients with such windows; ticks for which nobody committed; ticks before each of which
-the last of 1, 8 or 32 clients with such windows went and came again; and a toplevel of 128 by 128 with 1, 16 and 255 subsurfaces of 8 by 8 points,
-beside each other or each the child of the one before, of which the last commits before each tick: at once, or held until its toplevel's commit; and the
-same toplevel with 1 and 16 popups of 8 by 8 points, of which the last commits before each tick, or all move with the toplevel's window geometry. Each is played with few and with many ticks, one right after the other, and
-the difference is divided by the ticks between them, so that starting the program, making the image and mapping the windows aren't counted.
+It writes recordings of clients with a window each, whose every tick is preceded by a commit of all of them, and plays them by the built program: one
+client with a window of the whole output that damages all of it, 8 by 8 points, or one; the same whole window in each format, in argb8888 opaque by
+its pixels, by its region, half through and letting all through, and in xrgb8888 turned, flipped and at scale 2; 8 such windows on each other of which
+the topmost commits; one client with a window of 8 by 8 points; 8 and 32 clients with such windows; ticks for which nobody committed; ticks before
+each of which the last of 1, 8 or 32 clients with such windows went and came again; and a toplevel of 128 by 128 with 1, 16 and 255 subsurfaces of 8
+by 8 points, beside each other or each the child of the one before, of which the last commits before each tick: at once, or held until its toplevel's
+commit; and the same toplevel with 1 and 16 popups of 8 by 8 points, of which the last commits before each tick, or all move with the toplevel's
+window geometry. Each is played with few and with many ticks, one right after the other, and the difference is divided by the ticks between them, so
+that starting the program, making the image and mapping the windows aren't counted.
 
 Times are processor time, the program's own and the system's for it: the median of the rounds, with the least and the greatest. Pictures aren't
 written but in the last line, which has frames as PPM, beside a copy of as many bytes and their writing to a file in memory. The report goes
@@ -42,13 +43,17 @@ def message(sender, opcode, *arguments):
     return wayland_wire.message(sender, opcode, b"".join(words))
 
 
-def mapped(width, height, form=XRGB8888, region=False):
-    """What a client sends until its window of this size is there, with a region that says that all of it is opaque, or without one."""
-    stride = 4 * width
+def mapped(width, height, form=XRGB8888, region=False, transform=0, scale=1):
+    """What a client sends until its window of this size is there, with a region that says that all of it is opaque, or without one. The buffer has the
+    sides that make it so by the transform and the scale."""
+    columns, rows = (scale * it for it in ((height, width) if transform % 2 else (width, height)))
+    stride = 4 * columns
+    turned = message(6, 7, transform) if transform else b""
+    scaled = message(6, 8, scale) if scale > 1 else b""
     opaque = message(3, 1, 11) + message(11, 1, 0, 0, width, height) + message(6, 4, 11) if region else b""
     return b"".join([
         message(1, 1, 2),
-        message(2, 0, 1, "wl_compositor", 2, 3),
+        message(2, 0, 1, "wl_compositor", 4 if scale > 1 else 2, 3),
         message(2, 0, 3, "wl_shm", 1, 4),
         message(2, 0, 6, "xdg_wm_base", 1, 5),
         message(3, 0, 6),
@@ -56,9 +61,9 @@ def mapped(width, height, form=XRGB8888, region=False):
         message(7, 1, 8),
         message(6, 6),
         message(7, 4, 1),
-        message(4, 0, 9, stride * height),
-        message(9, 0, 10, 0, width, height, stride, form),
-        opaque,
+        message(4, 0, 9, stride * rows),
+        message(9, 0, 10, 0, columns, rows, stride, form),
+        opaque + turned + scaled,
     ]) + committed(width, height)
 
 
@@ -73,12 +78,12 @@ def filled(client, count, pixel):
     return [f"store {client} 1 {4 * first} {pixel * min(most, count - first)}" for first in range(0, count, most)]
 
 
-def recording(clients, size, damage, ticks, form=XRGB8888, region=False, pixel=None, last_alone=False):
+def recording(clients, size, damage, ticks, pixel=None, last_alone=False, **how):
     """So many ticks of clients with windows of this size, each tick after a commit of every client, or of the last alone, unless they damage nothing.
-    The pixels of the windows are zeros, or as given."""
+    The pixels of the windows are zeros, or as given; `how` tells more of their buffers."""
     lines = []
     for client in range(1, clients + 1):
-        lines += ["connect", f"bytes {client} {mapped(*size, form, region).hex()}"]
+        lines += ["connect", f"bytes {client} {mapped(*size, **how).hex()}"]
         if pixel:
             lines += filled(client, size[0] * size[1], pixel)
     lines.append("tick 0")
@@ -193,6 +198,9 @@ class Bench:
         self.commits("the same, argb8888, opaque by its region", self.full, 1, WHOLE, WHOLE, form=ARGB8888, region=True, pixel=opaque)
         self.commits("the same, argb8888, half through", self.full, 1, WHOLE, WHOLE, form=ARGB8888, pixel=half)
         self.commits("the same, argb8888, all through", self.full, 1, WHOLE, WHOLE, form=ARGB8888)
+        self.commits("the same, turned by 90 degrees", self.full, 1, WHOLE, WHOLE, transform=1)
+        self.commits("the same, flipped", self.full, 1, WHOLE, WHOLE, transform=4)
+        self.commits("the same, at scale 2", self.full, 1, WHOLE, WHOLE, scale=2)
         self.commits("8 clients on each other, the topmost commits all of it", self.full, 8, WHOLE, WHOLE, last_alone=True)
         self.commits("1 client, 4096 by 4096, all of it", self.full, 1, LARGEST, LARGEST, LARGEST)
 
