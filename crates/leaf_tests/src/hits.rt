@@ -45,6 +45,7 @@ fn window(client: u32, surface: usize, x: i32, y: i32) -> Stacked {
             w: 8,
             h: 8,
             transform: Transform::Normal,
+            scale: 1,
         },
     }
 }

@@ -1,5 +1,5 @@
 //! Tests of what knows no clients: regions, stores, painting, surfaces by themselves and linked, the windows of their trees, xdg_surfaces and the
-//! stack of toplevels, popups, the pointer and what it hits, positioners; with allocations that are refused.
+//! stack of toplevels, popups and how they are placed anew, the pointer and what it hits, positioners; with allocations that are refused.
 #![tactic(auto)]
 
 #[cfg(test)]
@@ -23,6 +23,8 @@ mod linked;
 #[cfg(test)]
 mod painting;
 #[cfg(test)]
+mod pictures;
+#[cfg(test)]
 mod places;
 #[cfg(test)]
 mod pointer;
@@ -34,6 +36,8 @@ mod positioners;
 mod regions;
 #[cfg(test)]
 mod repaint;
+#[cfg(test)]
+mod repositions;
 #[cfg(test)]
 mod scenes;
 #[cfg(test)]

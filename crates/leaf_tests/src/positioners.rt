@@ -109,3 +109,26 @@ fn a_rectangle_without_sides_counts_as_none(rt: HostRuntime) {
     assert!(rt; positioner.set_anchor_rect(NO_RECT) == Ok(()) && !positioner.is_complete());
     assert!(rt; positioner.set_anchor_rect(THIN) == Ok(()) && positioner.is_complete());
 }
+
+// What says how the parent will be, and when to place a popup by itself, with any numbers.
+fn looks_ahead(positioner: &mut Positioner) {
+    positioner.set_reactive();
+    positioner.set_parent_size(-1, i32::MIN);
+    positioner.set_parent_configure(u32::MAX);
+}
+
+#[test]
+fn what_a_parent_will_be_changes_nothing(rt: HostRuntime) {
+    let mut positioner = Positioner::new();
+    looks_ahead(&mut positioner);
+    assert!(rt; !positioner.is_complete());
+    assert!(rt; is_set(&mut positioner, 100, 1));
+    looks_ahead(&mut positioner);
+    let wanted = Placed {
+        x: 540,
+        y: 30,
+        w: 100,
+        h: 50,
+    };
+    assert!(rt; positioner.is_complete() && positioner.place(OUTPUT, (0, 0)) == wanted);
+}

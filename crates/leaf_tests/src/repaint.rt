@@ -15,6 +15,7 @@ fn window(surface: SurfaceNo, at: (i32, i32), side: u32) -> TreeWindow {
         w: side,
         h: side,
         transform: Transform::Normal,
+        scale: 1,
     }
 }
 

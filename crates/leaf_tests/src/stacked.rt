@@ -16,6 +16,7 @@ fn window(surface: SurfaceNo) -> TreeWindow {
         w: 6,
         h: 7,
         transform: Transform::Normal,
+        scale: 1,
     }
 }
 

@@ -254,7 +254,7 @@ fn shows<A: Allocator>(
     if transform >= 8 {
         return false;
     }
-    match stores.picture(1, layout, transform) {
+    match stores.picture(1, layout, transform, 1) {
         Some(picture) => {
             i < picture.width() && j < picture.height() && picture.pixel(i, j) == pixel
         }
@@ -292,7 +292,7 @@ fn a_picture_of_a_store_of_64_bytes(rt: HostRuntime) {
 
 // Whether the second row of 3 pixels is this one.
 fn is_second_row<A: Allocator>(stores: &Stores<A>, layout: &Layout, wanted: &[u8]) -> bool {
-    match stores.picture(1, layout, 0) {
+    match stores.picture(1, layout, 0, 1) {
         Some(picture) => 1 < layout.h && picture.row(1) == wanted,
         None => false,
     }
@@ -311,9 +311,9 @@ fn lends<A: Allocator + Copy>(stores: &mut Stores<A>, wide: &Layout) -> bool {
 }
 
 fn is_3_by_2_turned<A: Allocator>(stores: &Stores<A>, wide: &Layout) -> bool {
-    match stores.picture(1, wide, 3) {
+    match stores.picture(1, wide, 3, 1) {
         Some(picture) => {
-            picture.width() == 2 && picture.height() == 3 && stores.picture(2, wide, 3).is_none()
+            picture.width() == 2 && picture.height() == 3 && stores.picture(2, wide, 3, 1).is_none()
         }
         None => false,
     }
@@ -329,7 +329,7 @@ fn lends_3_by_2<A: Allocator + Copy>(stores: &mut Stores<A>) -> bool {
 // Whether a layout of 68 bytes doesn't fit into store 1.
 fn is_too_long<A: Allocator>(stores: &Stores<A>) -> bool {
     match layout(68, 4, 3, 4, 16, 0) {
-        Ok(long) => stores.picture(1, &long, 0).is_none(),
+        Ok(long) => stores.picture(1, &long, 0, 1).is_none(),
         Err(_) => false,
     }
 }

@@ -26,9 +26,9 @@ fn lend<'a, A: Allocator>(
     x: i32,
     opaque: &'a Region<A>,
 ) -> Option<Painted<'a, A>>
-    ensures { option_map window_of result ≡ option_map (window_at x (pos 0) opaque.now) (picture_of store layout.now 0 stores.now) }
+    ensures { option_map window_of result ≡ option_map (window_at x (pos 0) opaque.now) (picture_of store layout.now 0 1 stores.now) }
 {
-    let picture = stores.picture(store, layout, 0)?;
+    let picture = stores.picture(store, layout, 0, 1)?;
     Some(Painted {
         x,
         y: 0,
@@ -46,8 +46,8 @@ impl<'a, A: Allocator> Windows for Two<'a, A> {
     ghost use Rattle.leaf_tests.specs.Two.{pair_of, window_at};
 
     ghost windows = { λ t. pair_of
-        (option_map (window_at (pos 0) (pos 0) t.opaque.now) (picture_of t.store t.lower 0 t.stores.now))
-        (option_map (window_at (pos 1) (pos 0) t.opaque.now) (picture_of t.store t.upper 0 t.stores.now)) };
+        (option_map (window_at (pos 0) (pos 0) t.opaque.now) (picture_of t.store t.lower 0 1 t.stores.now))
+        (option_map (window_at (pos 1) (pos 0) t.opaque.now) (picture_of t.store t.upper 0 1 t.stores.now)) };
 
     fn len(&self) -> usize {
         let lower = lend(self.stores, self.store, &self.lower, 0, self.opaque);

@@ -56,6 +56,7 @@ pub(crate) fn window(surface: SurfaceNo, x: i32, y: i32) -> TreeWindow {
         w: 4,
         h: 4,
         transform: Transform::Normal,
+        scale: 1,
     }
 }
 
@@ -115,6 +116,7 @@ fn a_window_is_turned_and_moved(rt: HostRuntime) {
         w: 8,
         h: 5,
         transform: Transform::Rotated90,
+        scale: 1,
     };
     assert!(rt; has(&linked, rt.alloc(), &[window]));
 }

@@ -166,6 +166,11 @@ const SHELL_EVENTS: &[Written] = &[
         EventBody::XdgPopup(XdgPopupEvent::PopupDone),
         &[17, 0x00080001],
     ),
+    (
+        17,
+        EventBody::XdgPopup(XdgPopupEvent::Repositioned { token: 77 }),
+        &[17, 0x000c0002, 77],
+    ),
 ];
 
 const WRITTEN: &[&[Written]] = &[CORE_EVENTS, OUTPUT_EVENTS, POINTER_EVENTS, SHELL_EVENTS];

@@ -22,26 +22,22 @@ pub(crate) fn bytes_of(alloc: Global, words: &[u32]) -> Option<Vec<u8, Global>> 
 
 fn says(
     interface: Interface,
+    version: u32,
     opcode: u16,
     body: &[u8],
     wanted: &Result<Request, ProtoError>,
 ) -> bool {
-    match (decode(interface, 2, opcode, body), wanted) {
+    match (decode(interface, version, opcode, body), wanted) {
         (Ok(request), Ok(wanted)) => is_same(&request, wanted),
         (Err(fault), Err(wanted)) => fault == *wanted,
         _ => false,
     }
 }
 
-fn is_read(
-    alloc: Global,
-    interface: Interface,
-    opcode: u16,
-    words: &[u32],
-    wanted: &Result<Request, ProtoError>,
-) -> bool {
+fn is_read(alloc: Global, version: u32, read: &Read) -> bool {
+    let (interface, opcode, words, wanted) = read;
     match bytes_of(alloc, words) {
-        Some(body) => says(interface, opcode, &body, wanted),
+        Some(body) => says(*interface, version, *opcode, &body, wanted),
         None => false,
     }
 }
@@ -575,24 +571,128 @@ const READS: &[&[Read]] = &[
 #[test]
 fn requests_are_read(rt: HostRuntime) {
     for rows in READS {
-        for &(interface, opcode, words, wanted) in *rows {
+        for read in *rows {
             assert!(rt;
-                is_read(rt.alloc(), interface, opcode, words, &wanted),
-                "request {opcode} of {interface:?}"
+                is_read(rt.alloc(), 2, read),
+                "request {} of {:?}",
+                read.1,
+                read.0
             );
         }
     }
 }
 
-// wl_surface.set_buffer_transform is there from version 2 on.
-fn is_no_method() -> bool {
-    match decode(Interface::WlSurface, 1, 7, &[1, 0, 0, 0]) {
-        Ok(_) => false,
-        Err(error) => error == ProtoError::NoMethod,
+const LATER_OF_SURFACES: &[(u32, Read)] = &[
+    (
+        2,
+        (
+            Interface::WlSurface,
+            7,
+            &[1],
+            Ok(Request::WlSurface(WlSurfaceRequest::SetBufferTransform { transform: 1 })),
+        ),
+    ),
+    (
+        3,
+        (
+            Interface::WlSurface,
+            8,
+            &[0xffff_fffe],
+            Ok(Request::WlSurface(WlSurfaceRequest::SetBufferScale { scale: -2 })),
+        ),
+    ),
+    (
+        4,
+        (
+            Interface::WlSurface,
+            9,
+            &[2, 0xffff_ffff, 40, 41],
+            Ok(Request::WlSurface(WlSurfaceRequest::DamageBuffer {
+                x: 2,
+                y: -1,
+                width: 40,
+                height: 41,
+            })),
+        ),
+    ),
+];
+
+const LATER_OF_POPUPS: &[(u32, Read)] = &[
+    (
+        3,
+        (
+            Interface::XdgPositioner,
+            7,
+            &[],
+            Ok(Request::XdgPositioner(XdgPositionerRequest::SetReactive)),
+        ),
+    ),
+    (
+        3,
+        (
+            Interface::XdgPositioner,
+            8,
+            &[40, 0xffff_ffff],
+            Ok(Request::XdgPositioner(XdgPositionerRequest::SetParentSize {
+                parent_width: 40,
+                parent_height: -1,
+            })),
+        ),
+    ),
+    (
+        3,
+        (
+            Interface::XdgPositioner,
+            9,
+            &[5],
+            Ok(Request::XdgPositioner(XdgPositionerRequest::SetParentConfigure { serial: 5 })),
+        ),
+    ),
+    (
+        3,
+        (
+            Interface::XdgPopup,
+            2,
+            &[16, 77],
+            Ok(Request::XdgPopup(XdgPopupRequest::Reposition {
+                positioner: 16,
+                token: 77,
+            })),
+        ),
+    ),
+];
+
+// Requests that came with a later version than the first: the version, and how they are read from it on.
+const LATER: &[&[(u32, Read)]] = &[LATER_OF_SURFACES, LATER_OF_POPUPS];
+
+const VERSIONS: &[u32] = &[1, 2, 3, 4];
+
+// At an earlier version there is no such request.
+fn is_as_its_version_has_it(alloc: Global, version: u32, since: u32, read: &Read) -> bool {
+    let (interface, opcode, words, wanted) = *read;
+    if version < since {
+        is_read(
+            alloc,
+            version,
+            &(interface, opcode, words, Err(ProtoError::NoMethod)),
+        )
+    } else {
+        is_read(alloc, version, &(interface, opcode, words, wanted))
     }
 }
 
 #[test]
-fn a_request_of_a_later_version(rt: HostRuntime) {
-    assert!(rt; is_no_method());
+fn requests_of_later_versions(rt: HostRuntime) {
+    for rows in LATER {
+        for (since, read) in *rows {
+            for &version in VERSIONS {
+                assert!(rt;
+                    is_as_its_version_has_it(rt.alloc(), version, *since, read),
+                    "request {} of {:?} at version {version}",
+                    read.1,
+                    read.0
+                );
+            }
+        }
+    }
 }

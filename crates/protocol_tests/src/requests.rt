@@ -172,6 +172,26 @@ fn wl_surface(found: WlSurfaceRequest, wanted: WlSurfaceRequest) -> bool {
                 transform: wanted_transform,
             },
         ) => transform == wanted_transform,
+        (
+            WlSurfaceRequest::SetBufferScale { scale },
+            WlSurfaceRequest::SetBufferScale {
+                scale: wanted_scale,
+            },
+        ) => scale == wanted_scale,
+        (
+            WlSurfaceRequest::DamageBuffer {
+                x,
+                y,
+                width,
+                height,
+            },
+            WlSurfaceRequest::DamageBuffer {
+                x: wanted_x,
+                y: wanted_y,
+                width: wanted_width,
+                height: wanted_height,
+            },
+        ) => x == wanted_x && y == wanted_y && width == wanted_width && height == wanted_height,
         _ => false,
     }
 }
@@ -382,6 +402,23 @@ fn xdg_positioner(found: XdgPositionerRequest, wanted: XdgPositionerRequest) -> 
                 y: wanted_y,
             },
         ) => x == wanted_x && y == wanted_y,
+        (XdgPositionerRequest::SetReactive, XdgPositionerRequest::SetReactive) => true,
+        (
+            XdgPositionerRequest::SetParentSize {
+                parent_width,
+                parent_height,
+            },
+            XdgPositionerRequest::SetParentSize {
+                parent_width: wanted_parent_width,
+                parent_height: wanted_parent_height,
+            },
+        ) => parent_width == wanted_parent_width && parent_height == wanted_parent_height,
+        (
+            XdgPositionerRequest::SetParentConfigure { serial },
+            XdgPositionerRequest::SetParentConfigure {
+                serial: wanted_serial,
+            },
+        ) => serial == wanted_serial,
         _ => false,
     }
 }
@@ -514,6 +551,13 @@ fn xdg_popup(found: XdgPopupRequest, wanted: XdgPopupRequest) -> bool {
                 serial: wanted_serial,
             },
         ) => seat == wanted_seat && serial == wanted_serial,
+        (
+            XdgPopupRequest::Reposition { positioner, token },
+            XdgPopupRequest::Reposition {
+                positioner: wanted_positioner,
+                token: wanted_token,
+            },
+        ) => positioner == wanted_positioner && token == wanted_token,
         _ => false,
     }
 }

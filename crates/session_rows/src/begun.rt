@@ -10,7 +10,7 @@ pub const ANNOUNCED: &[Message] = &[
     Message(
         2,
         0,
-        &[Arg::Uint(1), Arg::Str(b"wl_compositor"), Arg::Uint(2)],
+        &[Arg::Uint(1), Arg::Str(b"wl_compositor"), Arg::Uint(4)],
     ),
     Message(
         2,
@@ -23,7 +23,7 @@ pub const ANNOUNCED: &[Message] = &[
     Message(
         2,
         0,
-        &[Arg::Uint(6), Arg::Str(b"xdg_wm_base"), Arg::Uint(1)],
+        &[Arg::Uint(6), Arg::Str(b"xdg_wm_base"), Arg::Uint(3)],
     ),
 ];
 
@@ -39,6 +39,14 @@ pub const GLOBALS: &[Row] = &[
     Row::Binds(1, b"wl_compositor", 2, 3, Fed::Alive),
     Row::Binds(3, b"wl_shm", 1, 4, Fed::Alive),
     Row::Binds(6, b"xdg_wm_base", 1, 5, Fed::Alive),
+    Row::Takes,
+];
+
+/// The same, the wl_compositor 3 at version 4 and the xdg_wm_base 5 at version 3.
+pub const GLOBALS_4: &[Row] = &[
+    Row::Binds(1, b"wl_compositor", 4, 3, Fed::Alive),
+    Row::Binds(3, b"wl_shm", 1, 4, Fed::Alive),
+    Row::Binds(6, b"xdg_wm_base", 3, 5, Fed::Alive),
     Row::Takes,
 ];
 

@@ -1,21 +1,15 @@
 -- Worked recordings: which points are marked where damage is held and applied, and how much damage counts, computed on the definitions.
-use Rattle.std.proofs.Common.{◌≡◌, ℕ, List, ◌++◌, Bool, true, false, Some, None, Option, refl}
+use Rattle.std.proofs.Common.{◌≡◌, ℕ, true, false, refl}
 use Rattle.std.specs.Prelude.{pos, replicate}
 use Rattle.wl_geom.specs.declared.rect.Rect.{Rect}
-use Rattle.wl_state.specs.Request.{Request, Damage}
+use Rattle.wl_state.specs.Request.{Damage}
 use Rattle.wl_state.specs.State.{is_damaged}
-use Rattle.wl_surface.specs.Surfaces.{with_change}
 use Rattle.wl_surface.specs.Trees.{applied_tree, behaves_synchronised, depth, descends_from, height}
 use Rattle.wl_stacking.specs.Windows.{tree}
-use Rattle.wl_plain.specs.Desktop.{Desktop, Resident, client_at, with_client}
-use Rattle.wl_plain.specs.Moments.{marks_at_least_of}
-use Rattle.wl_plain.specs.Stacked.{all_windows}
-use Rattle.wl_plain.specs.Step.{with_surfaces}
-use Rattle.wl_rows.proofs.Steps.{commit, damage, sent}
+use Rattle.wl_plain.specs.Desktop.{Desktop}
+use Rattle.wl_rows.proofs.Counts.{marks}
+use Rattle.wl_rows.proofs.Steps.{asked_more, commit, damage, sent}
 use Rattle.wl_rows.proofs.Subsurfaces.{applied, first, second, third}
-
-abbrev marks : Desktop → Desktop → ℕ → ℕ → Bool
-marks old new x y = marks_at_least_of all_windows old new (pos x) (pos y)
 
 -- what a synchronised subsurface commits marks nothing
 pub row_held : marks first second 4 4 ≡ false
@@ -57,13 +51,8 @@ pub row_more-outside : is_damaged 40 40 (replicate 1025 dot) 40 40 ≡ false
 row_more-outside = refl
 
 -- the same of damage that is held by two commits: a surface's list as so many requests leave it, a commit, one more, and a commit
-abbrev asked_more : List Request → ℕ → Option Resident → Desktop → Desktop
-asked_more requests surface None d = d
-asked_more requests surface (Some r) d =
-    with_client 1 (Some (with_surfaces (with_change surface (λ s. record s { history = record s.history { requests = s.history.requests ++ requests } }) r.owned.surfaces) r)) d
-
 abbrev held : ℕ → Desktop
-held n = commit 1 14 (damage 1 14 (pos 0) (pos 0) (pos 1) (pos 1) (commit 1 14 (asked_more (replicate n (Damage dot)) 14 (client_at 1 first) first)))
+held n = commit 1 14 (damage 1 14 (pos 0) (pos 0) (pos 1) (pos 1) (commit 1 14 (asked_more (replicate n (Damage dot)) 14 first)))
 
 pub row_held-many : marks (held 1023) (commit 1 6 (held 1023)) 4 4 ≡ true
 unfolding tree applied_tree behaves_synchronised depth descends_from height

@@ -1,4 +1,5 @@
 pub mod Connect
+pub mod Counts
 pub mod Damage
 pub mod Errors
 pub mod Examples
@@ -8,10 +9,13 @@ pub mod Input
 pub mod Levels
 pub mod Pointer
 pub mod Popups
+pub mod Repositions
+pub mod Scales
 pub mod Sessions
 pub mod Slow
 pub mod Steps
 pub mod Subsurfaces
 pub mod Through
+pub mod Ticks
 pub mod Toplevels
 pub mod Viewers

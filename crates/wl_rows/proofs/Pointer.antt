@@ -125,7 +125,7 @@ unfolding tree applied_tree behaves_synchronised geometry_corner_at
 row_on_popup = refl
 
 -- the client goes, and the pointer is on the window below
-abbrev gone : Desktop
+abbrev pub gone : Desktop
 gone = leaves 2 on_popup
 
 pub row_gone : unsent 1 gone ≡ enter 13 2 6 10 10
@@ -148,7 +148,7 @@ pub row_beside : unsent 2 beside ≡ leave 13 6 6
 unfolding tree applied_tree behaves_synchronised geometry_corner_at
 row_beside = refl
 
-abbrev dismissed : Desktop
+abbrev pub dismissed : Desktop
 dismissed = press 5 272 (sent 2 beside)
 
 pub row_dismissed : unsent 2 dismissed ≡ event 17 1 8 []
@@ -186,14 +186,14 @@ pub row_three-green : color three (pos 32) (pos 33) ≡ record { r = 0; g = 255;
 unfolding tree applied_tree behaves_synchronised
 row_three-green = refl
 
-abbrev raising : Desktop
+abbrev pub raising : Desktop
 raising = motion 20 (pos 5) (pos 5) (sent 1 (with_pointer 1 three))
 
 pub row_raising : unsent 1 raising ≡ enter 13 2 6 5 5
 unfolding tree applied_tree behaves_synchronised
 row_raising = refl
 
-abbrev raised : Desktop
+abbrev pub raised : Desktop
 raised = press 21 272 (sent 1 raising)
 
 pub row_raised : unsent 1 raised ≡ button 13 3 21 1

@@ -1,5 +1,5 @@
 -- Worked recordings with popups, computed on the definitions.
-use Rattle.std.proofs.Common.{◌≡◌, [], ◌∷◌, ◌++◌, Some, refl}
+use Rattle.std.proofs.Common.{◌≡◌, ℕ, [], ◌∷◌, ◌++◌, Some, refl}
 use Rattle.std.specs.Prelude.{pos, codes}
 use Rattle.wl_wire.specs.Wire.{Word, Number}
 use Rattle.wl_peer.specs.declared.cause.Cause.TheVariants.{Protocol}
@@ -18,8 +18,11 @@ with_positioner d =
     (asks 1 16 1 (Number (pos 8) ∷ Number (pos 8) ∷ []) (asks 1 5 1 (Word 16 ∷ []) d))))
 
 -- a popup 17 of the xdg_surface 15 and the surface 14
+abbrev pub popup_on : Desktop → Desktop
+popup_on d = asks 1 15 2 (Word 17 ∷ Word 7 ∷ Word 16 ∷ []) (with_positioner (get_xdg_surface 1 15 14 (create_surface 1 14 d)))
+
 abbrev pub with_popup : Desktop
-with_popup = asks 1 15 2 (Word 17 ∷ Word 7 ∷ Word 16 ∷ []) (with_positioner (get_xdg_surface 1 15 14 (create_surface 1 14 (shown 1 start))))
+with_popup = popup_on (shown 1 start)
 
 pub row_with_popup : unsent 1 with_popup ≡ []
 unfolding tree applied_tree behaves_synchronised geometry_corner_at
@@ -33,8 +36,12 @@ pub row_configured : unsent 1 configured ≡ event 17 0 24 (u32 40 ++ u32 40 ++ 
 unfolding tree applied_tree behaves_synchronised geometry_corner_at
 row_configured = refl
 
+-- and it shows a buffer 18 of 8 by 8 pixels
+abbrev pub pops : ℕ → Desktop → Desktop
+pops serial d = commit 1 14 (attach 1 14 18 (create_buffer 1 9 18 0 8 (acknowledge 1 15 serial d)))
+
 abbrev pub popped : Desktop
-popped = commit 1 14 (attach 1 14 18 (create_buffer 1 9 18 0 8 (acknowledge 1 15 2 (sent 1 configured))))
+popped = pops 2 (sent 1 configured)
 
 pub row_popped : corners popped ≡ at (pos 0) (pos 0) ∷ at (pos 40) (pos 40) ∷ []
 unfolding tree applied_tree behaves_synchronised geometry_corner_at
@@ -45,7 +52,7 @@ unfolding tree applied_tree behaves_synchronised geometry_corner_at
 row_popped-unanswered = refl
 
 -- it stands relative to its parent's window geometry
-abbrev with_geometry : Desktop
+abbrev pub with_geometry : Desktop
 with_geometry = commit 1 6 (asks 1 7 3 (Number (pos 4) ∷ Number (pos 4) ∷ Number (pos 32) ∷ Number (pos 32) ∷ []) popped)
 
 pub row_with_geometry : corners with_geometry ≡ at (pos 0) (pos 0) ∷ at (pos 44) (pos 44) ∷ []
@@ -53,7 +60,7 @@ unfolding tree applied_tree behaves_synchronised geometry_corner_at
 row_with_geometry = refl
 
 -- xdg_toplevel.destroy dismisses it
-abbrev without_toplevel : Desktop
+abbrev pub without_toplevel : Desktop
 without_toplevel = asks 1 8 0 [] with_geometry
 
 pub row_without_toplevel : unsent 1 without_toplevel ≡ delete_id 8 ++ event 17 1 8 []

@@ -6,12 +6,15 @@ use Rattle.wl_wire.specs.Wire.{Field, Word, Number, Text, message_bytes}
 use Rattle.wl_peer.specs.declared.cause.Cause.{Cause}
 use Rattle.wl_peer.specs.Told.{Output}
 use Rattle.wl_blend.specs.declared.color.Rgb.{Rgb}
+use Rattle.wl_state.specs.Request.{Request}
+use Rattle.wl_surface.specs.Surfaces.{with_change}
 use Rattle.wl_stacking.specs.Windows.{Place, Window}
 use Rattle.wl_laws.specs.Ample.{fed, happened}
 use Rattle.wl_plain.specs.Desktop.{Desktop, Resident, arrival, client_at, empty, with_client}
 use Rattle.wl_plain.specs.LeftOut.{nothing_left_out}
 use Rattle.wl_plain.specs.Scratch.{scratch_of}
 use Rattle.wl_plain.specs.Stacked.{all_windows}
+use Rattle.wl_plain.specs.Step.{with_surfaces}
 use Rattle.wl_plain.specs.Act.{Store, Leave, Tick, Motion, Button}
 
 -- two clients on an output of 64 by 64
@@ -42,6 +45,15 @@ leaves c d = happened nothing_left_out (Leave c) d
 -- bytes are put into a store of a client
 abbrev pub stores : ℕ → ℕ → List ℕ → ℕ → Desktop → Desktop
 stores store at bytes c d = happened nothing_left_out (Store c store at bytes) d
+
+abbrev asked_by : List Request → ℕ → Option Resident → Desktop → Desktop
+asked_by requests surface None d = d
+asked_by requests surface (Some r) d =
+    with_client 1 (Some (with_surfaces (with_change surface (λ s. record s { history = record s.history { requests = s.history.requests ++ requests } }) r.owned.surfaces) r)) d
+
+-- a surface of the first client is left as so many more requests leave it
+abbrev pub asked_more : List Request → ℕ → Desktop → Desktop
+asked_more requests surface d = asked_by requests surface (client_at 1 d) d
 
 abbrev quiet : ℕ → Option Resident → Desktop → Desktop
 quiet c None d = d
@@ -131,10 +143,14 @@ xdg_configure id serial = event id 0 12 (u32 serial)
 abbrev pub bind : ℕ → ℕ → List ℕ → ℕ → ℕ → Desktop → Desktop
 bind c name interface version id d = asks c 2 0 (Word name ∷ Text interface ∷ Word version ∷ Word id ∷ []) d
 
--- a client has bound a wl_compositor as 3, a wl_shm as 4 and an xdg_wm_base as 5
+-- a client has bound a wl_compositor as 3, a wl_shm as 4 and an xdg_wm_base as 5, the first and the last at these versions
+abbrev pub with_versions : ℕ → ℕ → ℕ → Desktop → Desktop
+with_versions compositor base c d =
+    bind c 6 (codes "xdg_wm_base") base 5 (bind c 3 (codes "wl_shm") 1 4
+    (bind c 1 (codes "wl_compositor") compositor 3 (asks c 1 1 (Word 2 ∷ []) d)))
+
 abbrev pub with_globals : ℕ → Desktop → Desktop
-with_globals c d =
-    bind c 6 (codes "xdg_wm_base") 1 5 (bind c 3 (codes "wl_shm") 1 4 (bind c 1 (codes "wl_compositor") 2 3 (asks c 1 1 (Word 2 ∷ []) d)))
+with_globals c d = with_versions 2 1 c d
 
 abbrev pub attach : ℕ → ℕ → ℕ → Desktop → Desktop
 attach c surface buffer d = asks c surface 1 (Word buffer ∷ Number (pos 0) ∷ Number (pos 0) ∷ []) d
@@ -168,11 +184,17 @@ with_toplevel c d = commit c 6 (asks c 7 1 (Word 8 ∷ []) (get_xdg_surface c 7 
 abbrev pub with_pool : ℕ → Desktop → Desktop
 with_pool c d = asks c 4 0 (Word 9 ∷ Number (pos 12800) ∷ []) d
 
--- which shows the first of two buffers, 10 and 11, so far apart, with sides of so many pixels
+-- a toplevel that may show two buffers, 10 and 11, so far apart, with sides of so many pixels
+abbrev pub prepared : ℕ → ℕ → ℕ → Desktop → Desktop
+prepared apart side c d =
+    create_buffer c 9 11 apart side (create_buffer c 9 10 0 side (with_pool c (acknowledge c 7 1 (with_toplevel c d))))
+
+-- which shows the first, with sides of so many pixels
+abbrev pub shows_first : ℕ → ℕ → Desktop → Desktop
+shows_first side c d = commit c 6 (damage c 6 (pos 0) (pos 0) (pos side) (pos side) (attach c 6 10 d))
+
 abbrev pub showing : ℕ → ℕ → ℕ → Desktop → Desktop
-showing apart side c d =
-    commit c 6 (damage c 6 (pos 0) (pos 0) (pos side) (pos side) (attach c 6 10
-    (create_buffer c 9 11 apart side (create_buffer c 9 10 0 side (with_pool c (acknowledge c 7 1 (with_toplevel c (with_globals c d))))))))
+showing apart side c d = shows_first side c (prepared apart side c (with_globals c d))
 
 -- a window of 40 by 40 pixels
 abbrev pub shown : ℕ → Desktop → Desktop

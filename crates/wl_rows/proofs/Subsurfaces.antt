@@ -8,11 +8,15 @@ use Rattle.wl_plain.specs.Desktop.{Desktop}
 use Rattle.wl_rows.proofs.Steps.{asks, at, attach, bind, black, buffer_release, color, commit, corners, create_buffer, create_surface, damage, delete_id, done, green, red, sent, shown, start, status}
 use Rattle.wl_rows.proofs.Steps.{stores, tick, unsent}
 
--- a window of 40 by 40 pixels with a subsurface 16 of 4 by 4, surface 14, at (4, 4), and its buffers 18, 19 and 20
-abbrev pub with_subsurface : Desktop
-with_subsurface =
+-- a subsurface 16, surface 14, at (4, 4) of the surface 6
+abbrev pub subsurface_on : Desktop → Desktop
+subsurface_on d =
     asks 1 16 1 (Number (pos 4) ∷ Number (pos 4) ∷ []) (asks 1 15 1 (Word 16 ∷ Word 14 ∷ Word 6 ∷ [])
-    (create_surface 1 14 (bind 1 2 (codes "wl_subcompositor") 1 15 (shown 1 start))))
+    (create_surface 1 14 (bind 1 2 (codes "wl_subcompositor") 1 15 d)))
+
+-- a window of 40 by 40 pixels with one of 4 by 4, and its buffers 18, 19 and 20
+abbrev pub with_subsurface : Desktop
+with_subsurface = subsurface_on (shown 1 start)
 
 abbrev with_buffers : Desktop
 with_buffers =
@@ -23,7 +27,7 @@ abbrev colored : Desktop
 colored = stores 2 188 (0 ∷ 255 ∷ 0 ∷ 0 ∷ []) 1 (stores 2 128 (0 ∷ 0 ∷ 255 ∷ 0 ∷ []) 1 (stores 2 64 (0 ∷ 0 ∷ 255 ∷ 0 ∷ []) 1 with_buffers))
 
 -- it shows the first once its parent is committed
-abbrev child : Desktop
+abbrev pub child : Desktop
 child = commit 1 14 (attach 1 14 18 colored)
 
 pub row_child : corners child ≡ at (pos 0) (pos 0) ∷ []
@@ -81,7 +85,7 @@ row_applied-green = refl
 
 -- ---- set_desync applies what was held
 
-abbrev desynchronised : Desktop
+abbrev pub desynchronised : Desktop
 desynchronised = asks 1 16 5 [] second
 
 pub row_desynchronised : unsent 1 desynchronised ≡ buffer_release 18
@@ -94,7 +98,7 @@ row_desynchronised-red = refl
 
 -- ---- below its parent it isn't seen
 
-abbrev below : Desktop
+abbrev pub below : Desktop
 below = commit 1 6 (asks 1 16 3 (Word 6 ∷ []) applied)
 
 pub row_below : corners below ≡ at (pos 4) (pos 4) ∷ at (pos 0) (pos 0) ∷ []
@@ -111,7 +115,7 @@ row_below-green = refl
 
 -- ---- wl_subsurface.destroy unmaps it, and its surface is one of its own
 
-abbrev unlinked : Desktop
+abbrev pub unlinked : Desktop
 unlinked = asks 1 16 0 [] (sent 1 applied)
 
 pub row_unlinked : unsent 1 unlinked ≡ delete_id 16

@@ -1,38 +1,22 @@
 -- Worked recordings that tell a message from a piece, and a step's own change from its ends, computed on the definitions.
-use Rattle.std.proofs.Common.{◌≡◌, ℕ, zero, suc, ◌+◌, List, [], ◌∷◌, ◌++◌, Bool, true, Option, Some, None, refl, cond}
+use Rattle.std.proofs.Common.{◌≡◌, ℕ, List, [], ◌∷◌, true, Option, Some, None, refl}
 use Rattle.std.specs.Prelude.{pos, replicate}
 use Rattle.wl_wire.specs.Wire.{Word, Number}
 use Rattle.wl_peer.specs.declared.cause.Cause.TheVariants.{Slow}
 use Rattle.wl_state.specs.Request.{Damage, Request}
-use Rattle.wl_surface.specs.Surfaces.{with_change}
 use Rattle.wl_surface.specs.Trees.{applied_tree, behaves_synchronised, depth, descends_from, height}
 use Rattle.wl_stacking.specs.Windows.{tree}
 use Rattle.wl_plain.specs.Changing.{changed_for}
 use Rattle.wl_plain.specs.Demand.{CommitTree}
-use Rattle.wl_plain.specs.Desktop.{Desktop, Resident, client_at, with_client}
-use Rattle.wl_plain.specs.Moments.{marks_at_least, marks_at_least_through}
+use Rattle.wl_plain.specs.Desktop.{Desktop, Resident, client_at}
+use Rattle.wl_plain.specs.Moments.{marks_at_least_through}
 use Rattle.wl_plain.specs.Settling.{Midstep, ended_all, unstruck}
 use Rattle.wl_plain.specs.Stacked.{all_windows}
-use Rattle.wl_plain.specs.Step.{with_surfaces}
 use Rattle.wl_plain.specs.Through.{ends_through}
 use Rattle.wl_plain.specs.Happens.{changed_so}
-use Rattle.wl_rows.proofs.Steps.{asks, attach, commit, create_buffer, create_surface, damage, showing, sent, start}
+use Rattle.wl_rows.proofs.Counts.{in_rows, marked, marks}
+use Rattle.wl_rows.proofs.Steps.{asked_more, asks, attach, commit, create_buffer, create_surface, damage, showing, sent, start}
 use Rattle.wl_rows.proofs.Subsurfaces.{first}
-
--- how many points of a square in the corner, with sides of so many, pass
-abbrev in_row : (ℕ → Bool) → ℕ → ℕ
-in_row is zero = 0
-in_row is (suc n) = cond (is n) 1 0 + in_row is n
-
-abbrev in_rows : (ℕ → ℕ → Bool) → ℕ → ℕ → ℕ
-in_rows is width zero = 0
-in_rows is width (suc n) = in_row (is n) width + in_rows is width n
-
-abbrev marked : ℕ → Desktop → Desktop → ℕ
-marked side old new = in_rows (λ y x. marks_at_least old new (pos x) (pos y)) side side
-
-abbrev marks : Desktop → Desktop → ℕ → ℕ → Bool
-marks old new x y = marks_at_least old new (pos x) (pos y)
 
 -- ---- one piece that damages one point 600 times and commits, and does so again at another point
 
@@ -42,13 +26,8 @@ one = sent 1 (showing 256 8 1 start)
 abbrev dot : ℕ → Request
 dot at = Damage (record { x = pos at; y = pos at; w = pos 1; h = pos 1 })
 
-abbrev asked_more : List Request → Option Resident → Desktop → Desktop
-asked_more requests None d = d
-asked_more requests (Some r) d =
-    with_client 1 (Some (with_surfaces (with_change 6 (λ s. record s { history = record s.history { requests = s.history.requests ++ requests } }) r.owned.surfaces) r)) d
-
 abbrev damaged_at : ℕ → Desktop → Desktop
-damaged_at at d = asked_more (replicate 600 (dot at)) (client_at 1 d) d
+damaged_at at d = asked_more (replicate 600 (dot at)) 6 d
 
 abbrev once : Desktop
 once = commit 1 6 (damaged_at 2 one)

@@ -7,7 +7,8 @@ use Rattle.wl_plain.specs.Stacked.{all_windows}
 use Rattle.wl_rows.proofs.Steps.{sent}
 use Rattle.wl_rows.proofs.Subsurfaces.{first}
 use Rattle.wl_rows.proofs.Through.{made_again, shown_again, without_child, without_link}
-use Rattle.wl_rows.proofs.Toplevels.{asks, attach, black, commit, green, one, red, rewritten, stores, three, three_ready, two}
+use Rattle.wl_rows.proofs.Scales.{reddened, scaled, shown_red}
+use Rattle.wl_rows.proofs.Toplevels.{asks, attach, black, commit, damage, green, one, red, rewritten, stores, three, three_ready, two}
 use Rattle.wl_surface.specs.Trees.{applied_tree, behaves_synchronised, depth, descends_from, height}
 use Rattle.wl_stacking.specs.Windows.{tree}
 use Rattle.wl_session.specs.Promises.{feigns_at, hides_at, spoils_at}
@@ -81,6 +82,19 @@ row_shown_again = refl
 pub row_shown_again-at_once : hides_at all_windows (sent 1 first) shown_again 1 (pos 4) (pos 4) ≡ true
 unfolding tree applied_tree behaves_synchronised depth descends_from height
 row_shown_again-at_once = refl
+
+-- at scale 2 the pixel (2, 2) of the buffer is damaged by a rectangle of the buffer, and so nothing is hidden at (1, 1)
+pub row_scaled : hides_at all_windows reddened shown_red 1 (pos 1) (pos 1) ≡ false
+unfolding tree applied_tree behaves_synchronised depth descends_from height
+row_scaled = refl
+
+-- the same rectangle of the surface lies elsewhere
+abbrev misplaced : Desktop
+misplaced = damage (pos 2) (pos 2) (pos 1) (pos 1) 1 (attach 11 (pos 0) 1 (stores 1 6728 (0 ∷ 0 ∷ 255 ∷ 0 ∷ []) 1 scaled))
+
+pub row_scaled-misplaced : hides_at all_windows misplaced (commit 1 misplaced) 1 (pos 1) (pos 1) ≡ true
+unfolding tree applied_tree behaves_synchronised depth descends_from height
+row_scaled-misplaced = refl
 
 -- a write to a buffer that is shown spoils it, where it changes a colour
 pub row_spoilt : spoils_at two rewritten 2 0 0 ≡ true
