@@ -4,7 +4,7 @@ use crate::replay::support::{OneFile, SMALL};
 use std::alloc::Global;
 use std::io::Write;
 use test_support::FaultyWriter;
-use wl_program::{Fault, Pace, Rate, serve_on};
+use wl_program::{Fault, Pace, Rate, Schedule, serve_on};
 use wl_server::{Connections, Service};
 use wl_server_tests::memory::{Client, MemoryHub};
 use wl_session::Session;
@@ -92,7 +92,8 @@ fn serves<W: Write>(
 ) -> Option<Result<(), Fault>> {
     let mut ppm = Some(Vec::new(rt.alloc()));
     let mut connections = Connections::new();
-    let served = serve_on(rt, service, &mut connections, pace, report, &mut ppm);
+    let schedule = Schedule { clock: rt, pace };
+    let served = serve_on(schedule, service, &mut connections, report, &mut ppm);
     if ppm?.as_slice() == images {
         Some(served)
     } else {

@@ -2,7 +2,7 @@
 
 use session_rows::begun::{
     ACKNOWLEDGES, ANNOUNCED, ATTACH_10, BUFFER_10, BUFFERS, COMMIT, CONFIGURED, CONFIGURES,
-    GLOBALS, GREEN, MADE, MAPS,
+    GLOBALS, GLOBALS_4, GREEN, MADE, MAPS,
 };
 use session_rows::rows::{CLIENT, Fault, Message, Pixel, REGISTRY, Row, play, play_after};
 use std::alloc::Global;
@@ -84,6 +84,30 @@ const OF_A_SURFACE: &[Row] = &[
     Row::Takes,
 ];
 
+/// Those of later versions: the buffer's 40 by 40 pixels are 20 by 20 points, and four pixels that are damaged are one.
+const OF_A_SCALED_SURFACE: &[Row] = &[
+    Row::Accepts(Message(6, 8, &[Arg::Int(2)]), &[]),
+    Row::Accepts(ATTACH_10, &[]),
+    Row::Accepts(Message(6, 9, RECT), &[]),
+    Row::Accepts(COMMIT, &[]),
+    Row::Shows(400, 400, &[]),
+    Row::Accepts(
+        Message(6, 9, &[Arg::Int(4), Arg::Int(6), Arg::Int(2), Arg::Int(2)]),
+        &[],
+    ),
+    Row::Accepts(COMMIT, &[]),
+    Row::Shows(1, 1, &[]),
+];
+
+fn accepts_scale(alloc: Global) -> Result<(), Fault> {
+    play_after(alloc, CONFIGURED_LATEST, &[OF_A_SCALED_SURFACE])
+}
+
+#[test]
+fn requests_of_scaled_surfaces_are_accepted(rt: HostRuntime) {
+    assert_eq!(rt; accepts_scale(rt.alloc()), Ok(()));
+}
+
 /// Those of wl_subcompositor and wl_subsurface: the green surface 17 is shown at (4, 4), above its parent. Its surface goes, and so does the wl_subcompositor.
 const OF_A_SUBSURFACE: &[Row] = &[
     Row::Fills(1, 1, 6400, 1600, GREEN),
@@ -133,6 +157,16 @@ fn accepts_surfaces(alloc: Global) -> Result<(), Fault> {
 const CONFIGURED_TOPLEVEL: &[&[Row]] = &[
     REGISTRY,
     GLOBALS,
+    MADE,
+    CONFIGURES,
+    ACKNOWLEDGES,
+    BUFFERS,
+];
+
+/// The same by globals at their latest versions.
+const CONFIGURED_LATEST: &[&[Row]] = &[
+    REGISTRY,
+    GLOBALS_4,
     MADE,
     CONFIGURES,
     ACKNOWLEDGES,
@@ -263,6 +297,55 @@ fn accepts_popup(alloc: Global) -> Result<(), Fault> {
 #[test]
 fn requests_of_popups_are_accepted(rt: HostRuntime) {
     assert_eq!(rt; accepts_popup(rt.alloc()), Ok(()));
+}
+
+/// Those of later versions: the positioner 15 is told more, of any numbers, which changes nothing, and places the popup 19 anew.
+const OF_A_LATER_POPUP: &[Row] = &[
+    Row::Accepts(Message(5, 1, &[Arg::NewId(15)]), &[]),
+    Row::Accepts(Message(15, 1, &[Arg::Int(8), Arg::Int(8)]), &[]),
+    Row::Accepts(Message(15, 2, RECT), &[]),
+    Row::Accepts(Message(15, 7, &[]), &[]),
+    Row::Accepts(Message(15, 8, &[Arg::Int(-2147483648), Arg::Int(0)]), &[]),
+    Row::Accepts(Message(15, 9, &[Arg::Uint(4294967295)]), &[]),
+    Row::Accepts(Message(3, 0, &[Arg::NewId(16)]), &[]),
+    Row::Accepts(Message(5, 2, &[Arg::NewId(17), Arg::Object(16)]), &[]),
+    Row::Accepts(
+        Message(17, 2, &[Arg::NewId(19), Arg::Object(7), Arg::Object(15)]),
+        &[],
+    ),
+    Row::Accepts(
+        Message(16, 6, &[]),
+        &[
+            Message(
+                19,
+                0,
+                &[Arg::Int(16), Arg::Int(16), Arg::Int(8), Arg::Int(8)],
+            ),
+            Message(17, 0, &[Arg::Uint(2)]),
+        ],
+    ),
+    Row::Accepts(Message(15, 6, &[Arg::Int(-1), Arg::Int(1)]), &[]),
+    Row::Accepts(
+        Message(19, 2, &[Arg::Object(15), Arg::Uint(4294967295)]),
+        &[
+            Message(19, 2, &[Arg::Uint(4294967295)]),
+            Message(
+                19,
+                0,
+                &[Arg::Int(15), Arg::Int(17), Arg::Int(8), Arg::Int(8)],
+            ),
+            Message(17, 0, &[Arg::Uint(3)]),
+        ],
+    ),
+];
+
+fn accepts_later_popup(alloc: Global) -> Result<(), Fault> {
+    play_after(alloc, CONFIGURED_LATEST, &[MAPS, OF_A_LATER_POPUP])
+}
+
+#[test]
+fn requests_of_later_popups_are_accepted(rt: HostRuntime) {
+    assert_eq!(rt; accepts_later_popup(rt.alloc()), Ok(()));
 }
 
 fn accepts_shell(alloc: Global) -> Result<(), Fault> {

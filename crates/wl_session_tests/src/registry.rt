@@ -12,7 +12,7 @@ use wl_wire::Arg;
 /// The bytes of the first of them.
 const FIRST_GLOBAL: &[u8] = &[
     2, 0, 0, 0, 0, 0, 36, 0, 1, 0, 0, 0, 14, 0, 0, 0, b'w', b'l', b'_', b'c', b'o', b'm', b'p',
-    b'o', b's', b'i', b't', b'o', b'r', 0, 0, 0, 2, 0, 0, 0,
+    b'o', b's', b'i', b't', b'o', b'r', 0, 0, 0, 4, 0, 0, 0,
 ];
 
 const GLOBALS_TOLD: &[Row] = &[
@@ -65,8 +65,16 @@ const VERSIONS: &[Row] = &[
     Row::Binds(1, b"wl_compositor", 0, 3, INVALID_OBJECT),
     Row::Binds(1, b"wl_compositor", 1, 3, Fed::Alive),
     Row::Binds(1, b"wl_compositor", 2, 3, Fed::Alive),
-    Row::Binds(1, b"wl_compositor", 3, 3, INVALID_OBJECT),
+    Row::Binds(1, b"wl_compositor", 4, 3, Fed::Alive),
     Row::Binds(1, b"wl_compositor", 5, 3, INVALID_OBJECT),
+];
+
+/// Those of xdg_wm_base.
+const SHELL_VERSIONS: &[Row] = &[
+    Row::Binds(6, b"xdg_wm_base", 0, 3, INVALID_OBJECT),
+    Row::Binds(6, b"xdg_wm_base", 2, 3, Fed::Alive),
+    Row::Binds(6, b"xdg_wm_base", 3, 3, Fed::Alive),
+    Row::Binds(6, b"xdg_wm_base", 4, 3, INVALID_OBJECT),
 ];
 
 const WRONG_NAMES: &[Row] = &[
@@ -340,6 +348,7 @@ const ROWS: &[(Case, &[Row])] = &[
         ("only a version of the global is bound", &[REGISTRY]),
         VERSIONS,
     ),
+    (("and of the xdg_wm_base", &[REGISTRY]), SHELL_VERSIONS),
     (
         ("only the name of the global is bound", &[REGISTRY]),
         WRONG_NAMES,

@@ -1,4 +1,4 @@
-//! Tests of the windows of a session: what is shown, which buffers are released, and what the pointer tells and does.
+//! Tests of the windows of a session: what is shown, at which scale, which buffers are released, and what the pointer tells and does.
 #![tactic(auto)]
 
 #[cfg(test)]
@@ -11,6 +11,8 @@ mod places;
 mod pressing;
 #[cfg(test)]
 mod releases;
+#[cfg(test)]
+mod scales;
 #[cfg(test)]
 mod subsurfaces;
 #[cfg(test)]
