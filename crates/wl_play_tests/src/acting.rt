@@ -2,9 +2,9 @@
 
 use crate::desktop::{
     CLIENTS, Client, Content, Life, Planned, Role, SURFACES, Stage, Surface, World, client_of,
-    number_of, row_area, slot_of,
+    number_of, slot_of,
 };
-use crate::drawing::sides_of;
+use crate::drawing::is_divided;
 use crate::requests::{Area, Attach, BUFFERS, Request, STARTS};
 use crate::tally::Deed;
 use crate::telling::{BEGUN, LIMIT, REGISTRY};
@@ -32,7 +32,7 @@ impl World {
         match now.life {
             Life::Free => false,
             Life::Alive => !now.deaf,
-            Life::Gone | Life::Refused | Life::Slow => true,
+            Life::Gone | Life::Refused(_) | Life::Slow => true,
         }
     }
 
@@ -40,7 +40,7 @@ impl World {
         let now = self.client(client);
         match now.life {
             Life::Free => self.connect(),
-            Life::Gone | Life::Refused | Life::Slow => self.act_ended(client, now),
+            Life::Gone | Life::Refused(_) | Life::Slow => self.act_ended(client, now),
             Life::Alive if self.one_in(120) => self.leave(client),
             Life::Alive if now.from < now.to => self.send_some(client, now),
             Life::Alive if now.started => self.act_started(client),
@@ -88,6 +88,8 @@ impl World {
         for place in 0..STARTS {
             self.ask(Request::Start(place));
         }
+        self.ask(Request::BindCompositor(now.compositor));
+        self.ask(Request::BindShell(now.shell));
         for buffer in 0..BUFFERS {
             self.ask(Request::MakeBuffer(buffer));
         }
@@ -124,7 +126,7 @@ impl World {
 
     /// A client whose requests were all sent asks for something more.
     fn act_started(&mut self, client: usize) {
-        let slot = self.below(SURFACES);
+        let slot = self.choose_slot(client);
         let surface = self.surface(number_of(client, slot));
         if self.spoils(client, surface) {
             return;
@@ -166,11 +168,16 @@ impl World {
             Stage::Roleless => self.make_again(slot),
             Stage::Fresh => {
                 self.ask_grab_at_times(number, surface);
+                if surface.role == Role::Popup {
+                    self.ask_reposition_at_times(number);
+                }
                 self.ask(Request::Commit(slot));
+            }
+            Stage::Waiting | Stage::Ready if surface.role == Role::Popup => {
+                self.ask_unmapped_popup(number, surface, buffer);
             }
             Stage::Waiting => {
                 self.ask(Request::Acknowledge(slot, surface.serial));
-                self.ask_grab_at_times(number, surface);
                 self.update(number, surface, buffer);
             }
             Stage::Ready => self.update(number, surface, buffer),
@@ -250,7 +257,8 @@ impl World {
     /// Attaches a buffer, says what changed, and commits.
     pub(crate) fn update(&mut self, number: usize, surface: Surface, buffer: usize) {
         let slot = slot_of(number);
-        let transform = self.choose_transform(surface);
+        let transform = self.choose_transform(number, surface);
+        let scale = self.choose_scale(number, surface, buffer);
         let (x, y) = self.choose_move(number, surface);
         if self.one_in(4) {
             // only what is attached last counts
@@ -273,13 +281,20 @@ impl World {
         if transform != surface.committed.transform {
             self.ask(Request::Turn(slot, transform));
         }
+        if scale != surface.committed.scale {
+            self.ask(Request::Scale(slot, scale));
+        }
         if surface.object != 0 && self.one_in(5) {
             self.ask_geometry(slot);
         }
         if self.one_in(6) {
             self.ask_input(slot);
         }
-        let new = Content { buffer, transform };
+        let new = Content {
+            buffer,
+            transform,
+            scale,
+        };
         self.ask_opaque(number, new);
         self.ask_damage(number, surface, new, (x, y));
         self.ask_frame(number);
@@ -294,11 +309,35 @@ impl World {
         self.ask(Request::Frame(slot_of(number), callback));
     }
 
-    fn choose_transform(&mut self, surface: Surface) -> u32 {
-        if self.one_in(5) {
+    /// Whether a client asks for what there is since a version: one whose objects are older does it at times.
+    pub(crate) fn may_ask(&mut self, version: u32, since: u32) -> bool {
+        since <= version || self.one_in(15)
+    }
+
+    fn choose_transform(&mut self, number: usize, surface: Surface) -> u32 {
+        let Client { compositor, .. } = self.client(client_of(number));
+        if self.one_in(5) && self.may_ask(compositor, 2) {
             u32::try_from(self.below(8)).unwrap_or(0)
         } else {
             surface.committed.transform
+        }
+    }
+
+    /// A scale that divides the sides of the buffer; one that doesn't, or isn't above 0, now and then.
+    fn choose_scale(&mut self, number: usize, surface: Surface, buffer: usize) -> i32 {
+        let Client { compositor, .. } = self.client(client_of(number));
+        let scale = if self.one_in(4) && self.may_ask(compositor, 3) {
+            self.coordinate(1, 3)
+        } else {
+            surface.committed.scale
+        };
+        if is_divided(buffer, scale) {
+            return scale;
+        }
+        match self.below(20) {
+            0 => scale,
+            1 => self.coordinate(-2, 3),
+            _ => 1,
         }
     }
 
@@ -351,41 +390,4 @@ impl World {
         self.ask(Request::SetInput(slot, Some(area)));
         self.ask(Request::DestroyRegion);
     }
-
-    /// Says what changed: all, or each row's part. What has another size, corner or transform needs no damage; a client that lies
-    /// tells of none.
-    fn ask_damage(&mut self, number: usize, surface: Surface, new: Content, by: (i32, i32)) {
-        let slot = slot_of(number);
-        let client = client_of(number);
-        let (w, h) = sides_of(new);
-        let shown = surface.committed.buffer.map(|shown| shown.number);
-        let old = match shown {
-            Some(buffer) if stays(surface, buffer, new, by) => Some(Content { buffer, ..new }),
-            _ => None,
-        };
-        if self.client(client).lies {
-            return;
-        }
-        // what is held may be shown at last with the sides that are shown now, and a popup's offset may undo its window geometry's
-        let is_new = old.is_none() && surface.role != Role::Toplevel;
-        let old = old.unwrap_or(new);
-        if is_new || self.one_in(4) {
-            self.ask(Request::Damage(slot, Area { x: 0, y: 0, w, h }));
-            return;
-        }
-        for j in 0..h {
-            if let Some((first, last)) = self.difference(client, old, new, j) {
-                self.ask(Request::Damage(slot, row_area(j, first, last)));
-            }
-        }
-    }
-}
-
-/// Whether a window keeps its corner, its size and its transform.
-fn stays(surface: Surface, buffer: usize, new: Content, (x, y): (i32, i32)) -> bool {
-    let old = Content { buffer, ..new };
-    x == 0
-        && y == 0
-        && surface.committed.transform == new.transform
-        && sides_of(old) == sides_of(new)
 }

@@ -1,10 +1,13 @@
 //! A model of what clients asked for, by the rules of the protocol, and the steps that ask for it.
 
+use crate::drawing::is_divided;
 use crate::links::Move;
+use crate::placing::Configure;
 use crate::pointing::{AWAY, Pointer};
 use crate::popups::Popup;
 use crate::requests::{Area, Attach, Request, STORE, put_request};
 use crate::tally::{Deed, NOTHING, Tally};
+use crate::telling::{Mistake, Note, invalid_scale, invalid_size};
 use std::alloc::Global;
 
 /// How far an xdg_surface and its toplevel are.
@@ -22,11 +25,12 @@ pub(crate) enum Stage {
     Mapped,
 }
 
-/// What a surface shows: a buffer, and how it is turned.
+/// What a surface shows: a buffer, how it is turned, and how many pixels of it make a point, to the right and down.
 #[derive(Clone, Copy)]
 pub(crate) struct Content {
     pub buffer: usize,
     pub transform: u32,
+    pub scale: i32,
 }
 
 /// What a surface is for, for good.
@@ -45,16 +49,28 @@ pub(crate) struct Buffer {
     pub made: u32,
 }
 
-/// What a commit gives a surface: its buffer, how far it was moved by attaches, how it is turned, which part of it takes input (all, where there is none), and
-/// how many moves of all subsurfaces count of which it is the parent.
+/// What a commit gives a surface: its buffer, how far it was moved by attaches, how it is turned, its scale, which part of it takes input (all, where there
+/// is none), and how many moves of all subsurfaces count of which it is the parent.
 #[derive(Clone, Copy)]
 pub(crate) struct State {
     pub buffer: Option<Buffer>,
     pub x: i32,
     pub y: i32,
     pub transform: u32,
+    pub scale: i32,
     pub input: Option<Area>,
     pub moves: usize,
+}
+
+impl State {
+    pub(crate) fn content(self) -> Option<Content> {
+        let Buffer { number, .. } = self.buffer?;
+        Some(Content {
+            buffer: number,
+            transform: self.transform,
+            scale: self.scale,
+        })
+    }
 }
 
 /// What was attached, and by how much the surface moves.
@@ -71,13 +87,17 @@ pub(crate) struct Surface {
     pub birth: u32,
     pub stage: Stage,
     pub role: Role,
-    /// The serial of its latest configure.
+    /// The serial of its latest configure, and the one up to which they were acknowledged or forgotten.
     pub serial: u32,
+    pub acknowledged: u32,
     /// What was attached since the last commit.
     pub attached: Option<Attached>,
-    /// The transform that the next commit applies, and the part that takes input then.
+    /// The transform that the next commit applies, the scale, and the part that takes input then.
     pub turned: u32,
+    pub scaled: i32,
     pub input: Option<Area>,
+    /// How often something was damaged since the last commit, in coordinates of the surface and of the buffer.
+    pub damages: [u32; 2],
     /// What was committed last, and what is shown.
     pub committed: State,
     pub current: State,
@@ -104,6 +124,7 @@ const BLANK: State = State {
     x: 0,
     y: 0,
     transform: 0,
+    scale: 1,
     input: None,
     moves: 0,
 };
@@ -113,9 +134,12 @@ pub(crate) const ABSENT: Surface = Surface {
     stage: Stage::Absent,
     role: Role::None,
     serial: 0,
+    acknowledged: 0,
     attached: None,
     turned: 0,
+    scaled: 1,
     input: None,
+    damages: [0; 2],
     committed: BLANK,
     current: BLANK,
     object: 0,
@@ -138,7 +162,7 @@ pub(crate) enum Life {
     Alive,
     Gone,
     /// It ended by a mistake.
-    Refused,
+    Refused(Mistake),
     /// It ended since too much would have waited for it.
     Slow,
 }
@@ -152,6 +176,9 @@ pub(crate) struct Client {
     pub lies: bool,
     /// It asks for much and reads nothing.
     pub deaf: bool,
+    /// The versions of its wl_compositor and its xdg_wm_base.
+    pub compositor: u32,
+    pub shell: u32,
     /// An event for it would have been too much, so that it is to end.
     pub struck: bool,
     /// The last serial that it was told.
@@ -181,6 +208,8 @@ const NOBODY: Client = Client {
     started: false,
     lies: false,
     deaf: false,
+    compositor: 0,
+    shell: 0,
     struck: false,
     serial: 0,
     pressed: None,
@@ -255,9 +284,12 @@ pub(crate) struct World {
     pub pointer: Pointer,
     /// What was asked of subsurfaces as part of the state of their parents, in its order.
     pub moves: Vec<Move, Global>,
+    /// The configures of toplevels and popups, in their order.
+    pub configures: Vec<Configure, Global>,
     pub steps: Vec<Planned, Global>,
-    /// How many bytes wait for each client after each step.
+    /// How many bytes wait for each client after each step, and some of the events that do.
     pub unsent: Vec<[usize; 3], Global>,
+    pub notes: Vec<Note, Global>,
     pub streams: Vec<u8, Global>,
     pub asked: Vec<Asked, Global>,
     pub writes: Vec<u8, Global>,
@@ -290,8 +322,10 @@ pub(crate) fn new_world(alloc: Global, seed: u64, liar: bool) -> Option<World> {
         stack: Vec::new(alloc),
         pointer: AWAY,
         moves: Vec::new(alloc),
+        configures: Vec::new(alloc),
         steps: Vec::new(alloc),
         unsent: Vec::new(alloc),
+        notes: Vec::new(alloc),
         streams: Vec::new(alloc),
         asked: Vec::new(alloc),
         writes: Vec::new(alloc),
@@ -358,6 +392,16 @@ impl World {
             .wrapping_add(1442695040888963407);
         let drawn = usize::try_from(self.random >> 33).unwrap_or(0);
         drawn.checked_rem(bound).unwrap_or(0)
+    }
+
+    /// The newest version mostly.
+    fn choose_version(&mut self, newest: usize) -> u32 {
+        let older = if self.one_in(6) {
+            self.below(newest)
+        } else {
+            0
+        };
+        u32::try_from(newest.saturating_sub(older)).unwrap_or(1)
     }
 
     /// True once in so many times.
@@ -473,13 +517,6 @@ impl World {
         self.set_surface(surface, reached);
     }
 
-    /// A serial that waits makes the surface ready to be mapped, and changes nothing afterwards.
-    pub(crate) fn acknowledge(&mut self, surface: usize) {
-        if self.surface(surface).stage == Stage::Waiting {
-            self.reach(surface, Stage::Ready);
-        }
-    }
-
     pub(crate) fn attach(&mut self, client: usize, surface: usize, attach: Attach) {
         let buffer = match attach.buffer {
             Some(number) => Some(Buffer {
@@ -504,6 +541,20 @@ impl World {
         self.set_surface(surface, turned);
     }
 
+    pub(crate) fn set_scale(&mut self, client: usize, surface: usize, scale: i32) {
+        if scale < 1 {
+            self.count(Deed::BadScale);
+            self.refuse(client, invalid_scale(slot_of(surface)));
+            return;
+        }
+        self.count(Deed::Scale);
+        let scaled = Surface {
+            scaled: scale,
+            ..self.surface(surface)
+        };
+        self.set_surface(surface, scaled);
+    }
+
     pub(crate) fn set_input(&mut self, surface: usize, input: Option<Area>) {
         let set = Surface {
             input,
@@ -515,17 +566,34 @@ impl World {
         }
     }
 
-    /// Commits what is pending, which is applied unless it is held, and maps or unmaps the toplevel or popup.
+    /// Commits what is pending, which is applied unless it is held, and maps or unmaps the toplevel or popup. A buffer that its points don't divide
+    /// is a mistake.
     pub(crate) fn commit(&mut self, client: usize, surface: usize) {
         let committed = committed(self.surface(surface), self.moves.len());
+        if !is_whole(committed.committed) {
+            self.count(Deed::BadSize);
+            self.refuse(client, invalid_size(slot_of(surface)));
+            return;
+        }
+        self.count_damages(self.surface(surface).damages);
         self.set_surface(surface, committed);
         if self.is_synchronised(surface) {
             self.count(Deed::Hold);
         } else {
             self.apply(surface);
         }
-        if self.is_dismissed(surface) {
-            return;
+        if !self.is_dismissed(surface) {
+            self.commit_role(client, surface, committed);
+        }
+    }
+
+    /// What the commit of a surface with a toplevel or popup maps, unmaps, configures or places.
+    fn commit_role(&mut self, client: usize, surface: usize, committed: Surface) {
+        let has_buffer = committed.committed.buffer.is_some();
+        if committed.stage == Stage::Mapped && !has_buffer {
+            self.forget_places(surface);
+        } else {
+            self.put_in_force(surface);
         }
         match (committed.stage, committed.committed.buffer) {
             (Stage::Fresh, None) => self.configure(client, surface),
@@ -534,17 +602,6 @@ impl World {
             (Stage::Mapped, None) => self.unmap(surface, Stage::Fresh),
             _ => {}
         }
-    }
-
-    /// The first commit draws a serial.
-    fn configure(&mut self, client: usize, surface: usize) {
-        let serial = self.tell_configure(client);
-        let configured = Surface {
-            stage: Stage::Waiting,
-            serial,
-            ..self.surface(surface)
-        };
-        self.set_surface(surface, configured);
     }
 
     /// A toplevel is mapped on top, and takes the next of the eight places.
@@ -629,6 +686,8 @@ impl World {
             life: Life::Alive,
             lies: self.liar && client == 0,
             deaf: self.one_in(3),
+            compositor: self.choose_version(4),
+            shell: self.choose_version(3),
             ..NOBODY
         };
         self.set_client(client, admitted);
@@ -663,6 +722,14 @@ fn has(state: State, buffer: usize) -> bool {
     }
 }
 
+/// Whether the buffer of a state, if it has one, is so many points wide and high.
+fn is_whole(state: State) -> bool {
+    match state.content() {
+        Some(content) => is_divided(content.buffer, content.scale),
+        None => true,
+    }
+}
+
 /// A surface after a commit. What was attached last counts, and of its subsurfaces all that was asked so far.
 fn committed(surface: Surface, moves: usize) -> Surface {
     let old = surface.committed;
@@ -675,26 +742,18 @@ fn committed(surface: Surface, moves: usize) -> Surface {
         x: old.x.saturating_add(x),
         y: old.y.saturating_add(y),
         transform: surface.turned,
+        scale: surface.scaled,
         input: surface.input,
         moves,
     };
     Surface {
         attached: None,
+        damages: [0; 2],
         corner: surface.corner_asked.unwrap_or(surface.corner),
         corner_asked: None,
         committed,
         held: surface.held.saturating_add(surface.asked),
         asked: 0,
         ..surface
-    }
-}
-
-/// The area of one row from a column to another.
-pub(crate) fn row_area(j: i32, first: i32, last: i32) -> Area {
-    Area {
-        x: first,
-        y: j,
-        w: last.saturating_sub(first).saturating_add(1),
-        h: 1,
     }
 }

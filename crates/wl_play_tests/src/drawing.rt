@@ -6,17 +6,31 @@ use crate::requests::{BUFFERS, STORE, Shape, shape_of};
 /// Blue, green, red and alpha.
 pub(crate) type Color = [u8; 4];
 
-/// The sides of a surface with a content: odd transforms swap those of the buffer.
+/// The sides of a surface with a content: those of the buffer, divided by the scale, which odd transforms swap.
 pub(crate) fn sides_of(content: Content) -> (i32, i32) {
     let shape = shape_of(content.buffer);
+    let width = shape.width.checked_div(content.scale).unwrap_or(0);
+    let height = shape.height.checked_div(content.scale).unwrap_or(0);
     if content.transform % 2 == 1 {
-        (shape.height, shape.width)
+        (height, width)
     } else {
-        (shape.width, shape.height)
+        (width, height)
     }
 }
 
-/// The point of the buffer that a surface of `w` by `h` shows at (i, j).
+/// Whether a scale divides both sides of a buffer.
+pub(crate) fn is_divided(buffer: usize, scale: i32) -> bool {
+    let shape = shape_of(buffer);
+    shape.width.checked_rem(scale) == Some(0) && shape.height.checked_rem(scale) == Some(0)
+}
+
+/// The first pixel of the buffer that belongs to a point of the surface, which shows it.
+pub(crate) fn buffer_pixel(content: Content, point: (i32, i32)) -> (i32, i32) {
+    let (u, v) = buffer_point(content.transform, sides_of(content), point);
+    (u.wrapping_mul(content.scale), v.wrapping_mul(content.scale))
+}
+
+/// The point of a buffer without scale that a surface of `w` by `h` shows at (i, j).
 fn buffer_point(transform: u32, (w, h): (i32, i32), (i, j): (i32, i32)) -> (i32, i32) {
     let right = w.wrapping_sub(1).wrapping_sub(i);
     let up = h.wrapping_sub(1).wrapping_sub(j);
@@ -55,11 +69,7 @@ impl World {
             return None;
         }
         let shape = shape_of(content.buffer);
-        let at = place_of(
-            client,
-            shape,
-            buffer_point(content.transform, (w, h), (i, j)),
-        );
+        let at = place_of(client, shape, buffer_pixel(content, (i, j)));
         let alpha = if shape.format == 1 {
             255
         } else {

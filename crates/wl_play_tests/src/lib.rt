@@ -5,6 +5,8 @@
 #[cfg(test)]
 mod acting;
 #[cfg(test)]
+mod damaging;
+#[cfg(test)]
 mod desktop;
 #[cfg(test)]
 mod drawing;
@@ -16,6 +18,8 @@ mod links;
 mod opening;
 #[cfg(test)]
 mod painter;
+#[cfg(test)]
+mod placing;
 #[cfg(test)]
 mod plays;
 #[cfg(test)]

@@ -1,7 +1,9 @@
 //! What clients do with popups, by chance.
 
-use crate::desktop::{Role, SURFACES, Stage, Surface, World, client_of, number_of, slot_of};
-use crate::requests::{Area, Request, Rule};
+use crate::desktop::{
+    Client, Role, SURFACES, Stage, Surface, World, client_of, number_of, slot_of,
+};
+use crate::requests::{Area, Request, Rule, Spot};
 
 impl World {
     /// A surface without a role gets an xdg_surface, and a popup on one of its client's toplevels or popups. False where there is none.
@@ -88,7 +90,21 @@ impl World {
 
     /// Makes a positioner, by which a popup is placed, and lets it grab by this serial, if there is one.
     fn ask_popup(&mut self, number: usize, host: usize, serial: Option<u32>) {
+        let spot = self.ask_positioner(number);
+        self.ask(Request::MakePopup(slot_of(number), host, spot));
+        self.ask(Request::Positioner(Rule::Destroy));
+        if self.one_in(4) {
+            self.ask_reposition_at_times(number);
+        }
+        if let Some(serial) = serial {
+            self.ask(Request::Grab(slot_of(number), serial));
+        }
+    }
+
+    /// Makes a positioner that places a popup here.
+    fn ask_positioner(&mut self, number: usize) -> Spot {
         let (x, y) = (self.coordinate(-8, 30), self.coordinate(-8, 24));
+        let slides = self.one_in(2);
         for rule in [
             Rule::Make,
             Rule::Size,
@@ -99,10 +115,115 @@ impl World {
         ] {
             self.ask(Request::Positioner(rule));
         }
-        self.ask(Request::MakePopup(slot_of(number), host, (x, y)));
+        if slides {
+            self.ask(Request::Positioner(Rule::Slide));
+        }
+        let Client { shell, .. } = self.client(client_of(number));
+        if self.one_in(3) && self.may_ask(shell, 3) {
+            self.ask_without_effect();
+        }
+        Spot { x, y, slides }
+    }
+
+    /// Asks for something of the positioner that has no effect, by any numbers.
+    fn ask_without_effect(&mut self) {
+        let (w, h) = (self.coordinate(-9, 20), self.coordinate(-9, 20));
+        let rule = match self.below(3) {
+            0 => Rule::Reactive,
+            1 => Rule::ParentSize(w, h),
+            _ => Rule::ParentConfigure(w.cast_unsigned()),
+        };
+        self.ask(Request::Positioner(rule));
+    }
+
+    /// Places a popup anew, or asks for that by a positioner without a size or a rectangle, now and then.
+    fn ask_reposition(&mut self, number: usize) {
+        let slot = slot_of(number);
+        let token = u32::try_from(self.below(1000)).unwrap_or(0);
+        if self.one_in(15) {
+            self.ask(Request::Positioner(Rule::Make));
+            if self.one_in(2) {
+                self.ask(Request::Positioner(Rule::Size));
+            } else {
+                self.ask(Request::Positioner(Rule::Rectangle));
+            }
+            self.ask(Request::Reposition(slot, token, None));
+        } else {
+            let spot = self.ask_positioner(number);
+            self.ask(Request::Reposition(slot, token, Some(spot)));
+        }
         self.ask(Request::Positioner(Rule::Destroy));
+    }
+
+    /// A new popup, or one that doesn't wait for more than some acknowledgements, is placed anew now and then, once or twice. Whether it is.
+    pub(crate) fn ask_reposition_at_times(&mut self, number: usize) -> bool {
+        let Client { shell, .. } = self.client(client_of(number));
+        let (left, _) = self.unacknowledged(number, u32::MAX);
+        let asks = left < 8 && self.one_in(2) && self.may_ask(shell, 3);
+        if asks {
+            self.ask_reposition(number);
+        }
+        if asks && self.one_in(3) {
+            self.ask_reposition(number);
+        }
+        asks
+    }
+
+    /// One of a client's surfaces, more often one with a popup that wasn't dismissed, if there is one.
+    pub(crate) fn choose_slot(&mut self, client: usize) -> usize {
+        let start = self.below(SURFACES);
+        if self.one_in(2) {
+            return start;
+        }
+        for k in 0..SURFACES {
+            let slot = start.saturating_add(k) % SURFACES;
+            let number = number_of(client, slot);
+            if self.surface(number).popup.is_some() && !self.is_dismissed(number) {
+                return slot;
+            }
+        }
+        start
+    }
+
+    /// Whether a surface's popup waits to be placed.
+    fn waits(&self, number: usize) -> bool {
+        match self.surface(number).popup {
+            Some(popup) => popup.waiting.is_some() || self.unacknowledged(number, u32::MAX).0 > 0,
+            None => false,
+        }
+    }
+
+    /// Acknowledges a configure that wasn't: mostly the last.
+    pub(crate) fn ask_acknowledge(&mut self, number: usize) {
+        let serial = self.choose_configure(number);
         if let Some(serial) = serial {
-            self.ask(Request::Grab(slot_of(number), serial));
+            self.ask(Request::Acknowledge(slot_of(number), serial));
+        }
+    }
+
+    /// The serial of a configure of a surface's toplevel or popup that wasn't acknowledged, mostly of the last. None where all were.
+    fn choose_configure(&mut self, number: usize) -> Option<u32> {
+        let now = self.surface(number);
+        let is_first = self.one_in(3);
+        let mut found = None;
+        for configure in &self.configures {
+            let is_left = configure.object == now.object && now.acknowledged < configure.serial;
+            if is_left && (found.is_none() || !is_first) {
+                found = Some(configure.serial);
+            }
+        }
+        found
+    }
+
+    /// What is placed anew is acknowledged, and then it is committed, unmapped, or neither.
+    fn ask_to_place(&mut self, number: usize, surface: Surface, buffer: usize) {
+        let slot = slot_of(number);
+        self.ask_acknowledge(number);
+        match self.below(8) {
+            0 | 1 => self.ask_none(slot),
+            2 => {}
+            3 | 4 => self.update(number, surface, buffer),
+            _ => self.ask(Request::Commit(slot)),
         }
     }
 
@@ -141,11 +262,28 @@ impl World {
         }
     }
 
+    /// A popup that was configured and isn't mapped acknowledges that, and mostly is mapped.
+    pub(crate) fn ask_unmapped_popup(&mut self, number: usize, surface: Surface, buffer: usize) {
+        self.ask_grab_at_times(number, surface);
+        if self.one_in(3) && self.ask_reposition_at_times(number) {
+            return;
+        }
+        self.ask_acknowledge(number);
+        if self.one_in(8) {
+            self.ask(Request::Commit(slot_of(number)));
+        } else {
+            self.update(number, surface, buffer);
+        }
+    }
+
     /// Something is asked of a mapped popup.
     pub(crate) fn ask_mapped_popup(&mut self, number: usize, surface: Surface, buffer: usize) {
+        let waits = self.waits(number);
         match self.below(16) {
             0 => self.ask_none(slot_of(number)),
-            1 | 2 => self.ask_to_close(number),
+            1 => self.ask_to_close(number),
+            2..=7 if self.ask_reposition_at_times(number) => {}
+            2..=12 if waits => self.ask_to_place(number, surface, buffer),
             _ => self.update(number, surface, buffer),
         }
     }
@@ -153,10 +291,11 @@ impl World {
     /// A popup that was dismissed goes mostly; what else is asked of it has no effect.
     pub(crate) fn ask_dismissed(&mut self, number: usize, surface: Surface, buffer: usize) {
         let slot = slot_of(number);
-        match self.below(6) {
+        match self.below(8) {
             0 => self.update(number, surface, buffer),
             1 => self.ask_grab(number),
             2 => self.ask_none(slot),
+            3 | 4 if self.ask_reposition_at_times(number) => {}
             _ => self.ask_to_close(number),
         }
     }

@@ -1,6 +1,6 @@
 //! The slow painter: each point by itself, from the background up through all windows.
 
-use crate::desktop::{Content, Planned, Role, Surface, World, client_of};
+use crate::desktop::{Planned, Role, Surface, World, client_of};
 use crate::drawing::Color;
 use crate::links::Shown;
 use crate::tally::Deed;
@@ -47,11 +47,7 @@ fn blend(source: Color, under: Color) -> Color {
 impl World {
     /// The pixel of a window at a point of the output.
     fn window_pixel(&self, window: Shown, x: i32, y: i32) -> Option<Color> {
-        let state = self.surface(window.surface).current;
-        let content = Content {
-            buffer: state.buffer?.number,
-            transform: state.transform,
-        };
+        let content = self.surface(window.surface).current.content()?;
         let i = x.wrapping_sub(window.x);
         let j = y.wrapping_sub(window.y);
         self.pixel(client_of(window.surface), content, i, j)
@@ -96,9 +92,17 @@ impl World {
         }
     }
 
-    /// Counts a window of a subsurface or a popup.
+    /// Counts a window with a scale, or of a subsurface or a popup.
     fn count_window(&mut self, window: Shown) {
-        let Surface { role, popup, .. } = self.surface(window.surface);
+        let Surface {
+            role,
+            popup,
+            current,
+            ..
+        } = self.surface(window.surface);
+        if current.scale > 1 && current.buffer.is_some() {
+            self.count(Deed::Scaled);
+        }
         if role == Role::Subsurface {
             self.count(Deed::Inner);
         } else if let Some(popup) = popup {

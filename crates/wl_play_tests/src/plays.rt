@@ -14,7 +14,7 @@ struct Outcome {
 }
 
 /// How often something is done in a session.
-const TURNS: u32 = 420;
+const TURNS: u32 = 480;
 
 fn turns(world: &mut World, count: u32) {
     for _ in 0..count {
@@ -79,7 +79,7 @@ fn renew(world: &mut World) {
             world.leave(0);
             world.close(0);
         }
-        Life::Gone | Life::Refused | Life::Slow => world.close(0),
+        Life::Gone | Life::Refused(_) | Life::Slow => world.close(0),
         Life::Free => {}
     }
     world.liar = false;
@@ -141,55 +141,72 @@ fn first_wrong(alloc: Global, kind: Kind, all: &mut Outcome) -> Option<u64> {
 
 /// How often each deed has to happen in the plays of a test: a third of what comes.
 const LEAST: &[(Deed, u32)] = &[
-    (Deed::Map, 154),
+    (Deed::Map, 163),
     (Deed::MapOfFirst, 49),
-    (Deed::Unmap, 48),
-    (Deed::Connect, 86),
-    (Deed::End, 47),
-    (Deed::SlowByItself, 2),
-    (Deed::SlowByOthers, 3),
-    (Deed::Overlap, 63955),
-    (Deed::Cut, 891),
-    (Deed::Sent, 205),
-    (Deed::Release, 220),
-    (Deed::Link, 41),
-    (Deed::Unlink, 10),
-    (Deed::Desync, 6),
-    (Deed::Sync, 4),
-    (Deed::Hold, 78),
-    (Deed::Unhold, 4),
+    (Deed::Unmap, 44),
+    (Deed::Connect, 96),
+    (Deed::End, 58),
+    (Deed::SlowByItself, 1),
+    (Deed::SlowByOthers, 2),
+    (Deed::Overlap, 61007),
+    (Deed::Cut, 1050),
+    (Deed::Sent, 238),
+    (Deed::Release, 233),
+    (Deed::Link, 42),
+    (Deed::Unlink, 8),
+    (Deed::Desync, 7),
+    (Deed::Sync, 5),
+    (Deed::Hold, 74),
+    (Deed::Unhold, 6),
     (Deed::Position, 45),
     (Deed::Above, 4),
-    (Deed::Below, 3),
-    (Deed::Inner, 264),
-    (Deed::Input, 46),
+    (Deed::Below, 5),
+    (Deed::Inner, 318),
+    (Deed::Input, 58),
     (Deed::LatePointer, 1),
-    (Deed::Enter, 49),
-    (Deed::Motion, 31),
-    (Deed::Button, 49),
-    (Deed::Raise, 20),
+    (Deed::Enter, 38),
+    (Deed::Motion, 32),
+    (Deed::Button, 46),
+    (Deed::Raise, 22),
     (Deed::Drag, 3),
-    (Deed::Popup, 31),
-    (Deed::PopupMap, 14),
-    (Deed::PopupUnmap, 4),
+    (Deed::Popup, 32),
+    (Deed::PopupMap, 19),
+    (Deed::PopupUnmap, 8),
     (Deed::PopupEnd, 8),
-    (Deed::Menu, 133),
-    (Deed::MenuByGeometry, 30),
-    (Deed::Grab, 3),
-    (Deed::Refusal, 7),
-    (Deed::Dismissal, 13),
+    (Deed::Menu, 108),
+    (Deed::MenuByGeometry, 33),
+    (Deed::Grab, 2),
+    (Deed::Refusal, 10),
+    (Deed::Dismissal, 14),
     (Deed::Outside, 1),
+    (Deed::Scale, 63),
+    (Deed::Scaled, 359),
+    (Deed::BothDamages, 19),
+    (Deed::MuchDamage, 2),
+    (Deed::BadScale, 1),
+    (Deed::BadSize, 1),
+    (Deed::TooNew, 2),
+    (Deed::Reposition, 18),
+    (Deed::RepositionOfFresh, 6),
+    (Deed::RepositionOfDismissed, 2),
+    (Deed::Together, 3),
+    (Deed::InForce, 4),
+    (Deed::InForceBefore, 1),
+    (Deed::Forgotten, 2),
+    (Deed::Slide, 10),
+    (Deed::Incomplete, 1),
+    (Deed::WithoutEffect, 16),
 ];
 
 /// How many frames have to be painted, and how many have nothing to paint.
-const PAINTED: u32 = 260;
+const PAINTED: u32 = 287;
 
-const IDLE: u32 = 440;
+const IDLE: u32 = 510;
 
 /// How many points have to be seen that aren't as painted, inside the windows of a client that lies, and where such a client goes soon.
-const SPOILED: u32 = 33000;
+const SPOILED: u32 = 30228;
 
-const SPOILED_ONCE: u32 = 1900;
+const SPOILED_ONCE: u32 = 1663;
 
 /// Whether enough frames with and without damage were seen, and enough points that a client that lies spoiled.
 fn has_frames(seen: Seen, spoiled: u32) -> bool {

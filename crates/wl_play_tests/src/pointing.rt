@@ -1,9 +1,7 @@
 //! The pointer, by the rules of the protocol: which surface has its focus, what a press raises, what is moved with it, and what clients are told
 //! of it (wayland.xml, wl_pointer, and xdg-shell.xml, xdg_toplevel.move).
 
-use crate::desktop::{
-    Client, Content, Planned, SURFACES, Stage, Window, World, client_of, slot_of,
-};
+use crate::desktop::{Client, Planned, SURFACES, Stage, Window, World, client_of, slot_of};
 use crate::drawing::sides_of;
 use crate::links::Shown;
 use crate::painter::{HEIGHT, WIDTH};
@@ -234,12 +232,8 @@ impl World {
     /// Whether the pointer is over a window.
     fn is_over(&self, window: Shown) -> bool {
         let state = self.surface(window.surface).current;
-        let (Some(buffer), Some((x, y))) = (state.buffer, self.pointer.place) else {
+        let (Some(content), Some((x, y))) = (state.content(), self.pointer.place) else {
             return false;
-        };
-        let content = Content {
-            buffer: buffer.number,
-            transform: state.transform,
         };
         let (w, h) = sides_of(content);
         let (i, j) = (x.wrapping_sub(window.x), y.wrapping_sub(window.y));

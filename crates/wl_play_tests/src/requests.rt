@@ -40,14 +40,14 @@ const SHAPES: &[Shape] = &[
     Shape {
         offset: 3472,
         width: 9,
-        height: 16,
+        height: 15,
         stride: 36,
         format: 1,
     },
     Shape {
-        offset: 4048,
+        offset: 4012,
         width: 24,
-        height: 10,
+        height: 12,
         stride: 100,
         format: 0,
     },
@@ -65,7 +65,7 @@ const NO_SHAPE: Shape = Shape {
 pub(crate) const BUFFERS: usize = 5;
 
 /// How many bytes the pool of each client has.
-pub(crate) const STORE: usize = 5100;
+pub(crate) const STORE: usize = 5212;
 
 /// The buffer of a number.
 pub(crate) fn shape_of(buffer: usize) -> Shape {
@@ -89,11 +89,21 @@ pub(crate) struct Attach {
     pub y: i32,
 }
 
+/// Where a positioner places a popup: its offset from the first point of the parent's window geometry, and whether it slides into the output.
+#[derive(Clone, Copy)]
+pub(crate) struct Spot {
+    pub x: i32,
+    pub y: i32,
+    pub slides: bool,
+}
+
 /// A request of a client. Its surfaces are 0 to 3, each with an xdg_surface and a toplevel or popup of its own, or with a wl_subsurface.
 #[derive(Clone, Copy)]
 pub(crate) enum Request {
-    /// One of those that each client begins with.
+    /// One of those that each client begins with, and the binds of wl_compositor and xdg_wm_base at these versions.
     Start(usize),
+    BindCompositor(u32),
+    BindShell(u32),
     /// Another registry, or a wl_pointer: the how-manieth.
     GetRegistry(usize),
     GetPointer(usize),
@@ -105,7 +115,10 @@ pub(crate) enum Request {
     Acknowledge(usize, u32),
     Attach(usize, Attach),
     Damage(usize, Area),
+    /// In coordinates of the buffer.
+    DamageBuffer(usize, Area),
     Turn(usize, u32),
+    Scale(usize, i32),
     MakeRegion,
     AddToRegion(Area),
     DestroyRegion,
@@ -128,12 +141,14 @@ pub(crate) enum Request {
     SetSync(usize),
     SetDesync(usize),
     DestroySubsurface(usize),
-    /// One of the positioner by which the next popup is placed.
+    /// One of the positioner by which the next popup is placed, or one is placed anew.
     Positioner(Rule),
     /// The one surface has a popup on the other's toplevel or popup, which the positioner places here.
-    MakePopup(usize, usize, (i32, i32)),
+    MakePopup(usize, usize, Spot),
     /// The popup grabs by this serial.
     Grab(usize, u32),
+    /// The popup is to be placed here by the positioner, with this token. None where the positioner is incomplete.
+    Reposition(usize, u32, Option<Spot>),
     DestroyPopup(usize),
     SetGeometry(usize, Area),
     /// The toplevel is moved with the pointer, by this serial of a press.
@@ -151,6 +166,11 @@ pub(crate) enum Rule {
     Anchor,
     Gravity,
     Offset(i32, i32),
+    Slide,
+    /// Three without effect.
+    Reactive,
+    ParentSize(i32, i32),
+    ParentConfigure(u32),
     Destroy,
 }
 
@@ -163,19 +183,9 @@ struct Words {
     words: [u32; 6],
 }
 
-/// The registry 2, the wl_compositor 3, the wl_shm 4, the xdg_wm_base 5, the wl_subcompositor 6, the wl_seat 7 and the pool 9.
+/// The registry 2, the wl_shm 4, the wl_subcompositor 6, the wl_seat 7 and the pool 9. Beside them there are the wl_compositor 3 and the xdg_wm_base 5.
 const START: &[(u32, u16, &[Arg])] = &[
     (1, 1, &[Arg::NewId(2)]),
-    (
-        2,
-        0,
-        &[
-            Arg::Uint(1),
-            Arg::Str(b"wl_compositor"),
-            Arg::Uint(2),
-            Arg::NewId(3),
-        ],
-    ),
     (
         2,
         0,
@@ -190,23 +200,13 @@ const START: &[(u32, u16, &[Arg])] = &[
         2,
         0,
         &[
-            Arg::Uint(6),
-            Arg::Str(b"xdg_wm_base"),
-            Arg::Uint(1),
-            Arg::NewId(5),
-        ],
-    ),
-    (
-        2,
-        0,
-        &[
             Arg::Uint(2),
             Arg::Str(b"wl_subcompositor"),
             Arg::Uint(1),
             Arg::NewId(6),
         ],
     ),
-    (4, 0, &[Arg::NewId(9), Arg::Int(5100)]),
+    (4, 0, &[Arg::NewId(9), Arg::Int(5212)]),
     (
         2,
         0,
@@ -220,25 +220,28 @@ const START: &[(u32, u16, &[Arg])] = &[
 ];
 
 /// How many requests each client begins with.
-pub(crate) const STARTS: usize = 7;
+pub(crate) const STARTS: usize = 5;
 
 const REGION: u32 = 60;
 
 const POSITIONER: u32 = 61;
 
+/// How wide and high each popup is to be.
+pub(crate) const POPUP: i32 = 8;
+
 fn id(first: u32, number: usize) -> u32 {
     first.saturating_add(u32::try_from(number).unwrap_or(0))
 }
 
-fn surface_id(slot: usize) -> u32 {
+pub(crate) fn surface_id(slot: usize) -> u32 {
     id(20, slot)
 }
 
-fn xdg_surface_id(slot: usize) -> u32 {
+pub(crate) fn xdg_surface_id(slot: usize) -> u32 {
     id(30, slot)
 }
 
-fn toplevel_id(slot: usize) -> u32 {
+pub(crate) fn toplevel_id(slot: usize) -> u32 {
     id(40, slot)
 }
 
@@ -246,7 +249,7 @@ fn subsurface_id(slot: usize) -> u32 {
     id(70, slot)
 }
 
-fn popup_id(slot: usize) -> u32 {
+pub(crate) fn popup_id(slot: usize) -> u32 {
     id(80, slot)
 }
 
@@ -327,7 +330,9 @@ fn words_of(request: Request) -> Words {
         Request::Acknowledge(slot, serial) => single(xdg_surface_id(slot), 4, serial),
         Request::Attach(slot, buffer) => make_attach(slot, buffer),
         Request::Damage(slot, area) => with_area(surface_id(slot), 2, area),
+        Request::DamageBuffer(slot, area) => with_area(surface_id(slot), 9, area),
         Request::Turn(slot, transform) => single(surface_id(slot), 7, transform),
+        Request::Scale(slot, scale) => single(surface_id(slot), 8, scale.cast_unsigned()),
         Request::MakeRegion => single(3, 1, REGION),
         Request::AddToRegion(area) => with_area(REGION, 1, area),
         Request::DestroyRegion => bare(REGION, 0),
@@ -351,9 +356,11 @@ fn words_of(request: Request) -> Words {
         Request::Positioner(rule) => words_of_rule(rule),
         Request::MakePopup(slot, host, _) => make_popup(slot, host),
         Request::Grab(slot, serial) => pair(popup_id(slot), 1, 7, serial),
+        Request::Reposition(slot, token, _) => pair(popup_id(slot), 2, POSITIONER, token),
         Request::DestroyPopup(slot) => bare(popup_id(slot), 0),
         Request::SetGeometry(slot, area) => with_area(xdg_surface_id(slot), 3, area),
-        Request::Start(_) | Request::Mistake => bare(99, 0),
+        Request::Start(_) | Request::BindCompositor(_) | Request::BindShell(_) | Request::Mistake =>
+            bare(99, 0),
     }
 }
 
@@ -378,7 +385,7 @@ fn make_popup(slot: usize, host: usize) -> Words {
 fn words_of_rule(rule: Rule) -> Words {
     match rule {
         Rule::Make => single(5, 1, POSITIONER),
-        Rule::Size => pair(POSITIONER, 1, 8, 8),
+        Rule::Size => pair(POSITIONER, 1, POPUP.cast_unsigned(), POPUP.cast_unsigned()),
         Rule::Rectangle => with_area(
             POSITIONER,
             2,
@@ -392,6 +399,10 @@ fn words_of_rule(rule: Rule) -> Words {
         Rule::Anchor => single(POSITIONER, 3, 5),
         Rule::Gravity => single(POSITIONER, 4, 8),
         Rule::Offset(x, y) => pair(POSITIONER, 6, x.cast_unsigned(), y.cast_unsigned()),
+        Rule::Slide => single(POSITIONER, 5, 3),
+        Rule::Reactive => bare(POSITIONER, 7),
+        Rule::ParentSize(w, h) => pair(POSITIONER, 8, w.cast_unsigned(), h.cast_unsigned()),
+        Rule::ParentConfigure(serial) => single(POSITIONER, 9, serial),
         Rule::Destroy => bare(POSITIONER, 0),
     }
 }
@@ -426,6 +437,16 @@ fn put_words(out: &mut Vec<u8, Global>, message: &Words) -> bool {
     put(out, message.object, message.opcode, args).is_ok()
 }
 
+fn put_bind(out: &mut Vec<u8, Global>, name: u32, interface: &[u8], version: u32, id: u32) -> bool {
+    let args = [
+        Arg::Uint(name),
+        Arg::Str(interface),
+        Arg::Uint(version),
+        Arg::NewId(id),
+    ];
+    put(out, 2, 0, &args).is_ok()
+}
+
 /// Appends the bytes of a request. False where there is no memory for them.
 pub(crate) fn put_request(out: &mut Vec<u8, Global>, request: Request) -> bool {
     match request {
@@ -433,6 +454,8 @@ pub(crate) fn put_request(out: &mut Vec<u8, Global>, request: Request) -> bool {
             Some(&(object, opcode, args)) => put(out, object, opcode, args).is_ok(),
             None => true,
         },
+        Request::BindCompositor(version) => put_bind(out, 1, b"wl_compositor", version, 3),
+        Request::BindShell(version) => put_bind(out, 6, b"xdg_wm_base", version, 5),
         _ => put_words(out, &words_of(request)),
     }
 }

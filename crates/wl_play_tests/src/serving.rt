@@ -5,7 +5,7 @@ use crate::desktop::{
 };
 use crate::requests::{Request, Rule};
 use crate::tally::Deed;
-use crate::telling::{DELETED, RELEASED};
+use crate::telling::{DELETED, INVALID_METHOD, INVALID_OBJECT, RELEASED};
 
 impl World {
     /// A request of a client is taken, unless the client ended. It is told of each wl_buffer that is there and isn't busy any more.
@@ -13,7 +13,10 @@ impl World {
         if self.client(client).life != Life::Alive {
             return;
         }
-        if let Request::DestroyBuffer(buffer) = request {
+        if is_too_new(self.client(client), request) {
+            self.count(Deed::TooNew);
+            self.refuse(client, INVALID_METHOD);
+        } else if let Request::DestroyBuffer(buffer) = request {
             self.remove_buffer(client, buffer);
         } else {
             let busy = self.busy(client);
@@ -22,7 +25,8 @@ impl World {
                 self.release(client, busy);
             }
         }
-        if changes_windows(request) || self.is_struck(client) {
+        let goes_on = self.client(client).life == Life::Alive && !self.is_struck(client);
+        if changes_windows(request) || !goes_on {
             self.conclude_request(client);
         }
     }
@@ -35,14 +39,19 @@ impl World {
             Request::MakeSurface(slot) => self.make_surface(number_of(client, slot)),
             Request::MakeXdgSurface(slot) => self.reach(number_of(client, slot), Stage::Roleless),
             Request::MakeToplevel(slot) => self.make_toplevel(number_of(client, slot)),
-            Request::Acknowledge(slot, _) => self.acknowledge(number_of(client, slot)),
+            Request::Acknowledge(slot, serial) => {
+                self.acknowledge(number_of(client, slot), serial);
+            }
             Request::Attach(slot, attach) => self.attach(client, number_of(client, slot), attach),
             Request::SetInput(slot, input) => self.set_input(number_of(client, slot), input),
             Request::Turn(slot, transform) => self.turn(number_of(client, slot), transform),
+            Request::Scale(slot, scale) => self.set_scale(client, number_of(client, slot), scale),
+            Request::Damage(slot, _) => self.damage(number_of(client, slot), false),
+            Request::DamageBuffer(slot, _) => self.damage(number_of(client, slot), true),
             Request::Frame(slot, _) => self.ask_callback(number_of(client, slot)),
             Request::Commit(slot) => self.commit(client, number_of(client, slot)),
             Request::DestroyRegion => self.tell(client, DELETED),
-            Request::Mistake => self.refuse(client),
+            Request::Mistake => self.refuse(client, INVALID_OBJECT),
             _ => self.serve_roles(client, request),
         }
     }
@@ -81,8 +90,15 @@ impl World {
     fn serve_popups(&mut self, client: usize, request: Request) {
         match request {
             Request::Positioner(Rule::Destroy) => self.tell(client, DELETED),
-            Request::MakePopup(slot, host, place) => {
-                self.make_popup(number_of(client, slot), number_of(client, host), place);
+            Request::Positioner(Rule::Reactive | Rule::ParentSize(..) | Rule::ParentConfigure(_)) =>
+                {
+                    self.count(Deed::WithoutEffect);
+                }
+            Request::Reposition(slot, token, spot) => {
+                self.reposition(client, number_of(client, slot), token, spot);
+            }
+            Request::MakePopup(slot, host, spot) => {
+                self.make_popup(number_of(client, slot), number_of(client, host), spot);
             }
             Request::Grab(slot, serial) => self.grab(client, number_of(client, slot), serial),
             Request::DestroyPopup(slot) => {
@@ -215,6 +231,19 @@ fn changes_windows(request: Request) -> bool {
             | Request::DestroyPopup(_)
             | Request::DestroySurface(_)
             | Request::DestroySubsurface(_)
-            | Request::Mistake
     )
+}
+
+/// Whether a request is only there since a version that a client's object doesn't have.
+fn is_too_new(client: Client, request: Request) -> bool {
+    match request {
+        Request::Turn(..) => client.compositor < 2,
+        Request::Scale(..) => client.compositor < 3,
+        Request::DamageBuffer(..) => client.compositor < 4,
+        Request::Reposition(..)
+        | Request::Positioner(Rule::Reactive | Rule::ParentSize(..) | Rule::ParentConfigure(_)) => {
+            client.shell < 3
+        }
+        _ => false,
+    }
 }

@@ -58,12 +58,36 @@ pub(crate) enum Deed {
     Refusal,
     Dismissal,
     Outside,
+    /// A surface got a scale, and a window with one above 1 is in a frame.
+    Scale,
+    Scaled,
+    /// What a commit changes was damaged in both kinds of coordinates, and by more than are read one by one.
+    BothDamages,
+    MuchDamage,
+    /// A scale wasn't above 0, a scale didn't divide a buffer's sides, and a request was newer than its object.
+    BadScale,
+    BadSize,
+    TooNew,
+    /// A popup was placed anew: told so, before its first commit, and dismissed.
+    Reposition,
+    RepositionOfFresh,
+    RepositionOfDismissed,
+    /// Several such were acknowledged at once, one was put in force while the popup is mapped, and before that, and some were forgotten.
+    Together,
+    InForce,
+    InForceBefore,
+    Forgotten,
+    /// A popup didn't fit into the output where it was placed, and slid into it.
+    Slide,
+    /// A positioner was incomplete, and was asked for what has no effect.
+    Incomplete,
+    WithoutEffect,
 }
 
 /// How often each of them happened.
-pub(crate) type Tally = [u32; 38];
+pub(crate) type Tally = [u32; 55];
 
-pub(crate) const NOTHING: Tally = [0; 38];
+pub(crate) const NOTHING: Tally = [0; 55];
 
 impl World {
     pub(crate) fn count(&mut self, deed: Deed) {

@@ -1,27 +1,88 @@
 //! What clients are told, event by event, and who ends since too much would wait for it.
 
 use crate::desktop::{CLIENTS, Client, Life, SURFACES, Surface, World, number_of};
+use crate::requests::surface_id;
 use crate::tally::Deed;
 
 /// How many bytes may wait for a client.
 pub(crate) const LIMIT: usize = 1048576;
 
-/// How many bytes a client is told by one event: that an id is free again, that a frame callback is done, that a buffer is released, of a message that is
-/// refused, and that a popup is dismissed.
+/// An error of a client: the object that it is of, its code, and how many bytes the client is told.
+#[derive(Clone, Copy, Debug, PartialEq, Eq)]
+pub(crate) struct Mistake {
+    pub object: u32,
+    pub code: u32,
+    pub size: usize,
+}
+
+/// wl_display.error with the texts invalid_object, invalid_method and invalid_positioner.
+pub(crate) const INVALID_OBJECT: Mistake = Mistake {
+    object: 1,
+    code: 0,
+    size: 36,
+};
+
+pub(crate) const INVALID_METHOD: Mistake = Mistake {
+    object: 1,
+    code: 1,
+    size: 36,
+};
+
+pub(crate) const INVALID_POSITIONER: Mistake = Mistake {
+    object: 5,
+    code: 5,
+    size: 40,
+};
+
+/// With the texts invalid_scale and invalid_size.
+pub(crate) fn invalid_scale(slot: usize) -> Mistake {
+    Mistake {
+        object: surface_id(slot),
+        code: 0,
+        size: 36,
+    }
+}
+
+pub(crate) fn invalid_size(slot: usize) -> Mistake {
+    Mistake {
+        object: surface_id(slot),
+        code: 2,
+        size: 36,
+    }
+}
+
+/// An event of at most four words after its header: the object that it is of, its opcode, and how many of the words it has.
+#[derive(Clone, Copy)]
+pub(crate) struct Event {
+    pub object: u32,
+    pub opcode: u32,
+    pub count: usize,
+    pub words: [u32; 4],
+}
+
+/// An event that a client is told in a step: where it begins in what waits for the client afterwards.
+#[derive(Clone, Copy)]
+pub(crate) struct Note {
+    pub step: usize,
+    pub client: usize,
+    pub at: usize,
+    pub event: Event,
+}
+
+/// How many bytes an event has.
+pub(crate) fn size_of(event: Event) -> usize {
+    event.count.saturating_mul(4).saturating_add(8)
+}
+
+/// How many bytes a client is told by one event: that an id is free again, that a frame callback is done, that a buffer is released, and that a popup is
+/// dismissed.
 pub(crate) const DELETED: usize = 12;
 
 pub(crate) const CALLED_BACK: usize = 12;
 
 pub(crate) const RELEASED: usize = 8;
 
-pub(crate) const REFUSED: usize = 36;
-
 pub(crate) const DISMISSED: usize = 8;
-
-/// By the configure of a toplevel or a popup, and the one of its xdg_surface that follows.
-const ROLE_CONFIGURED: usize = 24;
-
-const CONFIGURED: usize = 12;
 
 /// That its surface is entered or left, that the pointer moved over it, and that a button was pressed or released.
 pub(crate) const ENTERED: usize = 24;
@@ -92,19 +153,28 @@ impl World {
         serial
     }
 
-    /// A toplevel or popup is configured, with a new serial.
-    pub(crate) fn tell_configure(&mut self, client: usize) -> u32 {
-        self.tell(client, ROLE_CONFIGURED);
-        self.tell(client, CONFIGURED);
-        self.draw_serial(client)
+    /// A client is told an event of which it is known what it says.
+    pub(crate) fn tell_event(&mut self, client: usize, event: Event) {
+        let at = self.client(client).unsent;
+        self.tell(client, size_of(event));
+        let step = self.steps.len();
+        let note = Note {
+            step,
+            client,
+            at,
+            event,
+        };
+        if at < self.client(client).unsent && self.notes.push(note).is_err() {
+            self.failed = true;
+        }
     }
 
     /// What is answered to one of the requests that each client begins with.
     pub(crate) fn tell_start(&mut self, client: usize, place: usize) {
         match place {
             0 => self.tell_registry(client),
-            2 => self.tell_all(client, &FORMATS),
-            6 => self.tell_all(client, &CAPABILITIES),
+            1 => self.tell_all(client, &FORMATS),
+            4 => self.tell_all(client, &CAPABILITIES),
             _ => {}
         }
     }
@@ -132,13 +202,13 @@ impl World {
     }
 
     /// A client is told of the error of its message, and ends by that, or since it has no room for it.
-    pub(crate) fn refuse(&mut self, client: usize) {
-        self.tell(client, REFUSED);
+    pub(crate) fn refuse(&mut self, client: usize, mistake: Mistake) {
+        self.tell(client, mistake.size);
         if self.client(client).struck {
             self.count(Deed::SlowByItself);
             self.end(client, Life::Slow);
         } else {
-            self.end(client, Life::Refused);
+            self.end(client, Life::Refused(mistake));
         }
     }
 

@@ -2,6 +2,7 @@
 
 use crate::desktop::{Life, Planned, World};
 use crate::painter::BACKGROUND;
+use crate::telling::{Event, Mistake, Note, size_of};
 use std::alloc::Global;
 use wl_session::{Cause, Config, Done, Fed, Rgb, Run, Session, Shot, Step, Stored};
 
@@ -35,13 +36,14 @@ pub(crate) struct Seen {
     pub fault: Option<Fault>,
 }
 
-/// A step by its place, how many bytes wait for each client after it, and how many have to.
+/// A step by its place, how many bytes wait for each client after it, how many have to, and whether those events are there of which it is known what they say.
 #[derive(Clone, Copy, Debug)]
 pub(crate) struct Fault {
     pub step: usize,
     pub planned: Planned,
     pub waiting: [usize; 3],
     pub wanted: [usize; 3],
+    pub told: bool,
 }
 
 pub(crate) const UNSEEN: Seen = Seen {
@@ -110,8 +112,8 @@ fn answer(planned: Planned) -> Done {
         Planned::Connect(client) => Done::Connect(Ok(number(client))),
         Planned::Feed(_, _, _, Life::Alive) => Done::Feed(Fed::Alive),
         Planned::Feed(_, _, _, Life::Gone) => Done::Feed(Fed::Ended(Cause::Gone)),
-        Planned::Feed(_, _, _, Life::Refused) => {
-            Done::Feed(Fed::Ended(Cause::Protocol { object: 1, code: 0 }))
+        Planned::Feed(_, _, _, Life::Refused(Mistake { object, code, .. })) => {
+            Done::Feed(Fed::Ended(Cause::Protocol { object, code }))
         }
         Planned::Feed(_, _, _, Life::Slow) => Done::Feed(Fed::Ended(Cause::Slow)),
         Planned::Feed(_, _, _, Life::Free) => Done::Feed(Fed::NoClient),
@@ -252,6 +254,44 @@ fn waiting_in(session: &Session<Global>) -> [usize; 3] {
     waiting
 }
 
+fn is_word(bytes: &[u8], at: usize, word: u32) -> bool {
+    part(bytes, at, 4) == word.to_ne_bytes().as_slice()
+}
+
+/// Whether an event begins at a place of what waits for a client.
+fn has_event(bytes: &[u8], at: usize, event: Event) -> bool {
+    let size = u32::try_from(size_of(event)).unwrap_or(0);
+    let header = size.saturating_mul(65536).saturating_add(event.opcode);
+    let mut holds = is_word(bytes, at, event.object);
+    holds = holds && is_word(bytes, at.saturating_add(4), header);
+    for (k, word) in event.words.iter().take(event.count).enumerate() {
+        let place = k.saturating_mul(4).saturating_add(8);
+        holds = holds && is_word(bytes, at.saturating_add(place), *word);
+    }
+    holds
+}
+
+/// The place past the events of a step, the first of which is this one. None where clients weren't told all of them.
+fn past_told(
+    session: &Session<Global>,
+    notes: &[Note],
+    first: usize,
+    step: usize,
+) -> Option<usize> {
+    let mut next = first;
+    for note in notes.get(first..).unwrap_or(&[]) {
+        if step < note.step {
+            break;
+        }
+        let bytes = session.out(number(note.client)).unwrap_or(&[]);
+        if !has_event(bytes, note.at, note.event) {
+            return None;
+        }
+        next = next.saturating_add(1);
+    }
+    Some(next)
+}
+
 /// Takes the steps one by one in another session. The first that isn't answered as it has to be.
 fn first_fault(
     session: &mut Session<Global>,
@@ -259,6 +299,7 @@ fn first_fault(
     shots: &[Shot<Global>],
 ) -> Option<Fault> {
     let mut ticks = 0usize;
+    let mut next = 0usize;
     for (step, (planned, wanted)) in world.steps.iter().zip(&world.unsent).enumerate() {
         let met = match (*planned, shots.get(ticks)) {
             (Planned::Tick(time), Some(shot)) => {
@@ -269,12 +310,15 @@ fn first_fault(
             _ => session.step(&step_of(world, *planned)) == answer(*planned),
         };
         let waiting = waiting_in(session);
-        if !met || waiting != *wanted {
+        let told = past_told(session, &world.notes, next, step);
+        next = told.unwrap_or(next);
+        if !met || told.is_none() || waiting != *wanted {
             return Some(Fault {
                 step,
                 planned: *planned,
                 waiting,
                 wanted: *wanted,
+                told: told.is_some(),
             });
         }
     }
