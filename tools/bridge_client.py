@@ -161,8 +161,6 @@ class Client:
                 state.attach(buffer.state if buffer is not None and isinstance(buffer.state, Buffer) else None)
             case "wl_surface.damage" | "wl_surface.damage_buffer" if isinstance(state, Surface):
                 state.is_changed = True
-            case "wl_surface.set_buffer_transform" if isinstance(state, Surface):
-                state.transform = said.values[0]
             case "wl_surface.commit" if isinstance(state, Surface):
                 state.copy()
 

@@ -120,13 +120,11 @@ class Buffer:
 
 
 class Surface:
-    """What a surface shows, as far as copies and damage need it."""
+    """What a surface shows, as far as copies need it."""
 
     def __init__(self):
         self.buffer = None  # what was attached last
         self.is_changed = False  # since the last commit something was attached or damaged
-        self.transform = 0
-        self.is_damaged_in_buffer = False  # since the last commit
 
     def attach(self, buffer):
         self.buffer, self.is_changed = buffer, True

@@ -25,7 +25,7 @@ CAUSES = {
     ("xdg_wm_base", "not_the_topmost_popup"): "xdg_popup.destroy",
     ("xdg_wm_base", "invalid_popup_parent"): "xdg_surface.get_popup",
     ("xdg_wm_base", "invalid_surface_state"): "xdg_wm_base.get_xdg_surface",
-    ("xdg_wm_base", "invalid_positioner"): "xdg_surface.get_popup",
+    ("xdg_wm_base", "invalid_positioner"): "xdg_surface.get_popup xdg_popup.reposition",
     ("xdg_positioner", "invalid_input"): "xdg_positioner.set_size xdg_positioner.set_anchor_rect xdg_positioner.set_anchor xdg_positioner.set_gravity",
     ("xdg_surface", "not_constructed"): "xdg_surface.set_window_geometry xdg_surface.ack_configure",
     ("xdg_surface", "already_constructed"): "xdg_surface.get_toplevel xdg_surface.get_popup",

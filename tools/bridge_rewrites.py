@@ -1,24 +1,22 @@
 """What the bridge rewrites between a client and the server, as one table (docs/BRIDGE.md has it for people).
 
-The server offers early versions of its globals, and many clients insist on later ones. Where it offers less than SHOWN, the bridge shows the later
+The server offers early versions of some globals, and many clients insist on later ones. Where it offers less than SHOWN, the bridge shows the later
 version and rewrites what differs; where a later server offers as much, nothing is rewritten, since each row looks at the version that the server has.
 """
 import dataclasses
 import itertools
 import typing
 
-from bridge_memory import Surface
 from wayland_table import INTERFACES
 from wayland_wire import message, spell
 
 # The versions that clients are shown, where the server offers an earlier one.
-SHOWN = {"wl_compositor": 4, "wl_output": 3, "wl_seat": 7, "xdg_wm_base": 2}
+SHOWN = {"wl_output": 3, "wl_seat": 7}
 # A global of the bridge's own, with a name that no server gives.
 OWN_GLOBAL, OWN_NAME, OWN_VERSION = "wl_data_device_manager", 0xFFFF0000, 3
 SEAT_NAME = "seat0"
 POINTER_EVENTS = ("enter", "leave", "motion", "button")  # those that the server sends
 LARGE = 1 << 26  # bytes of a pool above which the server isn't told of it
-EVERYTHING = (0, 0, 0x7FFFFFFF, 0x7FFFFFFF)
 STATES = INTERFACES["xdg_toplevel"].enums["state"].values
 # By the requests of a toplevel for a state: the state, and whether it is asked for or given up.
 ASKS = {
@@ -99,28 +97,6 @@ def keep_own_id(client, said):
     return []
 
 
-def swallow_scale(client, said):
-    return [] if said.message.since > said.object.served and said.values == [1] else None
-
-
-def move_damage(client, said):
-    surface = said.object.state
-    if said.message.since <= said.object.served or not isinstance(surface, Surface):
-        return None
-    surface.is_damaged_in_buffer = True
-    return [request(said.object, "damage", *said.values)] if surface.transform == 0 else []
-
-
-def damage_turned(client, said):
-    surface = said.object.state
-    was_damaged = isinstance(surface, Surface) and surface.is_damaged_in_buffer
-    if was_damaged:
-        surface.is_damaged_in_buffer = False
-    if not was_damaged or surface.transform == 0:
-        return None
-    return [request(said.object, "damage", *EVERYTHING), said.data]
-
-
 def note_state(client, said):
     state, is_asked = ASKS[said.message.name]
     states = said.object.state or set()
@@ -154,7 +130,7 @@ REWRITINGS = (
         "event",
         f"shows {', '.join(f'{name} as version {version}' for name, version in SHOWN.items())}, and besides {OWN_GLOBAL}, version {OWN_VERSION}",
         "clients leave where they find less, or bind a later version without looking (foot, wev)",
-        "as exact as the rows below; what versions 6 and 7 of wl_seat and 2 of xdg_wm_base brought is never sent, nor is a wheel's axis",
+        "as exact as the rows below; what versions 6 and 7 of wl_seat brought is never sent, nor is a wheel's axis",
         show_global,
     ),
     Rewriting(
@@ -213,7 +189,7 @@ REWRITINGS = (
         "event",
         "sends scale 1 and done behind, where version 2 or later was bound",
         "they are there since version 2, and clients wait for done before they open a window",
-        "yes: the server draws at scale 1, and mode is the last that it tells of an output",
+        "yes: the output has a pixel for each of its points, and mode is the last that the server tells of it",
         finish_output,
     ),
     Rewriting(
@@ -223,30 +199,6 @@ REWRITINGS = (
         "it is there since version 3",
         "but for the id, which isn't given back: the client never uses it again",
         swallow,
-    ),
-    Rewriting(
-        "wl_surface.set_buffer_scale",
-        "request",
-        "is swallowed where the scale is 1; another is left to the server, which refuses it",
-        "it is there since version 3, and most clients say by it what holds anyway",
-        "yes",
-        swallow_scale,
-    ),
-    Rewriting(
-        "wl_surface.damage_buffer",
-        "request",
-        "becomes damage; where the buffer is turned, damage of everything before the commit",
-        "it is there since version 4, and most clients prefer it",
-        "yes: at scale 1 and unturned the buffer's points are the surface's; else more is painted again than has to be, and the picture is the same",
-        move_damage,
-    ),
-    Rewriting(
-        "wl_surface.commit",
-        "request",
-        "has damage of everything before it, where damage_buffer came and the buffer is turned",
-        "which transform holds is known at the commit alone",
-        "as damage_buffer",
-        damage_turned,
     ),
     Rewriting(
         "wl_shm.create_pool",

@@ -30,7 +30,7 @@ wl_registry
 wl_callback
     event done callback_data: uint
 
-wl_compositor 2
+wl_compositor 4
     request create_surface id: new_id wl_surface
     request create_region id: new_id wl_region
 
@@ -185,7 +185,7 @@ wl_data_offer
     event action(3) dnd_action: uint wl_data_device_manager.dnd_action
     enum error invalid_finish 0, invalid_action_mask 1, invalid_action 2, invalid_offer 3
 
-xdg_wm_base 1
+xdg_wm_base 3
     request destroy
     request create_positioner id: new_id xdg_positioner
     request get_xdg_surface id: new_id xdg_surface, surface: object wl_surface

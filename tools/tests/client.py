@@ -13,6 +13,7 @@ from wayland_table import INTERFACES  # pylint: disable=wrong-import-position
 from wayland_wire import DISPLAY, message, spell  # pylint: disable=wrong-import-position
 
 PATIENCE = 60  # seconds that an answer may take
+TOP_LEFT, BOTTOM_RIGHT = (INTERFACES["xdg_positioner"].enums["anchor"].values[it] for it in ("top_left", "bottom_right"))
 
 
 class Gone(Exception):
@@ -142,7 +143,22 @@ class Client:
         return self.objects.in_words(said)
 
 
-class Window:
+class Shown:
+    """A surface of a client that shows one of its buffers."""
+
+    client = surface = width = height = buffers = None
+
+    def show(self, at, how="damage", rectangle=None):
+        """Commits one of the buffers, and waits until it was shown."""
+        client = self.client
+        client.put(self.surface, "attach", self.buffers[at], 0, 0)
+        client.put(self.surface, how, *(rectangle or (0, 0, self.width, self.height)))
+        shown = client.put(self.surface, "frame")
+        client.send(self.surface, "commit")
+        client.until("wl_callback.done", shown)
+
+
+class Window(Shown):
     """A toplevel of a size with a pool of two buffers, one behind the other. It isn't shown until a buffer is committed."""
 
     def __init__(self, client, width, height, compositor_version=4):
@@ -169,11 +185,29 @@ class Window:
         """Draws all of one of the buffers."""
         self.memory.fill(at * self.size, self.width, self.height, colour)
 
-    def show(self, at, how="damage", rectangle=None):
-        """Commits one of the buffers, and waits until it was shown."""
+
+class Menu(Shown):
+    """A popup on a window, with the window's sides and buffers, at a point of the window. It isn't shown until a buffer is committed."""
+
+    def __init__(self, window, x, y):
+        self.client, self.width, self.height, self.buffers = window.client, window.width, window.height, window.buffers
         client = self.client
-        client.put(self.surface, "attach", self.buffers[at], 0, 0)
-        client.put(self.surface, how, *(rectangle or (0, 0, self.width, self.height)))
-        shown = client.put(self.surface, "frame")
+        self.base = client.bind(window.registry, "xdg_wm_base", 3)
+        self.surface = client.put(window.compositor, "create_surface")
+        self.shell = client.put(self.base, "get_xdg_surface", self.surface)
+        self.popup = client.put(self.shell, "get_popup", window.shell, self.place(x, y))
         client.send(self.surface, "commit")
-        client.until("wl_callback.done", shown)
+        self.acknowledge()
+
+    def place(self, x, y):
+        """A positioner that places its upper left corner at this point of its parent."""
+        made = self.client.put(self.base, "create_positioner")
+        self.client.put(made, "set_size", self.width, self.height)
+        self.client.put(made, "set_anchor_rect", x, y, 1, 1)
+        self.client.put(made, "set_anchor", TOP_LEFT)
+        self.client.put(made, "set_gravity", BOTTOM_RIGHT)
+        return made
+
+    def acknowledge(self):
+        """Waits for a configure, and acknowledges it. All that it was told of stays in the client's events."""
+        self.client.send(self.shell, "ack_configure", self.client.until("xdg_surface.configure", self.shell).values[0])

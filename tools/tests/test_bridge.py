@@ -10,7 +10,7 @@ import threading
 import unittest
 
 sys.path.insert(0, str(pathlib.Path(__file__).resolve().parent))
-from client import Client, Memory, Window  # pylint: disable=wrong-import-position
+from client import Client, Memory, Menu, Window  # pylint: disable=wrong-import-position
 from rig import TOOLS, Rig, wait_for  # pylint: disable=wrong-import-position
 from wayland_table import GLOBALS, INTERFACES  # pylint: disable=wrong-import-position
 from wayland_wire import DISPLAY, message, spell  # pylint: disable=wrong-import-position
@@ -42,7 +42,7 @@ class Shown(WithRig):
         client.begin()
         versions = {name: version for name, (_, version) in client.globals.items()}
         offered = {name: INTERFACES[name].version for name in GLOBALS}
-        self.assertEqual(versions, {**offered, "wl_compositor": 4, "wl_output": 3, "wl_seat": 7, "xdg_wm_base": 2, "wl_data_device_manager": 3})
+        self.assertEqual(versions, {**offered, "wl_output": 3, "wl_seat": 7, "wl_data_device_manager": 3})
 
     def events_of(self, interface, version):
         client = self.client()
@@ -150,7 +150,7 @@ class Windows(WithRig):
         window.show(1, "damage_buffer", (2, 3, 4, 5))
         self.expect(2, 20, {(2, 3): GREEN, (5, 7): GREEN, (1, 3): RED, (6, 7): RED})
 
-    def test_damage_of_a_turned_buffer_is_everything(self):
+    def test_damage_of_a_turned_buffer(self):
         window = self.window
         window.show(0)
         self.client.send(window.surface, "set_buffer_transform", 1)
@@ -160,12 +160,40 @@ class Windows(WithRig):
         self.expect(2, 300, {(9, 19): RED, (10, 0): BLACK})
         window.draw(0, OPAQUE | BLUE)
         window.show(0, "damage_buffer", (0, 0, 1, 1))
-        self.expect(3, 200, {(0, 0): BLUE, (9, 19): BLUE})
+        # the buffer's first point is the last of the first row
+        self.expect(3, 1, {(9, 0): BLUE, (8, 0): RED, (9, 1): RED})
 
-    def test_scale_of_one_is_swallowed(self):
+    def test_scale(self):
         window = self.window
+        self.client.send(window.surface, "set_buffer_scale", 2)
+        window.draw(0, OPAQUE | RED)
+        window.show(0, "damage_buffer")
+        # its 20 by 10 pixels are 10 by 5 points; what it leaves is painted too
+        self.expect(1, 200, {(9, 4): RED, (10, 4): BLACK, (9, 5): BLACK})
+        window.draw(0, OPAQUE | GREEN)
+        window.show(0, "damage_buffer", (3, 3, 2, 1))
+        self.expect(2, 2, {(1, 1): GREEN, (2, 1): GREEN, (0, 1): RED, (3, 1): RED, (1, 0): RED})
         self.client.send(window.surface, "set_buffer_scale", 1)
         window.show(0)
+        self.expect(3, 200, {(19, 9): GREEN})
+
+    def test_menu_that_is_placed_anew(self):
+        window, client = self.window, self.client
+        window.draw(0, OPAQUE | RED)
+        menu = Menu(window, 30, 0)
+        menu.show(0)
+        self.expect(1, 200, {(30, 0): RED, (49, 9): RED, (29, 0): BLACK})
+        client.take()
+        client.send(menu.popup, "reposition", menu.place(0, 20), 77)
+        serial = client.until("xdg_surface.configure", menu.shell).values[0]
+        popup, shell = f"xdg_popup#{menu.popup}", f"xdg_surface#{menu.shell}"
+        self.assertEqual(client.take(), [f"{popup}.repositioned(77)", f"{popup}.configure(0, 20, 20, 10)", f"{shell}.configure({serial})"])
+        window.draw(0, OPAQUE | GREEN)
+        menu.show(0, "damage", (0, 0, 1, 1))
+        self.expect(2, 1, {(30, 0): GREEN, (31, 0): RED, (0, 20): BLACK})  # it stands where it stood
+        client.send(menu.shell, "ack_configure", serial)
+        menu.show(0)
+        self.expect(3, 400, {(0, 20): GREEN, (19, 29): GREEN, (30, 0): BLACK})
 
     def test_commit_without_attach_shows_what_was_drawn(self):
         window = self.window
@@ -494,13 +522,32 @@ class Refused(WithRig):
         where = "wl_display#1, opcode 0, whose size is 4: 01000000 00000400, at version 1"
         self.assertEqual(self.refused(ask), f" {where}: wl_display#1 error 1, invalid_method")
 
-    def test_scale_of_two(self):
+    def test_scale_of_none(self):
         def ask(client, registry):
             surface = client.put(client.bind(registry, "wl_compositor", 4), "create_surface")
-            client.put(surface, "set_buffer_scale", 2)
+            client.put(surface, "set_buffer_scale", 0)
 
-        where = "wl_surface#5.set_buffer_scale(scale 2), at version 4 (2 for the server)"
-        self.assertEqual(self.refused(ask), f" {where}: wl_display#1 error 1, invalid_method")
+        where = "wl_surface#5.set_buffer_scale(scale 0), at version 4"
+        self.assertEqual(self.refused(ask), f" {where}: wl_surface#5 error 0, invalid_scale")
+
+    def test_positioner_that_lacks_a_size(self):
+        def ask(client, registry):
+            menu = Menu(Window(client, 4, 4), 0, 0)
+            client.round_trip()
+            client.put(menu.popup, "reposition", client.put(menu.base, "create_positioner"), 1)
+
+        where = "xdg_popup#19.reposition(positioner xdg_positioner#21, token 1), at version 3"
+        self.assertEqual(self.refused(ask), f" {where}: xdg_wm_base#15 error 5, invalid_positioner")
+
+    def test_buffer_that_the_scale_cuts(self):
+        def ask(client, registry):
+            window = Window(client, 5, 4)
+            client.round_trip()
+            client.put(window.surface, "set_buffer_scale", 2)
+            client.put(window.surface, "attach", window.buffers[0], 0, 0)
+            client.put(window.surface, "commit")
+
+        self.assertEqual(self.refused(ask), " wl_surface#12.commit(), at version 4: wl_surface#12 error 2, invalid_size")
 
     def test_bind_of_a_later_version(self):
         def ask(client, registry):
@@ -526,7 +573,7 @@ class Refused(WithRig):
             client.put(other, "attach", window.buffers[0], 0, 0)
             client.put(other, "commit")
 
-        where = "wl_surface#15.commit(), at version 4 (2 for the server)"
+        where = "wl_surface#15.commit(), at version 4"
         self.assertEqual(self.refused(ask), f" {where}: xdg_surface#16 error 3, unconfigured_buffer")
 
     def test_descriptor_that_is_missing(self):

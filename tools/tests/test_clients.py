@@ -64,6 +64,14 @@ class Clients(unittest.TestCase):
             found = self.clients.outcome_of(client, self.clients.TIME_OVER, "frame 1 1\n", trace, "")
             self.assertEqual((found.ended, found.runs), (counts.format(opens), bool(opens)))
 
+    def test_one_that_scales_and_places_anew(self):
+        client = self.clients.Client("a-client", "a-package", 5)
+        scales = [f"-> wl_surface#4.set_buffer_scale({scale})" for scale in (1, 2, 11)]
+        placed = ["-> xdg_popup#9.reposition(xdg_positioner#8, 1)", "<- xdg_popup#9.repositioned(1)"]
+        for lines, done in ((scales[:1], ""), (scales, "; buffer scales above 1: 2"), (scales[1:] + placed, "; buffer scales above 1: 2, popups placed anew: 1")):
+            trace = "".join(f"client 2 {line}\n" for line in lines)
+            self.assertEqual(self.clients.outcome_of(client, 0, "frame 1 1\n", trace, "").ended, "left by itself" + done)
+
     def test_page(self):
         """Those that run stand before those that don't, and those that aren't installed behind."""
         client = self.clients.Client("a-client", "a-package", 5)

@@ -37,11 +37,17 @@ class Examples(unittest.TestCase):
     def test_pictures(self):
         with tempfile.TemporaryDirectory() as folder:
             images, picture = pathlib.Path(folder) / "frames.ppm", pathlib.Path(folder) / "row.png"
-            for name in ("subsurface", "drag", "menu", "pointer"):
+            for name in ("subsurface", "drag", "menu", "pointer", "scale"):
                 images.unlink(missing_ok=True)
                 replayed(EXAMPLES / f"{name}.txt", images)
                 subprocess.run([EXAMPLES / "ppm_to_png.py", "--row", images, picture], capture_output=True, check=True)
                 self.assertEqual(*(pictures_of(it) for it in (picture, EXAMPLES / f"{name}.png")), name)
+
+    def test_what_a_scale_paints_again(self):
+        with tempfile.TemporaryDirectory() as folder:
+            report = replayed(EXAMPLES / "scale.txt", pathlib.Path(folder) / "frames.ppm")
+        self.assertNotIn("end ", report)
+        self.assertEqual(re.findall("^frame .*", report, re.MULTILINE), ["frame 16 3072", "frame 32 3072", "frame 48 64", "frame 64 960", "frame 80 16"])
 
     def test_no_client_of_the_pointer_is_refused(self):
         with tempfile.TemporaryDirectory() as folder:
