@@ -1,4 +1,4 @@
-//! The loop that `bench/store_write` measures: writes into a store, called from C.
+//! The loops that `bench/store_write` measures: writes into a store, and stores that come and go, called from C.
 #![tactic(auto)]
 
 ghost use Rattle.std.specs.Prelude.{◌≤◌};
@@ -25,6 +25,22 @@ pub extern "C" fn bench_store_write(alloc: Global, size: i32, piece: &[u8], roun
         at = next_place(at, piece.len(), size);
     }
     accepted
+}
+
+/// Makes a store of `size` bytes and lets it go again, `rounds` times. How many were made.
+#[unsafe(no_mangle)]
+pub extern "C" fn bench_store_create(alloc: Global, size: i32, rounds: u32) -> u32
+    ensures { result ≤ rounds }
+{
+    let mut stores = Stores::new(alloc);
+    let mut made = 0;
+    for _ in 0..rounds {
+        if let Ok(store) = stores.create(size) {
+            stores.let_go(store);
+            made += 1;
+        }
+    }
+    made
 }
 
 /// The place after `len` bytes at `at`, or the start where as many more don't fit.

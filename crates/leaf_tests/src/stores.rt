@@ -146,7 +146,7 @@ const LIMIT: &[Row] = &[
     Row::Creates(268_435_457, Err(StoreError::TooLarge)),
 ];
 
-// A store takes its bytes and a place in the list.
+// The first store takes room for its bytes, zeros to lend, and a place in the list.
 const LIMIT_BESIDE_A_STORE: &[Row] = &[
     Row::Creates(16, Ok(1)),
     Row::Creates(268_435_440, Err(StoreError::Memory)),
@@ -166,7 +166,7 @@ fn missed_where_served(alloc: Global, served: u64, rows: &[Row]) -> Option<usize
 fn the_limit_on_all_bytes(rt: HostRuntime) {
     assert_eq!(rt; missed_where_served(rt.alloc(), 0, LIMIT), None);
     assert_eq!(rt;
-        missed_where_served(rt.alloc(), 2, LIMIT_BESIDE_A_STORE),
+        missed_where_served(rt.alloc(), 3, LIMIT_BESIDE_A_STORE),
         None
     );
 }

@@ -5,7 +5,7 @@ use Rattle.std.specs.Option.{option_map}
 use Rattle.std.specs.Prelude.{ℤ, is_some, nat_le, nat_lt}
 use Rattle.std.proofs.lemmas.Bool.Decides.{nat_tests}
 use Rattle.wl_store.specs.declared.stores.StoreError.TheVariants.{OutOfRange}
-use Rattle.wl_store.specs.Stores.{Held, IsPlace, IsSound, Stock, bytes_of, store_at, total_size, can_hold, created, let_go, with_change, without_store, create_refusal, is_full, new_refusal}
+use Rattle.wl_store.specs.Stores.{Held, IsPlace, IsSound, Stock, bytes_of, store_at, total_size, can_hold, created, let_go, with_change, without_store, create_refusal, is_full, new_refusal, next_after}
 use Rattle.wl_store.specs.Stores.{resize_refusal, size_refusal, write_refusal}
 use Rattle.wl_store.proofs.Places.{place-reads}
 
@@ -23,6 +23,22 @@ pub size-found : (held : List Held) (made : ℕ) (stock : Stock) (number : ℕ) 
     → size ≡ length s.bytes
     → Some size ≡ option_map (λ (t : Held). length t.bytes) (store_at number stock)
 size-found held made stock number s size v e l = ap Some l ∙ ap (option_map (λ (t : Held). length t.bytes)) (sym e) ∙ ap (λ st. option_map (λ (t : Held). length t.bytes) (store_at number st)) v
+
+-- and of one that wasn't
+pub bytes-missing : (held : List Held) (made : ℕ) (stock : Stock) (number : ℕ) → record { held = held; made = made } ≡ stock → find (λ s. eqb s.number number) held ≡ None → bytes_of number stock ≡ None
+bytes-missing held made stock number v e = ap (bytes_of number) (sym v) ∙ ap (option_map (λ (t : Held). t.bytes)) e
+
+pub size-missing : (held : List Held) (made : ℕ) (stock : Stock) (number : ℕ) → record { held = held; made = made } ≡ stock → find (λ s. eqb s.number number) held ≡ None
+    → option_map (λ (t : Held). length t.bytes) (store_at number stock) ≡ None
+size-missing held made stock number v e = ap (λ st. option_map (λ (t : Held). length t.bytes) (store_at number st)) (sym v) ∙ ap (option_map (λ (t : Held). length t.bytes)) e
+
+-- the next number above
+pub next-found : (held : List Held) (made : ℕ) (stock : Stock) (number : ℕ) (s : Held) (next : ℕ) → record { held = held; made = made } ≡ stock → find (λ s. nat_lt number s.number) held ≡ Some s
+    → next ≡ s.number → Some next ≡ next_after number stock
+next-found held made stock number s next v e n = ap Some n ∙ ap (option_map (λ (t : Held). t.number)) (sym e) ∙ ap (next_after number) v
+
+pub next-missing : (held : List Held) (made : ℕ) (stock : Stock) (number : ℕ) → record { held = held; made = made } ≡ stock → find (λ s. nat_lt number s.number) held ≡ None → next_after number stock ≡ None
+next-missing held made stock number v e = ap (next_after number) (sym v) ∙ ap (option_map (λ (t : Held). t.number)) e
 
 write-fits : (size end : ℕ) → end ≤ size → cond (nat_lt size end) (Some OutOfRange) None ≡ None
 write-fits size end h = grind (arith, nat_tests)

@@ -15,6 +15,7 @@ mod scale;
 mod store;
 mod stores;
 mod transform;
+mod zeros;
 
 pub use accept::layout;
 pub use color::{Argb, Format};

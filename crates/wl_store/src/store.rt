@@ -1,90 +1,135 @@
-ghost use Rattle.std.specs.Prelude.{◌≡◌, ◌+◌, ◌-◌, ◌≤◌, ◌<◌, ◌^◌, ◌++◌, length, take, drop, replicate, IfOk, OnOk, OnErr};
+ghost use Rattle.std.specs.Prelude.{◌≡◌, ◌+◌, ◌-◌, ◌≤◌, ◌++◌, length, take, drop, replicate, false, true, IfOk, OnOk, OnErr};
+ghost use Rattle.wl_store.specs.Kept.{filled, zeros_lent};
 
+use crate::zeros::Zeros;
 use std::alloc::{AllocError, Allocator};
 use std::marker::Model;
 
 /// One store: its number, its bytes, and how many uses it has.
+///
+/// Until something is written to it, it is blank: it has room for its bytes and none of them, and lends the zeros that all blank stores share.
+/// So the time that it takes to make one, or to make it larger, doesn't grow with its size.
 #[derive(Drop)]
 pub(crate) struct Store<A: Allocator> {
     number: u32,
+    size: u32,
+    // None while the store is blank, and then there is room for all of them.
     bytes: Vec<u8, A>,
     uses: u32,
 }
 
 impl<A: Allocator> Model for Store<A> {
-    ghost use Rattle.std.specs.Prelude.{◌<◌, ◌^◌, length};
-    ghost use Rattle.wl_store.specs.Stores.{Held};
+    ghost use Rattle.std.specs.Prelude.{◌-◌, ◌++◌, length, nat_lt, replicate};
+    ghost use Rattle.std.specs.Vec.{vec_capacity};
+    ghost use Rattle.wl_store.specs.Kept.{HoldsBytes, Kept};
 
-    ghost Value = { Held };
+    ghost Value = { Kept };
 
-    ghost view = { λ store. record { number = store.number; bytes = store.bytes.items; uses = store.uses } };
+    ghost view = { λ store. record { held = record { number = store.number; bytes = store.bytes.items ++ replicate (store.size - length store.bytes.items) 0; uses = store.uses }; blank = nat_lt (length store.bytes.items) store.size } };
 
-    ghost invariant = { λ store. length store.bytes.items < 2 ^ 32 };
+    ghost invariant = { λ store. HoldsBytes store.size (vec_capacity store.bytes) store.bytes.items };
 }
 
 impl<A: Allocator> Store<A> {
-    /// A store of zeros with one use.
-    pub(crate) fn zeroed(alloc: A, number: u32, size: u32) -> Result<Self, AllocError>
-        ensures { IfOk result (λ s. s ≡ record { number = number; bytes = replicate size 0; uses = 1 }) }
+    /// A blank store of this size, with one use.
+    pub(crate) fn blank(alloc: A, number: u32, size: u32) -> Result<Self, AllocError>
+        ensures { IfOk result (λ s. s.held ≡ record { number = number; bytes = replicate size 0; uses = 1 }) }
     {
-        let size = size as usize;
-        let mut bytes = Vec::with_capacity(alloc, size)?;
-        bytes.resize(size, 0)?;
         Ok(Store {
             number,
-            bytes,
+            size,
+            bytes: Vec::with_capacity(alloc, size as usize)?,
             uses: 1,
         })
     }
 
     pub(crate) fn number(&self) -> u32
-        ensures { result ≡ self.now.number }
+        ensures { result ≡ self.now.held.number }
     {
         self.number
     }
 
     pub(crate) fn uses(&self) -> u32
-        ensures { result ≡ self.now.uses }
+        ensures { result ≡ self.now.held.uses }
     {
         self.uses
     }
 
     pub(crate) fn size(&self) -> u32
-        ensures value { result ≡ length self.now.bytes }
+        ensures value { result ≡ length self.now.held.bytes }
     {
-        self.bytes.len() as u32
+        self.size
     }
 
-    pub(crate) fn bytes(&self) -> &[u8]
-        ensures { result.now ≡ self.now.bytes }
+    pub(crate) fn is_blank(&self) -> bool
+        ensures { result ≡ self.now.blank }
     {
-        &self.bytes
+        self.bytes.len() < self.size as usize
     }
 
-    /// Puts zeros at the end, up to this size.
-    pub(crate) fn grow(&mut self, size: u32) -> Result<(), AllocError>
-        requires { length self.old.bytes ≤ size }
-        ensures ok { OnOk result (self.new ≡ record self.old { bytes = self.old.bytes ++ replicate (size - length self.old.bytes) 0 }) }
-        ensures err { OnErr result (self.new ≡ self.old) }
+    /// The bytes as they are now. A blank store lends as many of these zeros.
+    pub(crate) fn bytes<'a>(&'a self, zeros: &'a Zeros<A>) -> &'a [u8]
+        requires { zeros_lent self.now ≤ zeros.now }
+        ensures { result.now ≡ self.now.held.bytes }
     {
-        let more = size as usize - self.bytes.len();
-        self.bytes.reserve_exact(more)?;
-        self.bytes.resize(size as usize, 0)?;
-        Ok(())
+        if self.is_blank() {
+            zeros.first(self.size)
+        } else {
+            &self.bytes
+        }
     }
 
-    /// Changes the bytes from `at` on.
+    /// Gives a blank store bytes of its own, for which it has room. Where no other store lends the zeros, they become its bytes, if they are as
+    /// many, and are freed otherwise.
+    pub(crate) fn fill(&mut self, zeros: &mut Zeros<A>, are_shared: bool)
+        requires { self.old.blank ≡ true }
+        ensures filled { self.new ≡ filled self.old }
+        ensures zeros { are_shared ≡ true → zeros.new ≡ zeros.old }
+    {
+        let size = self.size as usize;
+        if !are_shared && zeros.count() == size {
+            zeros.exchange(&mut self.bytes);
+        } else {
+            // There is room for them.
+            let _filled = self.bytes.resize(size, 0);
+        }
+        if !are_shared {
+            zeros.release();
+        }
+    }
+
+    /// Changes the bytes from `at` on, of a store that isn't blank.
     pub(crate) fn write(&mut self, at: u32, bytes: &[u8])
-        requires { at + length bytes.now ≤ length self.old.bytes }
-        ensures { self.new ≡ record self.old { bytes = take at self.old.bytes ++ bytes.now ++ drop (at + length bytes.now) self.old.bytes } }
+        requires within { at + length bytes.now ≤ length self.old.held.bytes }
+        requires filled { self.old.blank ≡ false }
+        ensures { self.new ≡ record self.old { held = record self.old.held { bytes = take at self.old.held.bytes ++ bytes.now ++ drop (at + length bytes.now) self.old.held.bytes } } }
     {
         let start = at as usize;
         self.bytes[start..start + bytes.len()].copy_from_slice(bytes);
     }
 
     pub(crate) fn set_uses(&mut self, uses: u32)
-        ensures { self.new ≡ record self.old { uses = uses } }
+        ensures { self.new ≡ record self.old { held = record self.old.held { uses = uses } } }
     {
         self.uses = uses;
+    }
+}
+
+impl<A: Allocator + Copy> Store<A> {
+    /// Puts zeros at the end, up to this size. A blank store gets room for as many bytes, into which nothing is copied.
+    pub(crate) fn grow(&mut self, size: u32) -> Result<(), AllocError>
+        requires { length self.old.held.bytes ≤ size }
+        ensures ok { OnOk result (self.new.held ≡ record self.old.held { bytes = self.old.held.bytes ++ replicate (size - length self.old.held.bytes) 0 }) }
+        ensures blank { OnOk result (self.old.blank ≡ false → self.new.blank ≡ false) }
+        ensures err { OnErr result (self.new ≡ self.old) }
+    {
+        let count = size as usize;
+        if !self.is_blank() {
+            self.bytes.resize(count, 0)?;
+        } else if self.bytes.capacity() < count {
+            self.bytes = Vec::with_capacity(*self.bytes.allocator(), count)?;
+        }
+        self.size = size;
+        Ok(())
     }
 }

@@ -1,5 +1,6 @@
-ghost use Rattle.std.specs.Prelude.{◌≡◌, ◌+◌, ◌-◌, ◌≤◌, ◌<◌, ◌↔◌, ◌==◌, ◌<ℤ◌, if◌then◌else◌, [], false, is_some, None, IsTrue, IsSome, IfSome, IfNone, IsOk, IfOk, OnOk, OnErr, IfErr, MatchBool, length, position, find, pos, unsigned_abs};
+ghost use Rattle.std.specs.Prelude.{◌≡◌, ◌+◌, ◌-◌, ◌≤◌, ◌<◌, ◌↔◌, ◌==◌, ◌<ℤ◌, if◌then◌else◌, [], false, is_some, None, IsTrue, IsSome, IfSome, IfNone, IsOk, IfOk, OnOk, OnErr, IfErr, MatchBool, ℕ, length, position, find, pos, slice_index_or, slice_set, unsigned_abs};
 ghost use Rattle.std.specs.Option.{option_copied, option_map};
+ghost use Rattle.wl_store.specs.Kept.{IsNoneBlankBeside, Kept, Lends, grown, seen};
 ghost use Rattle.wl_store.specs.Stores.{IsPlace, new_refusal, size_refusal};
 ghost use Rattle.wl_store.specs.Transform.{transform_of};
 
@@ -8,6 +9,7 @@ use crate::place::Layout;
 use crate::scale::Scale;
 use crate::store::Store;
 use crate::transform::Transform;
+use crate::zeros::Zeros;
 use std::alloc::{AllocError, AllocFailed, Allocator};
 use std::marker::Model;
 use thiserror::Error;
@@ -63,37 +65,89 @@ impl<T: Drop> From<AllocFailed<T>> for StoreError {
 }
 
 /// A client's stores. At most 64 are live, together of at most 268,435,456 bytes.
+///
+/// Those that nothing was written to share one run of zeros, which is as long as the longest of them was, and stays when they go. So however
+/// often a client makes stores and lets them go, no more zeros are written for it than the bytes it may have, until it writes to one.
 #[derive(Drop)]
 pub struct Stores<A: Allocator> {
     // In rising number.
     held: Vec<Store<A>, A>,
     made: u32,
     total: u32,
+    zeros: Zeros<A>,
 }
 
 impl<A: Allocator> Model for Stores<A> {
-    ghost use Rattle.wl_store.specs.Stores.{IsSound, Stock};
+    ghost use Rattle.wl_store.specs.Kept.{IsKept, seen};
+    ghost use Rattle.wl_store.specs.Stores.{Stock};
 
     ghost Value = { Stock };
 
-    ghost view = { λ stores. record { held = stores.held.items; made = stores.made } };
+    ghost view = { λ stores. record { held = seen stores.held.items; made = stores.made } };
 
-    ghost invariant = { λ stores. IsSound stores.held.items stores.made stores.total };
+    ghost invariant = { λ stores. IsKept stores.held.items stores.made stores.total stores.zeros };
 }
 
 /// The place of the first store of this number.
 fn position_of<A: Allocator>(held: &[Store<A>], number: StoreNo) -> Option<usize>
-    ensures { result ≡ position (λ s. s.number == number) held.now }
+    ensures { result ≡ position (λ s. s.number == number) (seen held.now) }
 {
     held.iter().position(|store| store.number() == number)
 }
 
 /// Where the store of this number lies.
 fn place_of<A: Allocator>(held: &[Store<A>], number: StoreNo) -> Option<usize>
-    ensures found { IfSome result (IsPlace held.now number) }
-    ensures absent { IfNone result (find (λ s. s.number == number) held.now ≡ None) }
+    ensures found { IfSome result (IsPlace (seen held.now) number) }
+    ensures absent { IfNone result (find (λ s. s.number == number) (seen held.now) ≡ None) }
 {
     position_of(held, number)
+}
+
+/// Whether a store besides the one at `place` is blank.
+fn is_blank_beside<A: Allocator>(held: &[Store<A>], place: usize) -> bool
+    ensures { result ≡ false → IsNoneBlankBeside place held.now }
+{
+    for k in 0..held.len() {
+        if k != place && held[k].is_blank() {
+            return true;
+        }
+    }
+    false
+}
+
+/// Gives the store at `place` bytes of its own, if it is blank. It takes no memory.
+fn fill_at<A: Allocator>(held: &mut [Store<A>], zeros: &mut Zeros<A>, place: usize)
+    requires within { place < length held.old }
+    requires lends { Lends zeros.old held.old }
+    ensures seen { seen held.new ≡ seen held.old }
+    ensures filled { (d : Kept) → (slice_index_or held.new place d).blank ≡ false }
+    ensures lends { Lends zeros.new held.new }
+{
+    if held[place].is_blank() {
+        let are_shared = is_blank_beside(held, place);
+        held[place].fill(zeros, are_shared);
+    }
+}
+
+/// Puts zeros at the end of the store at `place`, up to this size.
+fn grow_at<A: Allocator + Copy>(
+    held: &mut [Store<A>],
+    zeros: &mut Zeros<A>,
+    place: usize,
+    size: u32,
+) -> Result<(), AllocError>
+    requires within { place < length held.old }
+    requires grows { (d : Kept) → length (slice_index_or held.old place d).held.bytes ≤ size }
+    requires lends { Lends zeros.old held.old }
+    ensures ok { OnOk result ((d : Kept) → seen held.new ≡ slice_set (seen held.old) place (grown size (slice_index_or held.old place d).held)) }
+    ensures err { OnErr result (seen held.new ≡ seen held.old) }
+    ensures lends { Lends zeros.new held.new }
+{
+    let store = &mut held[place];
+    if store.is_blank() {
+        zeros.grow_to(size)?;
+    }
+    store.grow(size)
 }
 
 /// Why no store of this size is made beside `total` bytes, if it isn't.
@@ -149,7 +203,7 @@ impl<A: Allocator> Stores<A> {
         ensures { option_copied result ≡ bytes_of store self.now }
     {
         let found = self.held.iter().find(|held| held.number() == store)?;
-        Some(found.bytes())
+        Some(found.bytes(&self.zeros))
     }
 
     /// The least number of a live store that is above this one; None where there is none. It takes no memory.
@@ -177,6 +231,7 @@ impl<A: Allocator> Stores<A> {
         if at > size || ((size - at) as usize) < bytes.len() {
             return Err(StoreError::OutOfRange);
         }
+        fill_at(&mut self.held, &mut self.zeros, place);
         self.held[place].write(at, bytes);
         Ok(())
     }
@@ -300,6 +355,7 @@ impl<A: Allocator + Copy> Stores<A> {
             held: Vec::new(alloc),
             made: 0,
             total: 0,
+            zeros: Zeros::none(alloc),
         }
     }
 
@@ -334,7 +390,8 @@ impl<A: Allocator + Copy> Stores<A> {
     {
         let alloc = *self.held.allocator();
         let made = self.made + 1;
-        let store = Store::zeroed(alloc, made, size)?;
+        let store = Store::blank(alloc, made, size)?;
+        self.zeros.grow_to(size)?;
         self.held.push(store)?;
         self.made = made;
         self.total += size;
@@ -359,7 +416,7 @@ impl<A: Allocator + Copy> Stores<A> {
             return Err(error);
         }
         let size = size.unsigned_abs();
-        match self.held[place].grow(size) {
+        match grow_at(&mut self.held, &mut self.zeros, place, size) {
             Ok(()) => {
                 self.total = self.total - present + size;
                 Ok(())

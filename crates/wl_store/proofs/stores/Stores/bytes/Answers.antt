@@ -1,13 +1,32 @@
-use Rattle.std.proofs.Common.{◌≡◌, Some, ap, eqb, rules, subst, sym, tests, ◌∙◌}
+use Rattle.std.proofs.Common.{◌≡◌, Bool, None, Some, ap, eqb, rules, subst, sym, tests, ◌∙◌}
 use Rattle.std.specs.List.{find}
 use Rattle.std.specs.Option.{option_map}
 use Rattle.std.proofs.lemmas.Iterator.{YieldsList-from_slice}
 use Rattle.std.proofs.lemmas.Iterator.Search.{find_from_yields_List}
-use Rattle.wl_store.proofs.Refusals.{bytes-found}
+use Rattle.wl_store.specs.Kept.{Kept, seen}
+use Rattle.wl_store.proofs.Kept.{find-seen, lends-found}
+use Rattle.wl_store.proofs.Refusals.{bytes-found, bytes-missing}
 use Rattle.wl_store.proofs.stores.Stores.bytes.Goals as goal
+
+pub returns-in_err-found : goal.returns-in_err-found
+returns-in_err-found g c =
+    let stores = c.self.inside.held.items in
+    let looked = find_from_yields_List (λ (s : Kept). eqb s.held.number c.args.store) _ _ c.find.result c.find.ensures.ran (YieldsList-from_slice c.deref.result.now cc) (λ x b q k. search (rules, tests)) in
+    let none = subst (λ h. find (λ (s : Kept). eqb s.held.number c.args.store) h ≡ None) c.deref.ensures.value (sym looked ∙ ap (option_map (λ x. x.now)) c.in_err-found.was) in
+    let missing = bytes-missing (seen stores) c.self.inside.made c.args.self.now c.args.store c.self.view_is (find-seen (λ s. eqb s.number c.args.store) stores ∙ ap (option_map (λ (s : Kept). s.held)) none) in
+    rw (missing, c.from_residual.ensures)
+
+pub bytes-requires : goal.bytes-requires
+bytes-requires g c =
+    let test : Kept → Bool = λ s. eqb s.held.number c.args.store in
+    let looked = find_from_yields_List (λ (s : Kept). eqb s.held.number c.args.store) _ _ c.find.result c.find.ensures.ran (YieldsList-from_slice c.deref.result.now cc) (λ x b q k. search (rules, tests)) in
+    let found = subst (λ h. find test h ≡ Some c.in_ok-found.found.now) c.deref.ensures.value (sym looked ∙ ap (option_map (λ x. x.now)) c.in_ok-found.was) in
+    lends-found c.self.inside.zeros test c.self.inside.held.items c.in_ok-found.found.now c.self.invariant.lends found
 
 pub returns : goal.returns
 returns g c =
-    let looked = find_from_yields_List (λ s. eqb s.number c.args.store) _ _ c.find.result c.find.ensures.ran (YieldsList-from_slice c.deref.result.now cc) (λ x b q k. search (rules, tests)) in
-    let found = subst (λ h. find (λ s. eqb s.number c.args.store) h ≡ Some c.in_ok-found.found.now) c.deref.ensures.value (sym looked ∙ ap (option_map (λ x. x.now)) c.in_ok-found.was) in
-    bytes-found c.self.inside.held.items c.self.inside.made c.args.self.now c.args.store c.in_ok-found.found.now c.bytes.result.now c.self.view_is found c.bytes.ensures
+    let stores = c.self.inside.held.items in
+    let looked = find_from_yields_List (λ (s : Kept). eqb s.held.number c.args.store) _ _ c.find.result c.find.ensures.ran (YieldsList-from_slice c.deref.result.now cc) (λ x b q k. search (rules, tests)) in
+    let found = subst (λ h. find (λ (s : Kept). eqb s.held.number c.args.store) h ≡ Some c.in_ok-found.found.now) c.deref.ensures.value (sym looked ∙ ap (option_map (λ x. x.now)) c.in_ok-found.was) in
+    let is = find-seen (λ s. eqb s.number c.args.store) stores ∙ ap (option_map (λ (s : Kept). s.held)) found in
+    bytes-found (seen stores) c.self.inside.made c.args.self.now c.args.store c.in_ok-found.found.now.held c.bytes.result.now c.self.view_is is c.bytes.ensures
