@@ -43,7 +43,6 @@ enum Row {
     HasChild(SurfaceNo, bool),
     HasGrab(bool),
     IsAfter(u64, Option<SurfaceNo>),
-    IsBefore(u64, Option<SurfaceNo>),
     /// It was dismissed, it has a grab, and where it is placed.
     IsPopup(SurfaceNo, bool, bool, Option<Placed>),
 }
@@ -128,7 +127,6 @@ fn is_seen<A: Allocator>(shell: &Shell<A>, row: &Row) -> bool {
         Row::HasChild(surface, wanted) => shell.has_child(surface) == wanted,
         Row::HasGrab(wanted) => shell.has_grab() == wanted,
         Row::IsAfter(number, wanted) => shell.popup_after(number) == wanted,
-        Row::IsBefore(number, wanted) => shell.popup_before(number) == wanted,
         Row::IsPopup(surface, is_dismissed, has_grab, placed) => {
             is_popup(shell, surface, is_dismissed, has_grab, placed)
         }
@@ -204,8 +202,6 @@ const DISMISSED: &[Row] = &[
     Row::IsAfter(0, Some(2)),
     Row::IsAfter(5, Some(3)),
     Row::IsAfter(7, None),
-    Row::IsBefore(7, Some(3)),
-    Row::IsBefore(5, None),
     Row::HasChild(1, true),
     Row::HasChild(2, true),
     Row::HasChild(3, false),

@@ -1,7 +1,7 @@
 //! Who stands in the stack of a surface, and where.
 
 ghost use Rattle.std.specs.Prelude.{◌≡◌, find, pos, position};
-ghost use Rattle.wl_children.specs.Stacks.{is_member, is_of, moved, moved_place};
+ghost use Rattle.wl_children.specs.Stacks.{is_of, moved, moved_place};
 
 use wl_trees::SurfaceNo;
 

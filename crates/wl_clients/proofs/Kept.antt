@@ -1,6 +1,6 @@
 -- A piece is kept of a client of the desk, one of its messages is taken, and it ends.
-use Rattle.std.proofs.Common.{◌≡◌, ℕ, ◌<◌, ◌++◌, List, Bool, true, false, length, Option, Some, None, Result, set, refl, subst, sym, ◌∙◌, ap}
-use Rattle.std.specs.Prelude.{Ok, Err, OnErr, OnOk, ◌≢◌, is_some}
+use Rattle.std.proofs.Common.{◌≡◌, ℕ, ◌<◌, ◌++◌, List, length, Option, Some, None, Result, set, refl, subst, sym, ◌∙◌, ap}
+use Rattle.std.specs.Prelude.{Ok, Err, OnErr, OnOk, is_some}
 use Rattle.wl_interface.specs.declared.interface.Interface.TheVariants.{WlSurface}
 use Rattle.wl_owning.specs.Owning.{targets_in}
 use Rattle.wl_peer.specs.Objects.{ById}
@@ -11,8 +11,6 @@ use Rattle.wl_client.specs.View.{ClientView}
 use Rattle.wl_peer.specs.declared.cause.Cause.{Cause}
 use Rattle.wl_peer.specs.declared.cause.Cause.TheVariants as cause
 use Rattle.wl_client.specs.declared.outputs.Output.{Output}
-use Rattle.wl_client.specs.declared.served.Served.{Served}
-use Rattle.wl_client.specs.declared.served.Served.TheVariants as served
 use Rattle.wl_paint.specs.Damage.{Damaged}
 use Rattle.wl_stacking.specs.Windows.{Window}
 use Rattle.wl_lending.specs.Stacked.{AreStacked}
@@ -31,10 +29,10 @@ use Rattle.wl_resident.specs.Agreement.{Matches, numbers_in, with_numbers}
 use Rattle.wl_resident.specs.Marking.{MarksThrough}
 use Rattle.wl_resident.specs.Seats.{IsSeated, ended_by}
 use Rattle.wl_resident.specs.View.{DeskView, Pile}
-use Rattle.wl_clients.specs.Feeding.{IsIdleIn, IsIdleOf, kept_at, kept_by, kept_of, kept_while, rest_in, served_as, served_by, served_of}
+use Rattle.wl_clients.specs.Feeding.{IsIdleIn, IsIdleOf, kept_at, kept_by, kept_of, kept_while, rest_in}
 use Rattle.wl_clients.specs.Residents.{client_views}
 use Rattle.wl_clients.proofs.Calls.{back, ended_at, ended_of, out, peer-here}
-use Rattle.wl_clients.proofs.Seats.{IsHere, client-here, client-put, put-here, view_of}
+use Rattle.wl_clients.proofs.Seats.{IsHere, client-here, client-put, view_of}
 use Rattle.wl_clients.proofs.Still.{IsStill, rest-still, still-stands, still-windows}
 
 pub ok-then : {A E P Q : Type 0} (r : Result A E) → (P → Q) → OnOk r P → OnOk r Q
@@ -44,43 +42,6 @@ ok-then (Err e) f p = tt
 pub err-then : {A E P Q : Type 0} (r : Result A E) → (P → Q) → OnErr r P → OnErr r Q
 err-then (Ok v) f p = tt
 err-then (Err e) f p = f p
-
--- ---- what was answered
-
-served-told : (ended : Option Cause) → served_by ended ≡ served_of (fed_of ended)
-served-told None = refl
-served-told (Some (cause.Protocol object code)) = refl
-served-told (Some cause.Memory) = refl
-served-told (Some cause.Slow) = refl
-served-told (Some cause.Gone) = refl
-
--- who was served took a message
-pub served-took : (taken : Bool) (ended : Option Cause) (answer : Served) → answer ≡ served_as taken ended → answer ≢ served.More → taken ≡ true
-served-took true ended answer e some = refl
-served-took false ended answer e some = absurd (some e)
-
-pub served-answer : (taken : Bool) (ended : Option Cause) (answer : Served) → answer ≡ served_as taken ended → answer ≢ served.More → answer ≡ served_by ended
-served-answer true ended answer e some = e
-served-answer false ended answer e some = absurd (some e)
-
-served-some : (ended : Option Cause) → served_by ended ≡ served.More → ⊥
-served-some None e = absurd (cc)
-served-some (Some (cause.Protocol object code)) e = absurd (cc)
-served-some (Some cause.Memory) e = absurd (cc)
-served-some (Some cause.Slow) e = absurd (cc)
-served-some (Some cause.Gone) e = absurd (cc)
-
-pub served-idle : (taken : Bool) (ended : Option Cause) (answer : Served) → answer ≡ served_as taken ended → answer ≡ served.More → taken ≡ false
-served-idle false ended answer e more = refl
-served-idle true ended answer e more = absurd (served-some ended (sym e ∙ more))
-
--- how the client is then
-pub serves-told : {A : Type 0} (output : Output) (rs : List (Option (Kept A))) (pile now : Pile) (c k : ℕ) (v : Kept A) → IsHere rs c k v
-    → (new : Kept A) (e : Desktop) (answer : Served)
-    → answer ≡ served_by new.client.ended → Matches (view_of output (set rs k (Some new)) now) e → answer ≡ served_of (status_of (peer_at c e))
-serves-told output rs pile now c k v is new e answer told b =
-    let here = peer-here output (set rs k (Some new)) now c k new (put-here rs c k v new is) e b in
-    told ∙ (served-told new.client.ended ∙ ap served_of (ap fed_of here.2.status ∙ ap status_of (sym here.1)))
 
 -- ---- a piece is kept of a client that lives
 

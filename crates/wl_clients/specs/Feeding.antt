@@ -1,5 +1,5 @@
 -- What the calls of a desk make of the desktop, message by message.
-use Rattle.std.specs.Prelude.{ℕ, zero, suc, ◌≡◌, ◌++◌, Bool, true, false, List, [], slice_index_or, Option, Some, None}
+use Rattle.std.specs.Prelude.{ℕ, zero, suc, ◌≡◌, ◌++◌, List, [], slice_index_or, Option, Some, None}
 use Rattle.wl_peer.specs.Peer.{IsIdle, ended, with_rest}
 use Rattle.wl_client.specs.View.{ClientView}
 use Rattle.wl_peer.specs.declared.cause.Cause.{Cause}
@@ -55,15 +55,6 @@ abbrev pub served_of : Fed → Served
 served_of (fed.Ended (cause.Protocol object code)) = served.Refused object code
 served_of (fed.Ended cause.Memory) = served.Refused 1 2
 served_of fed = served.Done
-
-abbrev pub served_by : Option Cause → Served
-served_by (Some (cause.Protocol object code)) = served.Refused object code
-served_by (Some cause.Memory) = served.Refused 1 2
-served_by ended = served.Done
-
-abbrev pub served_as : Bool → Option Cause → Served
-served_as false ended = served.More
-served_as true ended = served_by ended
 
 -- what came from a client and wasn't taken
 abbrev pub rest_of : Option ClientView → List ℕ

@@ -1,6 +1,6 @@
 //! All clients, by number, with their toplevels and the windows of these.
 
-ghost use Rattle.std.specs.Prelude.{◌≡◌, ◌≢◌, ◌↔◌, ◌&&◌, ◌||◌, ℕ, ◌+◌, ◌<◌, ◌≤◌, Option, is_some, length, pos, IfOk, IfSome, IfNone, IsErrOf, OnOk, OnErr, false, true, Result, Ok, Err, None, Some};
+ghost use Rattle.std.specs.Prelude.{◌≡◌, ◌↔◌, ◌&&◌, ◌||◌, ℕ, ◌+◌, ◌<◌, ◌≤◌, Option, is_some, length, pos, IfOk, IfSome, IfNone, IsErrOf, OnOk, OnErr, false, true, Result, Ok, Err, None, Some};
 ghost use Rattle.std.specs.Option.{option_copied};
 ghost use Rattle.wl_client.specs.Agreement.{output_of};
 ghost use Rattle.wl_paint.specs.Damage.{has};
@@ -10,7 +10,7 @@ ghost use Rattle.wl_plain.specs.Act.{Connect, Store, Leave, Tick, Send, Close, l
 ghost use Rattle.wl_clients.specs.NextStore.{next_store_of};
 ghost use Rattle.wl_clients.specs.Agreeing.{Agrees, MarksNothing, MarksStep, TakesStep};
 ghost use Rattle.wl_resident.specs.Marking.{MarksAtLeast, MarksMost};
-ghost use Rattle.wl_clients.specs.Feeding.{Ends, IsIdleIn, kept_at, kept_while, rest_in, served_as, served_of};
+ghost use Rattle.wl_clients.specs.Feeding.{Ends, IsIdleIn, kept_at, kept_while, rest_in};
 ghost use Rattle.wl_marking.specs.Marking.{IsAsLarge};
 ghost use Rattle.wl_clients.specs.Framing.{MarksIfEnds, WasTold};
 ghost use Rattle.wl_clients.specs.Leading.{LeadsBy, LeadsQuietly, Led};
@@ -31,7 +31,7 @@ use crate::grabs::Latest;
 use crate::windows::{Lent, resident_of};
 use std::alloc::{AllocError, Allocator};
 use std::marker::Model;
-use wl_client::{Cause, Client, Output, Served, StoreNo};
+use wl_client::{Cause, Client, Output, StoreNo};
 use wl_geom::Region;
 use wl_paint::{Damage, FrameError, Framebuffer, MAX_SIDE};
 use wl_plain::{ClientNo, ConnectError, Done, Fed, Stored};
@@ -52,26 +52,11 @@ pub struct Clients<A: Allocator> {
     pub(crate) screen: Screen<A>,
 }
 
-/// What became of a client's first message, what it asks of the pointer, unless it was refused, and whether it may have changed windows of a
-/// client that lives on.
+/// What a message that was taken asks of the pointer, unless it was refused, and whether it may have changed windows of a client that lives on.
 #[derive(Clone, Copy, Debug, PartialEq, Eq)]
 pub struct Taken {
-    pub served: Served,
     pub pointer: PointerAsked,
     pub touches_windows: bool,
-}
-
-impl Taken {
-    /// No whole message was there.
-    fn none() -> Self
-        ensures { result ≡ record { served = Served.More; pointer = PointerAsked.Nothing; touches_windows = false } }
-    {
-        Taken {
-            served: Served::More,
-            pointer: PointerAsked::Nothing,
-            touches_windows: false,
-        }
-    }
 }
 
 impl<A: Allocator> Model for Clients<A> {
@@ -171,45 +156,46 @@ impl<A: Allocator + Copy> Clients<A> {
         keep_in(resident, piece)
     }
 
-    /// Takes the first whole message of what came from a client that lives. `More` where there is none; then nothing is changed, and nothing is
-    /// asked of the pointer. What the message changes is marked, and the windows of a client that ends by it. Where there is no seat for a
+    /// Takes the first whole message of what came from a client that lives. None where there is none; then nothing is changed. What the message
+    /// changes is marked, and the windows of a client that ends by it. Where there is no seat for a
     /// new wl_pointer, a client that asks for one ends for want of memory. The serials are those that a client which asks for a grab was told.
     /// Unless it is answered that the message touches windows, all windows stay as they are where its client lives on.
-    pub fn take(&mut self, client: ClientNo, has_seat: bool, latest: Latest) -> Taken
-        ensures leads { result.served ≢ Served.More → (d : Desktop) → Agrees self.old.desk d → IsLatest latest (client_at client d)
-            → Led (Agrees self.new.desk) (Message client) self.old.damage self.new.damage d }
-        ensures told { result.served ≢ Served.More → (d : Desktop) → Agrees self.new.desk d → result.served ≡ served_of (status_of (peer_at client d)) }
-        ensures asks { result.served ≢ Served.More → (d : Desktop) → Agrees self.old.desk d
-            → AsksOfPointer (numbers_in self.old.desk.clients client) (asked nothing_left_out client d) result.pointer }
-        ensures seat { (id : ℕ) → result.pointer ≡ PointerAsked.NewPointer id → has_seat ≡ false → (e : Desktop) → Agrees self.new.desk e
-            → is_some (status_in client e) ≡ true }
-        ensures untouched { result.served ≢ Served.More → result.touches_windows ≡ false → (d : Desktop) → Agrees self.old.desk d → ChangesNoWindow client d }
-        ensures more { result.served ≡ Served.More → (d : Desktop) → Agrees self.old.desk d → Agrees self.new.desk d × IsIdleIn client d }
-        ensures rests { result.served ≡ Served.More → self.new.damage ≡ self.old.damage }
+    pub fn take(&mut self, client: ClientNo, has_seat: bool, latest: Latest) -> Option<Taken>
+        ensures leads { IfSome result (λ taken. (d : Desktop) → Agrees self.old.desk d → IsLatest latest (client_at client d)
+            → Led (Agrees self.new.desk) (Message client) self.old.damage self.new.damage d) }
+        ensures asks { IfSome result (λ taken. (d : Desktop) → Agrees self.old.desk d
+            → AsksOfPointer (numbers_in self.old.desk.clients client) (asked nothing_left_out client d) taken.pointer) }
+        ensures seat { IfSome result (λ taken. (id : ℕ) → taken.pointer ≡ PointerAsked.NewPointer id → has_seat ≡ false
+            → (e : Desktop) → Agrees self.new.desk e → is_some (status_in client e) ≡ true) }
+        ensures untouched { IfSome result (λ taken. taken.touches_windows ≡ false → (d : Desktop) → Agrees self.old.desk d → ChangesNoWindow client d) }
+        ensures more { IfNone result ((d : Desktop) → Agrees self.old.desk d → Agrees self.new.desk d × IsIdleIn client d) }
+        ensures rests { IfNone result (self.new.damage ≡ self.old.damage) }
         ensures sides { IsAsLarge self.old.damage self.new.damage }
-        ensures less { result.served ≢ Served.More → length (rest_in client self.new.desk) < length (rest_in client self.old.desk) }
+        ensures less { IfSome result (λ taken. length (rest_in client self.new.desk) < length (rest_in client self.old.desk)) }
         ensures output { self.new.desk.output ≡ self.old.desk.output }
     {
         let Some(resident) = resident_of(&self.residents, client) else {
-            return Taken::none();
+            return None;
         };
         let asked = resident.asked();
         let touches_windows = touches_windows(resident, &asked);
         let grabbing = self.grabbing(client, &asked, latest);
         let Some(k) = place_of(&self.residents, client) else {
-            return Taken::none();
+            return None;
         };
         let Some(resident) = &mut self.residents[k] else {
-            return Taken::none();
+            return None;
         };
-        let taken = self
+        let Some(pointer) = self
             .screen
-            .serve(resident, client, asked, has_seat, grabbing);
-        Taken {
-            served: served_of(taken.is_some(), resident.client.ended()),
-            pointer: taken.unwrap_or(PointerAsked::Nothing),
+            .serve(resident, client, asked, has_seat, grabbing)
+        else {
+            return None;
+        };
+        Some(Taken {
+            pointer,
             touches_windows,
-        }
+        })
     }
 
     /// Memory is wanting for a client that lives, and it ends by that. No more than its own windows is marked.
@@ -477,21 +463,6 @@ fn touches_windows<A: Allocator + Copy>(resident: &Resident<A>, asked: &Asked) -
     ensures { result ≡ false → IsTouchedBy resident.now asked.now None }
 {
     touched_by(resident, asked).is_some()
-}
-
-/// What became of a client's first message, if there was one, by how the client ended, if it did. That it lacked memory it is told as an error
-/// of wl_display; one that was too slow is told nothing.
-fn served_of(taken: bool, ended: Option<Cause>) -> Served
-    ensures { result ≡ served_as taken ended }
-{
-    if !taken {
-        return Served::More;
-    }
-    match ended {
-        Some(Cause::Protocol { object, code }) => Served::Refused { object, code },
-        Some(Cause::Memory) => Served::Refused { object: 1, code: 2 },
-        Some(Cause::Slow) | Some(Cause::Gone) | None => Served::Done,
-    }
 }
 
 /// Where the client of this number stands, if it is the number of a place.

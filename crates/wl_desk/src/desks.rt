@@ -154,34 +154,32 @@ impl<A: Allocator + Copy> Desk<A> {
         ensures output { self.new.desk.kept.output ≡ self.old.desk.kept.output }
     {
         let movable = self.movable(client);
-        let taken = self.take(client);
-        if taken.served == Served::More {
+        let Some(taken) = self.take(client) else {
             return Served::More;
-        }
+        };
         let lives = self.follow(client, taken.pointer, to_move(movable, taken.pointer));
         self.settle_after(lives, taken.touches_windows);
         served_of(self.clients.status(client))
     }
 
-    /// Takes the first whole message of what came from a client that lives; a wl_pointer that it asks for is kept. The pointer stays as it is.
-    fn take(&mut self, client: ClientNo) -> Taken
-        ensures took { result.served ≢ Served.More → (d : Desktop) → Agrees self.old.desk d → Took client result.pointer self.old self.new d }
-        ensures untouched { result.served ≢ Served.More → result.touches_windows ≡ false → (d : Desktop) → Agrees self.old.desk d
-            → ChangesNoWindow client (unpointed d) }
-        ensures more { result.served ≡ Served.More → (d : Desktop) → Agrees self.old.desk d → Agrees self.new.desk d × IsIdleIn client d }
-        ensures rests { result.served ≡ Served.More → self.new.damage ≡ self.old.damage }
+    /// Takes the first whole message of what came from a client that lives; a wl_pointer that it asks for is kept. None where there is none. The
+    /// pointer stays as it is.
+    fn take(&mut self, client: ClientNo) -> Option<Taken>
+        ensures took { IfSome result (λ taken. (d : Desktop) → Agrees self.old.desk d → Took client taken.pointer self.old self.new d) }
+        ensures untouched { IfSome result (λ taken. taken.touches_windows ≡ false → (d : Desktop) → Agrees self.old.desk d → ChangesNoWindow client (unpointed d)) }
+        ensures more { IfNone result ((d : Desktop) → Agrees self.old.desk d → Agrees self.new.desk d × IsIdleIn client d) }
+        ensures rests { IfNone result (self.new.damage ≡ self.old.damage) }
         ensures sides { IsAsLarge self.old.damage self.new.damage }
-        ensures less { result.served ≢ Served.More → length (rest_in client self.new.desk.kept) < length (rest_in client self.old.desk.kept) }
+        ensures less { IfSome result (λ taken. length (rest_in client self.new.desk.kept) < length (rest_in client self.old.desk.kept)) }
         ensures output { self.new.desk.kept.output ≡ self.old.desk.kept.output }
     {
         let latest = self.serials(client);
         let has_room = make_room(&mut self.seats, client);
-        let taken = self.clients.take(client, has_room, latest);
-        if taken.served == Served::More {
-            return taken;
-        }
+        let Some(taken) = self.clients.take(client, has_room, latest) else {
+            return None;
+        };
         keep_asked(&mut self.seats, client, taken.pointer, has_room);
-        taken
+        Some(taken)
     }
 
     /// The serials of the latest press and release that a client which lives was told of; of another client there are none.

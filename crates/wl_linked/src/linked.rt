@@ -1,21 +1,18 @@
 //! The surfaces of a client with the links between them.
 
-ghost use Rattle.std.specs.Prelude.{ℕ, ℤ, [], ◌≡◌, true, false, is_some, IfErr, IfOk, List, OnErr, OnOk, Option, Some, None, Err};
+ghost use Rattle.std.specs.Prelude.{ℕ, [], ◌≡◌, true, false, is_some, IfErr, OnErr, OnOk, Option, Some, None, Err};
 ghost use Rattle.wl_family.specs.Family.{is_bad_sibling, links_in, member_of};
-ghost use Rattle.wl_linked.specs.Linked.{IsLink, IsRefused, Stand, is_other_role, is_taken, link_refusal, numbered, surface_error};
-ghost use Rattle.wl_linked.specs.Tree.{IsCommitTold};
+ghost use Rattle.wl_linked.specs.Linked.{IsLink, IsRefused, Stand, is_other_role, is_taken, link_refusal, surface_error};
 ghost use Rattle.wl_state.specs.Request.{Member, PlaceAbove, PlaceBelow, SetPosition};
 ghost use Rattle.wl_state.specs.Surface.{asking};
-ghost use Rattle.wl_surface.specs.Applied.{AreFreed};
 ghost use Rattle.wl_surface.specs.Surfaces.{Link, Surfaces as Asked, link_at, no_surfaces, surface_at, with_change};
-ghost use Rattle.wl_surface.specs.Trees.{committed_in, linked, synchronised_in};
-ghost use Rattle.wl_surface.specs.Waiting.{AreWaiting, Callback};
+ghost use Rattle.wl_surface.specs.Trees.{linked, synchronised_in};
 ghost use Rattle.wl_tree_laws.specs.Hanging.{kids_of};
 ghost use Rattle.wl_tree_laws.specs.Stacks.{IsKept, place_request};
 
-use std::alloc::{AllocError, Allocator};
+use std::alloc::Allocator;
 use wl_family::{Family, PlaceError, Side};
-use wl_surface::{Applied, BufferNo, Change, Role, SurfaceError, SurfaceNo, Surfaces};
+use wl_surface::{Role, SurfaceError, SurfaceNo, Surfaces};
 
 /// The surfaces of a client, and how they hang together. What is asked of one surface by itself is asked of `surfaces`; what is asked of a
 /// link, and what applies a tree, of both.

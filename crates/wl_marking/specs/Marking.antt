@@ -1,5 +1,5 @@
 -- What of an output is marked to be painted again, where a window changed.
-use Rattle.std.specs.Prelude.{ℕ, ℤ, List, ◌≡◌, ◌<◌, ◌-ℤ◌, ◌&&◌, ◌||◌, pos, unsigned_abs, Bool, false, true, Option, Some, None}
+use Rattle.std.specs.Prelude.{ℕ, ℤ, List, ◌≡◌, ◌<◌, ◌-ℤ◌, ◌&&◌, ◌||◌, pos, unsigned_abs, Bool, false, Option, Some, None}
 use Rattle.wl_geom.specs.declared.rect.Rect.{Rect}
 use Rattle.wl_geom.specs.Rect.{in_span}
 use Rattle.wl_paint.specs.Damage.{Damaged, has}

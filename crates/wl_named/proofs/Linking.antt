@@ -104,7 +104,7 @@ numbered-named names [] apart = tt
 numbered-named names (l ∷ ls) apart = (numbers-named names l.number ls ∙ apart.0, numbered-named names ls apart.1)
 
 -- no link has the number, so none that lives has it
-none-living : (number : ℕ) (ls : List Link) → list_any (λ l. l.number == number) ls ≡ false → filter (λ l. not l.has_ended && l.number == number) ls ≡ []
+pub none-living : (number : ℕ) (ls : List Link) → list_any (λ l. l.number == number) ls ≡ false → filter (λ l. not l.has_ended && l.number == number) ls ≡ []
 none-living number [] none = refl
 none-living number (l ∷ ls) none =
     let parts = or-false (l.number == number) (list_any (λ l. l.number == number) ls) none in
@@ -140,7 +140,8 @@ one-living number (l ∷ ls) link apart e lives = at (l.number == number) refl e
         rw here (first l.has_ended lives_too none ∙ ap (λ (l : Link). l ∷ []) it)
     at false here e next = rw here (behind l.has_ended (next e))
 
-ends-one : (all : Surfaces) (number : ℕ) (link : Link) → AreNumbered all.links → link_at number all ≡ Some link → link.has_ended ≡ false → unlinked number all ≡ ended_in all link
+-- so the end of those that have it is the end of the one
+pub ends-one : (all : Surfaces) (number : ℕ) (link : Link) → AreNumbered all.links → link_at number all ≡ Some link → link.has_ended ≡ false → unlinked number all ≡ ended_in all link
 ends-one all number link apart e lives = ap (fold ended_in all) (one-living number all.links link apart e lives)
 
 pub unlinks-named : UnlinksNamed

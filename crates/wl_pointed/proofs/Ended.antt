@@ -25,8 +25,8 @@ use Rattle.wl_laws.proofs.Runs.Stays.{ends_stay}
 use Rattle.wl_laws.proofs.Runs.Through.{happens_leads_through, messages_lead_through, settling-without}
 use Rattle.wl_pointed.specs.Rounds.{AreRounds, IsRound}
 use Rattle.wl_pointed.specs.Seats.{EndedStay, RoundsEndClients}
+use Rattle.wl_pointed.proofs.Noted.{HeedsNothing, acts-keep, kept-status, noted_in, put-noted}
 use Rattle.wl_pointed.proofs.Rounds.{of-end, rounds-fewer}
-use Rattle.wl_pointed.proofs.Seats.{acts-keep, kept-status, put-seats, seat_in}
 
 -- ---- round by round
 
@@ -74,13 +74,20 @@ ended-stays s d c why lives is = at (same-or s.client c)
         ap (λ (o : Option Resident). status_in c (ended_at s.client s.cause o d)) lives.is
         ∙ ap status_of (number-other d.clients s.client c (Some (resident_of (ended s.cause lives.there.peer))) away) ∙ is
 
+-- of a client that ended nothing else is noted
+abbrev nothing : Resident → Unit {0}
+nothing r = tt
+
+nothing-heeds : HeedsNothing nothing
+nothing-heeds = record { peer = λ p r. refl; grabs = λ r. refl; callbacks = λ gone r. refl }
+
 round-stays : (old new : Midstep) (path : List Desktop) (c : ℕ) (why : Cause) → AreStruck old.struck old.desktop.clients → IsRound old path new
     → status_in c old.desktop ≡ Some why → status_in c new.desktop ≡ Some why
 round-stays old new path c why struck round is =
     let s : Strike = round.1 in
     let now : Desktop = round.0.desktop in
     let there : AreStruck (s ∷ round.2) now.clients = subst (λ (ss : List Strike). AreStruck ss now.clients) round.4 ((acts-lead Settle old struck).follows round.0 round.3).sound in
-    let settled : status_in c now ≡ Some why = kept-status old.desktop now c (acts-keep Settle old round.0 round.3) ∙ is in
+    let settled : status_in c now ≡ Some why = kept-status nothing old.desktop now c (acts-keep nothing nothing-heeds Settle old round.0 tt round.3) ∙ is in
     ap (λ (m : Midstep). status_in c m.desktop) round.6 ∙ ended-stays s now c why there.0 settled
 
 rounds-stay : (n : ℕ) (old new : Midstep) (path : List Desktop) (c : ℕ) (why : Cause) → AreStruck old.struck old.desktop.clients → AreRounds n old path new
@@ -108,7 +115,7 @@ module _ (left : LeftOut) (d : Desktop) (path : List Desktop) (e : Desktop) (c :
   received a piece None there h = absurd h
   received a piece (Some r) there h =
       let come : Resident = with_peer (with_rest (r.peer.rest ++ piece) r.peer) r in
-      kept-status d e c (λ n. ap (λ (x : Desktop). seat_in n x) h.1 ∙ put-seats a (Some come) r d there refl n) ∙ is
+      kept-status nothing d e c (λ n. ap (λ (x : Desktop). noted_in nothing n x) h.1 ∙ put-noted nothing a (Some come) r d there refl n) ∙ is
 
   starved : (a : ℕ) (o : Option Resident) → client_at a d ≡ o → StarvesAt a o d path e → status_in c e ≡ Some why
   starved a None there h = absurd h

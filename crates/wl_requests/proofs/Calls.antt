@@ -32,7 +32,7 @@ use Rattle.wl_owning.proofs.Keeping.OwningNames.{with_id-other}
 use Rattle.wl_owning.proofs.Keeping.OwningSurfaces.{AreKept-left, AreKept-then}
 use Rattle.wl_owning.proofs.Keeping.OwningTies.{committed-by, left-by, number-of-name, own, present, renaming-of, stand-by}
 use Rattle.wl_owning.proofs.Keeping.OwningTrees.{frames-here, waits-here}
-use Rattle.wl_requests.proofs.Unlinking.{ends-one}
+use Rattle.wl_named.proofs.Linking.{ends-one}
 use Rattle.wl_owning.proofs.Keeping.Trees.{framed-many, freed-so}
 
 -- What a call made of the surfaces of a client, where it frees these buffers and these callbacks are left.

@@ -1,6 +1,5 @@
 pub mod Letting
 pub mod PopupsDismissed
-pub mod PopupsNext
 pub mod PopupsReleased
 pub mod ReleasedDone
 pub mod PopupsGrabbed

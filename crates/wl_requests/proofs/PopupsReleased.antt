@@ -23,10 +23,10 @@ use Rattle.wl_xdg_state.specs.Shell.{Shell}
 use Rattle.wl_owning.specs.Owning.{IsOwned, Names}
 use Rattle.wl_owning.specs.Popups.{NextIs, WereDismissed, done_told}
 use Rattle.wl_owning.proofs.Popups.Dismissing.{popups-dismissed}
+use Rattle.wl_owning.proofs.Popups.Finding.{has_grab, next-grabbing}
 use Rattle.wl_requests.specs.declared.residents.Resident.{Resident as Kept}
-use Rattle.wl_requests.specs.Dismissing.{AreReleased, role_id}
+use Rattle.wl_requests.specs.Dismissing.{GrabsAreReleased, role_id}
 use Rattle.wl_requests.proofs.PopupsDismissed.{changed-here, few-go, id-stays}
-use Rattle.wl_requests.proofs.PopupsNext.{has_grab, next-grabbing}
 
 none-and-some : {X : Type 0} (why : Option Cause) → why ≡ None → is_some why ≡ true → X
 none-and-some None none some = absurd (cc)
@@ -227,7 +227,7 @@ module _ {A : Type 0} (names : Names) (o : Owned) (count : ℕ) (p q : Peer) (go
 
   -- all went
   pub all-released : AreFound book → (new : Kept A) → IsNewest (dismissible_grabbing book) (kept_of book) None → new.client ≡ now.client → new.owned.linked ≡ now.owned.linked
-      → new.owned.shell ≡ book → AreReleased names o p q new
+      → new.owned.shell ≡ book → GrabsAreReleased names o p q new
   all-released found new newest client linked shell =
       let none = goes-next found None newest in
       let ends = popups-dismissed.on.end has_grab o.shell left gone so.were none.0 none.1 in

@@ -1,6 +1,8 @@
 -- What is asked of a wl_subsurface is answered: its place is asked of its parent, and its mode is set.
-use Rattle.std.proofs.Common.{◌≡◌, ℕ, Bool, true, false, Option, Result, refl, ap, sym, subst, ◌∙◌, inl, inr, [], ◌∷◌, List}
+use Rattle.std.proofs.Common.{◌≡◌, ℕ, Bool, true, false, Option, Some, None, Result, refl, ap, sym, subst, ◌∙◌, inl, inr, [], ◌∷◌, List}
 use Rattle.std.specs.Prelude.{Ok, is_some}
+use Rattle.wl_children.specs.declared.placed.Side.{Side}
+use Rattle.wl_children.specs.declared.placed.Side.TheVariants.{Above, Below}
 use Rattle.wl_client.specs.Agreement.{IsPeer}
 use Rattle.wl_client.specs.View.{ClientView}
 use Rattle.wl_interface.specs.declared.interface.Interface.TheVariants.{WlSurface}
@@ -19,17 +21,19 @@ use Rattle.wl_plain.specs.Ask.{AskSurface, Ignore}
 use Rattle.wl_plain.specs.Demand.{Demand, Asks, SetMode}
 use Rattle.wl_plain.specs.Desktop.{Desktop, Resident}
 use Rattle.wl_plain.specs.Step.{asked_of, changed_by, with_peer, with_surfaces}
-use Rattle.wl_plain.specs.WlSubsurface.{beside, placed_beside}
+use Rattle.wl_plain.specs.WlSubsurface.{beside, demand_by_link, placed_beside}
 use Rattle.wl_invariants.proofs.KeptRecords.Toplevels.Releases.{none-released, requested-still}
 use Rattle.wl_xdg_state.specs.Kept.{kept_of}
 use Rattle.wl_state.specs.Frames.{frames_of}
-use Rattle.wl_state.specs.Request.{Member, Request}
+use Rattle.wl_state.specs.Request.{Member, PlaceAbove, PlaceBelow, Request}
 use Rattle.wl_state.specs.State.{Values, asked, is_commit}
 use Rattle.wl_state.specs.Surface.{Surface, asking}
 use Rattle.wl_surface.specs.Slots.{StandsAt, kept_at}
 use Rattle.wl_surface.specs.Surfaces.{Link, Surfaces, with_change}
 use Rattle.wl_surface.specs.Trees.{synchronised_in}
+use Rattle.wl_tree_laws.specs.Stacks.{place_request}
 use Rattle.wl_requests.specs.declared.residents.Resident.{Resident as Kept}
+use Rattle.wl_requests.specs.Linking.{place_asked}
 use Rattle.wl_requests.specs.Residents.{AnswersSo, IsLeft, IsResident}
 use Rattle.wl_requests.proofs.Beside.{PlacedBy}
 use Rattle.wl_requests.proofs.Doing.{cut-bounds, lacked}
@@ -65,6 +69,17 @@ lacked-so old new c r d judged id request orderly demand ended lacks =
     let one_more = with_peer (counted r.peer) r in
     let done = lacked old new (changed_by (AskSurface id request) one_more) one_more lacks ended in
     subst (λ (j : Result Demand Refusal). AnswersSo j c r d old new) (sym demand) (as-asked old new c d r orderly (Ok (AskSurface id request)) (done.0, inl done.1, done.2))
+
+-- ---- a child that is placed above or below
+
+pub place-inert : (side : Side) (r : Resident) (object sibling : ℕ) → demand_by_link r object None (place_asked side sibling) ≡ Ok (Asks Ignore)
+place-inert Above r object sibling = refl
+place-inert Below r object sibling = refl
+
+pub place-linked : (side : Side) (r : Resident) (object sibling : ℕ) (l : Link)
+    → demand_by_link r object (Some l) (place_asked side sibling) ≡ placed_beside object l.parent (place_request side l.number) (beside r.owned.surfaces l sibling)
+place-linked Above r object sibling l = refl
+place-linked Below r object sibling l = refl
 
 -- A child isn't placed: its sibling is no sibling, or there was no memory.
 pub unplaced-so : {A : Type 0} (old new : Kept A) (c : ℕ) (r : Resident) (d : Desktop) (judged : Result Demand Refusal) (object child sibling : ℕ) (its : IsLinkOf old r object child)
@@ -143,3 +158,12 @@ module _ {A : Type 0} (old new : Kept A) (c : ℕ) (r : Resident) (d : Desktop) 
             request no_frames plain its.parent refl refl)
             refl),
       ))
+
+  -- wl_subsurface.place_above and place_below
+  pub placed-so : (side : Side) (judged : Result Demand Refusal) (object child : ℕ) (its : IsLinkOf old r object child) (at : Member)
+      → judged ≡ Ok (Asks (AskSurface its.link.parent (place_request side its.link.number at)))
+      → IsOwned (names_of old.client.objects) new.owned.linked.surfaces new.owned.linked.family (kept_of old.owned.shell)
+      (record r.owned { surfaces = with_change its.link.parent (asking (place_request side its.link.number at)) r.owned.surfaces })
+      → AnswersSo judged c r d old new
+  placed-so Above judged object child its at demand owned = asked-so judged object child its (PlaceAbove its.link.number at) demand refl (λ v. refl) refl owned
+  placed-so Below judged object child its at demand owned = asked-so judged object child its (PlaceBelow its.link.number at) demand refl (λ v. refl) refl owned

@@ -15,7 +15,7 @@ use Rattle.wl_plain.specs.Settling.{without_grabs}
 use Rattle.wl_owning.specs.Owning.{IsOwned, Names}
 use Rattle.wl_owning.specs.Popups.{done_told}
 use Rattle.wl_owning.proofs.Popups.Done.{done-by}
-use Rattle.wl_requests.proofs.PopupsNext.{has_grab}
+use Rattle.wl_owning.proofs.Popups.Finding.{has_grab}
 
 -- one that goes is dismissed
 abbrev dismissed_if : Bool → Popup → Popup

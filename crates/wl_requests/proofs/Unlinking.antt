@@ -11,48 +11,7 @@ use Rattle.wl_plain.specs.Changing.{link_with_id, unlinked_at}
 use Rattle.wl_plain.specs.Desktop.{Resident, Subsurface}
 use Rattle.wl_plain.specs.WlSubsurface.{link_of_subsurface, living, subsurface_at}
 use Rattle.wl_laws.proofs.Lists.Keys.{found-passes, some-same}
-use Rattle.wl_tree_laws.proofs.Changing.{or-false}
-
--- no link has the number, so none that lives has it
-none-living : (number : ℕ) (ls : List Link) → list_any (λ l. l.number == number) ls ≡ false → filter (λ l. not l.has_ended && l.number == number) ls ≡ []
-none-living number [] none = refl
-none-living number (l ∷ ls) none =
-    let parts = or-false (l.number == number) (list_any (λ l. l.number == number) ls) none in
-    rw parts.0 (at l.has_ended (none-living number ls parts.1))
-  where
-    at : (b : Bool) → filter (λ l. not l.has_ended && l.number == number) ls ≡ []
-        → cond (not b && false) (l ∷ filter (λ l. not l.has_ended && l.number == number) ls) (filter (λ l. not l.has_ended && l.number == number) ls) ≡ []
-    at true next = next
-    at false next = next
-
-one-living : (number : ℕ) (ls : List Link) (link : Link) → AreNumbered ls → find (λ (l : Link). l.number == number) ls ≡ Some link → link.has_ended ≡ false
-    → filter (λ l. not l.has_ended && l.number == number) ls ≡ link ∷ []
-one-living number [] link apart e lives = absurd (cc)
-one-living number (l ∷ ls) link apart e lives = at (l.number == number) refl e (λ f. one-living number ls link apart.1 f lives)
-  where
-    first : (b : Bool) → b ≡ false → filter (λ l. not l.has_ended && l.number == number) ls ≡ []
-        → cond (not b && true) (l ∷ filter (λ l. not l.has_ended && l.number == number) ls) (filter (λ l. not l.has_ended && l.number == number) ls) ≡ l ∷ []
-    first true e none = absurd (cc)
-    first false e none = ap (λ (ls : List Link). l ∷ ls) none
-
-    behind : (b : Bool) → filter (λ l. not l.has_ended && l.number == number) ls ≡ link ∷ []
-        → cond (not b && false) (l ∷ filter (λ l. not l.has_ended && l.number == number) ls) (filter (λ l. not l.has_ended && l.number == number) ls) ≡ link ∷ []
-    behind true next = next
-    behind false next = next
-
-    at : (b : Bool) → (l.number == number) ≡ b → cond b (Some l) (find (λ (l : Link). l.number == number) ls) ≡ Some link
-        → (find (λ (l : Link). l.number == number) ls ≡ Some link → filter (λ l. not l.has_ended && l.number == number) ls ≡ link ∷ [])
-        → filter (λ l. not l.has_ended && l.number == number) (l ∷ ls) ≡ link ∷ []
-    at true here e next =
-        let it : l ≡ link = cc in
-        let lives_too : l.has_ended ≡ false = ap (λ (l : Link). l.has_ended) it ∙ lives in
-        let none = none-living number ls (ap (λ n. list_any (λ l. l.number == n) ls) (sym (eqb-true l.number number here)) ∙ apart.0) in
-        rw here (first l.has_ended lives_too none ∙ ap (λ (l : Link). l ∷ []) it)
-    at false here e next = rw here (behind l.has_ended (next e))
-
--- so the end of those that have it is the end of the one
-pub ends-one : (all : Surfaces) (number : ℕ) (link : Link) → AreNumbered all.links → link_at number all ≡ Some link → link.has_ended ≡ false → unlinked number all ≡ ended_in all link
-ends-one all number link apart e lives = ap (fold ended_in all) (one-living number all.links link apart e lives)
+use Rattle.wl_named.proofs.Linking.{none-living}
 
 -- where none of that number lives, none ends
 pub ends-none : (all : Surfaces) (number : ℕ) → AreNumbered all.links → option_and_then living (link_at number all) ≡ None → unlinked number all ≡ all

@@ -45,7 +45,7 @@ DismissesWith surface old new =
 
 -- What is kept of the client stands for it with its popups with a grab dismissed, and whatever descends from them; and it was told of each
 -- that wasn't before, the newest first, until an event wasn't queued: then it is to end for that (xdg-shell.xml, xdg_popup.grab).
-pub record AreReleased {A : Type 0} (names : Names) (o : Owned) (p q : Peer) (new : Kept A) : Type 0 where
+pub record GrabsAreReleased {A : Type 0} (names : Names) (o : Owned) (p q : Peer) (new : Kept A) : Type 0 where
   pub peer : IsPeer (opened new.client) q
   pub told : QueuesTo (map done_told (undismissed (λ p. p.popup.has_grab) o.shell)) p q new.client.refused
   pub owns :
@@ -58,4 +58,4 @@ ReleasesGrabs old new =
     (names : Names) (o : Owned) (p : Peer)
     → IsOwned names old.owned.linked.surfaces old.owned.linked.family (kept_of old.owned.shell) o
     → HasOrder o.shell → IsPeer old.client p → p.status ≡ None → old.client.refused ≡ None
-    → (q : Peer) × AreReleased names o p q new
+    → (q : Peer) × GrabsAreReleased names o p q new

@@ -1,5 +1,7 @@
 -- What is asked of links, by what is kept (wayland.xml, wl_subcompositor and wl_subsurface).
 use Rattle.std.specs.Prelude.{ℕ, ◌≡◌, ◌==◌, List, [], ◌∷◌, ◌++◌, Option, Some, None, Result, Ok, Err, find, is_some, slice_index_or, true}
+use Rattle.wl_children.specs.declared.placed.Side.{Side}
+use Rattle.wl_children.specs.declared.placed.Side.TheVariants.{Above, Below}
 use Rattle.wl_family.specs.Family.{links_in}
 use Rattle.wl_ordered.specs.Ordered.{OwnsOrdered}
 use Rattle.wl_owning.specs.Owning.{IsOwned, Names}
@@ -11,6 +13,8 @@ use Rattle.wl_plain.specs.Demand.{Demand, GetSubsurface}
 use Rattle.wl_peer.specs.Objects.{ById}
 use Rattle.wl_plain.specs.Desktop.{Resident, Subsurface}
 use Rattle.wl_plain.specs.WlSubsurface.{subsurface_made}
+use Rattle.wl_proto.specs.declared.wl_subsurface.WlSubsurfaceRequest.{WlSubsurfaceRequest}
+use Rattle.wl_proto.specs.declared.wl_subsurface.WlSubsurfaceRequest.TheVariants.{PlaceAbove, PlaceBelow}
 use Rattle.wl_requests.specs.declared.residents.Resident.{Resident as Kept}
 use Rattle.wl_xdg_state.specs.Kept.{kept_of}
 use Rattle.wl_surface.specs.declared.error.SurfaceError.{SurfaceError}
@@ -69,3 +73,8 @@ IsChildOf v object (Some child) =
 abbrev pub IsOnlyChild : {A : Type 0} → Kept A → ℕ → ℕ → Type 0
 IsOnlyChild v object child =
     IsChildOf v object (Some child) × ((other : ℕ) → slice_index_or v.subsurfaces other None ≡ Some object → other ≡ child)
+
+-- wl_subsurface.place_above and place_below, of the wl_surface with this id
+abbrev pub place_asked : Side → ℕ → WlSubsurfaceRequest
+place_asked Above sibling = PlaceAbove sibling
+place_asked Below sibling = PlaceBelow sibling

@@ -1,5 +1,5 @@
 -- What the first message of a client asks, for the desk.
-use Rattle.std.specs.Prelude.{ℕ, ◌≡◌}
+use Rattle.std.specs.Prelude.{ℕ, ◌≡◌, Bool, true, false}
 use Rattle.wl_wire.specs.Wire.{split_of}
 use Rattle.wl_wire.specs.declared.header.Split.TheVariants.{More}
 use Rattle.wl_interface.specs.declared.interface.Interface.TheVariants.{XdgToplevel}
@@ -14,6 +14,7 @@ use Rattle.wl_requests.specs.declared.messages.Asked.TheVariants as asked
 use Rattle.wl_requests.specs.declared.messages.Kind.{Kind}
 use Rattle.wl_requests.specs.declared.messages.Kind.TheVariants as kind
 use Rattle.wl_proto.specs.declared.wl_subsurface.WlSubsurfaceRequest.TheVariants as subsurface
+use Rattle.wl_proto.specs.declared.wl_surface.WlSurfaceRequest.{WlSurfaceRequest}
 use Rattle.wl_proto.specs.declared.wl_surface.WlSurfaceRequest.TheVariants as surface
 use Rattle.wl_proto.specs.declared.xdg_popup.XdgPopupRequest.TheVariants as popup
 use Rattle.wl_requests.specs.declared.residents.Resident.{Resident as Kept}
@@ -52,6 +53,12 @@ IsTouchOf (kind.Subsurface subsurface.SetDesync) object target v touch = (child 
     × (touch ≡ Releases child)
 IsTouchOf (kind.Popup popup.Destroy) object target v touch = touch ≡ Closes target
 IsTouchOf kind object target v touch = ⊥
+
+-- a request of a wl_surface that is neither a commit nor its end
+abbrev pub asks_itself : WlSurfaceRequest → Bool
+asks_itself surface.Commit = false
+asks_itself surface.Destroy = false
+asks_itself request = true
 
 abbrev pub IsTouchOfAsked : {A : Type 0} → Asked → Kept A → Touch → Type 0
 IsTouchOfAsked (asked.Request object version size target kind) v touch = IsTouchOf kind object target v touch

@@ -147,25 +147,20 @@ impl<A: Allocator + Copy> Resident<A> {
             Kind::Surface(request) => { self.wl_surface(object, version, target, &request, given) }
             Kind::Toplevel(asked) => Outcome::of(self.xdg_toplevel(object, target, asked)),
             Kind::Compositor(request) => {
-                self.wl_compositor(object, version, &request);
+                self.wl_compositor(version, &request);
                 Outcome::of(Stacking::Stays)
             }
             Kind::Subcompositor(request) => {
                 self.wl_subcompositor(object, version, &request);
                 Outcome::of(Stacking::Stays)
             }
-            Kind::Subsurface(request) => self.wl_subsurface(
-                object,
-                version,
-                &request,
-                given.has_room,
-            ),
+            Kind::Subsurface(request) => self.wl_subsurface(object, &request, given.has_room),
             Kind::Seat(request) => {
                 self.wl_seat(object, version, &request, given.has_room);
                 Outcome::of(Stacking::Stays)
             }
             Kind::Pointer(request) => {
-                self.wl_pointer(object, version, &request);
+                self.wl_pointer(object, &request);
                 Outcome::of(Stacking::Stays)
             }
             Kind::Base(request) => {
@@ -176,7 +171,7 @@ impl<A: Allocator + Copy> Resident<A> {
                 self.xdg_surface(object, version, target, &request);
                 Outcome::of(Stacking::Stays)
             }
-            Kind::Popup(request) => { self.xdg_popup(object, version, target, &request, given) }
+            Kind::Popup(request) => { self.xdg_popup(object, target, &request, given) }
         }
     }
 

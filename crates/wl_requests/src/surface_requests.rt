@@ -1,20 +1,19 @@
 //! The requests of wl_surface.
 
-ghost use Rattle.std.specs.Prelude.{◌≡◌, ◌==◌, ◌≢◌, ◌+◌, ◌++◌, ◌||◌, ℕ, ℤ, Bool, if◌then◌else◌, Ok, Option, None, Some, is_some, true, map, unsigned_abs};
+ghost use Rattle.std.specs.Prelude.{◌≡◌, ◌==◌, ◌+◌, ℕ, ℤ, if◌then◌else◌, Ok, Option, None, Some, is_some, true, unsigned_abs};
 ghost use Rattle.std.specs.List.{list_any};
 ghost use Rattle.std.specs.Option.{option_map};
 ghost use Rattle.wl_client.specs.Agreement.{IsPeer};
-ghost use Rattle.wl_peer.specs.Peer.{Peer};
 ghost use Rattle.wl_state.specs.Kept.{buffer_of};
 ghost use Rattle.wl_surface.specs.Slots.{is_scale, is_transform};
 ghost use Rattle.wl_state.specs.Request.{Attach, Damage as DamageAsked, DamageBuffer as BufferDamaged, SetBufferScale, SetBufferTransform, SetInputRegion, SetOpaqueRegion};
 ghost use Rattle.wl_proto.specs.Messages.{wl_surface_request};
-ghost use Rattle.wl_proto.specs.declared.wl_surface.WlSurfaceRequest.TheVariants.{Commit, Destroy, Frame as FrameAsked, SetBufferScale as ScaleAsked, SetBufferTransform as TransformAsked};
+ghost use Rattle.wl_proto.specs.declared.wl_surface.WlSurfaceRequest.TheVariants.{Commit};
 ghost use Rattle.wl_geom.specs.declared.rect.Rect.{Rect as ScreenRect};
 ghost use Rattle.wl_xdg_state.specs.Kept.{Kept as KeptXdg, changing, commit_answer, kept_after, kept_of};
 ghost use Rattle.wl_plain.specs.Ask.{AskSurface};
 ghost use Rattle.wl_plain.specs.Changing.{changed_for, output_rect};
-ghost use Rattle.wl_plain.specs.Demand.{CommitTree, EndSurface};
+ghost use Rattle.wl_plain.specs.Demand.{AskFrame, CommitTree, EndSurface};
 ghost use Rattle.wl_plain.specs.Desktop.{Desktop, Resident as Plain, unpointed};
 ghost use Rattle.wl_ordered.specs.Ordered.{OwnsOrdered};
 ghost use Rattle.wl_owning.specs.Owning.{IsOwned, Names, by_number, effect_by};
@@ -25,11 +24,11 @@ ghost use Rattle.wl_plain.specs.Framing.{AreFramed};
 ghost use Rattle.wl_plain.specs.LeftOut.{nothing_left_out};
 ghost use Rattle.wl_requests.specs.Freed.{is_freed_in};
 ghost use Rattle.wl_requests.specs.Holding.{HoldsAs, HoldsBy, HoldsPlaced};
-ghost use Rattle.wl_requests.specs.Messages.{IsTouchOf};
+ghost use Rattle.wl_requests.specs.Messages.{IsTouchOf, asks_itself};
 ghost use Rattle.wl_requests.specs.Touching.{IsTouched, Touch, Commits, Destroys};
 ghost use Rattle.wl_requests.specs.Residents.{AnswersDemand, AnswersDemandAs, AnswersPlaced, AnswersPlacedAs, Does, IsFree, IsResident, IsSurface, Leaves, MeetsAs, MeetsTold, NewIsFree, stacking_by, Stacks};
-ghost use Rattle.wl_plain.specs.Demanding.{demand_of, effect_of_commit};
-ghost use Rattle.wl_plain.specs.WlSurface.{buffer_named, region_named, will_show};
+ghost use Rattle.wl_plain.specs.Demanding.{commit_demand, demand_of, demands, effect_of_commit, surface_destroyed};
+ghost use Rattle.wl_plain.specs.WlSurface.{buffer_named, region_named, scale_set, transform_set, will_show};
 
 use crate::messages::Kind;
 use crate::residents::{Given, Outcome, Resident, Stacking};
@@ -132,8 +131,8 @@ impl<A: Allocator + Copy> Resident<A> {
     }
 
     /// wl_surface.attach of the buffer with this id, or of none for null, at this offset in pixels.
-    pub(crate) fn attach(&mut self, object: u32, surface: SurfaceNo, buffer: u32, x: i32, y: i32)
-        ensures does { IsSurface self.old object surface → Does (λ r. AskSurface object (Attach (buffer_named r buffer) x y)) self.old self.new }
+    pub(crate) fn attach(&mut self, surface: SurfaceNo, buffer: u32, x: i32, y: i32)
+        ensures does { (object : ℕ) → IsSurface self.old object surface → Does (λ r. AskSurface object (Attach (buffer_named r buffer) x y)) self.old self.new }
         ensures rest { Leaves self.old self.new }
     {
         let had = self.owned.linked.surfaces.buffers(surface);
@@ -143,8 +142,8 @@ impl<A: Allocator + Copy> Resident<A> {
     }
 
     /// wl_surface.damage of a rectangle in surface pixels.
-    pub(crate) fn damage(&mut self, object: u32, surface: SurfaceNo, rect: Rect)
-        ensures does { IsSurface self.old object surface → Does (λ r. AskSurface object (DamageAsked rect)) self.old self.new }
+    pub(crate) fn damage(&mut self, surface: SurfaceNo, rect: Rect)
+        ensures does { (object : ℕ) → IsSurface self.old object surface → Does (λ r. AskSurface object (DamageAsked rect)) self.old self.new }
         ensures rest { Leaves self.old self.new }
     {
         match self.owned.linked.surfaces.damage(surface, rect) {
@@ -154,8 +153,8 @@ impl<A: Allocator + Copy> Resident<A> {
     }
 
     /// wl_surface.damage_buffer of a rectangle in pixels of the buffer.
-    fn damage_buffer(&mut self, object: u32, surface: SurfaceNo, rect: Rect)
-        ensures does { IsSurface self.old object surface → Does (λ r. AskSurface object (BufferDamaged rect)) self.old self.new }
+    fn damage_buffer(&mut self, surface: SurfaceNo, rect: Rect)
+        ensures does { (object : ℕ) → IsSurface self.old object surface → Does (λ r. AskSurface object (BufferDamaged rect)) self.old self.new }
         ensures rest { Leaves self.old self.new }
     {
         match self.owned.linked.surfaces.damage_buffer(surface, rect) {
@@ -165,8 +164,8 @@ impl<A: Allocator + Copy> Resident<A> {
     }
 
     /// wl_surface.set_opaque_region of a copy of the region with this id, or of none for null.
-    pub(crate) fn set_opaque_region(&mut self, object: u32, surface: SurfaceNo, region: u32)
-        ensures does { IsSurface self.old object surface → Does (λ r. AskSurface object (SetOpaqueRegion (region_named r region))) self.old self.new }
+    pub(crate) fn set_opaque_region(&mut self, surface: SurfaceNo, region: u32)
+        ensures does { (object : ℕ) → IsSurface self.old object surface → Does (λ r. AskSurface object (SetOpaqueRegion (region_named r region))) self.old self.new }
         ensures rest { Leaves self.old self.new }
     {
         let region = self.client.region(region);
@@ -177,8 +176,8 @@ impl<A: Allocator + Copy> Resident<A> {
     }
 
     /// wl_surface.set_input_region of a copy of the region with this id, or of none for null.
-    pub(crate) fn set_input_region(&mut self, object: u32, surface: SurfaceNo, region: u32)
-        ensures does { IsSurface self.old object surface → Does (λ r. AskSurface object (SetInputRegion (region_named r region))) self.old self.new }
+    pub(crate) fn set_input_region(&mut self, surface: SurfaceNo, region: u32)
+        ensures does { (object : ℕ) → IsSurface self.old object surface → Does (λ r. AskSurface object (SetInputRegion (region_named r region))) self.old self.new }
         ensures rest { Leaves self.old self.new }
     {
         let region = self.client.region(region);
@@ -191,16 +190,16 @@ impl<A: Allocator + Copy> Resident<A> {
     /// wl_surface.commit: what is pending counts, and the shell says what that comes to. A popup is placed by what is handed in for that. Where the
     /// shell refuses nothing, a buffer whose sides are no multiples of the scale is refused, and nothing is applied (wayland.xml, wl_surface.error,
     /// invalid_size).
-    fn commit(&mut self, object: u32, version: u32, surface: SurfaceNo, given: Given) -> Outcome<A>
+    fn commit(&mut self, object: u32, surface: SurfaceNo, given: Given) -> Outcome<A>
         ensures answers { IsSurface self.old object surface
-            → AnswersPlacedAs (is_some result.applied) given.placing (Kind.Surface Commit) object (λ r. demand_of nothing_left_out r object version (wl_surface_request Commit)) self.old self.new }
+            → AnswersPlacedAs (is_some result.applied) given.placing (Kind.Surface Commit) object (λ r. commit_demand r object) self.old self.new }
         ensures stacks { IsSurface self.old object surface
-            → Stacks (λ r. demand_of nothing_left_out r object version (wl_surface_request Commit)) self.old result.stacking }
+            → Stacks (λ r. commit_demand r object) self.old result.stacking }
         ensures touched { IsTouched (Commits surface) self.old.owned.linked self.new.owned.linked result.applied }
         ensures rest { Leaves self.old self.new }
         ensures room { is_some result.applied ≡ true → given.has_room ≡ true }
         ensures holds { IsSurface self.old object surface
-            → HoldsPlaced (is_some result.applied) given.placing (Kind.Surface Commit) object (λ r. demand_of nothing_left_out r object version (wl_surface_request Commit)) self.old self.new }
+            → HoldsPlaced (is_some result.applied) given.placing (Kind.Surface Commit) object (λ r. commit_demand r object) self.old self.new }
     {
         let has_buffer = self.owned.linked.surfaces.pending_buffer(surface).is_some();
         let is_toplevel = self.has_toplevel(surface);
@@ -273,8 +272,8 @@ impl<A: Allocator + Copy> Resident<A> {
     }
 
     /// wl_surface.set_buffer_transform to one of the eight.
-    pub(crate) fn set_buffer_transform(&mut self, object: u32, surface: SurfaceNo, transform: i32)
-        ensures does { is_transform transform ≡ true → IsSurface self.old object surface
+    pub(crate) fn set_buffer_transform(&mut self, surface: SurfaceNo, transform: i32)
+        ensures does { (object : ℕ) → is_transform transform ≡ true → IsSurface self.old object surface
             → Does (λ r. AskSurface object (SetBufferTransform (unsigned_abs transform))) self.old self.new }
         ensures rest { Leaves self.old self.new }
     {
@@ -285,8 +284,8 @@ impl<A: Allocator + Copy> Resident<A> {
     }
 
     /// wl_surface.set_buffer_scale to one of 1 or more.
-    fn set_buffer_scale(&mut self, object: u32, surface: SurfaceNo, scale: i32)
-        ensures does { is_scale scale ≡ true → IsSurface self.old object surface
+    fn set_buffer_scale(&mut self, surface: SurfaceNo, scale: i32)
+        ensures does { (object : ℕ) → is_scale scale ≡ true → IsSurface self.old object surface
             → Does (λ r. AskSurface object (SetBufferScale (unsigned_abs scale))) self.old self.new }
         ensures rest { Leaves self.old self.new }
     {
@@ -307,21 +306,15 @@ impl<A: Allocator + Copy> Resident<A> {
     }
 
     /// wl_surface.destroy: the xdg_surface of the surface must be gone.
-    fn destroy(
-        &mut self,
-        object: u32,
-        version: u32,
-        surface: SurfaceNo,
-        has_room: bool,
-    ) -> Outcome<A>
+    fn destroy(&mut self, object: u32, surface: SurfaceNo, has_room: bool) -> Outcome<A>
         ensures answers { IsSurface self.old object surface
-            → AnswersDemandAs (is_some result.applied) (λ r. demand_of nothing_left_out r object version (wl_surface_request Destroy)) self.old self.new }
+            → AnswersDemandAs (is_some result.applied) (λ r. surface_destroyed r object) self.old self.new }
         ensures touched { IsTouched (Destroys surface) self.old.owned.linked self.new.owned.linked result.applied }
         ensures stays { result.stacking ≡ Stacking.Stays }
         ensures rest { Leaves self.old self.new }
         ensures room { is_some result.applied ≡ true → has_room ≡ true }
         ensures holds { IsSurface self.old object surface
-            → HoldsAs (is_some result.applied) (λ r. demand_of nothing_left_out r object version (wl_surface_request Destroy)) self.old self.new }
+            → HoldsAs (is_some result.applied) (λ r. surface_destroyed r object) self.old self.new }
     {
         if self.has_xdg_surface(surface) {
             let refusal = Refusal::of(object, ErrorCode::SurfaceHasRoleObject);
@@ -336,9 +329,8 @@ impl<A: Allocator + Copy> Resident<A> {
     }
 
     /// wl_surface.set_buffer_transform, of one of the eight.
-    fn transform(&mut self, object: u32, version: u32, surface: SurfaceNo, transform: i32)
-        ensures answers { IsSurface self.old object surface
-            → AnswersDemand (λ r. demand_of nothing_left_out r object version (wl_surface_request (TransformAsked transform))) self.old self.new }
+    fn transform(&mut self, object: u32, surface: SurfaceNo, transform: i32)
+        ensures answers { IsSurface self.old object surface → AnswersDemand (λ r. demands (transform_set object transform)) self.old self.new }
         ensures rest { Leaves self.old self.new }
     {
         if !is_valid(transform) {
@@ -347,13 +339,12 @@ impl<A: Allocator + Copy> Resident<A> {
             return;
         }
         self.client.count();
-        self.set_buffer_transform(object, surface, transform);
+        self.set_buffer_transform(surface, transform);
     }
 
     /// wl_surface.set_buffer_scale, of 1 or more.
-    fn scale(&mut self, object: u32, version: u32, surface: SurfaceNo, scale: i32)
-        ensures answers { IsSurface self.old object surface
-            → AnswersDemand (λ r. demand_of nothing_left_out r object version (wl_surface_request (ScaleAsked scale))) self.old self.new }
+    fn scale(&mut self, object: u32, surface: SurfaceNo, scale: i32)
+        ensures answers { IsSurface self.old object surface → AnswersDemand (λ r. demands (scale_set object scale)) self.old self.new }
         ensures rest { Leaves self.old self.new }
     {
         if !is_positive(scale) {
@@ -362,13 +353,13 @@ impl<A: Allocator + Copy> Resident<A> {
             return;
         }
         self.client.count();
-        self.set_buffer_scale(object, surface, scale);
+        self.set_buffer_scale(surface, scale);
     }
 
     /// wl_surface.frame: the callback with this id waits until a commit applies the request and a frame is shown.
-    fn frame(&mut self, object: u32, version: u32, surface: SurfaceNo, callback: u32)
-        ensures answers { IsSurface self.old object surface → IsFree self.old callback
-            → AnswersDemand (λ r. demand_of nothing_left_out r object version (wl_surface_request (FrameAsked callback))) self.old self.new }
+    fn frame(&mut self, version: u32, surface: SurfaceNo, callback: u32)
+        ensures answers { (object : ℕ) → IsSurface self.old object surface → IsFree self.old callback
+            → AnswersDemand (λ r. Ok (AskFrame callback version object)) self.old self.new }
         ensures rest { Leaves self.old self.new }
     {
         self.client.count();
@@ -382,6 +373,59 @@ impl<A: Allocator + Copy> Resident<A> {
                 self.client.add(callback, entry, &[]);
             }
             Err(_) => self.client.lack_memory(),
+        }
+    }
+
+    /// A request that asks something of a surface by itself, neither a commit nor its end. Its new id is free, if it has one.
+    fn ask_surface(
+        &mut self,
+        object: u32,
+        version: u32,
+        surface: SurfaceNo,
+        request: &WlSurfaceRequest,
+    )
+        requires { asks_itself request.now ≡ true }
+        ensures answers { IsSurface self.old object surface → NewIsFree self.old (wl_surface_request request.now)
+            → AnswersDemand (λ r. demand_of nothing_left_out r object version (wl_surface_request request.now)) self.old self.new }
+        ensures rest { Leaves self.old self.new }
+    {
+        match *request {
+            WlSurfaceRequest::Attach { buffer, x, y } => {
+                self.client.count();
+                self.attach(surface, buffer, x, y);
+            }
+            WlSurfaceRequest::Damage {
+                x,
+                y,
+                width: w,
+                height: h,
+            } => {
+                self.client.count();
+                self.damage(surface, Rect { x, y, w, h });
+            }
+            WlSurfaceRequest::Frame { callback } => self.frame(version, surface, callback),
+            WlSurfaceRequest::SetOpaqueRegion { region } => {
+                self.client.count();
+                self.set_opaque_region(surface, region);
+            }
+            WlSurfaceRequest::SetInputRegion { region } => {
+                self.client.count();
+                self.set_input_region(surface, region);
+            }
+            WlSurfaceRequest::SetBufferTransform { transform } => {
+                self.transform(object, surface, transform);
+            }
+            WlSurfaceRequest::SetBufferScale { scale } => self.scale(object, surface, scale),
+            WlSurfaceRequest::DamageBuffer {
+                x,
+                y,
+                width: w,
+                height: h,
+            } => {
+                self.client.count();
+                self.damage_buffer(surface, Rect { x, y, w, h });
+            }
+            WlSurfaceRequest::Commit | WlSurfaceRequest::Destroy => unreachable!(),
         }
     }
 
@@ -409,53 +453,10 @@ impl<A: Allocator + Copy> Resident<A> {
             → HoldsPlaced (is_some result.applied) given.placing (Kind.Surface request.now) object (λ r. demand_of nothing_left_out r object version (wl_surface_request request.now)) self.old self.new }
     {
         match *request {
-            WlSurfaceRequest::Commit => self.commit(object, version, surface, given),
-            WlSurfaceRequest::Destroy => self.destroy(object, version, surface, given.has_room),
-            WlSurfaceRequest::Attach { buffer, x, y } => {
-                self.client.count();
-                self.attach(object, surface, buffer, x, y);
-                Outcome::of(Stacking::Stays)
-            }
-            WlSurfaceRequest::Damage {
-                x,
-                y,
-                width: w,
-                height: h,
-            } => {
-                self.client.count();
-                self.damage(object, surface, Rect { x, y, w, h });
-                Outcome::of(Stacking::Stays)
-            }
-            WlSurfaceRequest::Frame { callback } => {
-                self.frame(object, version, surface, callback);
-                Outcome::of(Stacking::Stays)
-            }
-            WlSurfaceRequest::SetOpaqueRegion { region } => {
-                self.client.count();
-                self.set_opaque_region(object, surface, region);
-                Outcome::of(Stacking::Stays)
-            }
-            WlSurfaceRequest::SetInputRegion { region } => {
-                self.client.count();
-                self.set_input_region(object, surface, region);
-                Outcome::of(Stacking::Stays)
-            }
-            WlSurfaceRequest::SetBufferTransform { transform } => {
-                self.transform(object, version, surface, transform);
-                Outcome::of(Stacking::Stays)
-            }
-            WlSurfaceRequest::SetBufferScale { scale } => {
-                self.scale(object, version, surface, scale);
-                Outcome::of(Stacking::Stays)
-            }
-            WlSurfaceRequest::DamageBuffer {
-                x,
-                y,
-                width: w,
-                height: h,
-            } => {
-                self.client.count();
-                self.damage_buffer(object, surface, Rect { x, y, w, h });
+            WlSurfaceRequest::Commit => self.commit(object, surface, given),
+            WlSurfaceRequest::Destroy => self.destroy(object, surface, given.has_room),
+            _ => {
+                self.ask_surface(object, version, surface, request);
                 Outcome::of(Stacking::Stays)
             }
         }

@@ -1,6 +1,6 @@
 //! The requests of wl_compositor.
 
-ghost use Rattle.std.specs.Prelude.{◌≡◌, ◌↔◌, IsTrue, Ok};
+ghost use Rattle.std.specs.Prelude.{ℕ, ◌≡◌, ◌↔◌, IsTrue, Ok};
 ghost use Rattle.wl_proto.specs.Messages.{wl_compositor_request};
 ghost use Rattle.wl_peer.specs.declared.actions.Action.TheVariants.{CreateRegion};
 ghost use Rattle.wl_plain.specs.Ask.{Own};
@@ -54,15 +54,14 @@ impl<A: Allocator + Copy> Resident<A> {
     fn create_region(&mut self, version: u32, id: u32)
         ensures answers { IsFree self.old id → AnswersDemand (λ r. Ok (Asks (Own (CreateRegion id version)))) self.old self.new }
         ensures rest { Leaves self.old self.new }
-        ensures surfaces { self.new.owned.linked ≡ self.old.owned.linked }
     {
         self.client.count();
         self.client.create_region(id, version);
     }
 
     /// A request of a wl_compositor whose new id is free.
-    pub(crate) fn wl_compositor(&mut self, object: u32, version: u32, request: &WlCompositorRequest)
-        ensures answers { NewIsFree self.old (wl_compositor_request request.now)
+    pub(crate) fn wl_compositor(&mut self, version: u32, request: &WlCompositorRequest)
+        ensures answers { (object : ℕ) → NewIsFree self.old (wl_compositor_request request.now)
             → AnswersDemand (λ r. demand_of nothing_left_out r object version (wl_compositor_request request.now)) self.old self.new }
         ensures rest { Leaves self.old self.new }
     {

@@ -1,6 +1,6 @@
 //! The requests of wl_pointer.
 
-ghost use Rattle.std.specs.Prelude.{ℕ, ◌≡◌};
+ghost use Rattle.std.specs.Prelude.{ℕ};
 ghost use Rattle.wl_proto.specs.Messages.{wl_pointer_request};
 ghost use Rattle.wl_requests.specs.Residents.{AnswersDemand, IsSurface, Leaves, ObjectsFit};
 ghost use Rattle.wl_plain.specs.LeftOut.{nothing_left_out};
@@ -31,8 +31,8 @@ impl<A: Allocator + Copy> Resident<A> {
     }
 
     /// A request of a wl_pointer whose wl_surface is there, if it names one. Without one it takes the cursor away, which has no effect.
-    pub(crate) fn wl_pointer(&mut self, object: u32, version: u32, request: &WlPointerRequest)
-        ensures answers { ObjectsFit self.old (wl_pointer_request request.now)
+    pub(crate) fn wl_pointer(&mut self, object: u32, request: &WlPointerRequest)
+        ensures answers { (version : ℕ) → ObjectsFit self.old (wl_pointer_request request.now)
             → AnswersDemand (λ r. demand_of nothing_left_out r object version (wl_pointer_request request.now)) self.old self.new }
         ensures rest { Leaves self.old self.new }
     {

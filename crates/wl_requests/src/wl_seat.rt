@@ -18,7 +18,6 @@ impl<A: Allocator + Copy> Resident<A> {
     fn get_pointer(&mut self, version: u32, id: u32, has_room: bool)
         ensures answers { IsFree self.old id → AnswersDemand (λ r. Ok (GetPointer id version)) self.old self.new }
         ensures rest { Leaves self.old self.new }
-        ensures surfaces { self.new.owned.linked ≡ self.old.owned.linked }
         ensures room { has_room ≡ false → is_some self.new.client.ended ≡ true }
     {
         self.client.count();
@@ -45,7 +44,6 @@ impl<A: Allocator + Copy> Resident<A> {
         ensures answers { NewIsFree self.old (wl_seat_request request.now)
             → AnswersDemand (λ r. demand_of nothing_left_out r object version (wl_seat_request request.now)) self.old self.new }
         ensures rest { Leaves self.old self.new }
-        ensures surfaces { self.new.owned.linked ≡ self.old.owned.linked }
         ensures room { (id : ℕ) → request.now ≡ WlSeatRequest.GetPointer id → has_room ≡ false → is_some self.new.client.ended ≡ true }
     {
         match *request {

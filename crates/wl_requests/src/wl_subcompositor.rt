@@ -1,8 +1,10 @@
 //! The requests of wl_subcompositor.
 
-ghost use Rattle.std.specs.Prelude.{ℕ, ◌≡◌, OnOk};
+ghost use Rattle.std.specs.Prelude.{ℕ, ◌≡◌, Ok, OnOk};
 ghost use Rattle.wl_proto.specs.Messages.{wl_subcompositor_request};
-ghost use Rattle.wl_proto.specs.declared.wl_subcompositor.WlSubcompositorRequest.TheVariants.{Destroy, GetSubsurface};
+ghost use Rattle.wl_proto.specs.declared.wl_subcompositor.WlSubcompositorRequest.TheVariants.{GetSubsurface};
+ghost use Rattle.wl_plain.specs.Ask.{EndObject};
+ghost use Rattle.wl_plain.specs.Demand.{Asks};
 ghost use Rattle.wl_plain.specs.Demanding.{demand_of};
 ghost use Rattle.wl_requests.specs.Linking.{IsLinkMade, LinksAsJudged, link_refused};
 ghost use Rattle.wl_requests.specs.Residents.{AnswersDemand, IsFree, IsSubcompositor, IsSurface, Leaves, NewIsFree, ObjectsFit};
@@ -29,8 +31,8 @@ fn refusal_of(object: u32, error: SurfaceError) -> Option<Refusal>
 
 impl<A: Allocator + Copy> Resident<A> {
     /// wl_subcompositor.destroy: its id is given back.
-    fn destroy_subcompositor(&mut self, object: u32, version: u32)
-        ensures answers { IsSubcompositor self.old object → AnswersDemand (λ r. demand_of nothing_left_out r object version (wl_subcompositor_request Destroy)) self.old self.new }
+    fn destroy_subcompositor(&mut self, object: u32)
+        ensures answers { IsSubcompositor self.old object → AnswersDemand (λ r. Ok (Asks (EndObject object))) self.old self.new }
         ensures rest { Leaves self.old self.new }
     {
         self.client.count();
@@ -102,7 +104,7 @@ impl<A: Allocator + Copy> Resident<A> {
         ensures rest { Leaves self.old self.new }
     {
         match *request {
-            WlSubcompositorRequest::Destroy => self.destroy_subcompositor(object, version),
+            WlSubcompositorRequest::Destroy => self.destroy_subcompositor(object),
             WlSubcompositorRequest::GetSubsurface {
                 id,
                 surface,

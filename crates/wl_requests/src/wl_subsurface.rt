@@ -7,19 +7,21 @@ ghost use Rattle.wl_plain.specs.Desktop.{Subsurface};
 ghost use Rattle.wl_client.specs.Agreement.{IsPeer};
 ghost use Rattle.wl_peer.specs.Peer.{Errs, LacksMemory, Peer, counted};
 ghost use Rattle.wl_proto.specs.Messages.{wl_subsurface_request};
-ghost use Rattle.wl_proto.specs.declared.wl_subsurface.WlSubsurfaceRequest.TheVariants.{Destroy, PlaceAbove, PlaceBelow, SetDesync, SetPosition, SetSync};
+ghost use Rattle.wl_proto.specs.declared.wl_subsurface.WlSubsurfaceRequest.TheVariants.{Destroy, SetDesync, SetPosition, SetSync};
 ghost use Rattle.wl_plain.specs.Demanding.{demand_of};
 ghost use Rattle.wl_requests.specs.Messages.{IsTouchOf};
 ghost use Rattle.wl_requests.specs.Holding.{HoldsAs};
-ghost use Rattle.wl_requests.specs.Linking.{IsChildOf, IsOnlyChild};
+ghost use Rattle.wl_requests.specs.Linking.{IsChildOf, IsOnlyChild, place_asked};
 ghost use Rattle.wl_requests.specs.Residents.{AnswersDemand, AnswersDemandAs, IsSubsurface, IsSurface, Leaves, ObjectsFit};
 ghost use Rattle.wl_requests.specs.Touching.{IsTouched, Parts, Releases, Touch};
 ghost use Rattle.wl_plain.specs.LeftOut.{nothing_left_out};
+ghost use Rattle.wl_plain.specs.WlSubsurface.{subsurface_demand};
 
 use crate::messages::Kind;
 use crate::residents::{Outcome, Resident, Stacking};
 use std::alloc::Allocator;
 use wl_client::{ErrorCode, Refusal};
+use wl_linked::Side;
 use wl_proto::WlSubsurfaceRequest;
 use wl_surface::{Applied, SurfaceError, SurfaceNo};
 
@@ -36,8 +38,8 @@ impl<A: Allocator + Copy> Resident<A> {
     }
 
     /// wl_subsurface.set_position of the child, relative to its parent, in pixels: once the parent is committed and applied.
-    fn set_position(&mut self, object: u32, version: u32, x: i32, y: i32)
-        ensures answers { IsSubsurface self.old object → AnswersDemand (λ r. demand_of nothing_left_out r object version (wl_subsurface_request (SetPosition x y))) self.old self.new }
+    fn set_position(&mut self, object: u32, x: i32, y: i32)
+        ensures answers { IsSubsurface self.old object → AnswersDemand (λ r. subsurface_demand r object (SetPosition x y)) self.old self.new }
         ensures rest { Leaves self.old self.new }
     {
         self.client.count();
@@ -68,41 +70,26 @@ impl<A: Allocator + Copy> Resident<A> {
         }
     }
 
-    /// wl_subsurface.place_above: the child stands right above a sibling, or above its parent, once the parent is committed and applied.
-    fn place_above(&mut self, object: u32, version: u32, sibling: u32, beside: SurfaceNo)
-        ensures answers { IsSubsurface self.old object → IsSurface self.old sibling beside
-            → AnswersDemand (λ r. demand_of nothing_left_out r object version (wl_subsurface_request (PlaceAbove sibling))) self.old self.new }
+    /// wl_subsurface.place_above and place_below: the child stands right above or right below a sibling, or its parent, once the parent is
+    /// committed and applied.
+    fn place(&mut self, object: u32, sibling: SurfaceNo, side: Side)
+        ensures answers { (id : ℕ) → IsSubsurface self.old object → IsSurface self.old id sibling
+            → AnswersDemand (λ r. subsurface_demand r object (place_asked side id)) self.old self.new }
         ensures rest { Leaves self.old self.new }
     {
         let Some(child) = self.child_of(object) else {
             self.client.count();
             return;
         };
-        match self.owned.linked.place_above(child, beside) {
-            Ok(()) => self.client.count(),
-            Err(error) => self.refuse_place(object, error),
-        }
-    }
-
-    /// wl_subsurface.place_below: the child stands right below a sibling, or below its parent, once the parent is committed and applied.
-    fn place_below(&mut self, object: u32, version: u32, sibling: u32, beside: SurfaceNo)
-        ensures answers { IsSubsurface self.old object → IsSurface self.old sibling beside
-            → AnswersDemand (λ r. demand_of nothing_left_out r object version (wl_subsurface_request (PlaceBelow sibling))) self.old self.new }
-        ensures rest { Leaves self.old self.new }
-    {
-        let Some(child) = self.child_of(object) else {
-            self.client.count();
-            return;
-        };
-        match self.owned.linked.place_below(child, beside) {
+        match self.owned.linked.place(child, sibling, side) {
             Ok(()) => self.client.count(),
             Err(error) => self.refuse_place(object, error),
         }
     }
 
     /// wl_subsurface.set_sync: what the child commits is held until its parent is applied.
-    fn set_sync(&mut self, object: u32, version: u32)
-        ensures answers { IsSubsurface self.old object → AnswersDemand (λ r. demand_of nothing_left_out r object version (wl_subsurface_request SetSync)) self.old self.new }
+    fn set_sync(&mut self, object: u32)
+        ensures answers { IsSubsurface self.old object → AnswersDemand (λ r. subsurface_demand r object SetSync) self.old self.new }
         ensures rest { Leaves self.old self.new }
     {
         self.client.count();
@@ -113,17 +100,17 @@ impl<A: Allocator + Copy> Resident<A> {
 
     /// wl_subsurface.set_desync: what the child commits is applied at once, unless a surface above it is synchronised; and so is what was held,
     /// where that changes how it behaves.
-    fn set_desync(&mut self, object: u32, version: u32, has_room: bool) -> Option<Applied<A>>
-        ensures answers { IsSubsurface self.old object → AnswersDemand (λ r. demand_of nothing_left_out r object version (wl_subsurface_request SetDesync)) self.old self.new }
+    fn set_desync(&mut self, object: u32, has_room: bool) -> Option<Applied<A>>
+        ensures answers { IsSubsurface self.old object → AnswersDemand (λ r. subsurface_demand r object SetDesync) self.old self.new }
         ensures decides { (child : ℕ) → IsOnlyChild self.old object child → IsSubsurface self.old object
-            → AnswersDemandAs (is_some result) (λ r. demand_of nothing_left_out r object version (wl_subsurface_request SetDesync)) self.old self.new }
+            → AnswersDemandAs (is_some result) (λ r. subsurface_demand r object SetDesync) self.old self.new }
         ensures touched { (child : ℕ) → IsOnlyChild self.old object child
             → IsTouched (Releases child) self.old.owned.linked self.new.owned.linked result }
         ensures nothing { ((child : ℕ) → IsOnlyChild self.old object child → ⊥) → (numbers : ById ℕ) (subsurfaces : List Subsurface) → AreOfSurfaces self.old.subsurfaces numbers subsurfaces → result ≡ None }
         ensures rest { Leaves self.old self.new }
         ensures room { is_some result ≡ true → has_room ≡ true }
         ensures holds { (child : ℕ) → IsOnlyChild self.old object child → IsSubsurface self.old object
-            → HoldsAs (is_some result) (λ r. demand_of nothing_left_out r object version (wl_subsurface_request SetDesync)) self.old self.new }
+            → HoldsAs (is_some result) (λ r. subsurface_demand r object SetDesync) self.old self.new }
     {
         self.client.count();
         let child = self.child_of(object)?;
@@ -152,22 +139,17 @@ impl<A: Allocator + Copy> Resident<A> {
     }
 
     /// wl_subsurface.destroy: the child's link to its parent ends, and its id is given back.
-    fn destroy_subsurface(
-        &mut self,
-        object: u32,
-        version: u32,
-        has_room: bool,
-    ) -> Option<Applied<A>>
-        ensures answers { IsSubsurface self.old object → AnswersDemand (λ r. demand_of nothing_left_out r object version (wl_subsurface_request Destroy)) self.old self.new }
+    fn destroy_subsurface(&mut self, object: u32, has_room: bool) -> Option<Applied<A>>
+        ensures answers { IsSubsurface self.old object → AnswersDemand (λ r. subsurface_demand r object Destroy) self.old self.new }
         ensures decides { (child : ℕ) → IsOnlyChild self.old object child → IsSubsurface self.old object
-            → AnswersDemandAs (is_some result) (λ r. demand_of nothing_left_out r object version (wl_subsurface_request Destroy)) self.old self.new }
+            → AnswersDemandAs (is_some result) (λ r. subsurface_demand r object Destroy) self.old self.new }
         ensures touched { (child : ℕ) → IsOnlyChild self.old object child
             → IsTouched (Parts child) self.old.owned.linked self.new.owned.linked result }
         ensures nothing { ((child : ℕ) → IsOnlyChild self.old object child → ⊥) → (numbers : ById ℕ) (subsurfaces : List Subsurface) → AreOfSurfaces self.old.subsurfaces numbers subsurfaces → result ≡ None }
         ensures rest { Leaves self.old self.new }
         ensures room { is_some result ≡ true → has_room ≡ true }
         ensures holds { (child : ℕ) → IsOnlyChild self.old object child → IsSubsurface self.old object
-            → HoldsAs (is_some result) (λ r. demand_of nothing_left_out r object version (wl_subsurface_request Destroy)) self.old self.new }
+            → HoldsAs (is_some result) (λ r. subsurface_demand r object Destroy) self.old self.new }
     {
         self.client.count();
         let Some(child) = self.child_of(object) else {
@@ -192,13 +174,12 @@ impl<A: Allocator + Copy> Resident<A> {
     pub(crate) fn wl_subsurface(
         &mut self,
         object: u32,
-        version: u32,
         request: &WlSubsurfaceRequest,
         has_room: bool,
     ) -> Outcome<A>
-        ensures answers { IsSubsurface self.old object → ObjectsFit self.old (wl_subsurface_request request.now)
+        ensures answers { (version : ℕ) → IsSubsurface self.old object → ObjectsFit self.old (wl_subsurface_request request.now)
             → AnswersDemand (λ r. demand_of nothing_left_out r object version (wl_subsurface_request request.now)) self.old self.new }
-        ensures decides { (target : ℕ) (touch : Touch) → IsTouchOf (Kind.Subsurface request.now) object target self.old touch → IsSubsurface self.old object
+        ensures decides { (version target : ℕ) (touch : Touch) → IsTouchOf (Kind.Subsurface request.now) object target self.old touch → IsSubsurface self.old object
             → AnswersDemandAs (is_some result.applied) (λ r. demand_of nothing_left_out r object version (wl_subsurface_request request.now)) self.old self.new }
         ensures touched { (target : ℕ) (touch : Touch) → IsTouchOf (Kind.Subsurface request.now) object target self.old touch
             → IsTouched touch self.old.owned.linked self.new.owned.linked result.applied }
@@ -206,27 +187,25 @@ impl<A: Allocator + Copy> Resident<A> {
         ensures stays { result.stacking ≡ Stacking.Stays }
         ensures rest { Leaves self.old self.new }
         ensures room { is_some result.applied ≡ true → has_room ≡ true }
-        ensures holds { (target : ℕ) (touch : Touch) → IsTouchOf (Kind.Subsurface request.now) object target self.old touch → IsSubsurface self.old object
+        ensures holds { (version target : ℕ) (touch : Touch) → IsTouchOf (Kind.Subsurface request.now) object target self.old touch → IsSubsurface self.old object
             → HoldsAs (is_some result.applied) (λ r. demand_of nothing_left_out r object version (wl_subsurface_request request.now)) self.old self.new }
     {
         let mut applied = None;
         match *request {
-            WlSubsurfaceRequest::Destroy => applied = self.destroy_subsurface(
-                object, version, has_room,
-            ),
-            WlSubsurfaceRequest::SetPosition { x, y } => self.set_position(object, version, x, y),
+            WlSubsurfaceRequest::Destroy => applied = self.destroy_subsurface(object, has_room),
+            WlSubsurfaceRequest::SetPosition { x, y } => self.set_position(object, x, y),
             WlSubsurfaceRequest::PlaceAbove { sibling } => {
-                if let Some(beside) = self.surface_of(sibling) {
-                    self.place_above(object, version, sibling, beside);
+                if let Some(sibling) = self.surface_of(sibling) {
+                    self.place(object, sibling, Side::Above);
                 }
             }
             WlSubsurfaceRequest::PlaceBelow { sibling } => {
-                if let Some(beside) = self.surface_of(sibling) {
-                    self.place_below(object, version, sibling, beside);
+                if let Some(sibling) = self.surface_of(sibling) {
+                    self.place(object, sibling, Side::Below);
                 }
             }
-            WlSubsurfaceRequest::SetSync => self.set_sync(object, version),
-            WlSubsurfaceRequest::SetDesync => applied = self.set_desync(object, version, has_room),
+            WlSubsurfaceRequest::SetSync => self.set_sync(object),
+            WlSubsurfaceRequest::SetDesync => applied = self.set_desync(object, has_room),
         }
         Outcome {
             stacking: Stacking::Stays,

@@ -91,7 +91,6 @@ impl<A: Allocator + Copy> Resident<A> {
         ensures answers { IsPopup self.old object surface → (seat : ℕ)
             → AnswersAllowed grabbing (Kind.Popup (Grab seat serial)) (λ r. popup_asked r object (xdg_with object r.owned.shell) (Grab seat serial)) self.old self.new }
         ensures rest { Leaves self.old self.new }
-        ensures surfaces { self.new.owned.linked ≡ self.old.owned.linked }
     {
         self.owned.shell.are_found();
         match self.owned.shell.grab(surface, grabbing.allows(serial)) {
@@ -117,7 +116,6 @@ impl<A: Allocator + Copy> Resident<A> {
         ensures answers { IsPopup self.old object surface
             → AnswersPlaced placing (Kind.Popup (Reposition positioner token)) object (λ r. popup_asked r object (xdg_with object r.owned.shell) (Reposition positioner token)) self.old self.new }
         ensures rest { Leaves self.old self.new }
-        ensures surfaces { self.new.owned.linked ≡ self.old.owned.linked }
     {
         let values = self.positioner_of(positioner);
         let xdg_surface = self.xdg_surface_of(surface);
@@ -141,20 +139,19 @@ impl<A: Allocator + Copy> Resident<A> {
     pub(crate) fn xdg_popup(
         &mut self,
         object: u32,
-        version: u32,
         surface: SurfaceNo,
         request: &XdgPopupRequest,
         given: Given,
     ) -> Outcome<A>
-        ensures answers { IsPopup self.old object surface → AnswersGiven given.placing given.grabbing (Kind.Popup request.now) object (λ r. demand_of nothing_left_out r object version (xdg_popup_request request.now)) self.old self.new }
-        ensures decides { (touch : Touch) → IsTouchOf (Kind.Popup request.now) object surface self.old touch → IsPopup self.old object surface
+        ensures answers { (version : ℕ) → IsPopup self.old object surface → AnswersGiven given.placing given.grabbing (Kind.Popup request.now) object (λ r. demand_of nothing_left_out r object version (xdg_popup_request request.now)) self.old self.new }
+        ensures decides { (version : ℕ) (touch : Touch) → IsTouchOf (Kind.Popup request.now) object surface self.old touch → IsPopup self.old object surface
             → AnswersDemandAs (is_some result.applied) (λ r. demand_of nothing_left_out r object version (xdg_popup_request request.now)) self.old self.new }
         ensures touched { (touch : Touch) → IsTouchOf (Kind.Popup request.now) object surface self.old touch → IsTouched touch self.old.owned.linked self.new.owned.linked result.applied }
         ensures nothing { ((touch : Touch) → IsTouchOf (Kind.Popup request.now) object surface self.old touch → ⊥) → result.applied ≡ None }
         ensures stays { result.stacking ≡ Stacking.Stays }
         ensures rest { Leaves self.old self.new }
         ensures room { is_some result.applied ≡ true → given.has_room ≡ true }
-        ensures holds { (touch : Touch) → IsTouchOf (Kind.Popup request.now) object surface self.old touch → IsPopup self.old object surface
+        ensures holds { (version : ℕ) (touch : Touch) → IsTouchOf (Kind.Popup request.now) object surface self.old touch → IsPopup self.old object surface
             → HoldsAs (is_some result.applied) (λ r. demand_of nothing_left_out r object version (xdg_popup_request request.now)) self.old self.new }
     {
         match *request {

@@ -1,6 +1,6 @@
 //! The requests of xdg_surface.
 
-ghost use Rattle.std.specs.Prelude.{◌≡◌, ◌+◌, is_some, min, true};
+ghost use Rattle.std.specs.Prelude.{ℕ, ◌≡◌, ◌+◌, is_some, min, true};
 ghost use Rattle.wl_client.specs.Agreement.{IsPeer, most_counted};
 ghost use Rattle.wl_interface.specs.declared.interface.Interface.TheVariants.{XdgSurface};
 ghost use Rattle.wl_peer.specs.Peer.{Errs, Peer};
@@ -10,7 +10,7 @@ ghost use Rattle.wl_xdg_state.specs.Kept.{kept_of};
 ghost use Rattle.wl_owning.specs.Owning.{kept_base, kept_id, shell_refusal, targets_in};
 ghost use Rattle.wl_requests.specs.Residents.{AnswersDemand, IsFree, IsXdgSurface, Leaves, NewIsFree, ObjectsFit};
 ghost use Rattle.wl_plain.specs.LeftOut.{nothing_left_out};
-ghost use Rattle.wl_plain.specs.Demanding.{demand_of};
+ghost use Rattle.wl_plain.specs.Demanding.{demand_of, xdg_demand};
 ghost use Rattle.wl_plain.specs.XdgPopup.{is_no_popup, positioner_of};
 ghost use Rattle.wl_plain.specs.XdgShell.{is_no_toplevel};
 
@@ -111,10 +111,9 @@ impl<A: Allocator + Copy> Resident<A> {
     }
 
     /// xdg_surface.destroy: its id is given back.
-    fn destroy_xdg_surface(&mut self, object: u32, version: u32, surface: SurfaceNo)
-        ensures answers { IsXdgSurface self.old object surface → AnswersDemand (λ r. demand_of nothing_left_out r object version (xdg_surface_request Destroy)) self.old self.new }
+    fn destroy_xdg_surface(&mut self, object: u32, surface: SurfaceNo)
+        ensures answers { (version : ℕ) → IsXdgSurface self.old object surface → AnswersDemand (λ r. xdg_demand r object version Destroy) self.old self.new }
         ensures rest { Leaves self.old self.new }
-        ensures surfaces { self.new.owned.linked ≡ self.old.owned.linked }
     {
         match self.owned.shell.destroy_xdg_surface(surface) {
             Ok(()) => {
@@ -152,11 +151,10 @@ impl<A: Allocator + Copy> Resident<A> {
     }
 
     /// xdg_surface.set_window_geometry of a rectangle in surface pixels.
-    fn set_window_geometry(&mut self, object: u32, version: u32, surface: SurfaceNo, rect: Rect)
-        ensures answers { IsXdgSurface self.old object surface
-            → AnswersDemand (λ r. demand_of nothing_left_out r object version (xdg_surface_request (SetWindowGeometry rect.x rect.y rect.w rect.h))) self.old self.new }
+    fn set_window_geometry(&mut self, object: u32, surface: SurfaceNo, rect: Rect)
+        ensures answers { (version : ℕ) → IsXdgSurface self.old object surface
+            → AnswersDemand (λ r. xdg_demand r object version (SetWindowGeometry rect.x rect.y rect.w rect.h)) self.old self.new }
         ensures rest { Leaves self.old self.new }
-        ensures surfaces { self.new.owned.linked ≡ self.old.owned.linked }
     {
         match self.owned.shell.geometry(surface, rect) {
             Ok(()) => self.client.count(),
@@ -165,11 +163,10 @@ impl<A: Allocator + Copy> Resident<A> {
     }
 
     /// xdg_surface.ack_configure of the configure with this serial.
-    fn ack_configure(&mut self, object: u32, version: u32, surface: SurfaceNo, serial: u32)
-        ensures answers { IsXdgSurface self.old object surface
-            → AnswersDemand (λ r. demand_of nothing_left_out r object version (xdg_surface_request (AckConfigure serial))) self.old self.new }
+    fn ack_configure(&mut self, object: u32, surface: SurfaceNo, serial: u32)
+        ensures answers { (version : ℕ) → IsXdgSurface self.old object surface
+            → AnswersDemand (λ r. xdg_demand r object version (AckConfigure serial)) self.old self.new }
         ensures rest { Leaves self.old self.new }
-        ensures surfaces { self.new.owned.linked ≡ self.old.owned.linked }
     {
         match self.owned.shell.ack(surface, serial) {
             Ok(()) => self.client.count(),
@@ -257,7 +254,7 @@ impl<A: Allocator + Copy> Resident<A> {
         ensures rest { Leaves self.old self.new }
     {
         match *request {
-            XdgSurfaceRequest::Destroy => self.destroy_xdg_surface(object, version, surface),
+            XdgSurfaceRequest::Destroy => self.destroy_xdg_surface(object, surface),
             XdgSurfaceRequest::GetToplevel { id } => self.get_toplevel(
                 object, version, surface, id,
             ),
@@ -285,10 +282,10 @@ impl<A: Allocator + Copy> Resident<A> {
                     w: width,
                     h: height,
                 };
-                self.set_window_geometry(object, version, surface, rect);
+                self.set_window_geometry(object, surface, rect);
             }
             XdgSurfaceRequest::AckConfigure { serial } => self.ack_configure(
-                object, version, surface, serial,
+                object, surface, serial,
             ),
         }
     }

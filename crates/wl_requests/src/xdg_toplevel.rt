@@ -56,7 +56,6 @@ impl<A: Allocator + Copy> Resident<A> {
     fn destroy_toplevel(&mut self, object: u32, surface: SurfaceNo)
         ensures answers { IsToplevel self.old object surface → AnswersDemand (λ r. toplevel_destroyed object (xdg_with object r.owned.shell)) self.old self.new }
         ensures rest { Leaves self.old self.new }
-        ensures surfaces { self.new.owned.linked ≡ self.old.owned.linked }
     {
         self.client.count();
         self.client.remove(object);
@@ -69,7 +68,6 @@ impl<A: Allocator + Copy> Resident<A> {
     fn configure_again(&mut self, object: u32, surface: SurfaceNo)
         ensures answers { IsToplevel self.old object surface → AnswersDemand (λ r. demands (state_asked (xdg_with object r.owned.shell))) self.old self.new }
         ensures rest { Leaves self.old self.new }
-        ensures surfaces { self.new.owned.linked ≡ self.old.owned.linked }
     {
         let xdg_surface = self.xdg_surface_of(surface);
         let serial = self.client.serial();
@@ -96,7 +94,6 @@ impl<A: Allocator + Copy> Resident<A> {
         ensures stacks { IsToplevel self.old object surface → (version : ℕ) (m : Message) → m.interface ≡ XdgToplevel → asked ≡ asked_by (toplevel_request m.opcode m.fields)
             → Stacks (λ r. demand_of nothing_left_out r object version m) self.old result }
         ensures rest { Leaves self.old self.new }
-        ensures surfaces { self.new.owned.linked ≡ self.old.owned.linked }
     {
         match asked {
             ToplevelAsked::Destruction => {

@@ -1,18 +1,17 @@
 //! The requests of xdg_wm_base.
 
-ghost use Rattle.std.specs.Prelude.{◌≡◌, ◌↔◌, IsTrue, Ok};
+ghost use Rattle.std.specs.Prelude.{ℕ, ◌≡◌, ◌↔◌, IsTrue, Ok};
 ghost use Rattle.wl_proto.specs.Messages.{xdg_wm_base_request};
 ghost use Rattle.wl_interface.specs.declared.interface.Interface.TheVariants.{WlSurface};
-ghost use Rattle.wl_proto.specs.declared.xdg_wm_base.XdgWmBaseRequest.TheVariants.{Destroy, GetXdgSurface};
 ghost use Rattle.wl_peer.specs.declared.actions.Action.TheVariants.{CreatePositioner};
 ghost use Rattle.wl_plain.specs.Ask.{EndObject, Ignore, Own};
 ghost use Rattle.wl_plain.specs.Demand.{Asks};
 ghost use Rattle.wl_owning.specs.Owning.{targets_in};
 ghost use Rattle.wl_requests.specs.Residents.{AnswersDemand, Does, GoesAlone, IsBase, IsFree, IsSurface, Leaves, NewIsFree, ObjectsFit};
 ghost use Rattle.wl_plain.specs.LeftOut.{nothing_left_out};
-ghost use Rattle.wl_plain.specs.Demanding.{demand_of};
+ghost use Rattle.wl_plain.specs.Demanding.{demand_of, demands};
 ghost use Rattle.wl_plain.specs.WlSubsurface.{past_limit};
-ghost use Rattle.wl_plain.specs.XdgShell.{is_foreign};
+ghost use Rattle.wl_plain.specs.XdgShell.{base_destroyed, is_foreign, xdg_surface_made};
 
 use crate::residents::Resident;
 use crate::xdg_surface::refusal_of;
@@ -45,7 +44,6 @@ impl<A: Allocator + Copy> Resident<A> {
     pub(crate) fn ignore(&mut self)
         ensures answers { AnswersDemand (λ r. Ok (Asks Ignore)) self.old self.new }
         ensures rest { Leaves self.old self.new }
-        ensures surfaces { self.new.owned.linked ≡ self.old.owned.linked }
     {
         self.client.count();
     }
@@ -54,7 +52,6 @@ impl<A: Allocator + Copy> Resident<A> {
     pub(crate) fn refuse_unserved(&mut self)
         ensures answers { AnswersDemand (λ r. past_limit) self.old self.new }
         ensures rest { Leaves self.old self.new }
-        ensures surfaces { self.new.owned.linked ≡ self.old.owned.linked }
     {
         self.client
             .refuse(Refusal::of_display(ErrorCode::Implementation));
@@ -75,16 +72,14 @@ impl<A: Allocator + Copy> Resident<A> {
     pub(crate) fn end_object(&mut self, object: u32)
         ensures does { GoesAlone self.old object → Does (λ r. EndObject object) self.old self.new }
         ensures rest { Leaves self.old self.new }
-        ensures surfaces { self.new.owned.linked ≡ self.old.owned.linked }
     {
         self.client.remove(object);
     }
 
     /// xdg_wm_base.destroy: its id is given back.
-    fn destroy_base(&mut self, object: u32, version: u32)
-        ensures answers { IsBase self.old object → AnswersDemand (λ r. demand_of nothing_left_out r object version (xdg_wm_base_request Destroy)) self.old self.new }
+    fn destroy_base(&mut self, object: u32)
+        ensures answers { IsBase self.old object → AnswersDemand (λ r. demands (base_destroyed r object)) self.old self.new }
         ensures rest { Leaves self.old self.new }
-        ensures surfaces { self.new.owned.linked ≡ self.old.owned.linked }
     {
         match self.owned.shell.check_base(object) {
             Ok(()) => {
@@ -101,38 +96,29 @@ impl<A: Allocator + Copy> Resident<A> {
     fn create_positioner(&mut self, version: u32, id: u32)
         ensures answers { IsFree self.old id → AnswersDemand (λ r. Ok (Asks (Own (CreatePositioner id version)))) self.old self.new }
         ensures rest { Leaves self.old self.new }
-        ensures surfaces { self.new.owned.linked ≡ self.old.owned.linked }
     {
         self.client.count();
         self.client.create_positioner(id, version);
     }
 
-    /// xdg_wm_base.get_xdg_surface: a new xdg_surface, under a free id, of the wl_surface with this id, whose surface has this number.
-    fn get_xdg_surface(
-        &mut self,
-        object: u32,
-        version: u32,
-        id: u32,
-        surface: u32,
-        number: SurfaceNo,
-    )
-        ensures answers { IsFree self.old id → IsSurface self.old surface number
-            → AnswersDemand (λ r. demand_of nothing_left_out r object version (xdg_wm_base_request (GetXdgSurface id surface))) self.old self.new }
+    /// xdg_wm_base.get_xdg_surface: a new xdg_surface, under a free id, of the surface with this number.
+    fn get_xdg_surface(&mut self, object: u32, version: u32, id: u32, surface: SurfaceNo)
+        ensures answers { (named : ℕ) → IsFree self.old id → IsSurface self.old named surface
+            → AnswersDemand (λ r. demands (xdg_surface_made r object version id named)) self.old self.new }
         ensures rest { Leaves self.old self.new }
-        ensures surfaces { self.new.owned.linked ≡ self.old.owned.linked }
     {
-        let has_other_role = is_foreign_role(self.owned.linked.surfaces.role(number));
-        let has_content = self.owned.linked.surfaces.has_content(number);
+        let has_other_role = is_foreign_role(self.owned.linked.surfaces.role(surface));
+        let has_content = self.owned.linked.surfaces.has_content(surface);
         match self
             .owned
             .shell
-            .get_xdg_surface(number, id, object, has_other_role, has_content)
+            .get_xdg_surface(surface, id, object, has_other_role, has_content)
         {
             Ok(()) => {
                 let entry = Entry {
                     interface: Interface::XdgSurface,
                     version,
-                    target: number,
+                    target: surface,
                 };
                 self.client.count();
                 self.client.add(id, entry, &[]);
@@ -153,14 +139,13 @@ impl<A: Allocator + Copy> Resident<A> {
         ensures answers { IsBase self.old object → NewIsFree self.old (xdg_wm_base_request request.now) → ObjectsFit self.old (xdg_wm_base_request request.now)
             → AnswersDemand (λ r. demand_of nothing_left_out r object version (xdg_wm_base_request request.now)) self.old self.new }
         ensures rest { Leaves self.old self.new }
-        ensures surfaces { self.new.owned.linked ≡ self.old.owned.linked }
     {
         match *request {
-            XdgWmBaseRequest::Destroy => self.destroy_base(object, version),
+            XdgWmBaseRequest::Destroy => self.destroy_base(object),
             XdgWmBaseRequest::CreatePositioner { id } => self.create_positioner(version, id),
             XdgWmBaseRequest::GetXdgSurface { id, surface } => {
-                if let Some(number) = self.surface_of(surface) {
-                    self.get_xdg_surface(object, version, id, surface, number);
+                if let Some(surface) = self.surface_of(surface) {
+                    self.get_xdg_surface(object, version, id, surface);
                 }
             }
             XdgWmBaseRequest::Pong { .. } => self.ignore(),

@@ -26,7 +26,7 @@ use Rattle.wl_plain.specs.Replies.{popups_done}
 use Rattle.wl_plain.specs.Settling.{QueuesFirst, QueuesTo, without_grabs}
 use Rattle.wl_plain.specs.Stacked.{all_windows}
 use Rattle.wl_repaint.specs.Repaint.{window_has}
-use Rattle.wl_requests.specs.Dismissing.{AreReleased, ReleasesGrabs}
+use Rattle.wl_requests.specs.Dismissing.{GrabsAreReleased, ReleasesGrabs}
 use Rattle.wl_requests.specs.declared.residents.Resident.{Resident as Kept}
 use Rattle.wl_requests.proofs.ReleasedDone.{released-done}
 use Rattle.wl_scene.specs.Kept.{Stack}
@@ -117,7 +117,7 @@ module _ {A : Type 0} (laws : ReleaseLaws) (c : ℕ) (others : ℕ → ById ℕ)
   abbrev book : Book
   book = new.owned.shell
 
-  released : (q : Peer) × AreReleased (names_of old.client.objects) r.owned r.peer q new
+  released : (q : Peer) × GrabsAreReleased (names_of old.client.objects) r.owned r.peer q new
   released = releases (names_of old.client.objects) r.owned r.peer before.seat.owns (laws.order r owns) before.seat.peer alive before.seat.peer.open
 
   abbrev nums : ℕ → ById ℕ

@@ -1,6 +1,6 @@
 //! The roots of a toplevel's windows, for which there is always room.
 
-ghost use Rattle.std.specs.Prelude.{ℕ, ◌≡◌, ◌≤◌, [], OnOk, length, map};
+ghost use Rattle.std.specs.Prelude.{ℕ, ◌≡◌, ◌≤◌, length, map};
 ghost use Rattle.wl_scene.specs.Roots.{HasRole, IsHeld, standing_at, told_root};
 ghost use Rattle.wl_shell.specs.InOrder.{AreRising};
 ghost use Rattle.wl_stacking.specs.Popups.{stacked_popups};

@@ -1,16 +1,15 @@
 //! Where the window geometries of popups and of their parents stand (xdg-shell.xml, xdg_popup).
 
-ghost use Rattle.std.specs.Prelude.{ℕ, ◌≡◌, ◌+ℤ◌, ◌-ℤ◌, Some, None, find};
-ghost use Rattle.std.specs.Option.{option_and_then, option_map};
+ghost use Rattle.std.specs.Prelude.{ℕ, ◌≡◌, ◌+ℤ◌, ◌-ℤ◌, Some, None};
 ghost use Rattle.wl_linked.specs.Linked.{Stand};
 ghost use Rattle.wl_scene.specs.Focus.{place_of};
 ghost use Rattle.wl_scene.specs.Roots.{IsHeld, corner_or, kept_geometry};
 ghost use Rattle.wl_stacking.specs.Popups.{corner_at_parent, corner_of_xdg, geometry_corner_at, origin, parent_corner, placement_of, standing_place};
-ghost use Rattle.wl_stacking.specs.Stacking.{Owned as Owns, is_of};
+ghost use Rattle.wl_stacking.specs.Stacking.{Owned as Owns};
 ghost use Rattle.wl_stacking.specs.Windows.{Place, StackedPopup, geometry_corner, moved, popup_place, start_of};
 ghost use Rattle.wl_state.specs.State.{within_bounds};
 ghost use Rattle.wl_surface.specs.Surfaces.{Surfaces as Asked, history_in};
-ghost use Rattle.wl_xdg_state.specs.Kept.{Kept, kept_of};
+ghost use Rattle.wl_xdg_state.specs.Kept.{kept_of};
 ghost use Rattle.wl_xdg_state.specs.Popups.{popup_in};
 ghost use Rattle.wl_xdg_state.specs.Shell.{XdgSurface as Xdg, xdg_of};
 

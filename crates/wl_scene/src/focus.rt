@@ -1,6 +1,6 @@
 //! The pointer: where it is, what is pressed, which surface has its focus, and which toplevel it moves.
 
-ghost use Rattle.std.specs.Prelude.{◌≡◌, ◌++◌, ◌∷◌, ◌-ℤ◌, [], ℕ, true, false, IsTrue, ◌↔◌, List, None, Some, map};
+ghost use Rattle.std.specs.Prelude.{◌≡◌, ◌++◌, ◌∷◌, ◌-ℤ◌, [], true, false, IsTrue, ◌↔◌, List, None, Some, map};
 ghost use Rattle.std.specs.Option.{option_map};
 ghost use Rattle.wl_stacking.specs.Pointer.{first_pointer, hit_now, is_down, is_press, settled, without_button};
 ghost use Rattle.wl_stacking.specs.PointerActions.{GoTo, Press, Release, Settle, Went, actions, focus_or, move_of};

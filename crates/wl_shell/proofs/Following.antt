@@ -9,7 +9,7 @@ use Rattle.wl_shell.specs.Agreement.{IsShell}
 use Rattle.wl_shell.specs.Descent.{AreYounger, has_popup_at, is_of_xdg}
 use Rattle.wl_shell.specs.Dismissing.{AreDone, GoesByFamily}
 use Rattle.wl_shell.specs.Found.{AreFound}
-use Rattle.wl_shell.specs.InOrder.{AfterFound, AreReleased, AreRising, BeforeFound, FirstFound, GoesNext, HasOrder, IsNextToGo, IsOnly, NextFound, NextStands, first_surface, goes_with, newest_first, undismissed, with_dismissed}
+use Rattle.wl_shell.specs.InOrder.{AfterFound, AreReleased, AreRising, FirstFound, GoesNext, HasOrder, IsNextToGo, IsOnly, NextFound, NextStands, first_surface, goes_with, newest_first, undismissed, with_dismissed}
 use Rattle.wl_shell.specs.Popups.{IsFound, IsNewest, IsOldest, dismissible, dismissible_under, has_popup, number_of, reaches}
 use Rattle.wl_shell.proofs.Descending.{descents_found, or-first, or-second, same-id}
 use Rattle.wl_shell.proofs.Dismissing.{EachAlike, alike-popups, dismissals_end, gone_at, same-after}
@@ -20,7 +20,7 @@ use Rattle.wl_shell.proofs.Shells.{changed-still}
 use Rattle.wl_shell.proofs.Standing.{both, kept-for, there}
 use Rattle.wl_state.specs.State.{History}
 use Rattle.wl_xdg_state.proofs.Standing.{changes_stand}
-use Rattle.wl_xdg_state.specs.Kept.{Book, Kept, changing, kept_changed, kept_of}
+use Rattle.wl_xdg_state.specs.Kept.{Book, Kept, kept_changed, kept_of}
 use Rattle.wl_xdg_state.specs.Popups.{Popped, by_number, dismiss, dismissed_with, dismissing, is_among, is_parent_of, kind_popup, popped_kind, popped_of, popped_role, popup_changed}
 use Rattle.wl_xdg_state.specs.Popups.{popup_in, popups_of, with_popup, with_popup_role}
 use Rattle.wl_xdg_state.specs.Shell.{IsPopup, Kind, Popup, RoleObject, Shell, Toplevel, XdgSurface, xdg_at, xdg_of}
@@ -253,27 +253,12 @@ module _ (kept : ℕ → Option Kept) (histories : ℕ → Option History) (shel
         (rising-sorted (popups_of shell) rising) (among-popups shell surface p.0 p.1.only) p.1.passed p.1.best in
         ap (λ (s : ℕ). Some s) (sym (found-surface surface shell p.0.xdg p.1.only.found)) ∙ sym (ap first_surface rest.1)
 
-    newest-found : (result : Option ℕ) → AreRising (popups_of shell) → IsNewest (has_popup test) kept result
-        → result ≡ first_surface (filter by-popup (newest_first (popups_of shell)))
-    newest-found None rising none =
-        sym (ap first_surface (none-of by-popup (newest_first (popups_of shell))
-        (each-newest (λ p. by-popup p ≡ false) [] (popups_of shell) tt (none-found (has_popup test) by-popup agreed no-popup (λ other this. other ≤ this) none))))
-    newest-found (Some surface) rising found =
-        let p = some-found (has_popup test) by-popup agreed no-popup (λ other this. other ≤ this) surface found in
-        let rest = first-of Falls (λ other this. other ≤ this) fall-clash below-none by-popup p.0 (newest_first (popups_of shell))
-        (falling (popups_of shell) rising) (among-newest p.0 [] (popups_of shell) (among-popups shell surface p.0 p.1.only)) p.1.passed
-        (each-newest (λ q. by-popup q ≡ true → q.popup.number ≤ p.0.popup.number) [] (popups_of shell) tt p.1.best) in
-        ap (λ (s : ℕ). Some s) (sym (found-surface surface shell p.0.xdg p.1.only.found)) ∙ sym (ap first_surface rest.1)
-
 pub first_found : FirstFound
 first_found result kept histories shell is rising found =
     oldest-found kept histories shell is (λ popup. true) result rising found ∙ ap first_surface (all-of (popups_of shell))
 
 pub after_found : AfterFound
 after_found number result kept histories shell is rising found = oldest-found kept histories shell is (λ popup. nat_lt number popup.number) result rising found
-
-pub before_found : BeforeFound
-before_found number result kept histories shell is rising found = newest-found kept histories shell is (λ popup. nat_lt popup.number number) result rising found
 
 -- ---- one is dismissed
 

@@ -6,21 +6,19 @@ use Rattle.std.specs.Ordering.{nat_cmp, is_eq}
 use Rattle.std.proofs.lemmas.Bool.Decides.{nat_tests}
 use Rattle.wl_xdg_state.specs.Kept.{Book, Kept, kept_of}
 use Rattle.wl_shell.specs.declared.popups.Wanted.{Wanted}
-use Rattle.wl_shell.specs.declared.popups.Wanted.TheVariants.{After, Before, First, Grabbing, Under}
+use Rattle.wl_shell.specs.declared.popups.Wanted.TheVariants.{After, First, Grabbing, Under}
 use Rattle.wl_shell.specs.Picking.{better_of, is_better, next_found, passes, picked}
 use Rattle.wl_shell.specs.Popups.{IsFound, IsNewest, number_of}
 
 -- none is better than itself, and what is better than one that isn't beaten isn't beaten
 unbeaten-itself : (wanted : Wanted) (n : ℕ) → is_better wanted n n ≡ false
 unbeaten-itself (After number) n = grind (arith, nat_tests)
-unbeaten-itself (Before number) n = grind (arith, nat_tests)
 unbeaten-itself (Under id) n = grind (arith, nat_tests)
 unbeaten-itself Grabbing n = grind (arith, nat_tests)
 unbeaten-itself First n = grind (arith, nat_tests)
 
 unbeaten-by : (wanted : Wanted) (one found n : ℕ) → is_better wanted one found ≡ true → is_better wanted n found ≡ false → is_better wanted n one ≡ false
 unbeaten-by (After number) one found n better not = grind (arith, nat_tests)
-unbeaten-by (Before number) one found n better not = grind (arith, nat_tests)
 unbeaten-by (Under id) one found n better not = grind (arith, nat_tests)
 unbeaten-by Grabbing one found n better not = grind (arith, nat_tests)
 unbeaten-by First one found n better not = grind (arith, nat_tests)

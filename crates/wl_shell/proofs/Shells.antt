@@ -1,17 +1,16 @@
 -- What is kept of all xdg_surfaces goes on standing for them.
 use Rattle.std.proofs.Common.{◌≡◌, ◌≢◌, ℕ, [], ◌∷◌, map, Bool, true, false, Option, Some, None, refl, ap, subst, sym, ◌∙◌, arith}
-use Rattle.std.specs.Prelude.{ℤ, ◌==◌, ◌||◌, IfSome, IsSomeAnd, if◌then◌else◌, is_some, Ok}
+use Rattle.std.specs.Prelude.{◌==◌, ◌||◌, IfSome, IsSomeAnd, if◌then◌else◌}
 use Rattle.std.specs.List.{list_any}
 use Rattle.std.specs.Option.{option_map}
 use Rattle.std.proofs.Math.Path.{fun_ext}
 use Rattle.std.proofs.lemmas.Bool.{eqb-true}
 use Rattle.std.proofs.lemmas.Bool.Decides.{nat_tests}
-use Rattle.wl_geom.specs.declared.rect.Rect.{Rect}
 use Rattle.wl_state.specs.State.{History}
-use Rattle.wl_shell.specs.Agreement.{AreApart, IsKept, IsShell, with_history}
+use Rattle.wl_shell.specs.Agreement.{AreApart, IsKept, IsShell}
 use Rattle.wl_xdg_state.specs.Kept.{Kept, Stands, changing, first_kept, kept_changed, kept_repositioning, reposition_answer}
-use Rattle.wl_xdg_state.specs.Popups.{Popped, dismiss, dismissed_among, first_of, is_among, is_configured, orphan, popped_of, popup_changed, repositioning}
-use Rattle.wl_xdg_state.specs.Positioner.{Placed, Positioner, place}
+use Rattle.wl_xdg_state.specs.Popups.{dismiss, dismissed_among, is_among, is_configured, orphan, popup_changed, repositioning}
+use Rattle.wl_xdg_state.specs.Positioner.{place}
 use Rattle.wl_shell.proofs.Standing.{IsThere, kept-for}
 use Rattle.wl_xdg_state.proofs.Standing.{changes_stand}
 use Rattle.wl_shell.specs.Laws.{BaseRead, ChangedShell, DismissalStands, GoneShell, ManyChanged, NewShell, OrphaningStands, OtherHistory, RepositionAnswered, RepositionedShell, ShellsStand}

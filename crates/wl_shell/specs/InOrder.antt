@@ -47,7 +47,7 @@ first_surface (p ∷ ps) = Some p.xdg.surface
 abbrev pub newest_first : List Popped → List Popped
 newest_first ps = fold (λ later p. p ∷ later) [] ps
 
--- the first popup, the next one after a number, and the one before it
+-- the first popup, and the next one after a number
 abbrev pub FirstFound : Type 0
 FirstFound =
     (result : Option ℕ) (kept : ℕ → Option Kept) (histories : ℕ → Option History) (shell : Shell)
@@ -63,14 +63,6 @@ AfterFound =
     → AreRising (popups_of shell)
     → IsOldest (has_popup (λ popup. nat_lt number popup.number)) kept result
     → result ≡ first_surface (filter (λ p. nat_lt number p.popup.number) (popups_of shell))
-
-abbrev pub BeforeFound : Type 0
-BeforeFound =
-    (number : ℕ) (result : Option ℕ) (kept : ℕ → Option Kept) (histories : ℕ → Option History) (shell : Shell)
-    → IsShell kept histories shell
-    → AreRising (popups_of shell)
-    → IsNewest (has_popup (λ popup. nat_lt popup.number number)) kept result
-    → result ≡ first_surface (filter (λ p. nat_lt p.popup.number number) (newest_first (popups_of shell)))
 
 -- ---- one dismissed after another
 
@@ -131,7 +123,6 @@ NextStands =
 pub record PopupsFollow : Type 0 where
   pub first : FirstFound
   pub after : AfterFound
-  pub before : BeforeFound
   pub next : NextFound
   pub grabbing : GrabbingFound
   pub stands : NextStands

@@ -2,12 +2,11 @@
 use Rattle.std.specs.Prelude.{ℕ, nat_lt, Bool, true, if◌then◌else◌, Option, Some, None, [], ◌∷◌}
 use Rattle.wl_xdg_state.specs.Kept.{Book, Kept}
 use Rattle.wl_shell.specs.declared.popups.Wanted.{Wanted}
-use Rattle.wl_shell.specs.declared.popups.Wanted.TheVariants.{After, Before, First, Grabbing, Under}
+use Rattle.wl_shell.specs.declared.popups.Wanted.TheVariants.{After, First, Grabbing, Under}
 use Rattle.wl_shell.specs.Popups.{dismissible, dismissible_grabbing, has_popup, number_of}
 
 abbrev pub passes : Book → Wanted → Kept → Bool
 passes book (After number) k = has_popup (λ popup. nat_lt number popup.number) k
-passes book (Before number) k = has_popup (λ popup. nat_lt popup.number number) k
 passes book (Under id) k = dismissible book id k
 passes book Grabbing k = dismissible_grabbing book k
 passes book First k = has_popup (λ popup. true) k
@@ -15,7 +14,6 @@ passes book First k = has_popup (λ popup. true) k
 -- the one number is better than the other
 abbrev pub is_better : Wanted → ℕ → ℕ → Bool
 is_better (After number) one other = nat_lt one other
-is_better (Before number) one other = nat_lt other one
 is_better (Under id) one other = nat_lt other one
 is_better Grabbing one other = nat_lt other one
 is_better First one other = nat_lt one other

@@ -293,13 +293,6 @@ impl<A: Allocator> Shell<A> {
         popups::find_popup(&self.surfaces, Wanted::After(number))
     }
 
-    /// The surface of the newest popup with a lesser number, of those that aren't dismissed and of those that are; none where there is none.
-    pub fn popup_before(&self, number: u64) -> Option<SurfaceNo>
-        ensures { IsNewest (has_popup (λ popup. nat_lt popup.number number)) (kept_of self.now) result }
-    {
-        popups::find_popup(&self.surfaces, Wanted::Before(number))
-    }
-
     /// The surface of the newest popup that isn't dismissed, of the popup of the xdg_surface of the surface and those that descend from it.
     fn newest_under(&self, surface: SurfaceNo) -> Option<SurfaceNo>
         ensures { IsNewest (dismissible_under self.now (kept_of self.now surface)) (kept_of self.now) result }

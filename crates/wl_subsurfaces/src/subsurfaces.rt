@@ -1,6 +1,6 @@
 //! The wl_subsurfaces of a client, by the numbers of their surfaces.
 
-ghost use Rattle.std.specs.Prelude.{ℕ, ◌≡◌, ◌≢◌, ◌++◌, ◌-◌, ◌+◌, [], None, Some, length, replicate, slice_index_or, IfNone, IfSome, OnErr, OnOk};
+ghost use Rattle.std.specs.Prelude.{ℕ, ◌≡◌, ◌≢◌, ◌-◌, [], None, Some, slice_index_or, IfNone, IfSome, OnErr, OnOk};
 ghost use Rattle.wl_subsurfaces.specs.Subsurfaces.{IsSetAt};
 
 use std::alloc::{AllocError, Allocator};

@@ -1,6 +1,6 @@
 //! The surfaces of a client.
 
-ghost use Rattle.std.specs.Prelude.{ℕ, [], ◌≡◌, ◌≢◌, ◌+◌, ◌<◌, ◌==◌, ◌↔◌, List, map, Option, Some, None, IfOk, OnOk, OnErr, IfErr, IfNone, IfSome, IsErr, IsOk, MatchBool, OnSome, if◌then◌else◌, is_some, ◌++◌, ◌∷◌, nat_le, length, unsigned_abs, option_copied, true, false, filter, not};
+ghost use Rattle.std.specs.Prelude.{ℕ, [], ◌≡◌, ◌≢◌, ◌+◌, ◌<◌, ◌↔◌, List, map, Option, Some, None, IfOk, OnOk, OnErr, IfErr, IfNone, IfSome, IsErr, IsOk, MatchBool, OnSome, if◌then◌else◌, is_some, ◌++◌, ◌∷◌, nat_le, length, unsigned_abs, option_copied, true, false, filter, not};
 ghost use Rattle.std.specs.List.{list_any};
 ghost use Rattle.std.specs.Option.{option_map};
 ghost use Rattle.slab.specs.Slab.{entries};

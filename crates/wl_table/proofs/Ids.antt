@@ -8,8 +8,7 @@ use Rattle.std.specs.BTreeMap.{BTreeMap, UpdatesBy}
 use Rattle.std.specs.BTreeMap.Range.{IsRangeOf}
 use Rattle.wl_table.specs.declared.entry.Entry.{Entry}
 use Rattle.wl_table.specs.declared.entry.TableError.TheVariants.{BadId, InUse, TooMany}
-use Rattle.wl_table.specs.Objects.{Held, entry_of, is_client_id, refusal, with_target, HoldsAt}
-use Rattle.std.specs.Option.{option_map}
+use Rattle.wl_table.specs.Objects.{Held, entry_of, is_client_id, refusal, HoldsAt}
 
 another : (id other : ℕ) → other ≢ id → is_eq (nat_cmp id other) ≡ false
 another id other apart = grind (arith, nat_tests)

@@ -1,6 +1,6 @@
 //! A map from ids to objects.
 
-ghost use Rattle.std.specs.Prelude.{◌≡◌, ◌≢◌, ℕ, ◌+◌, ◌-◌, ◌++◌, replicate, ◌<◌, ◌≤◌, ◌⊎◌, [], if◌then◌else◌, length, is_some, IsSome, IfSome, IfNone, None, Some, MatchOption, slice_index_or, OnOk, OnErr, IsOkUnless, Err, IsTrue, ◌↔◌};
+ghost use Rattle.std.specs.Prelude.{◌≡◌, ℕ, ◌+◌, ◌-◌, ◌++◌, replicate, ◌<◌, ◌≤◌, ◌⊎◌, [], if◌then◌else◌, length, is_some, IsSome, IfSome, IfNone, None, Some, MatchOption, slice_index_or, OnOk, OnErr, IsOkUnless, Err, IsTrue, ◌↔◌};
 ghost use Rattle.std.specs.Option.{option_map};
 ghost use Rattle.wl_table.specs.Objects.{Held, entry_of, refusal, with_target, HoldsAt, StandsFor, Finds};
 

@@ -1,6 +1,6 @@
 //! The arguments of a message, read in turn.
 
-ghost use Rattle.std.specs.Prelude.{◌≡◌, ◌+◌, ◌≤◌, ◌↔◌, [], length, take, drop, IfOk, IfErr, IsOk, IsErr, OnErr};
+ghost use Rattle.std.specs.Prelude.{◌≡◌, ◌+◌, ◌≤◌, ◌↔◌, [], length, take, drop, IfOk, IfErr, IsOk};
 ghost use Rattle.std.specs.Int.{w32, to_le_bytes, from_le_bytes};
 ghost use Rattle.wl_wire.specs.Wire.{Reads, Takes, AWord, ANumber, AText, ABlock, Word, Number, Text, Block};
 

@@ -1,6 +1,6 @@
 //! Messages, written at the end of a buffer.
 
-ghost use Rattle.std.specs.Prelude.{◌≡◌, ℕ, List, ◌+◌, ◌^◌, ◌<◌, ◌≤◌, ◌↔◌, [], ◌∷◌, ◌++◌, length, take, IfSome, IfNone, OnOk, OnErr, IsErrOf};
+ghost use Rattle.std.specs.Prelude.{◌≡◌, ◌+◌, ◌^◌, ◌<◌, ◌≤◌, ◌↔◌, [], ◌∷◌, ◌++◌, length, take, IfSome, IfNone, OnOk, OnErr, IsErrOf};
 ghost use Rattle.wl_wire.specs.Wire.{padding as spec_padding, message_bytes, args_bytes, arg_bytes, counted_bytes, fields_of, IsPrefix, SpellsMessage};
 
 use crate::{Arg, PutError};

@@ -9,7 +9,7 @@ use Rattle.wl_geom.specs.declared.rect.Rect.{Rect}
 use Rattle.wl_children.specs.declared.placed.Side.{Side}
 use Rattle.wl_children.specs.declared.placed.Side.TheVariants.{Above, Below}
 use Rattle.wl_family.specs.Family.{Tied, member_of}
-use Rattle.wl_state.specs.Request.{AddChild, Member, PlaceAbove, PlaceBelow, Request, SetPosition}
+use Rattle.wl_state.specs.Request.{AddChild, Member, Request, SetPosition}
 use Rattle.wl_state.specs.State.{History, geometry_asked}
 use Rattle.wl_state.specs.Surface.{Surface, asking, with_role}
 use Rattle.wl_state.specs.declared.role.Role.TheVariants.{Subsurface}
@@ -158,16 +158,6 @@ module _ (names : Names) (slots : Slots) (tied : Tied) (kept : ℕ → Option Ke
         no-geometry : (side : Side) (asked : Option Rect) → geometry_asked asked (place_request side number at) ≡ asked
         no-geometry Above asked = refl
         no-geometry Below asked = refl
-
-    pub owned-above : (above sibling beside : ℕ) (at : Member) → names.surfaces link.parent ≡ Some above → names.surfaces sibling ≡ Some beside
-        → IsKept (kids_of o.surfaces) at (member_of link.parent sibling) → PlacesSo PlaceAbove below beside
-        → IsOwned names new after kept (record o { surfaces = with_change link.parent (asking (PlaceAbove number at)) o.surfaces })
-    owned-above = owned-placed Above
-
-    pub owned-below : (above sibling beside : ℕ) (at : Member) → names.surfaces link.parent ≡ Some above → names.surfaces sibling ≡ Some beside
-        → IsKept (kids_of o.surfaces) at (member_of link.parent sibling) → PlacesSo PlaceBelow below beside
-        → IsOwned names new after kept (record o { surfaces = with_change link.parent (asking (PlaceBelow number at)) o.surfaces })
-    owned-below = owned-placed Below
 
     -- wl_subsurface.set_sync
     pub owned-synchronised : MakesBy below slots tied new after (λ number link. synchronised_in number)

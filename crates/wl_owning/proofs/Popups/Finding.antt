@@ -15,8 +15,8 @@ use Rattle.wl_named_popups.proofs.Popped.{IsThere, each-there, popped-renamed, p
 use Rattle.wl_named_popups.proofs.Rooted.{of-renamed}
 use Rattle.wl_shell.specs.Descent.{has_popup_at}
 use Rattle.wl_shell.specs.Found.{AreFound, parent_in}
-use Rattle.wl_shell.specs.InOrder.{GoesNext, IsNextToGo, IsOnly, goes_with, undismissed}
-use Rattle.wl_shell.specs.Popups.{has_child, parent_allows, popup_destruction}
+use Rattle.wl_shell.specs.InOrder.{GoesNext, HasOrder, IsNextToGo, IsOnly, goes_with, undismissed}
+use Rattle.wl_shell.specs.Popups.{IsNewest, dismissible_grabbing, has_child, parent_allows, popup_destruction}
 use Rattle.wl_shell.proofs.Agreeing.{found-surface}
 use Rattle.wl_shell.proofs.InOrder.{popups_follow}
 use Rattle.wl_shell.proofs.Ordered.{role-of}
@@ -70,6 +70,9 @@ parents-renamed f shell (Some p) = at p.popup.parent
     at (Some id) = ap is_grab_allowed (xdg-renamed f id shell) ∙ allowed-renamed f (xdg_at id shell)
 
 -- ---- what is kept of a client
+
+abbrev pub has_grab : Popped → Bool
+has_grab p = p.popup.has_grab
 
 module _ (names : Names) (slots : Slots) (tied : Tied) (book : Book) (o : Owned) (found : AreFound book) (is : IsOwned names slots tied (kept_of book) o) where
   abbrev f : ℕ → ℕ
@@ -143,9 +146,9 @@ module _ (names : Names) (slots : Slots) (tied : Tied) (book : Book) (o : Owned)
   role-known k k' p e role =
       ap (option_and_then (λ (k : Kept). option_map (λ (object : RoleObject). object.id) k.role)) e ∙ ap (option_map (λ (object : RoleObject). object.id)) role
 
-  next-by : (b : Bool) (xdg gone : ℕ) (p : Popped) → IsNextToGo (goes_with b xdg) shell gone p
-      → (q : Popped) × IsNext names (kept_of book) (goes_with b xdg) o.shell gone q
-  next-by b xdg gone p next =
+  next-by : (goes : Popped → Bool) → ((f : ℕ → ℕ) (p : Popped) → goes (renamed_popped f p) ≡ goes p) → (gone : ℕ) (p : Popped) → IsNextToGo goes shell gone p
+      → (q : Popped) × IsNext names (kept_of book) goes o.shell gone q
+  next-by goes same_goes gone p next =
       let kept = kept-for (kept_of book) histories shell twin.shell gone p.xdg next.only.found in
       let known = is.known gone (ap is_some kept.2) in
       let id = known.0 in
@@ -163,17 +166,23 @@ module _ (names : Names) (slots : Slots) (tied : Tied) (book : Book) (o : Owned)
           surface = named;
           object = role-known (kept_of book gone) kept.0 p kept.2 (kept.3.stands.role ∙ role-of p.xdg p next.only.its);
           next =
-              subst (λ (s : Shell). IsNextToGo (goes_with b xdg) s q.xdg.surface q) shell-back
-              (next-renamed g b xdg shell gone q.xdg.surface p (subst (λ (s : Shell). IsOnly s q.xdg.surface q) (sym shell-back) only) next);
+              subst (λ (s : Shell). IsNextToGo goes s q.xdg.surface q) shell-back
+              (next-renamed g goes (same_goes g) shell gone q.xdg.surface p (subst (λ (s : Shell). IsOnly s q.xdg.surface q) (sym shell-back) only) next);
         },
       )
 
-  next-of : (b : Bool) (xdg : ℕ) (result : Option ℕ) → GoesNext (goes_with b xdg) shell result → NextIs names (kept_of book) (goes_with b xdg) o.shell result
-  next-of b xdg None goes = (
-    ap (λ (s : Shell). undismissed (goes_with b xdg) s) (sym shell-back) ∙ undismissed-renamed g (goes_with b xdg) (λ q. refl) shell ∙ ap (map (renamed_popped g)) goes.0,
-    ap (λ (s : Shell). dismissing (goes_with b xdg) s) (sym shell-back) ∙ dismissing-renamed g (goes_with b xdg) (λ q. refl) shell ∙ ap (renamed_shell g) goes.1 ∙ shell-back,
+  next-of : (goes : Popped → Bool) → ((f : ℕ → ℕ) (p : Popped) → goes (renamed_popped f p) ≡ goes p) → (result : Option ℕ) → GoesNext goes shell result
+      → NextIs names (kept_of book) goes o.shell result
+  next-of goes same_goes None next = (
+    ap (λ (s : Shell). undismissed goes s) (sym shell-back) ∙ undismissed-renamed g goes (same_goes g) shell ∙ ap (map (renamed_popped g)) next.0,
+    ap (λ (s : Shell). dismissing goes s) (sym shell-back) ∙ dismissing-renamed g goes (same_goes g) shell ∙ ap (renamed_shell g) next.1 ∙ shell-back,
   )
-  next-of b xdg (Some gone) goes = next-by b xdg gone goes.0 goes.1
+  next-of goes same_goes (Some gone) next = next-by goes same_goes gone next.0 next.1
+
+  -- what the shell dismisses next of those with a grab is what goes next
+  pub next-grabbing : (result : Option ℕ) → HasOrder o.shell → IsNewest (dismissible_grabbing book) (kept_of book) result → NextIs names (kept_of book) has_grab o.shell result
+  next-grabbing result order newest =
+      next-of has_grab (λ f p. refl) result (popups_follow.grabbing result book histories shell found twin.shell (order-renamed f o.shell order) newest)
 
 pub end-asked : EndAsked
 end-asked names slots tied book r number k x h object found is one =
@@ -195,6 +204,6 @@ next-dismissed names slots tied book o xdg number result found is order named ne
     let goes = popups_follow.next number (renamed_xdg f x) result book (histories names slots tied book o found is) shell found (twin names slots tied book o found is).shell
     (order-renamed f o.shell order)
     (here names slots tied book o found is number t.0 x t.2 t.3) newest in
-    next-of names slots tied book o found is (has_popup_at xdg o.shell) xdg result
+    next-of names slots tied book o found is (goes_with (has_popup_at xdg o.shell) xdg) (λ f p. refl) result
     (subst (λ (b : Bool). GoesNext (goes_with b xdg) shell result) (has-renamed f xdg o.shell)
     (subst (λ (i : ℕ). GoesNext (goes_with (has_popup_at i shell) i) shell result) t.5 goes))

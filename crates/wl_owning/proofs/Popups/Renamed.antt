@@ -3,7 +3,7 @@ use Rattle.std.proofs.Common.{◌≡◌, ◌≤◌, ℕ, suc, List, [], ◌∷�
 use Rattle.std.specs.Prelude.{◌==◌, ◌&&◌, ◌||◌, filter, fold, if◌then◌else◌, not}
 use Rattle.std.specs.List.{list_any}
 use Rattle.wl_shell.specs.Descent.{AreYounger, has_popup_at, is_of_xdg}
-use Rattle.wl_shell.specs.InOrder.{AreReleased, AreRising, HasOrder, IsNextToGo, IsOnly, goes_with, newest_first, undismissed, with_dismissed}
+use Rattle.wl_shell.specs.InOrder.{AreReleased, AreRising, HasOrder, IsNextToGo, IsOnly, newest_first, undismissed, with_dismissed}
 use Rattle.wl_xdg_state.specs.Popups.{Popped, dismiss, dismissed_after, dismissed_among, dismissed_with, dismissing, is_among, is_parent_of, popup_changed, popups_of}
 use Rattle.wl_xdg_state.specs.Shell.{Shell, XdgSurface}
 use Rattle.wl_named_popups.specs.Popups.{renamed_popped, renamed_shell, renamed_xdg}
@@ -109,18 +109,18 @@ module _ (f : ℕ → ℕ) where
   }
 
   -- the same one is next
-  pub next-renamed : (b : Bool) (xdg : ℕ) (shell : Shell) (surface name : ℕ) (p : Popped) → IsOnly (renamed_shell f shell) name (other p) → IsNextToGo (goes_with b xdg) shell surface p
-      → IsNextToGo (goes_with b xdg) (renamed_shell f shell) name (other p)
-  next-renamed b xdg shell surface name p only next = record {
+  pub next-renamed : (is : Popped → Bool) → ((p : Popped) → is (other p) ≡ is p) → (shell : Shell) (surface name : ℕ) (p : Popped) → IsOnly (renamed_shell f shell) name (other p)
+      → IsNextToGo is shell surface p → IsNextToGo is (renamed_shell f shell) name (other p)
+  next-renamed is same shell surface name p only next = record {
     only = only;
-    order = undismissed-renamed (goes_with b xdg) (λ q. refl) shell
+    order = undismissed-renamed is same shell
         ∙ ap (λ (ps : List Popped). map other ps) next.order
         ∙ ap (λ (ps : List Popped). other p ∷ ps)
-        (sym (ap (λ (s : Shell). undismissed (goes_with b xdg) s) (gone-renamed p.xdg.id shell) ∙ undismissed-renamed (goes_with b xdg) (λ q. refl) (with_dismissed p.xdg.id shell)));
-    rest = ap (λ (s : Shell). dismissing (goes_with b xdg) s) (gone-renamed p.xdg.id shell)
-        ∙ dismissing-renamed (goes_with b xdg) (λ q. refl) (with_dismissed p.xdg.id shell)
+        (sym (ap (λ (s : Shell). undismissed is s) (gone-renamed p.xdg.id shell) ∙ undismissed-renamed is same (with_dismissed p.xdg.id shell)));
+    rest = ap (λ (s : Shell). dismissing is s) (gone-renamed p.xdg.id shell)
+        ∙ dismissing-renamed is same (with_dismissed p.xdg.id shell)
         ∙ ap (λ (s : Shell). renamed_shell f s) next.rest
-        ∙ sym (dismissing-renamed (goes_with b xdg) (λ q. refl) shell);
+        ∙ sym (dismissing-renamed is same shell);
     has_order = subst (λ (s : Shell). HasOrder s) (sym (gone-renamed p.xdg.id shell)) (order-renamed (with_dismissed p.xdg.id shell) next.has_order);
     popups = λ xdg. ap (λ (s : Shell). has_popup_at xdg s) (gone-renamed p.xdg.id shell)
         ∙ has-renamed xdg (with_dismissed p.xdg.id shell)

@@ -1,4 +1,4 @@
-use Rattle.std.proofs.Common.{refl, ◌∙◌}
+use Rattle.std.proofs.Common.{refl}
 use Rattle.wl_surface.proofs.applied.apply_change.Goals as goal
 
 pub returns-clause-change : goal.returns-clause-change

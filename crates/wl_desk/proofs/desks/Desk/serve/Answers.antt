@@ -1,5 +1,4 @@
-use Rattle.std.proofs.Common.{◌≢◌, ap, rules, tests, ◌∙◌}
-use Rattle.wl_client.specs.declared.served.Served.TheVariants as served
+use Rattle.std.proofs.Common.{ap, ◌∙◌}
 use Rattle.wl_scene.specs.Focus.{target_or_none}
 use Rattle.wl_plain.specs.Desktop.{unpointed}
 use Rattle.wl_clients.specs.Feeding.{served_of}
@@ -8,9 +7,8 @@ use Rattle.wl_desk.proofs.desks.Desk.serve.Goals as goal
 
 pub returns-clause-leads : goal.returns-clause-leads
 returns-clause-leads g c = λ more.
-    let some : c.take-taken.result.served ≢ served.More = search (rules, tests) in
-    served-whole c.args.client c.follow-lives.result c.take-taken.result.touches_windows c.take-taken.result.pointer c.movable-movable.result (target_or_none c.to_move.result) c.args.self.now c.take-taken.new.self c.follow-lives.new.self c.settle_after.new.self
-    c.movable-movable.ensures c.to_move.ensures (c.take-taken.ensures.took some) c.follow-lives.ensures.follows (c.take-taken.ensures.untouched some) c.settle_after.ensures.settles
+    served-whole c.args.client c.follow-lives.result c.in-Some.taken.touches_windows c.in-Some.taken.pointer c.movable-movable.result (target_or_none c.to_move.result) c.args.self.now c.take.new.self c.follow-lives.new.self c.settle_after.new.self
+    c.movable-movable.ensures c.to_move.ensures c.in-Some.ensures.took c.follow-lives.ensures.follows c.in-Some.ensures.untouched c.settle_after.ensures.settles
 
 pub returns-clause-told : goal.returns-clause-told
 returns-clause-told g c = λ more d a.

@@ -5,25 +5,26 @@ use Rattle.wl_desk.proofs.Seated.{IsPlaced, held-placed}
 use Rattle.wl_desk.proofs.Taking.{rested-whole, took-whole, untouched-whole, written}
 use Rattle.wl_desk.proofs.desks.Desk.take.Goals as goal
 
-pub returns-then-eq-clause-more : goal.returns-then-eq-clause-more
-returns-then-eq-clause-more g c = λ more.
+pub returns-in_default-clause-more : goal.returns-in_default-clause-more
+returns-in_default-clause-more g c =
     let back = written c.self.inside.seats c.make_room-has_room.new.seats c.deref_mut.result.now c.make_room-has_room.auto.seats c.deref_mut.ensures.value in
-    rested-whole c.args.client c.self.inside.clients c.take-taken.new.self _ _ c.self.inside.latest.items c.self.inside.pointer c.args.self.now c.self.view_is
-    (ap (map (λ s. s.items)) back ∙ c.make_room-has_room.ensures.same ∙ ap (map (λ s. s.items)) c.deref_mut.ensures.value) (c.take-taken.ensures.more more)
+    rested-whole c.args.client c.self.inside.clients c.take.new.self _ _ c.self.inside.latest.items c.self.inside.pointer c.args.self.now c.self.view_is
+    (ap (map (λ s. s.items)) back ∙ c.make_room-has_room.ensures.same ∙ ap (map (λ s. s.items)) c.deref_mut.ensures.value) c.in_default.ensures.more
 
 pub returns-clause-took : goal.returns-clause-took
-returns-clause-took g c = λ some.
+returns-clause-took g c =
     let back = written c.self.inside.seats c.make_room-has_room.new.seats c.deref_mut.result.now c.make_room-has_room.auto.seats c.deref_mut.ensures.value in
     let put = written (with_items c.self.inside.seats c.make_room-has_room.new.seats) c.keep_asked.new.seats c.deref_mut-2.result.now c.keep_asked.auto.seats c.deref_mut-2.ensures.value in
     let same = c.make_room-has_room.ensures.same ∙ ap (map (λ s. s.items)) c.deref_mut.ensures.value in
-    took-whole c.args.client c.take-taken.result.pointer c.make_room-has_room.result c.self.inside.clients c.take-taken.new.self _ _ c.self.inside.latest.items c.self.inside.pointer c.args.self.now c.self.view_is
+    let said = c.in-Some.ensures in
+    took-whole c.args.client c.in-Some.taken.pointer c.make_room-has_room.result c.self.inside.clients c.take.new.self _ _ c.self.inside.latest.items c.self.inside.pointer c.args.self.now c.self.view_is
     (ap (map (λ s. s.items)) put ∙ c.keep_asked.ensures
-    ∙ ap (λ (seats : List (List ℕ)). seats_after c.make_room-has_room.result c.take-taken.result.pointer c.args.client seats)
+    ∙ ap (λ (seats : List (List ℕ)). seats_after c.make_room-has_room.result c.in-Some.taken.pointer c.args.client seats)
     (ap (map (λ s. s.items)) (c.deref_mut-2.ensures.value ∙ back) ∙ same))
     (λ room. subst (λ (seats : List (List ℕ)). IsPlaced c.args.client seats) same
     (held-placed (λ v. vec_len v < vec_capacity v) (λ s. s.items) c.args.client c.make_room-has_room.new.seats (c.make_room-has_room.ensures.room room)))
-    c.serials-latest.result (λ d a. c.serials-latest.ensures d (rw (← c.self.view_is) a)) (c.take-taken.ensures.leads some) (c.take-taken.ensures.asks some) c.take-taken.ensures.seat c.take-taken.ensures.sides
+    c.serials-latest.result (λ d a. c.serials-latest.ensures d (rw (← c.self.view_is) a)) said.leads said.asks said.seat said.sides
 
 pub returns-clause-untouched : goal.returns-clause-untouched
-returns-clause-untouched g c = λ some none.
-    untouched-whole c.args.client c.self.inside.clients _ _ c.self.inside.pointer c.args.self.now c.self.view_is (c.take-taken.ensures.untouched some none)
+returns-clause-untouched g c = λ none.
+    untouched-whole c.args.client c.self.inside.clients _ _ c.self.inside.pointer c.args.self.now c.self.view_is (c.in-Some.ensures.untouched none)

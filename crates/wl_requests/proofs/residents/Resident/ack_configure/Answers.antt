@@ -17,12 +17,12 @@ use Rattle.wl_requests.proofs.residents.Resident.ack_configure.Goals as goal
 use Rattle.wl_requests.proofs.Framing.{framed-names, one-more}
 
 pub returns-in-Ok-clause-answers : goal.returns-in-Ok-clause-answers
-returns-in-Ok-clause-answers g c = λ named client r on is only.
+returns-in-Ok-clause-answers g c = λ version named client r on is only.
     let v = c.args.self.now in
     let names = names_of v.client.objects in
     let kept = kept_of v.owned.shell in
     let serial = c.args.serial in
-    xdg-answered v _ c.args.object c.args.surface c.args.version (xdg.AckConfigure c.args.serial) client on r is named
+    xdg-answered v _ c.args.object c.args.surface version (xdg.AckConfigure c.args.serial) client on r is named
     (λ k x h one same. as-asked _ _ client on r only (acknowledged_by x c.args.serial) (
     let judged = acknowledged-by names kept r c.args.surface k x h one c.args.object serial in
     accepted _ r (acknowledged_by x serial) (Acknowledge x.id serial)
@@ -44,11 +44,11 @@ returns-in-Ok-clause-answers g c = λ named client r on is only.
     )))
 
 pub returns-in-Err-clause-answers : goal.returns-in-Err-clause-answers
-returns-in-Err-clause-answers g c = λ named client r on is only.
+returns-in-Err-clause-answers g c = λ version named client r on is only.
     let v = c.args.self.now in
     let kept = kept_of v.owned.shell in
     let serial = c.args.serial in
-    xdg-answered v _ c.args.object c.args.surface c.args.version (xdg.AckConfigure c.args.serial) client on r is named
+    xdg-answered v _ c.args.object c.args.surface version (xdg.AckConfigure c.args.serial) client on r is named
     (λ k x h one same. as-asked _ _ client on r only (acknowledged_by x c.args.serial) (
     let judged = acknowledged-by (names_of v.client.objects) kept r c.args.surface k x h one c.args.object serial in
     xdg-refused v _ (kept_of c.ack.new.self) r c.args.object c.args.surface k x h c.in-Err.error (acknowledged_by x serial) one same
@@ -56,9 +56,3 @@ returns-in-Err-clause-answers g c = λ named client r on is only.
     (ap kept_of c.in-Err.ensures.err)
     c.refuse_xdg_surface.ensures.ended
     (c.refuse_xdg_surface.ensures.errs r.peer is.peer)))
-
-pub returns-in-Ok-clause-surfaces : goal.returns-in-Ok-clause-surfaces
-returns-in-Ok-clause-surfaces g c = refl
-
-pub returns-in-Err-clause-surfaces : goal.returns-in-Err-clause-surfaces
-returns-in-Err-clause-surfaces g c = c.refuse_xdg_surface.ensures.surfaces

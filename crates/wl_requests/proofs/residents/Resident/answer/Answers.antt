@@ -107,7 +107,7 @@ returns-in-Compositor-clause-answers g c = λ m kind entry free fit client r on 
     let v = c.args.self.now in
     let told : m ≡ wl_compositor_request c.in-Compositor.request = rw c.in-Compositor.is at kind in
     answered v c.wl_compositor.new.self c.args.object c.args.version m _ told
-    (c.wl_compositor.ensures.answers (subst (λ (n : Message). NewIsFree v n) told free)) client r on its only
+    (c.wl_compositor.ensures.answers c.args.object (subst (λ (n : Message). NewIsFree v n) told free)) client r on its only
 
 pub returns-in-Subcompositor-clause-answers : goal.returns-in-Subcompositor-clause-answers
 returns-in-Subcompositor-clause-answers g c = λ m kind entry free fit client r on its only placed given.
@@ -123,7 +123,7 @@ returns-in-Subsurface-clause-answers g c = λ m kind entry free fit client r on 
     let told : m ≡ wl_subsurface_request c.in-Subsurface.request = rw c.in-Subsurface.is at kind in
     let is = object-is WlSubsurface v.client.objects c.args.object _ entry (ap (λ (n : Message). n.interface) told ∙ of-subsurface c.in-Subsurface.request) in
     answered v c.wl_subsurface.new.self c.args.object c.args.version m _ told
-    (c.wl_subsurface.ensures.answers is (subst (λ (n : Message). ObjectsFit v n) told fit)) client r on its only
+    (c.wl_subsurface.ensures.answers c.args.version is (subst (λ (n : Message). ObjectsFit v n) told fit)) client r on its only
 
 pub returns-in-Seat-clause-answers : goal.returns-in-Seat-clause-answers
 returns-in-Seat-clause-answers g c = λ m kind entry free fit client r on its only placed given.
@@ -137,7 +137,7 @@ returns-in-Pointer-clause-answers g c = λ m kind entry free fit client r on its
     let v = c.args.self.now in
     let told : m ≡ wl_pointer_request c.in-Pointer.request = rw c.in-Pointer.is at kind in
     answered v c.wl_pointer.new.self c.args.object c.args.version m _ told
-    (c.wl_pointer.ensures.answers (subst (λ (n : Message). ObjectsFit v n) told fit)) client r on its only
+    (c.wl_pointer.ensures.answers c.args.version (subst (λ (n : Message). ObjectsFit v n) told fit)) client r on its only
 
 pub returns-in-Base-clause-answers : goal.returns-in-Base-clause-answers
 returns-in-Base-clause-answers g c = λ m kind entry free fit client r on its only placed given.
@@ -160,7 +160,7 @@ returns-in-Popup-clause-answers g c = λ m kind entry free fit.
     let v = c.args.self.now in
     let told : m ≡ xdg_popup_request c.in-Popup.request = rw c.in-Popup.is at kind in
     let named = targets-at AnXdgPopup v.client.objects c.args.object _ entry (ap (λ (n : Message). n.interface) told ∙ of-popup c.in-Popup.request) in
-    given-so v c.xdg_popup.new.self c.args.given.placing c.args.given.grabbing c.args.object c.args.version c.args.kind c.in-Popup.request m c.in-Popup.is told (c.xdg_popup.ensures.answers named)
+    given-so v c.xdg_popup.new.self c.args.given.placing c.args.given.grabbing c.args.object c.args.version c.args.kind c.in-Popup.request m c.in-Popup.is told (c.xdg_popup.ensures.answers c.args.version named)
 
 -- ---- what becomes of the stack
 
@@ -273,7 +273,7 @@ returns-in-Subsurface-clause-decides g c = λ touch touches m kind entry client 
     let told : m ≡ wl_subsurface_request c.in-Subsurface.request = rw c.in-Subsurface.is at kind in
     let is = object-is WlSubsurface v.client.objects c.args.object _ entry (ap (λ (n : Message). n.interface) told ∙ of-subsurface c.in-Subsurface.request) in
     decided (is_some c.wl_subsurface.result.applied) v c.wl_subsurface.new.self c.args.object c.args.version m _ told
-    (c.wl_subsurface.ensures.decides c.args.target touch (rw c.in-Subsurface.is at touches) is) client r on its only
+    (c.wl_subsurface.ensures.decides c.args.version c.args.target touch (rw c.in-Subsurface.is at touches) is) client r on its only
 
 pub returns-in-Subsurface-clause-touched : goal.returns-in-Subsurface-clause-touched
 returns-in-Subsurface-clause-touched g c = λ touch touches. c.wl_subsurface.ensures.touched c.args.target touch (rw c.in-Subsurface.is at touches)
@@ -323,7 +323,7 @@ returns-in-Popup-clause-decides g c = λ touch touches m kind entry client r on 
     let told : m ≡ xdg_popup_request c.in-Popup.request = rw c.in-Popup.is at kind in
     let named = targets-at AnXdgPopup v.client.objects c.args.object _ entry (ap (λ (n : Message). n.interface) told ∙ of-popup c.in-Popup.request) in
     decided (is_some c.xdg_popup.result.applied) v c.xdg_popup.new.self c.args.object c.args.version m _ told
-    (c.xdg_popup.ensures.decides touch (rw c.in-Popup.is at touches) named) client r on its only
+    (c.xdg_popup.ensures.decides c.args.version touch (rw c.in-Popup.is at touches) named) client r on its only
 
 pub returns-in-Popup-clause-touched : goal.returns-in-Popup-clause-touched
 returns-in-Popup-clause-touched g c = λ touch touches. c.xdg_popup.ensures.touched touch (rw c.in-Popup.is at touches)
@@ -413,7 +413,7 @@ returns-in-Subsurface-clause-holds g c = λ touch touches m kind entry.
     let told : m ≡ wl_subsurface_request c.in-Subsurface.request = rw c.in-Subsurface.is at kind in
     let is = object-is WlSubsurface v.client.objects c.args.object _ entry (ap (λ (n : Message). n.interface) told ∙ of-subsurface c.in-Subsurface.request) in
     held-message (is_some c.wl_subsurface.result.applied) v c.wl_subsurface.new.self c.args.given.placing c.args.object c.args.version c.args.kind m _ told
-    (c.wl_subsurface.ensures.holds c.args.target touch (rw c.in-Subsurface.is at touches) is)
+    (c.wl_subsurface.ensures.holds c.args.version c.args.target touch (rw c.in-Subsurface.is at touches) is)
 
 pub returns-in-Popup-clause-holds : goal.returns-in-Popup-clause-holds
 returns-in-Popup-clause-holds g c = λ touch touches m kind entry.
@@ -421,7 +421,7 @@ returns-in-Popup-clause-holds g c = λ touch touches m kind entry.
     let told : m ≡ xdg_popup_request c.in-Popup.request = rw c.in-Popup.is at kind in
     let named = targets-at AnXdgPopup v.client.objects c.args.object _ entry (ap (λ (n : Message). n.interface) told ∙ of-popup c.in-Popup.request) in
     held-message (is_some c.xdg_popup.result.applied) v c.xdg_popup.new.self c.args.given.placing c.args.object c.args.version c.args.kind m _ told
-    (c.xdg_popup.ensures.holds touch (rw c.in-Popup.is at touches) named)
+    (c.xdg_popup.ensures.holds c.args.version touch (rw c.in-Popup.is at touches) named)
 
 pub returns-in-Toplevel-clause-holds : goal.returns-in-Toplevel-clause-holds
 returns-in-Toplevel-clause-holds g c = λ touch touches. absurd (rw c.in-Toplevel.is at touches)

@@ -127,12 +127,3 @@ returns-in-Err-clause-answers g c = λ named client r on is only.
     (ap kept_of c.in-Err.ensures.err)
     c.refuse_xdg_surface.ensures.ended
     (c.refuse_xdg_surface.ensures.errs r.peer is.peer)))
-
-pub returns-in-Ok-true-clause-surfaces : goal.returns-in-Ok-true-clause-surfaces
-returns-in-Ok-true-clause-surfaces g c = ap (λ (o : Lent _). o.linked) c.tell_configure.ensures.owned
-
-pub returns-in-Ok-false-clause-surfaces : goal.returns-in-Ok-false-clause-surfaces
-returns-in-Ok-false-clause-surfaces g c = refl
-
-pub returns-in-Err-clause-surfaces : goal.returns-in-Err-clause-surfaces
-returns-in-Err-clause-surfaces g c = c.refuse_xdg_surface.ensures.surfaces

@@ -35,6 +35,3 @@ returns-clause-answers g c = λ free client r on is only.
         numbers = λ alive. keeps-names v.client.objects c.create_region.new.self.objects (named alive);
       },
     ))
-
-pub returns-clause-surfaces : goal.returns-clause-surfaces
-returns-clause-surfaces g c = refl

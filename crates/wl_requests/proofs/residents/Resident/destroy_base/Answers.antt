@@ -29,9 +29,3 @@ returns-in-Err-clause-answers g c = λ base client r on is only.
     refused-so _ _ r (base_destroyed r c.args.object) c.of.result (record { object = c.args.object; code = DefunctSurfaces })
     (base-used (names_of v.client.objects) v.owned.linked.surfaces v.owned.linked.family (kept_of v.owned.shell) r is.owns c.args.object used.0 used.1)
     c.of.ensures c.refuse.ensures.ended (c.refuse.ensures.errs r.peer is.peer))
-
-pub returns-in-Ok-clause-surfaces : goal.returns-in-Ok-clause-surfaces
-returns-in-Ok-clause-surfaces g c = c.end_object.ensures.surfaces
-
-pub returns-in-Err-clause-surfaces : goal.returns-in-Err-clause-surfaces
-returns-in-Err-clause-surfaces g c = refl

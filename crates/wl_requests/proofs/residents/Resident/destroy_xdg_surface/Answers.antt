@@ -18,7 +18,7 @@ use Rattle.wl_requests.proofs.residents.Resident.destroy_xdg_surface.Goals as go
 use Rattle.wl_requests.proofs.Framing.{framed-kept, one-more}
 
 pub returns-in-Ok-clause-answers : goal.returns-in-Ok-clause-answers
-returns-in-Ok-clause-answers g c = λ named client r on is only.
+returns-in-Ok-clause-answers g c = λ version named client r on is only.
     let v = c.args.self.now in
     let names = names_of v.client.objects in
     let kept = kept_of v.owned.shell in
@@ -27,7 +27,7 @@ returns-in-Ok-clause-answers g c = λ named client r on is only.
     let left = names_of c.remove.new.self.objects in
     let after = kept_of c.destroy_xdg_surface.new.self in
     let gone = c.remove.ensures.removes (counted r.peer) (c.count.ensures.counts r.peer is.peer) in
-    xdg-answered v _ object number c.args.version xdg.Destroy client on r is named
+    xdg-answered v _ object number version xdg.Destroy client on r is named
     (λ k x h one same. as-asked _ _ client on r only (xdg_surface_destroyed x) (
     let judged = xdg-destroyed-by names kept r number k x h one object in
     let bare = bare-destroyed names kept r number k x h one object (sym c.destroy_xdg_surface.ensures.answer ∙ c.in-Ok.is) in
@@ -57,10 +57,10 @@ returns-in-Ok-clause-answers g c = λ named client r on is only.
     )))
 
 pub returns-in-Err-clause-answers : goal.returns-in-Err-clause-answers
-returns-in-Err-clause-answers g c = λ named client r on is only.
+returns-in-Err-clause-answers g c = λ version named client r on is only.
     let v = c.args.self.now in
     let kept = kept_of v.owned.shell in
-    xdg-answered v _ c.args.object c.args.surface c.args.version xdg.Destroy client on r is named
+    xdg-answered v _ c.args.object c.args.surface version xdg.Destroy client on r is named
     (λ k x h one same. as-asked _ _ client on r only (xdg_surface_destroyed x) (
     let judged = xdg-destroyed-by (names_of v.client.objects) kept r c.args.surface k x h one c.args.object in
     xdg-refused v _ (kept_of c.destroy_xdg_surface.new.self) r c.args.object c.args.surface k x h c.in-Err.error (xdg_surface_destroyed x) one same
@@ -69,9 +69,3 @@ returns-in-Err-clause-answers g c = λ named client r on is only.
     (ap kept_of c.in-Err.ensures.err)
     c.refuse_xdg_surface.ensures.ended
     (c.refuse_xdg_surface.ensures.errs r.peer is.peer)))
-
-pub returns-in-Ok-clause-surfaces : goal.returns-in-Ok-clause-surfaces
-returns-in-Ok-clause-surfaces g c = refl
-
-pub returns-in-Err-clause-surfaces : goal.returns-in-Err-clause-surfaces
-returns-in-Err-clause-surfaces g c = c.refuse_xdg_surface.ensures.surfaces

@@ -25,6 +25,3 @@ returns-clause-does g c = λ alone r is.
             (sym (alone-gone _ _ c.args.object alone (c.remove.ensures.table alive))) is.owns;
       },
     )
-
-pub returns-clause-surfaces : goal.returns-clause-surfaces
-returns-clause-surfaces g c = refl

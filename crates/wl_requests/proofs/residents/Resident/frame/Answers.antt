@@ -21,10 +21,9 @@ use Rattle.wl_requests.proofs.Meeting.{meets-so}
 use Rattle.wl_requests.proofs.residents.Resident.frame.Goals as goal
 
 pub returns-in-Ok-clause-answers : goal.returns-in-Ok-clause-answers
-returns-in-Ok-clause-answers g c = λ named free client r on is only.
+returns-in-Ok-clause-answers g c = λ object named free client r on is only.
     let v = c.args.self.now in
     let names = names_of v.client.objects in
-    let object = c.args.object in
     let number = c.args.surface in
     let callback = c.args.callback in
     let version = c.args.version in
@@ -54,10 +53,9 @@ returns-in-Ok-clause-answers g c = λ named free client r on is only.
     ))
 
 pub returns-in-Err-clause-answers : goal.returns-in-Err-clause-answers
-returns-in-Err-clause-answers g c = λ named free client r on is only.
+returns-in-Err-clause-answers g c = λ object named free client r on is only.
     let callback = c.args.callback in
     let version = c.args.version in
-    let object = c.args.object in
     let then = with_peer (counted r.peer) r in
     let ask = AskFrame callback version object in
     meets-so _ _ client on ask then refl (

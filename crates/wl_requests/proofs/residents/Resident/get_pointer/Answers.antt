@@ -43,9 +43,6 @@ returns-clause-answers g c = λ free client r on is only.
       },
     )
 
-pub returns-clause-surfaces : goal.returns-clause-surfaces
-returns-clause-surfaces g c = refl
-
 -- where there is no room
 pub returns-then-not-has_room-clause-answers : goal.returns-then-not-has_room-clause-answers
 returns-then-not-has_room-clause-answers g c = λ free client r on is only.

@@ -22,15 +22,14 @@ use Rattle.wl_requests.proofs.residents.Resident.get_xdg_surface.Goals as goal
 use Rattle.wl_requests.proofs.Framing.{framed-kept, one-more}
 
 pub returns-in-Ok-clause-answers : goal.returns-in-Ok-clause-answers
-returns-in-Ok-clause-answers g c = λ free named client r on is only.
-    as-asked _ _ client on r only (xdg_surface_made r c.args.object c.args.version c.args.id c.args.surface) (
+returns-in-Ok-clause-answers g c = λ surface free named client r on is only.
+    as-asked _ _ client on r only (xdg_surface_made r c.args.object c.args.version c.args.id surface) (
     let v = c.args.self.now in
     let names = names_of v.client.objects in
     let kept = kept_of v.owned.shell in
     let base = c.args.object in
     let id = c.args.id in
-    let surface = c.args.surface in
-    let number = c.args.number in
+    let number = c.args.surface in
     let version = c.args.version in
     let ask = GetXdgSurface id version base surface in
     let role = c.is_foreign_role-has_other_role.ensures ∙ ap is_foreign
@@ -72,15 +71,14 @@ returns-in-Ok-clause-answers g c = λ free named client r on is only.
     ))
 
 pub returns-then-is_memory-clause-answers : goal.returns-then-is_memory-clause-answers
-returns-then-is_memory-clause-answers g c = λ free named client r on is only.
-    as-asked _ _ client on r only (xdg_surface_made r c.args.object c.args.version c.args.id c.args.surface) (
+returns-then-is_memory-clause-answers g c = λ surface free named client r on is only.
+    as-asked _ _ client on r only (xdg_surface_made r c.args.object c.args.version c.args.id surface) (
     let v = c.args.self.now in
     let names = names_of v.client.objects in
     let kept = kept_of v.owned.shell in
     let base = c.args.object in
     let id = c.args.id in
-    let surface = c.args.surface in
-    let number = c.args.number in
+    let number = c.args.surface in
     let version = c.args.version in
     let ask = GetXdgSurface id version base surface in
     let role = c.is_foreign_role-has_other_role.ensures ∙ ap is_foreign
@@ -97,15 +95,14 @@ returns-then-is_memory-clause-answers g c = λ free named client r on is only.
     (lacks.0, inl lacks.1, lacks.2))
 
 pub returns-else-is_memory-clause-answers : goal.returns-else-is_memory-clause-answers
-returns-else-is_memory-clause-answers g c = λ free named client r on is only.
-    as-asked _ _ client on r only (xdg_surface_made r c.args.object c.args.version c.args.id c.args.surface) (
+returns-else-is_memory-clause-answers g c = λ surface free named client r on is only.
+    as-asked _ _ client on r only (xdg_surface_made r c.args.object c.args.version c.args.id surface) (
     let v = c.args.self.now in
     let names = names_of v.client.objects in
     let kept = kept_of v.owned.shell in
     let base = c.args.object in
     let id = c.args.id in
-    let surface = c.args.surface in
-    let number = c.args.number in
+    let number = c.args.surface in
     let version = c.args.version in
     let ask = GetXdgSurface id version base surface in
     let role = c.is_foreign_role-has_other_role.ensures ∙ ap is_foreign
@@ -117,12 +114,3 @@ returns-else-is_memory-clause-answers g c = λ free named client r on is only.
     refused-so _ _ r (xdg_surface_made r base version id surface) c.refusal_of.result (shell_refusal base id base c.in-Err.error)
     (made-by names v.owned.linked.surfaces v.owned.linked.family kept r is.owns base version id surface number id base named ∙ ap (asks_unless ask (shell_refusal base id base)) some)
     c.refusal_of.ensures c.refuse.ensures.ended (c.refuse.ensures.errs r.peer is.peer))
-
-pub returns-in-Ok-clause-surfaces : goal.returns-in-Ok-clause-surfaces
-returns-in-Ok-clause-surfaces g c = refl
-
-pub returns-then-is_memory-clause-surfaces : goal.returns-then-is_memory-clause-surfaces
-returns-then-is_memory-clause-surfaces g c = refl
-
-pub returns-else-is_memory-clause-surfaces : goal.returns-else-is_memory-clause-surfaces
-returns-else-is_memory-clause-surfaces g c = refl

@@ -29,6 +29,3 @@ returns-clause-answers g c = λ client r on is only.
             (sym (names-counted v.client c.count.new.self c.count.ensures.only)) is.owns;
       },
     ))
-
-pub returns-clause-surfaces : goal.returns-clause-surfaces
-returns-clause-surfaces g c = refl

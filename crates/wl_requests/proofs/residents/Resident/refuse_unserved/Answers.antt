@@ -10,6 +10,3 @@ pub returns-clause-answers : goal.returns-clause-answers
 returns-clause-answers g c = λ client r on is only.
     as-asked _ _ client on r only refuse_limit (
     refused-so _ _ r refuse_limit c.of_display.result (display_error Implementation) refl c.of_display.ensures c.refuse.ensures.ended (c.refuse.ensures.errs r.peer is.peer))
-
-pub returns-clause-surfaces : goal.returns-clause-surfaces
-returns-clause-surfaces g c = refl

@@ -84,9 +84,3 @@ returns-in-Ok-clause-rest g c = rw (← c.count.ensures.rest) c.tell_anew.ensure
 
 pub returns-in-Err-clause-rest : goal.returns-in-Err-clause-rest
 returns-in-Err-clause-rest g c = c.refuse_xdg_surface.ensures.rest
-
-pub returns-in-Ok-clause-surfaces : goal.returns-in-Ok-clause-surfaces
-returns-in-Ok-clause-surfaces g c = ap (λ (o : Lent _). o.linked) c.tell_anew.ensures.owned
-
-pub returns-in-Err-clause-surfaces : goal.returns-in-Err-clause-surfaces
-returns-in-Err-clause-surfaces g c = c.refuse_xdg_surface.ensures.surfaces

@@ -37,4 +37,4 @@ returns-clause-answers g c = λ named client r on is only.
     (c.count.ensures.counts r.peer is.peer)
     (asked-releases (names_of v.client.objects).surfaces v.owned.linked.surfaces v.owned.linked.family (with_peer (counted r.peer) r) id c.args.surface (SetBufferScale (unsigned_abs z)) refl
     is.owns.surfaces named)
-    (does valid (surface-counted v.client c.count.new.self id c.args.surface c.count.ensures.only named))))
+    (does id valid (surface-counted v.client c.count.new.self id c.args.surface c.count.ensures.only named))))

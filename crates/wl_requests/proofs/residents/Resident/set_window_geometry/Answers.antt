@@ -18,12 +18,12 @@ use Rattle.wl_requests.proofs.residents.Resident.set_window_geometry.Goals as go
 use Rattle.wl_requests.proofs.Framing.{framed-asked, one-more}
 
 pub returns-in-Ok-clause-answers : goal.returns-in-Ok-clause-answers
-returns-in-Ok-clause-answers g c = λ named client r on is only.
+returns-in-Ok-clause-answers g c = λ version named client r on is only.
     let v = c.args.self.now in
     let names = names_of v.client.objects in
     let kept = kept_of v.owned.shell in
     let rect = c.args.rect in
-    xdg-answered v _ c.args.object c.args.surface c.args.version (xdg.SetWindowGeometry c.args.rect.x c.args.rect.y c.args.rect.w c.args.rect.h) client on r is named
+    xdg-answered v _ c.args.object c.args.surface version (xdg.SetWindowGeometry c.args.rect.x c.args.rect.y c.args.rect.w c.args.rect.h) client on r is named
     (λ k x h one same. as-asked _ _ client on r only (geometry_set x c.args.rect) (
     let judged = geometry-set-by names kept r c.args.surface k x h one c.args.object rect in
     accepted _ r (geometry_set x rect) (AskSurface x.surface (SetWindowGeometry rect))
@@ -51,11 +51,11 @@ returns-in-Ok-clause-answers g c = λ named client r on is only.
     )))
 
 pub returns-in-Err-clause-answers : goal.returns-in-Err-clause-answers
-returns-in-Err-clause-answers g c = λ named client r on is only.
+returns-in-Err-clause-answers g c = λ version named client r on is only.
     let v = c.args.self.now in
     let kept = kept_of v.owned.shell in
     let rect = c.args.rect in
-    xdg-answered v _ c.args.object c.args.surface c.args.version (xdg.SetWindowGeometry c.args.rect.x c.args.rect.y c.args.rect.w c.args.rect.h) client on r is named
+    xdg-answered v _ c.args.object c.args.surface version (xdg.SetWindowGeometry c.args.rect.x c.args.rect.y c.args.rect.w c.args.rect.h) client on r is named
     (λ k x h one same. as-asked _ _ client on r only (geometry_set x c.args.rect) (
     let judged = geometry-set-by (names_of v.client.objects) kept r c.args.surface k x h one c.args.object rect in
     xdg-refused v _ (kept_of c.geometry.new.self) r c.args.object c.args.surface k x h c.in-Err.error (geometry_set x rect) one same
@@ -63,9 +63,3 @@ returns-in-Err-clause-answers g c = λ named client r on is only.
     (ap kept_of c.in-Err.ensures.err)
     c.refuse_xdg_surface.ensures.ended
     (c.refuse_xdg_surface.ensures.errs r.peer is.peer)))
-
-pub returns-in-Ok-clause-surfaces : goal.returns-in-Ok-clause-surfaces
-returns-in-Ok-clause-surfaces g c = refl
-
-pub returns-in-Err-clause-surfaces : goal.returns-in-Err-clause-surfaces
-returns-in-Err-clause-surfaces g c = c.refuse_xdg_surface.ensures.surfaces

@@ -1,4 +1,4 @@
-use Rattle.std.proofs.Common.{ap, arith, refl, sym, ◌∙◌}
+use Rattle.std.proofs.Common.{ap, arith, sym, ◌∙◌}
 use Rattle.std.specs.Prelude.{Err}
 use Rattle.wl_peer.specs.declared.refusals.Refusal.{Refusal}
 use Rattle.wl_proto.specs.Messages.{wl_seat_request}
@@ -14,7 +14,6 @@ returns-in-GetKeyboard g c = record {
       (seat-refused r c.args.object c.args.version c.args.request.now c.in-GetKeyboard.is ∙ ap (λ (f : Refusal). Err f) (sym c.of.ensures)) c.refuse.ensures.ended
       (c.refuse.ensures.errs r.peer is.peer);
   rest = let none = c.refuse.ensures.rest in omega arith;
-  surfaces = refl;
   room = λ id same without. c.refuse.ensures.ended;
 }
 

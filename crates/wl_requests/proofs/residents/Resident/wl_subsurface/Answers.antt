@@ -28,16 +28,16 @@ returns-clause-nothing g c = elim c.match-request.branch [
 
 pub returns-clause-decides : goal.returns-clause-decides
 returns-clause-decides g c = elim c.match-request.branch [
-  | in-Destroy w ↦ λ target touch touches here.
+  | in-Destroy w ↦ λ version target touch touches here.
       let of = rw w.in-Destroy.is at touches in
       rw (w.applied-is, w.self-is, w.in-Destroy.is) (w.destroy_subsurface-applied.ensures.decides of.0 of.1 here)
-  | in-SetPosition w ↦ λ target touch touches here. absurd (rw w.in-SetPosition.is at touches)
-  | in-PlaceAbove+in-Some w ↦ λ target touch touches here. absurd (rw w.in-PlaceAbove.is at touches)
-  | in-PlaceAbove+in_default w ↦ λ target touch touches here. absurd (rw w.in-PlaceAbove.is at touches)
-  | in-PlaceBelow+in-Some-surface_of w ↦ λ target touch touches here. absurd (rw w.in-PlaceBelow.is at touches)
-  | in-PlaceBelow+in_default-surface_of w ↦ λ target touch touches here. absurd (rw w.in-PlaceBelow.is at touches)
-  | in-SetSync w ↦ λ target touch touches here. absurd (rw w.in-SetSync.is at touches)
-  | in-SetDesync w ↦ λ target touch touches here.
+  | in-SetPosition w ↦ λ version target touch touches here. absurd (rw w.in-SetPosition.is at touches)
+  | in-PlaceAbove+in-Some w ↦ λ version target touch touches here. absurd (rw w.in-PlaceAbove.is at touches)
+  | in-PlaceAbove+in_default w ↦ λ version target touch touches here. absurd (rw w.in-PlaceAbove.is at touches)
+  | in-PlaceBelow+in-Some-surface_of w ↦ λ version target touch touches here. absurd (rw w.in-PlaceBelow.is at touches)
+  | in-PlaceBelow+in_default-surface_of w ↦ λ version target touch touches here. absurd (rw w.in-PlaceBelow.is at touches)
+  | in-SetSync w ↦ λ version target touch touches here. absurd (rw w.in-SetSync.is at touches)
+  | in-SetDesync w ↦ λ version target touch touches here.
       let of = rw w.in-SetDesync.is at touches in
       rw (w.applied-is, w.self-is, w.in-SetDesync.is) (w.set_desync-applied.ensures.decides of.0 of.1 here)
 ]
@@ -46,16 +46,16 @@ returns-clause-decides g c = elim c.match-request.branch [
 
 pub returns-clause-holds : goal.returns-clause-holds
 returns-clause-holds g c = elim c.match-request.branch [
-  | in-Destroy w ↦ λ target touch touches here.
+  | in-Destroy w ↦ λ version target touch touches here.
       let of = rw w.in-Destroy.is at touches in
       rw (w.applied-is, w.self-is, w.in-Destroy.is) (w.destroy_subsurface-applied.ensures.holds of.0 of.1 here)
-  | in-SetPosition w ↦ λ target touch touches here. absurd (rw w.in-SetPosition.is at touches)
-  | in-PlaceAbove+in-Some w ↦ λ target touch touches here. absurd (rw w.in-PlaceAbove.is at touches)
-  | in-PlaceAbove+in_default w ↦ λ target touch touches here. absurd (rw w.in-PlaceAbove.is at touches)
-  | in-PlaceBelow+in-Some-surface_of w ↦ λ target touch touches here. absurd (rw w.in-PlaceBelow.is at touches)
-  | in-PlaceBelow+in_default-surface_of w ↦ λ target touch touches here. absurd (rw w.in-PlaceBelow.is at touches)
-  | in-SetSync w ↦ λ target touch touches here. absurd (rw w.in-SetSync.is at touches)
-  | in-SetDesync w ↦ λ target touch touches here.
+  | in-SetPosition w ↦ λ version target touch touches here. absurd (rw w.in-SetPosition.is at touches)
+  | in-PlaceAbove+in-Some w ↦ λ version target touch touches here. absurd (rw w.in-PlaceAbove.is at touches)
+  | in-PlaceAbove+in_default w ↦ λ version target touch touches here. absurd (rw w.in-PlaceAbove.is at touches)
+  | in-PlaceBelow+in-Some-surface_of w ↦ λ version target touch touches here. absurd (rw w.in-PlaceBelow.is at touches)
+  | in-PlaceBelow+in_default-surface_of w ↦ λ version target touch touches here. absurd (rw w.in-PlaceBelow.is at touches)
+  | in-SetSync w ↦ λ version target touch touches here. absurd (rw w.in-SetSync.is at touches)
+  | in-SetDesync w ↦ λ version target touch touches here.
       let of = rw w.in-SetDesync.is at touches in
       rw (w.applied-is, w.self-is, w.in-SetDesync.is) (w.set_desync-applied.ensures.holds of.0 of.1 here)
 ]

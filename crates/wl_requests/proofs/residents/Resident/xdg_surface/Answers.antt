@@ -17,4 +17,4 @@ returns-in-SetWindowGeometry-clause-answers g c = λ named free fit.
     let width-fits : FitsSigned w32 width = search rules in
     let height-fits : FitsSigned w32 height = search rules in
     let answers = simp (to_z-of_z w32 x x-fits, to_z-of_z w32 y y-fits, to_z-of_z w32 width width-fits, to_z-of_z w32 height height-fits) at c.set_window_geometry.ensures.answers in
-    rw c.in-SetWindowGeometry.is (answers named)
+    rw c.in-SetWindowGeometry.is (answers c.args.version named)

@@ -100,15 +100,3 @@ returns-in-Move-clause-stacks g c = λ named version m interface asked r is only
     let object = c.args.object in
     subst (λ (j : Result Demand Refusal). StacksSo v r j Stays) (sym (toplevel-of r object version m interface))
     (toplevel-stays v r object (xdg_with object r.owned.shell) (toplevel_request m.opcode m.fields) (λ is. let both = sym is ∙ sym asked ∙ c.in-Move.is in absurd (cc)))
-
-pub returns-in-Destruction-clause-surfaces : goal.returns-in-Destruction-clause-surfaces
-returns-in-Destruction-clause-surfaces g c = c.destroy_toplevel.ensures.surfaces
-
-pub returns-in-Configure-clause-surfaces : goal.returns-in-Configure-clause-surfaces
-returns-in-Configure-clause-surfaces g c = c.configure_again.ensures.surfaces
-
-pub returns-in-Nothing-clause-surfaces : goal.returns-in-Nothing-clause-surfaces
-returns-in-Nothing-clause-surfaces g c = c.ignore.ensures.surfaces
-
-pub returns-in-Move-clause-surfaces : goal.returns-in-Move-clause-surfaces
-returns-in-Move-clause-surfaces g c = c.ignore-in-Move.ensures.surfaces
