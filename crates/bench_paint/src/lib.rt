@@ -1,9 +1,9 @@
 //! The frames that `bench/paint` measures: a window over the whole output, painted again and again, called from C.
 #![tactic(auto)]
 
-mod one;
-
 ghost use Rattle.std.specs.Prelude.{◌≡◌, ◌≤◌};
+
+mod one;
 
 use crate::one::One;
 use std::alloc::{Allocator, Global};

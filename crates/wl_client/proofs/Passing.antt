@@ -9,17 +9,17 @@ use Rattle.wl_proto.specs.declared.argument.ObjectArg.{ObjectArg}
 use Rattle.wl_proto.specs.Messages.{Message}
 use Rattle.wl_proto.specs.Objects.{objects_in as objects_named, new_id_in}
 use Rattle.wl_proto.specs.Spelling.{decoded}
-use Rattle.wl_peer.specs.declared.refusals.ErrorCode.TheVariants.{InvalidObject, InvalidMethod, Implementation}
-use Rattle.wl_peer.specs.declared.refusals.Refusal.{Refusal}
+use Rattle.spec_desktop.specs.declared.refusals.ErrorCode.TheVariants.{InvalidObject, InvalidMethod, Implementation}
+use Rattle.spec_desktop.specs.declared.refusals.Refusal.{Refusal}
 use Rattle.wl_wire.specs.Wire.{split_of}
 use Rattle.wl_wire.specs.declared.header.Split.TheVariants.{Message as Whole}
 use Rattle.wl_table.specs.Objects.{entry_of}
 use Rattle.wl_table.specs.declared.entry.Entry.{Entry}
 use Rattle.wl_client.specs.First.{IsRefused, passing}
 use Rattle.wl_client.specs.View.{ClientView}
-use Rattle.wl_peer.specs.Judgement.{after_new_id, is_free, judged, judged_at}
-use Rattle.wl_peer.specs.Objects.{Object, Objects, fits, objects_in, object_of}
-use Rattle.wl_peer.specs.Told.{display_error}
+use Rattle.spec_desktop.specs.Judgement.{after_new_id, is_free, judged, judged_at}
+use Rattle.spec_desktop.specs.Objects.{Object, Objects, fits, objects_in, object_of}
+use Rattle.spec_desktop.specs.Told.{display_error}
 
 -- ---- a new id
 

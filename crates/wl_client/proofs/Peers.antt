@@ -7,9 +7,9 @@ use Rattle.std.proofs.lemmas.List.{drop_all}
 use Rattle.std.proofs.Math.Path.{fun_ext}
 use Rattle.std.proofs.lemmas.Bool.{eqb-true}
 use Rattle.std.proofs.lemmas.Bool.Decides.{nat_tests}
-use Rattle.wl_interface.specs.declared.interface.Interface.{Interface}
-use Rattle.wl_interface.specs.declared.interface.Interface.TheVariants.{WlDisplay, WlRegistry, WlCallback, WlCompositor, WlRegion, WlSurface, WlShm, WlShmPool, WlBuffer, WlSubcompositor, WlSubsurface}
-use Rattle.wl_interface.specs.declared.interface.Interface.TheVariants.{WlOutput, WlSeat, WlPointer, XdgWmBase, XdgPositioner, XdgSurface, XdgToplevel, XdgPopup}
+use Rattle.wl_proto.specs.declared.interface.Interface.{Interface}
+use Rattle.wl_proto.specs.declared.interface.Interface.TheVariants.{WlDisplay, WlRegistry, WlCallback, WlCompositor, WlRegion, WlSurface, WlShm, WlShmPool, WlBuffer, WlSubcompositor, WlSubsurface}
+use Rattle.wl_proto.specs.declared.interface.Interface.TheVariants.{WlOutput, WlSeat, WlPointer, XdgWmBase, XdgPositioner, XdgSurface, XdgToplevel, XdgPopup}
 use Rattle.wl_table.specs.declared.entry.Entry.{Entry}
 use Rattle.wl_table.specs.Objects.{Held, HoldsAt, entry_of}
 use Rattle.std.specs.BTreeMap.{BTreeMap, UpdatesBy}
@@ -20,19 +20,19 @@ use Rattle.wl_store.specs.Stores.{Held as Stored, Stock, can_hold, size_of, stor
 use Rattle.wl_store.specs.declared.place.Layout.{Layout}
 use Rattle.wl_store.specs.declared.place.LayoutError.{LayoutError}
 use Rattle.wl_client.specs.View.{ClientView, cleared}
-use Rattle.wl_peer.specs.declared.cause.Cause.{Cause}
-use Rattle.wl_peer.specs.declared.cause.Cause.TheVariants.{Protocol, Memory, Slow}
-use Rattle.wl_peer.specs.declared.refusals.ErrorCode.TheVariants.{NoMemory}
-use Rattle.wl_peer.specs.declared.refusals.Refusal.{Refusal}
-use Rattle.wl_peer.specs.Buffers.{Buffer}
-use Rattle.wl_peer.specs.Objects.{ById, Object, Objects, held_at, nothing, objects_in, object_of, with_id}
-use Rattle.wl_peer.specs.Told.{Output, Said, bind_told, code_number, display_error, error_told, said_bytes}
-use Rattle.wl_peer.specs.Judgement.{Known, buffer_created, layout_refused}
-use Rattle.wl_peer.specs.Peer.{Peer, changed_region, ended, has_room, known_of, made, newcomer, no_stores, queued, removed, set_positioner, with_rest, IsUnqueuedFor, QueuesOr, Queues, Errs}
-use Rattle.wl_peer.specs.Peer.{LacksMemory, WantsOr}
-use Rattle.wl_xdg_state.specs.Positioner.{Positioner}
-use Rattle.wl_xdg_state.specs.Settings.{with_setting}
-use Rattle.wl_xdg_state.specs.declared.settings.Setting.{Setting}
+use Rattle.spec_desktop.specs.declared.cause.Cause.{Cause}
+use Rattle.spec_desktop.specs.declared.cause.Cause.TheVariants.{Protocol, Memory, Slow}
+use Rattle.spec_desktop.specs.declared.refusals.ErrorCode.TheVariants.{NoMemory}
+use Rattle.spec_desktop.specs.declared.refusals.Refusal.{Refusal}
+use Rattle.spec_desktop.specs.Buffers.{Buffer}
+use Rattle.spec_desktop.specs.Objects.{ById, Object, Objects, held_at, nothing, objects_in, object_of, with_id}
+use Rattle.spec_desktop.specs.Told.{Output, Said, bind_told, code_number, display_error, error_told, said_bytes}
+use Rattle.spec_desktop.specs.Judgement.{Known, buffer_created, layout_refused}
+use Rattle.spec_desktop.specs.Peer.{Peer, changed_region, ended, has_room, known_of, made, newcomer, no_stores, queued, removed, set_positioner, with_rest, IsUnqueuedFor, QueuesOr, Queues, Errs}
+use Rattle.spec_desktop.specs.Peer.{LacksMemory, WantsOr}
+use Rattle.wl_shell.specs.Positioner.{Positioner}
+use Rattle.wl_shell.specs.Settings.{with_setting}
+use Rattle.wl_shell.specs.declared.settings.Setting.{Setting}
 use Rattle.wl_client.specs.Agreement.{IsCount, IsPeer, IsRegion, known_in, most_counted, output_of}
 
 pub IsPeer-queued : (v : ClientView) (p : Peer) (e : Said) → IsPeer v p → IsPeer (record v { unsent = v.unsent ++ said_bytes e }) (queued e p)

@@ -6,13 +6,13 @@ use Rattle.std.proofs.lemmas.List.{drop_all}
 use Rattle.std.proofs.lemmas.Bool.{eqb-true}
 use Rattle.wl_table.specs.declared.entry.Entry.{Entry}
 use Rattle.wl_table.specs.Objects.{Held, HoldsAt, entry_of}
-use Rattle.wl_peer.specs.declared.cause.Cause.{Cause}
-use Rattle.wl_peer.specs.declared.cause.Cause.TheVariants.{Memory, Slow}
+use Rattle.spec_desktop.specs.declared.cause.Cause.{Cause}
+use Rattle.spec_desktop.specs.declared.cause.Cause.TheVariants.{Memory, Slow}
 use Rattle.wl_client.specs.Agreement.{IsPeer}
 use Rattle.wl_client.specs.Serving.{HoldsWithout}
-use Rattle.wl_peer.specs.Told.{Said}
+use Rattle.spec_desktop.specs.Told.{Said}
 use Rattle.wl_client.specs.View.{ClientView}
-use Rattle.wl_peer.specs.Peer.{Peer, IsUnqueuedFor, Queues, QueuesOr, all_removed, ended, has_room, queued, removed}
+use Rattle.spec_desktop.specs.Peer.{Peer, IsUnqueuedFor, Queues, QueuesOr, all_removed, ended, has_room, queued, removed}
 use Rattle.wl_client.proofs.Peers.{QueuesOr-queued, QueuesOr-refused, differ, unqueued-now}
 
 over-and-alive : (cause : Cause) (p m : Peer) → m ≡ ended cause p → m.status ≡ None → ⊥

@@ -4,9 +4,9 @@ use Rattle.std.specs.List.{list_all}
 use Rattle.std.specs.Option.{option_map}
 use Rattle.std.specs.Prelude.{Ok, Err, IfSome, find, if◌then◌else◌, is_some, nat_le, not, ◌&&◌, ◌==◌}
 use Rattle.std.proofs.lemmas.Bool.{eqb-true}
-use Rattle.wl_interface.specs.declared.interface.Interface.{Interface}
-use Rattle.wl_interface.specs.declared.interface.Interface.TheVariants.{WlRegistry, WlShmPool, WlBuffer, WlCompositor, WlSurface, WlSubcompositor, WlSubsurface, WlSeat, WlPointer, XdgWmBase}
-use Rattle.wl_interface.specs.declared.interface.Interface.TheVariants.{XdgSurface, XdgToplevel, XdgPopup}
+use Rattle.wl_proto.specs.declared.interface.Interface.{Interface}
+use Rattle.wl_proto.specs.declared.interface.Interface.TheVariants.{WlRegistry, WlShmPool, WlBuffer, WlCompositor, WlSurface, WlSubcompositor, WlSubsurface, WlSeat, WlPointer, XdgWmBase}
+use Rattle.wl_proto.specs.declared.interface.Interface.TheVariants.{XdgSurface, XdgToplevel, XdgPopup}
 use Rattle.wl_proto.specs.declared.request.Request.{Request}
 use Rattle.wl_proto.specs.declared.request.Request.TheVariants as requests
 use Rattle.wl_proto.specs.declared.wl_display.WlDisplayRequest.{WlDisplayRequest}
@@ -50,20 +50,20 @@ use Rattle.wl_store.specs.Layout.{layout_refusal}
 use Rattle.wl_store.specs.declared.place.LayoutError.{LayoutError}
 use Rattle.wl_store.specs.declared.stores.StoreError.{StoreError}
 use Rattle.wl_store.specs.declared.stores.StoreError.TheVariants as store_errors
-use Rattle.wl_peer.specs.declared.actions.Action.{Action}
-use Rattle.wl_peer.specs.declared.actions.Action.TheVariants.{Sync, GetRegistry, Bind, AddToRegion, SubtractFromRegion, DestroyRegion, CreatePool, CreateBuffer, ResizePool, DestroyPool, DestroyBuffer}
-use Rattle.wl_peer.specs.declared.refusals.Refusal.{Refusal}
-use Rattle.wl_peer.specs.declared.actions.Action.TheVariants.{SetPositioner, DestroyPositioner}
-use Rattle.wl_peer.specs.declared.refusals.ErrorCode.TheVariants.{Implementation, InvalidInput}
-use Rattle.wl_xdg_state.specs.Settings.{is_allowed}
-use Rattle.wl_xdg_state.specs.declared.settings.Setting.{Setting}
-use Rattle.wl_xdg_state.specs.declared.settings.Setting.TheVariants as settings
-use Rattle.wl_peer.specs.Told.{display_error}
-use Rattle.wl_peer.specs.Buffers.{Buffer, Laid, buffer_asked}
-use Rattle.wl_peer.specs.Judgement.{Known, action_of, binds, buffer_destroyed, buffer_laid, display_action, is_free, pool_action, pool_created, pool_resized, region_action}
-use Rattle.wl_peer.specs.Judgement.{positioner_action, set_if_allowed}
-use Rattle.wl_peer.specs.Requests.{rect, request_of}
-use Rattle.wl_peer.specs.Objects.{Global, bound_interface, entry_at_version, globals, is_bound, object_of, objects_in}
+use Rattle.spec_desktop.specs.declared.actions.Action.{Action}
+use Rattle.spec_desktop.specs.declared.actions.Action.TheVariants.{Sync, GetRegistry, Bind, AddToRegion, SubtractFromRegion, DestroyRegion, CreatePool, CreateBuffer, ResizePool, DestroyPool, DestroyBuffer}
+use Rattle.spec_desktop.specs.declared.refusals.Refusal.{Refusal}
+use Rattle.spec_desktop.specs.declared.actions.Action.TheVariants.{SetPositioner, DestroyPositioner}
+use Rattle.spec_desktop.specs.declared.refusals.ErrorCode.TheVariants.{Implementation, InvalidInput}
+use Rattle.wl_shell.specs.Settings.{is_allowed}
+use Rattle.wl_shell.specs.declared.settings.Setting.{Setting}
+use Rattle.wl_shell.specs.declared.settings.Setting.TheVariants as settings
+use Rattle.spec_desktop.specs.Told.{display_error}
+use Rattle.spec_desktop.specs.Buffers.{Buffer, Laid, buffer_asked}
+use Rattle.spec_desktop.specs.Judgement.{Known, action_of, binds, buffer_destroyed, buffer_laid, display_action, is_free, pool_action, pool_created, pool_resized, region_action}
+use Rattle.spec_desktop.specs.Judgement.{positioner_action, set_if_allowed}
+use Rattle.spec_desktop.specs.Requests.{rect, request_of}
+use Rattle.spec_desktop.specs.Objects.{Global, bound_interface, entry_at_version, globals, is_bound, object_of, objects_in}
 use Rattle.wl_client.specs.Serving.{ChangesTable, KeepsSurfaces, is_of_surface, is_own, of_surface}
 use Rattle.wl_client.proofs.Peers.{differ}
 

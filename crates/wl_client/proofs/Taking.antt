@@ -9,23 +9,23 @@ use Rattle.wl_proto.specs.Messages.{Message, request_message}
 use Rattle.wl_table.specs.declared.entry.Entry.{Entry}
 use Rattle.wl_table.specs.Objects.{Held}
 use Rattle.wl_surface.specs.Slots.{IsAny, Numbered, Slots, StandForAll, has_at}
-use Rattle.wl_state.specs.Surface.{Surface}
-use Rattle.wl_peer.specs.declared.actions.Action.{Action}
-use Rattle.wl_peer.specs.declared.actions.Action.TheVariants.{Sync, GetRegistry, Bind, CreateRegion, AddToRegion, SubtractFromRegion, DestroyRegion, CreatePool, CreateBuffer, ResizePool, DestroyPool}
-use Rattle.wl_peer.specs.declared.actions.Action.TheVariants.{DestroyBuffer, CreatePositioner, SetPositioner, DestroyPositioner}
-use Rattle.wl_peer.specs.declared.cause.Cause.TheVariants.{Protocol}
-use Rattle.wl_peer.specs.declared.refusals.ErrorCode.TheVariants.{InvalidMethod}
-use Rattle.wl_peer.specs.declared.refusals.Refusal.{Refusal}
+use Rattle.wl_surface.specs.Surface.{Surface}
+use Rattle.spec_desktop.specs.declared.actions.Action.{Action}
+use Rattle.spec_desktop.specs.declared.actions.Action.TheVariants.{Sync, GetRegistry, Bind, CreateRegion, AddToRegion, SubtractFromRegion, DestroyRegion, CreatePool, CreateBuffer, ResizePool, DestroyPool}
+use Rattle.spec_desktop.specs.declared.actions.Action.TheVariants.{DestroyBuffer, CreatePositioner, SetPositioner, DestroyPositioner}
+use Rattle.spec_desktop.specs.declared.cause.Cause.TheVariants.{Protocol}
+use Rattle.spec_desktop.specs.declared.refusals.ErrorCode.TheVariants.{InvalidMethod}
+use Rattle.spec_desktop.specs.declared.refusals.Refusal.{Refusal}
 use Rattle.wl_client.specs.Agreement.{IsPeer, known_in}
 use Rattle.wl_client.specs.First.{IsRefused, passing}
-use Rattle.wl_peer.specs.Judgement.{Known, action_of, judge, judged_at}
-use Rattle.wl_peer.specs.Requests.{request_of}
-use Rattle.wl_peer.specs.Objects.{Object, object_of, objects_in, with_id}
+use Rattle.spec_desktop.specs.Judgement.{Known, action_of, judge, judged_at}
+use Rattle.spec_desktop.specs.Requests.{request_of}
+use Rattle.spec_desktop.specs.Objects.{Object, object_of, objects_in, with_id}
 use Rattle.wl_client.specs.View.{ClientView}
-use Rattle.wl_peer.specs.Peer.{Acts, Errs, Peer, Queues, QueuesOr, changed, ended, has_room, known_of, queued, removed, with_rest}
+use Rattle.spec_desktop.specs.Peer.{Acts, Errs, Peer, Queues, QueuesOr, changed, ended, has_room, known_of, queued, removed, with_rest}
 use Rattle.wl_client.specs.Serving.{ActsWith, AnswersWith, AreUsed, ChangesTable, IsOwnMessage, KeepsSurfaces, ServesWith, TakesWith}
-use Rattle.wl_peer.specs.Used.{has_used, keeps_store}
-use Rattle.wl_peer.specs.Told.{code_number, display_error, error_told, id_deleted}
+use Rattle.spec_desktop.specs.Used.{has_used, keeps_store}
+use Rattle.spec_desktop.specs.Told.{code_number, display_error, error_told, id_deleted}
 use Rattle.wl_client.proofs.Passing.{judged-passing, judged-refused}
 use Rattle.wl_client.proofs.Peers.{known-is}
 use Rattle.wl_client.proofs.Tables.{keeps-surfaces}

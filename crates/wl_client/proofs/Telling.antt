@@ -2,10 +2,10 @@
 use Rattle.std.proofs.Common.{◌≡◌, ◌∙◌, ℕ, suc, ◌+◌, ◌<◌, ◌≤◌, List, [], ◌∷◌, Bool, true, false, Some, None, Option, refl, ap, subst, sym, inl, inr, length, drop, get_or, drop-cons, arith}
 use Rattle.std.specs.Prelude.{IsTrue, MatchBool, flat_map}
 use Rattle.std.proofs.lemmas.List.{drop_all}
-use Rattle.wl_peer.specs.declared.cause.Cause.{Cause}
-use Rattle.wl_peer.specs.declared.cause.Cause.TheVariants.{Memory, Slow}
-use Rattle.wl_peer.specs.Peer.{Peer, IsUnqueuedFor, QueuesFirst, QueuesTo, has_room, queued}
-use Rattle.wl_peer.specs.Told.{Said}
+use Rattle.spec_desktop.specs.declared.cause.Cause.{Cause}
+use Rattle.spec_desktop.specs.declared.cause.Cause.TheVariants.{Memory, Slow}
+use Rattle.spec_desktop.specs.Peer.{Peer, IsUnqueuedFor, QueuesFirst, QueuesTo, has_room, queued}
+use Rattle.spec_desktop.specs.Told.{Said}
 use Rattle.wl_client.specs.Agreement.{IsPeer}
 use Rattle.wl_client.specs.Pointers.{serial_after}
 use Rattle.wl_client.specs.View.{ClientView, opened}

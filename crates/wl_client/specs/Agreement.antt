@@ -3,10 +3,10 @@ use Rattle.std.specs.Prelude.{◌≡◌, ℕ, length, min, List, Option, Some, N
 use Rattle.std.specs.Option.{option_map}
 use Rattle.wl_geom.specs.Region.{Area, Change, Stands}
 use Rattle.wl_client.specs.declared.outputs.Output.{Output as Kept}
-use Rattle.wl_peer.specs.Judgement.{Known}
-use Rattle.wl_peer.specs.Objects.{held_at, objects_in}
-use Rattle.wl_peer.specs.Peer.{Peer}
-use Rattle.wl_peer.specs.Told.{Output}
+use Rattle.spec_desktop.specs.Judgement.{Known}
+use Rattle.spec_desktop.specs.Objects.{held_at, objects_in}
+use Rattle.spec_desktop.specs.Peer.{Peer}
+use Rattle.spec_desktop.specs.Told.{Output}
 use Rattle.wl_client.specs.View.{ClientView}
 
 abbrev pub output_of : Kept → Output

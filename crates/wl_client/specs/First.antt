@@ -9,11 +9,11 @@ use Rattle.wl_proto.specs.Objects.{objects_in as objects_named, new_id_in}
 use Rattle.wl_table.specs.Objects.{entry_of}
 use Rattle.wl_client.specs.declared.first_message.First.{First}
 use Rattle.wl_client.specs.declared.first_message.First.TheVariants as firsts
-use Rattle.wl_peer.specs.declared.refusals.ErrorCode.TheVariants.{InvalidMethod}
-use Rattle.wl_peer.specs.declared.refusals.Refusal.{Refusal}
-use Rattle.wl_peer.specs.Judgement.{is_free, judged_at}
-use Rattle.wl_peer.specs.Objects.{Object, Objects, fits, objects_in}
-use Rattle.wl_peer.specs.Told.{display_error}
+use Rattle.spec_desktop.specs.declared.refusals.ErrorCode.TheVariants.{InvalidMethod}
+use Rattle.spec_desktop.specs.declared.refusals.Refusal.{Refusal}
+use Rattle.spec_desktop.specs.Judgement.{is_free, judged_at}
+use Rattle.spec_desktop.specs.Objects.{Object, Objects, fits, objects_in}
+use Rattle.spec_desktop.specs.Told.{display_error}
 use Rattle.wl_client.specs.View.{ClientView}
 
 -- the message itself, where its own errors are the next that are looked at

@@ -1,12 +1,12 @@
 -- What the wl_pointers of a client are told (wayland.xml, wl_pointer).
 use Rattle.std.specs.Prelude.{ℕ, Bool, true, false, ◌&&◌, if◌then◌else◌, List, [], ◌∷◌, flat_map, Option}
 use Rattle.wl_wire.specs.Wire.{Word, Number}
-use Rattle.wl_interface.specs.declared.interface.Interface.TheVariants.{WlPointer}
+use Rattle.wl_proto.specs.declared.interface.Interface.TheVariants.{WlPointer}
 use Rattle.wl_proto.specs.Messages.{Message, says}
-use Rattle.wl_xdg_state.specs.Shell.{next_serial}
-use Rattle.wl_peer.specs.declared.cause.Cause.{Cause}
-use Rattle.wl_peer.specs.Peer.{Peer, QueuesTo}
-use Rattle.wl_peer.specs.Told.{Said, said}
+use Rattle.wl_shell.specs.Shell.{next_serial}
+use Rattle.spec_desktop.specs.declared.cause.Cause.{Cause}
+use Rattle.spec_desktop.specs.Peer.{Peer, QueuesTo}
+use Rattle.spec_desktop.specs.Told.{Said, said}
 use Rattle.wl_client.specs.declared.pointers.PointerEvent.{PointerEvent}
 use Rattle.wl_client.specs.declared.pointers.PointerEvent.TheVariants.{Enter, Leave, Motion, Button}
 

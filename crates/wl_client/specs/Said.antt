@@ -2,8 +2,8 @@
 use Rattle.wl_proto.specs.declared.event.Event.{Event}
 use Rattle.wl_proto.specs.Messages.{event_message}
 use Rattle.wl_client.specs.declared.globals.Global.{Global as Kept}
-use Rattle.wl_peer.specs.Objects.{Global, global}
-use Rattle.wl_peer.specs.Told.{Said, said}
+use Rattle.spec_desktop.specs.Objects.{Global, global}
+use Rattle.spec_desktop.specs.Told.{Said, said}
 
 abbrev pub said_of : Event → Said
 said_of event = said event.object (event_message event.body)

@@ -4,35 +4,35 @@ use Rattle.std.specs.Prelude.{Err, ◌⊎◌}
 use Rattle.std.specs.List.{list_any}
 use Rattle.wl_wire.specs.declared.header.Split.{Split}
 use Rattle.wl_wire.specs.declared.header.Split.TheVariants.{Message as Whole, More, Bad}
-use Rattle.wl_interface.specs.declared.interface.Interface.{Interface}
-use Rattle.wl_interface.specs.declared.interface.Interface.TheVariants.{WlDisplay, WlRegistry, WlRegion, WlShm, WlShmPool, WlBuffer}
-use Rattle.wl_interface.specs.declared.interface.Interface.TheVariants.{WlSurface, XdgPopup, XdgPositioner, XdgSurface, XdgToplevel}
+use Rattle.wl_proto.specs.declared.interface.Interface.{Interface}
+use Rattle.wl_proto.specs.declared.interface.Interface.TheVariants.{WlDisplay, WlRegistry, WlRegion, WlShm, WlShmPool, WlBuffer}
+use Rattle.wl_proto.specs.declared.interface.Interface.TheVariants.{WlSurface, XdgPopup, XdgPositioner, XdgSurface, XdgToplevel}
 use Rattle.wl_proto.specs.Messages.{Message, request_message}
 use Rattle.wl_proto.specs.declared.request.Request.{Request}
 use Rattle.wl_wire.specs.Wire.{split_of}
 use Rattle.wl_surface.specs.Slots.{IsAny, Numbered, Slots, StandForAll, has_at}
 use Rattle.wl_table.specs.Objects.{Held, HoldsAt, entry_of}
 use Rattle.wl_table.specs.declared.entry.Entry.{Entry}
-use Rattle.wl_peer.specs.declared.actions.Action.{Action}
-use Rattle.wl_peer.specs.declared.actions.Action.TheVariants.{GetRegistry, Bind, CreateRegion, DestroyRegion, CreatePool, CreateBuffer}
-use Rattle.wl_peer.specs.declared.actions.Action.TheVariants.{DestroyPool, DestroyBuffer, CreatePositioner, DestroyPositioner}
-use Rattle.wl_peer.specs.declared.cause.Cause.{Cause}
-use Rattle.wl_peer.specs.declared.cause.Cause.TheVariants.{Protocol, Memory, Slow}
-use Rattle.wl_peer.specs.declared.refusals.ErrorCode.TheVariants.{InvalidMethod}
-use Rattle.wl_peer.specs.declared.refusals.Refusal.{Refusal}
+use Rattle.spec_desktop.specs.declared.actions.Action.{Action}
+use Rattle.spec_desktop.specs.declared.actions.Action.TheVariants.{GetRegistry, Bind, CreateRegion, DestroyRegion, CreatePool, CreateBuffer}
+use Rattle.spec_desktop.specs.declared.actions.Action.TheVariants.{DestroyPool, DestroyBuffer, CreatePositioner, DestroyPositioner}
+use Rattle.spec_desktop.specs.declared.cause.Cause.{Cause}
+use Rattle.spec_desktop.specs.declared.cause.Cause.TheVariants.{Protocol, Memory, Slow}
+use Rattle.spec_desktop.specs.declared.refusals.ErrorCode.TheVariants.{InvalidMethod}
+use Rattle.spec_desktop.specs.declared.refusals.Refusal.{Refusal}
 use Rattle.wl_client.specs.declared.served.Next.{Next}
 use Rattle.wl_client.specs.declared.served.Next.TheVariants as nexts
 use Rattle.wl_client.specs.declared.served.Served.{Served}
 use Rattle.wl_client.specs.declared.served.Served.TheVariants as answers
 use Rattle.wl_client.specs.Agreement.{known_in}
 use Rattle.wl_client.specs.First.{IsRefused, Passes}
-use Rattle.wl_peer.specs.Judgement.{action_of, judge}
-use Rattle.wl_peer.specs.Requests.{request_of}
-use Rattle.wl_peer.specs.Objects.{entry_at_version}
-use Rattle.wl_peer.specs.Peer.{Peer, Errs, Queues, WantsOr, answers_to, counted, known_of, takes_memory, with_rest}
-use Rattle.wl_peer.specs.Told.{code_number, display_error}
+use Rattle.spec_desktop.specs.Judgement.{action_of, judge}
+use Rattle.spec_desktop.specs.Requests.{request_of}
+use Rattle.spec_desktop.specs.Objects.{entry_at_version}
+use Rattle.spec_desktop.specs.Peer.{Peer, Errs, Queues, WantsOr, answers_to, counted, known_of, takes_memory, with_rest}
+use Rattle.spec_desktop.specs.Told.{code_number, display_error}
 use Rattle.wl_client.specs.View.{ClientView}
-use Rattle.wl_peer.specs.Used.{changed_with}
+use Rattle.spec_desktop.specs.Used.{changed_with}
 
 -- the interfaces whose requests change nothing but the client, and leave its surfaces as they are
 abbrev pub is_own : Interface → Bool

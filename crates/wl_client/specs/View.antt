@@ -3,10 +3,10 @@ use Rattle.std.specs.Prelude.{ℕ, List, [], Option, Some, None}
 use Rattle.wl_geom.specs.Region.{Area}
 use Rattle.wl_store.specs.Stores.{Stock}
 use Rattle.wl_table.specs.Objects.{Held}
-use Rattle.wl_peer.specs.declared.cause.Cause.{Cause}
+use Rattle.spec_desktop.specs.declared.cause.Cause.{Cause}
 use Rattle.wl_client.specs.declared.outputs.Output.{Output}
-use Rattle.wl_peer.specs.Buffers.{Buffer}
-use Rattle.wl_xdg_state.specs.Positioner.{Positioner}
+use Rattle.spec_desktop.specs.Buffers.{Buffer}
+use Rattle.wl_shell.specs.Positioner.{Positioner}
 
 -- why it ended; why an event wasn't queued; how many requests were counted; the bytes that wait to be read and to be sent; the table of its
 -- live objects; by their ids the regions, the stores of the pools, the buffers, and the values of the positioners; the stores; the next

@@ -3,11 +3,11 @@
 ghost use Rattle.std.specs.Prelude.{◌≡◌, ◌==◌, ℕ, length, is_some, Ok, Err, Result, map};
 ghost use Rattle.std.specs.List.{list_all};
 ghost use Rattle.std.specs.Prelude.{flat_map, option_to_list};
-ghost use Rattle.wl_peer.specs.Objects.{Object, fits, interface_number, is_of, object_of, objects_in};
-ghost use Rattle.wl_peer.specs.Judgement.{after_new_id, is_free};
+ghost use Rattle.spec_desktop.specs.Objects.{Object, fits, interface_number, is_of, object_of, objects_in};
+ghost use Rattle.spec_desktop.specs.Judgement.{after_new_id, is_free};
 
+use spec_desktop::{ErrorCode, Refusal};
 use std::alloc::Allocator;
-use wl_peer::{ErrorCode, Refusal};
 use wl_proto::{Interface, NewId, ObjectArg};
 use wl_table::Objects;
 

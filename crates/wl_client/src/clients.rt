@@ -3,26 +3,26 @@
 ghost use Rattle.std.specs.Option.{option_copied, option_map};
 ghost use Rattle.std.specs.Prelude.{◌≡◌, ◌++◌, [], length, ◌≤◌, ◌<◌, ◌∷◌, ◌==◌, ◌+◌, if◌then◌else◌, OnOk, OnErr, IfOk, IfErr, IfSome, IsTrue, MatchBool, Some, None, true, false, is_some, is_none, map, min, nat_le, List};
 ghost use Rattle.wl_client.specs.Agreement.{most_counted, output_of};
-ghost use Rattle.wl_peer.specs.Told.{Said, id_deleted, released_told, said, said_bytes};
+ghost use Rattle.spec_desktop.specs.Told.{Said, id_deleted, released_told, said, said_bytes};
 ghost use Rattle.wl_proto.specs.Messages.{says};
 ghost use Rattle.wl_wire.specs.Wire.{Word};
-ghost use Rattle.wl_interface.specs.declared.interface.Interface.TheVariants.{WlCallback};
-ghost use Rattle.wl_peer.specs.Peer.{IsUnqueuedFor, has_room, object_at_version};
+ghost use Rattle.wl_proto.specs.declared.interface.Interface.TheVariants.{WlCallback};
+ghost use Rattle.spec_desktop.specs.Peer.{IsUnqueuedFor, has_room, object_at_version};
 ghost use Rattle.wl_client.specs.Said.{said_of};
 
 use crate::backlog::Backlog;
 use crate::events::{deletion_event, error_event, frame_event, release_event};
 use crate::outputs::Output;
+use spec_desktop::{Action, Cause, ErrorCode, Refusal, ShmBuffer};
 use std::alloc::{AllocError, Allocator};
 use std::collections::BTreeMap;
 use std::marker::Model;
 use wl_geom::Region;
-use wl_peer::{Action, Cause, ErrorCode, Refusal, ShmBuffer};
 use wl_proto::{Event, Interface, encoded_size};
+use wl_shell::Positioner;
 use wl_store::{Layout, Picture, Scale, StoreError, StoreNo, Stores, Transform};
 use wl_table::{Entry, Objects};
 use wl_wire::PutError;
-use wl_xdg_state::Positioner;
 
 /// How many bytes may wait for a client.
 const UNSENT_LIMIT: usize = 1_048_576;
@@ -56,11 +56,11 @@ impl<A: Allocator> Model for Client<A> {
 }
 
 impl<A: Allocator + Copy> Client<A> {
-    ghost use Rattle.wl_peer.specs.Peer.{Peer, ended, newcomer, Queues, Errs, LacksMemory, WantsOr, Acts, counted, made, removed, all_removed, left_by, released, sent_by, stored_by};
-    ghost use Rattle.wl_peer.specs.Objects.{entry_at_version, held_at, object_of};
+    ghost use Rattle.spec_desktop.specs.Peer.{Peer, ended, newcomer, Queues, Errs, LacksMemory, WantsOr, Acts, counted, made, removed, all_removed, left_by, released, sent_by, stored_by};
+    ghost use Rattle.spec_desktop.specs.Objects.{entry_at_version, held_at, object_of};
     ghost use Rattle.wl_client.specs.Serving.{ChangesTable, EndsBy, HoldsWithout};
     ghost use Rattle.wl_client.specs.View.{cleared};
-    ghost use Rattle.wl_peer.specs.Stored.{stored};
+    ghost use Rattle.spec_desktop.specs.Stored.{stored};
     ghost use Rattle.wl_table.specs.Objects.{Finds, HoldsAt, entry_of};
     ghost use Rattle.wl_store.specs.Stores.{next_after, picture_turned, store_at, write_refusal};
     ghost use Rattle.wl_client.specs.Agreement.{IsPeer};

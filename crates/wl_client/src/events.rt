@@ -1,15 +1,15 @@
 //! The events that clients are told.
 
 ghost use Rattle.std.specs.Prelude.{◌≡◌, map, [], ◌∷◌};
-ghost use Rattle.wl_peer.specs.Told.{callback_done, id_deleted, error_told, format_told, geometry_told, mode_told, bind_told, said, Output as Shown};
+ghost use Rattle.spec_desktop.specs.Told.{callback_done, id_deleted, error_told, format_told, geometry_told, mode_told, bind_told, said, Output as Shown};
 ghost use Rattle.wl_client.specs.Agreement.{output_of};
 ghost use Rattle.wl_client.specs.Said.{said_of};
 ghost use Rattle.wl_proto.specs.Messages.{says};
 ghost use Rattle.wl_wire.specs.Wire.{Word};
-ghost use Rattle.wl_interface.specs.declared.interface.Interface.TheVariants.{WlBuffer, WlCallback, WlShm, WlSeat, WlOutput};
+ghost use Rattle.wl_proto.specs.declared.interface.Interface.TheVariants.{WlBuffer, WlCallback, WlShm, WlSeat, WlOutput};
 
 use crate::outputs::Output;
-use wl_peer::Refusal;
+use spec_desktop::Refusal;
 use wl_proto::{
     Event, EventBody, WlBufferEvent, WlCallbackEvent, WlDisplayEvent, WlOutputEvent, WlSeatEvent,
     WlShmEvent,

@@ -1,6 +1,6 @@
 //! The first message of what came from a client.
 
-use wl_peer::Refusal;
+use spec_desktop::Refusal;
 use wl_proto::Request;
 
 /// What the first message of what came is, before its own errors are looked at.

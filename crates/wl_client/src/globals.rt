@@ -1,8 +1,8 @@
 //! The globals that a client may bind, and what a registry tells of them.
 
 ghost use Rattle.std.specs.Prelude.{◌≡◌, map};
-ghost use Rattle.wl_peer.specs.Objects.{bound_interface, global, globals, is_bound};
-ghost use Rattle.wl_peer.specs.Told.{global_told, registry_told};
+ghost use Rattle.spec_desktop.specs.Objects.{bound_interface, global, globals, is_bound};
+ghost use Rattle.spec_desktop.specs.Told.{global_told, registry_told};
 ghost use Rattle.wl_client.specs.Said.{global_of, said_of};
 
 use wl_proto::{Event, EventBody, Interface, WlRegistryEvent};

@@ -8,8 +8,8 @@ ghost use Rattle.wl_client.specs.First.{IsFirst};
 use crate::checks::{are_fit, check_new_id};
 use crate::clients::Client;
 use crate::first_message::First;
+use spec_desktop::{ErrorCode, Refusal};
 use std::alloc::{AllocError, Allocator};
-use wl_peer::{ErrorCode, Refusal};
 use wl_proto::decode;
 use wl_wire::{Split, split};
 

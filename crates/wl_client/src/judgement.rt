@@ -2,15 +2,15 @@
 
 ghost use Rattle.std.specs.Prelude.{◌≡◌, false, true, IfNone, IfSome};
 ghost use Rattle.wl_proto.specs.Messages.{request_message};
-ghost use Rattle.wl_peer.specs.Judgement.{action_of};
-ghost use Rattle.wl_peer.specs.Requests.{request_of};
+ghost use Rattle.spec_desktop.specs.Judgement.{action_of};
+ghost use Rattle.spec_desktop.specs.Requests.{request_of};
 ghost use Rattle.wl_client.specs.Agreement.{known_in};
 ghost use Rattle.wl_client.specs.Serving.{is_own};
 
 use crate::clients::Client;
 use crate::{wl_buffer, wl_display, wl_region, wl_registry, wl_shm, wl_shm_pool, xdg_positioner};
+use spec_desktop::{Action, Refusal};
 use std::alloc::Allocator;
-use wl_peer::{Action, Refusal};
 use wl_proto::Request;
 
 impl<A: Allocator + Copy> Client<A> {

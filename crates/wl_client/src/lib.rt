@@ -27,5 +27,5 @@ pub use first_message::First;
 pub use outputs::Output;
 pub use pointers::PointerEvent;
 pub use served::Served;
-pub use wl_peer::{Action, Cause, ErrorCode, Place, Refusal, ShmBuffer};
+pub use spec_desktop::{Action, Cause, ErrorCode, Place, Refusal, ShmBuffer};
 pub use wl_store::{StoreError, StoreNo};

@@ -1,14 +1,14 @@
 //! What clients are told of the pointer.
 
 ghost use Rattle.std.specs.Prelude.{◌≡◌, MatchResult, Some};
-ghost use Rattle.wl_peer.specs.Peer.{Peer, QueuesTo};
-ghost use Rattle.wl_peer.specs.Told.{said};
+ghost use Rattle.spec_desktop.specs.Peer.{Peer, QueuesTo};
+ghost use Rattle.spec_desktop.specs.Told.{said};
 ghost use Rattle.wl_client.specs.Said.{said_of};
 ghost use Rattle.wl_client.specs.Pointers.{has_serial, pointer_message, pointers_told, serial_after, TellsPointers};
 
 use crate::clients::Client;
+use spec_desktop::Cause;
 use std::alloc::Allocator;
-use wl_peer::Cause;
 use wl_proto::{Event, EventBody, WlPointerEvent};
 use wl_wire::Fixed;
 

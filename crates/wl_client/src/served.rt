@@ -1,6 +1,6 @@
 //! What became of a client's first message.
 
-use wl_peer::{Action, Refusal};
+use spec_desktop::{Action, Refusal};
 
 /// What became of a client's first message.
 #[derive(Clone, Copy, Debug, PartialEq, Eq)]

@@ -1,14 +1,14 @@
 //! One message at a time, of a client whose surfaces use some of its buffers.
 
 ghost use Rattle.std.specs.Prelude.{ℕ, Bool, ◌≡◌, ◌≤◌, ◌<◌, is_some, length, true, false, None};
-ghost use Rattle.wl_peer.specs.Peer.{Errs, IsIdleAt, Peer, counted};
+ghost use Rattle.spec_desktop.specs.Peer.{Errs, IsIdleAt, Peer, counted};
 ghost use Rattle.wl_client.specs.Serving.{ActsWith, AreUsed, ChangesTable, EndsSo, IsNext, IsOwnMessage, KeepsSurfaces, PassesTo, ServesWith, was_taken};
 
 use crate::clients::Client;
 use crate::first_message::First;
 use crate::served::{Next, Served};
+use spec_desktop::{Action, Cause, ErrorCode, Refusal};
 use std::alloc::Allocator;
-use wl_peer::{Action, Cause, ErrorCode, Refusal};
 use wl_surface::Surfaces;
 
 impl<A: Allocator + Copy> Client<A> {

@@ -1,15 +1,15 @@
 //! The requests of wl_buffer.
 
 ghost use Rattle.std.specs.Prelude.{ℕ, Bool, ◌≡◌, ◌≤◌, length};
-ghost use Rattle.wl_peer.specs.Judgement.{buffer_destroyed};
-ghost use Rattle.wl_peer.specs.Objects.{held_at};
+ghost use Rattle.spec_desktop.specs.Judgement.{buffer_destroyed};
+ghost use Rattle.spec_desktop.specs.Objects.{held_at};
 ghost use Rattle.wl_client.specs.Serving.{ActsWith, AreUsed};
-ghost use Rattle.wl_peer.specs.Used.{has_used};
+ghost use Rattle.spec_desktop.specs.Used.{has_used};
 
 use crate::clients::Client;
+use spec_desktop::{Action, ErrorCode, Refusal, ShmBuffer};
 use std::alloc::Allocator;
 use std::collections::BTreeMap;
-use wl_peer::{Action, ErrorCode, Refusal, ShmBuffer};
 use wl_store::StoreNo;
 use wl_surface::Surfaces;
 
@@ -30,8 +30,8 @@ impl<A: Allocator + Copy> Client<A> {
     ghost use Rattle.wl_client.specs.Agreement.{IsPeer};
     ghost use Rattle.wl_table.specs.Objects.{HoldsAt};
     ghost use Rattle.std.specs.Prelude.{Some, None};
-    ghost use Rattle.wl_peer.specs.Peer.{Acts, Peer};
-    ghost use Rattle.wl_peer.specs.declared.actions.Action.TheVariants.{DestroyBuffer};
+    ghost use Rattle.spec_desktop.specs.Peer.{Acts, Peer};
+    ghost use Rattle.spec_desktop.specs.declared.actions.Action.TheVariants.{DestroyBuffer};
 
     /// A buffer goes, and its use of the store.
     pub(crate) fn destroy_buffer(&mut self, id: u32, store: StoreNo)

@@ -1,13 +1,13 @@
 //! The requests of wl_display.
 
 ghost use Rattle.std.specs.Prelude.{◌≡◌, ◌≤◌, length};
-ghost use Rattle.wl_peer.specs.Judgement.{display_action};
+ghost use Rattle.spec_desktop.specs.Judgement.{display_action};
 
 use crate::clients::Client;
 use crate::events::{callback_event, deletion_event};
 use crate::globals::globals_told;
+use spec_desktop::Action;
 use std::alloc::Allocator;
-use wl_peer::Action;
 use wl_proto::{Interface, WlDisplayRequest};
 
 /// What a request of wl_display asks.
@@ -22,12 +22,12 @@ pub(crate) fn action(request: &WlDisplayRequest) -> Action
 
 impl<A: Allocator + Copy> Client<A> {
     ghost use Rattle.wl_client.specs.Agreement.{IsPeer};
-    ghost use Rattle.wl_peer.specs.Objects.{entry_at_version};
+    ghost use Rattle.spec_desktop.specs.Objects.{entry_at_version};
     ghost use Rattle.wl_table.specs.Objects.{HoldsAt};
-    ghost use Rattle.wl_interface.specs.declared.interface.Interface.TheVariants.{WlRegistry};
+    ghost use Rattle.wl_proto.specs.declared.interface.Interface.TheVariants.{WlRegistry};
     ghost use Rattle.std.specs.Prelude.{Some, None};
-    ghost use Rattle.wl_peer.specs.Peer.{Acts, Peer};
-    ghost use Rattle.wl_peer.specs.declared.actions.Action.TheVariants.{Sync, GetRegistry};
+    ghost use Rattle.spec_desktop.specs.Peer.{Acts, Peer};
+    ghost use Rattle.spec_desktop.specs.declared.actions.Action.TheVariants.{Sync, GetRegistry};
 
     /// A sync: its callback is done at once, and its id given back.
     pub(crate) fn sync(&mut self, callback: u32)

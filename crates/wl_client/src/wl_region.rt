@@ -2,14 +2,14 @@
 
 ghost use Rattle.std.specs.Prelude.{◌≡◌, ◌≤◌, length};
 ghost use Rattle.std.specs.Option.{option_map};
-ghost use Rattle.wl_peer.specs.Judgement.{changed_unless_full, region_action};
-ghost use Rattle.wl_peer.specs.Objects.{held_at};
+ghost use Rattle.spec_desktop.specs.Judgement.{changed_unless_full, region_action};
+ghost use Rattle.spec_desktop.specs.Objects.{held_at};
 
 use crate::clients::Client;
+use spec_desktop::{Action, ErrorCode, Refusal};
 use std::alloc::Allocator;
 use std::collections::BTreeMap;
 use wl_geom::{MAX_CHANGES, Rect, Region};
-use wl_peer::{Action, ErrorCode, Refusal};
 use wl_proto::{Interface, WlRegionRequest};
 
 /// What a request of a wl_region asks, or its refusal where the region has all its changes.
@@ -55,12 +55,12 @@ fn change<A: Allocator>(region: &Region<A>, change: Action) -> Result<Action, Re
 
 impl<A: Allocator + Copy> Client<A> {
     ghost use Rattle.wl_client.specs.Agreement.{IsPeer};
-    ghost use Rattle.wl_peer.specs.Objects.{entry_at_version};
-    ghost use Rattle.wl_interface.specs.declared.interface.Interface.TheVariants.{WlRegion};
+    ghost use Rattle.spec_desktop.specs.Objects.{entry_at_version};
+    ghost use Rattle.wl_proto.specs.declared.interface.Interface.TheVariants.{WlRegion};
     ghost use Rattle.wl_table.specs.Objects.{HoldsAt};
     ghost use Rattle.std.specs.Prelude.{Some, None};
-    ghost use Rattle.wl_peer.specs.Peer.{Acts, Peer};
-    ghost use Rattle.wl_peer.specs.declared.actions.Action.TheVariants.{CreateRegion, AddToRegion, SubtractFromRegion, DestroyRegion};
+    ghost use Rattle.spec_desktop.specs.Peer.{Acts, Peer};
+    ghost use Rattle.spec_desktop.specs.declared.actions.Action.TheVariants.{CreateRegion, AddToRegion, SubtractFromRegion, DestroyRegion};
 
     /// A new region, which is empty.
     pub fn create_region(&mut self, id: u32, version: u32)

@@ -1,13 +1,13 @@
 //! The requests of wl_registry.
 
 ghost use Rattle.std.specs.Prelude.{◌≡◌, ◌≤◌, length};
-ghost use Rattle.wl_peer.specs.Judgement.{registry_action};
+ghost use Rattle.spec_desktop.specs.Judgement.{registry_action};
 
 use crate::clients::Client;
 use crate::events::{capabilities_told, formats_told, output_told};
 use crate::globals::interface_bound;
+use spec_desktop::{Action, ErrorCode, Refusal};
 use std::alloc::Allocator;
-use wl_peer::{Action, ErrorCode, Refusal};
 use wl_proto::{Interface, WlRegistryRequest};
 
 /// What a bind asks, where it is of one of the globals' versions.
@@ -29,11 +29,11 @@ pub(crate) fn action(request: &WlRegistryRequest) -> Result<Action, Refusal>
 
 impl<A: Allocator + Copy> Client<A> {
     ghost use Rattle.wl_client.specs.Agreement.{IsPeer};
-    ghost use Rattle.wl_peer.specs.Objects.{entry_at_version};
+    ghost use Rattle.spec_desktop.specs.Objects.{entry_at_version};
     ghost use Rattle.wl_table.specs.Objects.{HoldsAt};
     ghost use Rattle.std.specs.Prelude.{Some, None};
-    ghost use Rattle.wl_peer.specs.Peer.{Acts, Peer};
-    ghost use Rattle.wl_peer.specs.declared.actions.Action.TheVariants.{Bind};
+    ghost use Rattle.spec_desktop.specs.Peer.{Acts, Peer};
+    ghost use Rattle.spec_desktop.specs.declared.actions.Action.TheVariants.{Bind};
 
     /// Makes the object of a bind, which tells what its interface tells at once.
     pub(crate) fn bind(&mut self, id: u32, interface: Interface, version: u32)

@@ -1,11 +1,11 @@
 //! The requests of wl_shm.
 
 ghost use Rattle.std.specs.Prelude.{◌≡◌, ◌≤◌, length};
-ghost use Rattle.wl_peer.specs.Judgement.{shm_action};
+ghost use Rattle.spec_desktop.specs.Judgement.{shm_action};
 
 use crate::clients::Client;
+use spec_desktop::{Action, ErrorCode, Refusal};
 use std::alloc::Allocator;
-use wl_peer::{Action, ErrorCode, Refusal};
 use wl_proto::{Interface, WlShmRequest};
 use wl_store::{StoreError, Stores};
 
@@ -29,12 +29,12 @@ pub(crate) fn action<A: Allocator>(
 
 impl<A: Allocator + Copy> Client<A> {
     ghost use Rattle.wl_client.specs.Agreement.{IsPeer};
-    ghost use Rattle.wl_peer.specs.Objects.{entry_at_version};
+    ghost use Rattle.spec_desktop.specs.Objects.{entry_at_version};
     ghost use Rattle.wl_table.specs.Objects.{HoldsAt};
-    ghost use Rattle.wl_interface.specs.declared.interface.Interface.TheVariants.{WlShmPool};
+    ghost use Rattle.wl_proto.specs.declared.interface.Interface.TheVariants.{WlShmPool};
     ghost use Rattle.std.specs.Prelude.{Some, None};
-    ghost use Rattle.wl_peer.specs.Peer.{Acts, Peer};
-    ghost use Rattle.wl_peer.specs.declared.actions.Action.TheVariants.{CreatePool};
+    ghost use Rattle.spec_desktop.specs.Peer.{Acts, Peer};
+    ghost use Rattle.spec_desktop.specs.declared.actions.Action.TheVariants.{CreatePool};
 
     /// A new pool with the client's next store.
     pub(crate) fn create_pool(&mut self, id: u32, version: u32, size: i32)

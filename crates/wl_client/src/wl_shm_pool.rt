@@ -1,14 +1,14 @@
 //! The requests of wl_shm_pool.
 
 ghost use Rattle.std.specs.Prelude.{◌≡◌, ◌≤◌, length};
-ghost use Rattle.wl_peer.specs.Judgement.{buffer_created, layout_refused, pool_action, pool_resized};
-ghost use Rattle.wl_peer.specs.Objects.{held_at};
+ghost use Rattle.spec_desktop.specs.Judgement.{buffer_created, layout_refused, pool_action, pool_resized};
+ghost use Rattle.spec_desktop.specs.Objects.{held_at};
 ghost use Rattle.wl_store.specs.Stores.{resize_refusal};
 
 use crate::clients::Client;
+use spec_desktop::{Action, ErrorCode, Place, Refusal, ShmBuffer};
 use std::alloc::Allocator;
 use std::collections::BTreeMap;
-use wl_peer::{Action, ErrorCode, Place, Refusal, ShmBuffer};
 use wl_proto::{Interface, WlShmPoolRequest};
 use wl_store::{LayoutError, StoreError, StoreNo, Stores, layout};
 
@@ -116,12 +116,12 @@ fn resize<A: Allocator>(
 
 impl<A: Allocator + Copy> Client<A> {
     ghost use Rattle.wl_client.specs.Agreement.{IsPeer};
-    ghost use Rattle.wl_peer.specs.Objects.{entry_at_version};
+    ghost use Rattle.spec_desktop.specs.Objects.{entry_at_version};
     ghost use Rattle.wl_table.specs.Objects.{HoldsAt};
-    ghost use Rattle.wl_interface.specs.declared.interface.Interface.TheVariants.{WlBuffer};
+    ghost use Rattle.wl_proto.specs.declared.interface.Interface.TheVariants.{WlBuffer};
     ghost use Rattle.std.specs.Prelude.{Some, None};
-    ghost use Rattle.wl_peer.specs.Peer.{Acts, Peer};
-    ghost use Rattle.wl_peer.specs.declared.actions.Action.TheVariants.{CreateBuffer, ResizePool, DestroyPool};
+    ghost use Rattle.spec_desktop.specs.Peer.{Acts, Peer};
+    ghost use Rattle.spec_desktop.specs.declared.actions.Action.TheVariants.{CreateBuffer, ResizePool, DestroyPool};
 
     /// A new buffer, which uses its store. Its number is that of its request. There is no memory for a number of more than 64 bits.
     pub(crate) fn create_buffer(&mut self, id: u32, version: u32, place: Place)

@@ -1,14 +1,14 @@
 //! The requests of xdg_positioner.
 
 ghost use Rattle.std.specs.Prelude.{◌≡◌, ◌≤◌, length};
-ghost use Rattle.wl_peer.specs.Judgement.{positioner_action, set_if_allowed};
+ghost use Rattle.spec_desktop.specs.Judgement.{positioner_action, set_if_allowed};
 
 use crate::clients::Client;
+use spec_desktop::{Action, ErrorCode, Refusal};
 use std::alloc::Allocator;
 use wl_geom::Rect;
-use wl_peer::{Action, ErrorCode, Refusal};
 use wl_proto::{Interface, XdgPositionerRequest};
-use wl_xdg_state::{Positioner, Setting};
+use wl_shell::{Positioner, Setting};
 
 /// What a request of an xdg_positioner asks, or its refusal.
 pub(crate) fn action(object: u32, request: &XdgPositionerRequest) -> Result<Action, Refusal>
@@ -55,12 +55,12 @@ fn set(object: u32, setting: Setting) -> Result<Action, Refusal>
 
 impl<A: Allocator + Copy> Client<A> {
     ghost use Rattle.wl_client.specs.Agreement.{IsPeer};
-    ghost use Rattle.wl_peer.specs.Objects.{entry_at_version};
-    ghost use Rattle.wl_interface.specs.declared.interface.Interface.TheVariants.{XdgPositioner};
+    ghost use Rattle.spec_desktop.specs.Objects.{entry_at_version};
+    ghost use Rattle.wl_proto.specs.declared.interface.Interface.TheVariants.{XdgPositioner};
     ghost use Rattle.wl_table.specs.Objects.{HoldsAt};
     ghost use Rattle.std.specs.Prelude.{Some, None};
-    ghost use Rattle.wl_peer.specs.Peer.{Acts, Peer};
-    ghost use Rattle.wl_peer.specs.declared.actions.Action.TheVariants.{CreatePositioner, SetPositioner, DestroyPositioner};
+    ghost use Rattle.spec_desktop.specs.Peer.{Acts, Peer};
+    ghost use Rattle.spec_desktop.specs.declared.actions.Action.TheVariants.{CreatePositioner, SetPositioner, DestroyPositioner};
 
     /// A new positioner, for which nothing is set.
     pub fn create_positioner(&mut self, id: u32, version: u32)

@@ -1,13 +1,13 @@
 -- What is so of each desktop that a desk agrees with.
 use Rattle.std.proofs.Common.{◌≡◌, ℕ, List, false}
 use Rattle.std.specs.Prelude.{pos}
-use Rattle.wl_plain.specs.Desktop.{Desktop}
-use Rattle.wl_plain.specs.Marks.{AreDistinct}
-use Rattle.wl_plain.specs.Moments.{marks_at_least}
-use Rattle.wl_plain.specs.Stacked.{all_windows}
-use Rattle.wl_laws.proofs.Soundness.Windows.{sound_is_distinct}
-use Rattle.wl_invariants.proofs.InOrder.Sound.{in_order_is_sound}
-use Rattle.wl_resident.specs.View.{DeskView}
+use Rattle.spec_desktop.specs.Desktop.{Desktop}
+use Rattle.spec_desktop.specs.Marks.{AreDistinct}
+use Rattle.spec_desktop.specs.Moments.{marks_at_least}
+use Rattle.spec_desktop.specs.Stacked.{all_windows}
+use Rattle.law_desktop.proofs.Soundness.Windows.{sound_is_distinct}
+use Rattle.law_desktop.proofs.InOrder.Sound.{in_order_is_sound}
+use Rattle.wl_clients.specs.View.{DeskView}
 use Rattle.wl_clients.specs.Agreeing.{Agrees}
 use Rattle.wl_clients.specs.Feeding.{kept_at}
 use Rattle.wl_clients.proofs.Steps.{kept-still}

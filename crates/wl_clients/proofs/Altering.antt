@@ -1,28 +1,28 @@
 -- What a call of a desk that takes no message and shows no frame does to the plain desktop, and that it happens so.
 use Rattle.std.proofs.Common.{◌≡◌, ℕ, List, [], ◌∷◌, Bool, true, false, Option, Some, None, cond, refl, ap, subst, sym, ◌∙◌}
 use Rattle.std.specs.Prelude.{◌==◌, filter, is_none, is_some, not}
-use Rattle.wl_peer.specs.declared.cause.Cause.{Cause}
-use Rattle.wl_peer.specs.declared.cause.Cause.TheVariants.{Gone}
-use Rattle.wl_peer.specs.Peer.{Peer, ended, left_by}
-use Rattle.wl_stacking.specs.Pointer.{first_pointer}
-use Rattle.wl_stacking.specs.Stacking.{Standing, without_client}
-use Rattle.wl_plain.specs.declared.answers.Done.{Done}
-use Rattle.wl_plain.specs.declared.answers.Done.TheVariants as gave
-use Rattle.wl_plain.specs.declared.answers.Stored.TheVariants as stored
-use Rattle.wl_plain.specs.Act.{Act, Connect, Feed, Store, Leave, Tick, Send, Close, Motion, Button, IsClosed, IsLeft, IsSent, IsStored, closed_by, lowest}
-use Rattle.wl_plain.specs.Desktop.{Desktop, Resident, become, become_by, client_at, resident_of, toplevels_of, with_client, with_number}
-use Rattle.wl_plain.specs.Happens.{Happens}
-use Rattle.wl_plain.specs.LeftOut.{nothing_left_out}
-use Rattle.wl_plain.specs.Settling.{becomes}
-use Rattle.wl_plain.specs.Step.{with_peer}
-use Rattle.wl_laws.proofs.Lists.Keys.{none-some, some-same}
-use Rattle.wl_laws.proofs.Runs.Forms.{ChangesAt as StepChangesAt, ConnectsAt, LeavesAt}
-use Rattle.wl_laws.proofs.Runs.OneRun.{held}
-use Rattle.wl_laws.proofs.Runs.Places.{client-kept}
-use Rattle.wl_laws.proofs.Runs.Stays.{sent-status, stored-status}
-use Rattle.wl_invariants.proofs.KeptRecords.Toplevels.Serves.{becomes-same, settles-to}
-use Rattle.wl_invariants.specs.InOrder.{InOrderAt, InOrderBy}
-use Rattle.wl_ordered.specs.Ordered.{Ordered}
+use Rattle.spec_desktop.specs.declared.cause.Cause.{Cause}
+use Rattle.spec_desktop.specs.declared.cause.Cause.TheVariants.{Gone}
+use Rattle.spec_desktop.specs.Peer.{Peer, ended, left_by}
+use Rattle.spec_desktop.specs.Pointer.{first_pointer}
+use Rattle.spec_desktop.specs.Stacking.{Standing, without_client}
+use Rattle.spec_desktop.specs.declared.answers.Done.{Done}
+use Rattle.spec_desktop.specs.declared.answers.Done.TheVariants as gave
+use Rattle.spec_desktop.specs.declared.answers.Stored.TheVariants as stored
+use Rattle.spec_desktop.specs.Act.{Act, Connect, Feed, Store, Leave, Tick, Send, Close, Motion, Button, IsClosed, IsLeft, IsSent, IsStored, closed_by, lowest}
+use Rattle.spec_desktop.specs.Desktop.{Desktop, Resident, become, become_by, client_at, resident_of, toplevels_of, with_client, with_number}
+use Rattle.spec_desktop.specs.Happens.{Happens}
+use Rattle.spec_desktop.specs.LeftOut.{nothing_left_out}
+use Rattle.spec_desktop.specs.Settling.{becomes}
+use Rattle.spec_desktop.specs.Step.{with_peer}
+use Rattle.law_desktop.proofs.Lists.Keys.{none-some, some-same}
+use Rattle.law_desktop.proofs.Runs.Forms.{ChangesAt as StepChangesAt, ConnectsAt, LeavesAt}
+use Rattle.law_desktop.proofs.Runs.OneRun.{held}
+use Rattle.law_desktop.proofs.Runs.Places.{client-kept}
+use Rattle.law_desktop.proofs.Runs.Stays.{sent-status, stored-status}
+use Rattle.law_desktop.proofs.KeptRecords.Toplevels.Serves.{becomes-same, settles-to}
+use Rattle.law_desktop.specs.InOrder.{InOrderAt, InOrderBy}
+use Rattle.law_desktop.specs.Ordered.{Ordered}
 
 -- ---- what is done
 

@@ -5,19 +5,19 @@ use Rattle.wl_wire.specs.Wire.{split_of}
 use Rattle.wl_wire.specs.declared.header.Split.{Split}
 use Rattle.wl_wire.specs.declared.header.Split.TheVariants.{Message as Whole, More, Bad}
 use Rattle.wl_client.specs.declared.outputs.Output.{Output}
-use Rattle.wl_peer.specs.Objects.{ById}
-use Rattle.wl_peer.specs.declared.cause.Cause.{Cause}
-use Rattle.wl_peer.specs.declared.refusals.Refusal.{Refusal}
-use Rattle.wl_plain.specs.Demand.{Demand}
-use Rattle.wl_plain.specs.Demanding.{judge_all}
-use Rattle.wl_plain.specs.Desktop.{Desktop, Resident, status_in, status_of}
-use Rattle.wl_plain.specs.LeftOut.{nothing_left_out}
-use Rattle.wl_pointed.specs.Pointed.{asked, asked_by, asked_first, asked_of}
+use Rattle.spec_desktop.specs.Objects.{ById}
+use Rattle.spec_desktop.specs.declared.cause.Cause.{Cause}
+use Rattle.spec_desktop.specs.declared.refusals.Refusal.{Refusal}
+use Rattle.spec_desktop.specs.Demand.{Demand}
+use Rattle.spec_desktop.specs.Demanding.{judge_all}
+use Rattle.spec_desktop.specs.Desktop.{Desktop, Resident, status_in, status_of}
+use Rattle.spec_desktop.specs.LeftOut.{nothing_left_out}
+use Rattle.law_desktop.specs.Pointed.Pointed.{asked, asked_by, asked_first, asked_of}
 use Rattle.wl_requests.specs.declared.pointer_asked.PointerAsked.{PointerAsked}
 use Rattle.wl_requests.specs.declared.residents.Resident.{Resident as Kept}
 use Rattle.wl_requests.specs.PointerAsks.{AsksPointerFirst, AsksPointerSo, MessageAsksPointer}
-use Rattle.wl_resident.specs.Agreement.{Matches, numbers_in, numbers_of}
-use Rattle.wl_resident.specs.View.{Pile}
+use Rattle.wl_clients.specs.Agreement.{Matches, numbers_in, numbers_of}
+use Rattle.wl_clients.specs.View.{Pile}
 use Rattle.wl_clients.specs.Pointing.{AsksOfPointer}
 use Rattle.wl_clients.specs.Residents.{client_views}
 use Rattle.wl_clients.proofs.Calls.{out}

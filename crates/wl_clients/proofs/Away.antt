@@ -4,20 +4,20 @@ use Rattle.std.specs.Prelude.{ℤ, ◌⊎◌, ◌==◌, ◌&&◌, filter, is_som
 use Rattle.std.specs.List.{list_any}
 use Rattle.std.proofs.lemmas.Bool.{eqb-true, or_left}
 use Rattle.std.proofs.lemmas.Int.{ints}
-use Rattle.wl_peer.specs.declared.cause.Cause.{Cause}
-use Rattle.wl_stacking.specs.Stacking.{nothing_owned}
-use Rattle.wl_stacking.specs.Windows.{Window, contains}
-use Rattle.wl_plain.specs.Desktop.{Desktop, Resident, client_at, owned_in, owned_of, status_in, status_of, toplevels_of}
-use Rattle.wl_plain.specs.Marks.{has_same_record, in_output, is_changed_at, is_kept_in}
-use Rattle.wl_plain.specs.Moments.{marks_at_least, marks_at_most}
-use Rattle.wl_plain.specs.Stacked.{all_windows}
-use Rattle.wl_laws.proofs.Lists.Standings.{any-gone}
-use Rattle.wl_laws.proofs.Marks.Stacks.{and-both, and-left, and-right, any-more, differ, equal-numbers, fields, or-left, or-right, unless}
-use Rattle.wl_invariants.specs.Touching.{has_window_at}
-use Rattle.wl_invariants.specs.InOrder.{InOrderAt}
-use Rattle.wl_ordered.specs.Ordered.{Ordered}
-use Rattle.wl_ways.specs.Ways.{IsGone}
-use Rattle.wl_ways.proofs.MessageWays.Gone.{gone_windows}
+use Rattle.spec_desktop.specs.declared.cause.Cause.{Cause}
+use Rattle.spec_desktop.specs.Stacking.{nothing_owned}
+use Rattle.spec_desktop.specs.Windows.{Window, contains}
+use Rattle.spec_desktop.specs.Desktop.{Desktop, Resident, client_at, owned_in, owned_of, status_in, status_of, toplevels_of}
+use Rattle.spec_desktop.specs.Marks.{has_same_record, in_output, is_changed_at, is_kept_in}
+use Rattle.spec_desktop.specs.Moments.{marks_at_least, marks_at_most}
+use Rattle.spec_desktop.specs.Stacked.{all_windows}
+use Rattle.law_desktop.proofs.Lists.Standings.{any-gone}
+use Rattle.law_desktop.proofs.Marks.Stacks.{and-both, and-left, and-right, any-more, differ, equal-numbers, fields, or-left, or-right, unless}
+use Rattle.law_desktop.specs.Touching.{has_window_at}
+use Rattle.law_desktop.specs.InOrder.{InOrderAt}
+use Rattle.law_desktop.specs.Ordered.{Ordered}
+use Rattle.law_desktop.specs.Ways.{IsGone}
+use Rattle.law_desktop.proofs.MessageWays.Gone.{gone_windows}
 use Rattle.wl_clients.proofs.Altering.{ended-bare, none-taken}
 
 -- it isn't there, or has ended

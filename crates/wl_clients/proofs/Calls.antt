@@ -4,38 +4,38 @@ use Rattle.std.specs.Option.{option_map}
 use Rattle.std.specs.Prelude.{◌==◌, ◌%◌, if◌then◌else◌, is_some, replicate, Ok, Err}
 use Rattle.std.specs.List.{list_any}
 use Rattle.wl_client.specs.Agreement.{IsPeer, output_of}
-use Rattle.wl_peer.specs.Objects.{ById, nothing}
-use Rattle.wl_peer.specs.Peer.{Peer, newcomer}
-use Rattle.wl_peer.specs.Told.{Output as Shown}
+use Rattle.spec_desktop.specs.Objects.{ById, nothing}
+use Rattle.spec_desktop.specs.Peer.{Peer, newcomer}
+use Rattle.spec_desktop.specs.Told.{Output as Shown}
 use Rattle.wl_client.specs.View.{ClientView}
-use Rattle.wl_peer.specs.declared.cause.Cause.{Cause}
+use Rattle.spec_desktop.specs.declared.cause.Cause.{Cause}
 use Rattle.wl_client.specs.declared.outputs.Output.{Output}
 use Rattle.wl_paint.specs.Damage.{Damaged}
-use Rattle.wl_stacking.specs.Stacking.{Standing, without_client}
+use Rattle.spec_desktop.specs.Stacking.{Standing, without_client}
 use Rattle.wl_scene.specs.Kept.{Stack}
-use Rattle.wl_stacking.specs.Windows.{Window}
-use Rattle.wl_stacked.specs.declared.stacked.Stacked.{Stacked}
-use Rattle.wl_stacked.specs.Stacked.{without_client as without_client_of}
-use Rattle.wl_lending.specs.Stacked.{AreStacked}
-use Rattle.wl_lending.proofs.Standing.{stacked-client-gone}
-use Rattle.wl_plain.specs.Act.{Close, IsClosed, closed_by, lowest, next_of, peer_at, peer_of}
-use Rattle.wl_plain.specs.Desktop.{Desktop, Resident, arrival, become, become_by, client_at, empty, place, status_of, with_client, with_number}
-use Rattle.wl_plain.specs.Stacked.{all_windows}
-use Rattle.wl_plain.specs.declared.answers.ConnectError.TheVariants.{Full, Memory}
-use Rattle.wl_plain.specs.declared.answers.Done.{Done}
-use Rattle.wl_plain.specs.declared.answers.Done.TheVariants as gave
-use Rattle.wl_laws.proofs.Lists.Keys.{differ, some-same}
-use Rattle.wl_laws.proofs.Marks.Stacks.{or-left, or-right}
-use Rattle.wl_laws.proofs.Runs.Forms.{ConnectsAt}
-use Rattle.wl_laws.proofs.Runs.Places.{client-kept}
-use Rattle.wl_ordered.specs.Ordered.{Ordered}
-use Rattle.wl_invariants.proofs.ShownSurfaces.Laws.{empty_is_shown}
+use Rattle.spec_desktop.specs.Windows.{Window}
+use Rattle.wl_scene.specs.declared.stacked.Stacked.{Stacked}
+use Rattle.wl_scene.specs.Stacked.{without_client as without_client_of}
+use Rattle.wl_scene.specs.StackedAgreement.{AreStacked}
+use Rattle.wl_scene.proofs.Standing.{stacked-client-gone}
+use Rattle.spec_desktop.specs.Act.{Close, IsClosed, closed_by, lowest, next_of, peer_at, peer_of}
+use Rattle.spec_desktop.specs.Desktop.{Desktop, Resident, arrival, become, become_by, client_at, empty, place, status_of, with_client, with_number}
+use Rattle.spec_desktop.specs.Stacked.{all_windows}
+use Rattle.spec_desktop.specs.declared.answers.ConnectError.TheVariants.{Full, Memory}
+use Rattle.spec_desktop.specs.declared.answers.Done.{Done}
+use Rattle.spec_desktop.specs.declared.answers.Done.TheVariants as gave
+use Rattle.law_desktop.proofs.Lists.Keys.{differ, some-same}
+use Rattle.law_desktop.proofs.Marks.Stacks.{or-left, or-right}
+use Rattle.law_desktop.proofs.Runs.Forms.{ConnectsAt}
+use Rattle.law_desktop.proofs.Runs.Places.{client-kept}
+use Rattle.law_desktop.specs.Ordered.{Ordered}
+use Rattle.law_desktop.proofs.ShownSurfaces.Laws.{empty_is_shown}
 use Rattle.wl_requests.specs.declared.residents.Resident.{Resident as Kept}
-use Rattle.wl_resident.specs.Agreement.{Matches, IsPlace, IsScene, IsStack, numbers_in, numbers_of, with_numbers}
-use Rattle.wl_resident.specs.Seats.{IsBare, IsChangedSo, IsSeated, ended_by}
-use Rattle.wl_resident.specs.View.{DeskView, MarkedDesk, OwnedView, Pile, owned_view}
-use Rattle.wl_resident.proofs.Ends.{nameless-newcomer, seat-bare}
-use Rattle.wl_resident.proofs.Scenes.{none-stands, numbers-by, stack-by, stack-without}
+use Rattle.wl_clients.specs.Agreement.{Matches, IsPlace, IsScene, IsStack, numbers_in, numbers_of, with_numbers}
+use Rattle.wl_clients.specs.Seats.{IsBare, IsChangedSo, IsSeated, ended_by}
+use Rattle.wl_clients.specs.View.{DeskView, MarkedDesk, OwnedView, Pile, owned_view}
+use Rattle.wl_clients.proofs.OnScreen.Ends.{nameless-newcomer, seat-bare}
+use Rattle.wl_clients.proofs.OnScreen.Scenes.{none-stands, numbers-by, stack-by, stack-without}
 use Rattle.wl_clients.specs.Agreeing.{Agrees}
 use Rattle.wl_clients.specs.Feeding.{IsIdleIn, IsIdleOf, kept_at, kept_of}
 use Rattle.wl_clients.specs.Residents.{client_views, owned_views, resident_at}

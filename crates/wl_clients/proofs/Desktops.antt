@@ -5,21 +5,21 @@ use Rattle.std.specs.Prelude.{if◌then◌else◌, is_some, ◌==◌}
 use Rattle.std.proofs.lemmas.Bool.{eqb-false, eqb-true}
 use Rattle.std.proofs.lemmas.List.{get_or-set_other, get_or-set_same, length-set}
 use Rattle.wl_client.specs.View.{ClientView}
-use Rattle.wl_peer.specs.Objects.{ById}
+use Rattle.spec_desktop.specs.Objects.{ById}
 use Rattle.wl_scene.specs.Kept.{Stack}
-use Rattle.wl_stacking.specs.Windows.{Window}
-use Rattle.wl_stacked.specs.declared.stacked.Stacked.{Stacked}
-use Rattle.wl_lending.specs.Stacked.{AreStacked}
-use Rattle.wl_resident.specs.Agreement.{Matches, IsPlace, IsScene, IsSeat, numbers_in, numbers_of, with_numbers}
-use Rattle.wl_plain.specs.Desktop.{Desktop, Resident, client_at, place, with_number, with_place}
-use Rattle.wl_resident.specs.Seats.{IsSeated}
-use Rattle.wl_invariants.specs.Shown.{ShownStand}
-use Rattle.wl_plain.specs.Act.{lowest, next_of}
-use Rattle.wl_plain.specs.Stacked.{all_windows}
-use Rattle.wl_resident.specs.View.{DeskView, OwnedView, Pile, owned_view}
+use Rattle.spec_desktop.specs.Windows.{Window}
+use Rattle.wl_scene.specs.declared.stacked.Stacked.{Stacked}
+use Rattle.wl_scene.specs.StackedAgreement.{AreStacked}
+use Rattle.wl_clients.specs.Agreement.{Matches, IsPlace, IsScene, IsSeat, numbers_in, numbers_of, with_numbers}
+use Rattle.spec_desktop.specs.Desktop.{Desktop, Resident, client_at, place, with_number, with_place}
+use Rattle.wl_clients.specs.Seats.{IsSeated}
+use Rattle.law_desktop.specs.Shown.{ShownStand}
+use Rattle.spec_desktop.specs.Act.{lowest, next_of}
+use Rattle.spec_desktop.specs.Stacked.{all_windows}
+use Rattle.wl_clients.specs.View.{DeskView, OwnedView, Pile, owned_view}
 use Rattle.wl_requests.specs.declared.residents.Resident.{Resident as Kept}
-use Rattle.wl_laws.proofs.Runs.Places.{number-kept}
-use Rattle.wl_resident.proofs.Scenes.{stack-by}
+use Rattle.law_desktop.proofs.Runs.Places.{number-kept}
+use Rattle.wl_clients.proofs.OnScreen.Scenes.{stack-by}
 
 -- ---- lists of places
 

@@ -4,37 +4,37 @@ use Rattle.std.proofs.lemmas.Bool.{eqb-false}
 use Rattle.std.proofs.lemmas.List.Elements.{filter-append}
 use Rattle.std.specs.List.{list_any}
 use Rattle.std.specs.Prelude.{ℤ, ◌==◌, ◌&&◌, ◌||◌, filter, flat_map, fold, if◌then◌else◌, is_some, not}
-use Rattle.wl_peer.specs.declared.cause.Cause.{Cause}
-use Rattle.wl_peer.specs.declared.cause.Cause.TheVariants.{Gone, Memory}
-use Rattle.wl_peer.specs.Peer.{Peer, ended}
+use Rattle.spec_desktop.specs.declared.cause.Cause.{Cause}
+use Rattle.spec_desktop.specs.declared.cause.Cause.TheVariants.{Gone, Memory}
+use Rattle.spec_desktop.specs.Peer.{Peer, ended}
 use Rattle.wl_surface.specs.Surfaces.{Surfaces}
-use Rattle.wl_stacking.specs.Popups.{stacked_popups}
-use Rattle.wl_stacking.specs.Stacking.{Owned, Standing, geometry_in, nothing_owned, without_client}
-use Rattle.wl_stacking.specs.Windows.{Root, StackedPopup, Window, contains, owner_of, root_on, roots_of, stacked, stacked_on, tree}
-use Rattle.wl_plain.specs.declared.answers.Done.{Done}
-use Rattle.wl_plain.specs.Act.{Act, Connect, Feed, Store, Leave, Tick, Send, Close, Motion, Button, IsClosed, IsSent, IsStored, lowest}
-use Rattle.wl_plain.specs.Changing.{without_callbacks}
-use Rattle.wl_plain.specs.Desktop.{Desktop, Resident, arrival, client_at, owned_in, owned_of, resident_of, with_client}
-use Rattle.wl_plain.specs.Happenings.{Leads, Single, StarvesAt}
-use Rattle.wl_plain.specs.Happens.{ChangesThen, ConnectsThen, LeavesThen, TellsFrames, callbacks_due, frames_told}
-use Rattle.wl_plain.specs.LeftOut.{LeftOut}
-use Rattle.wl_plain.specs.Step.{with_peer}
-use Rattle.wl_laws.specs.Focus.{EndedAreBare}
-use Rattle.wl_plain.specs.Marks.{AreDistinct, at_least, in_output}
-use Rattle.wl_plain.specs.Moments.{applied_between, marks_at_least, marks_at_least_through}
-use Rattle.wl_plain.specs.Settling.{Midstep, Settles, Strike, becomes, ended_all, ended_at, ended_by, unstruck}
-use Rattle.wl_plain.specs.Stacked.{all_windows}
-use Rattle.wl_plain.specs.Through.{EndsFirstThrough, SettlesAllThrough, ending_through, ends_through, settling_through}
-use Rattle.wl_laws.proofs.Marks.Painted.{distinct-kept}
-use Rattle.wl_laws.proofs.Marks.Stacks.{Each, and-both, and-left, and-right, any-more, differ, each-map, equal-numbers, fields, unless}
-use Rattle.wl_laws.proofs.Runs.Output.{settles-still, tells-still}
-use Rattle.wl_laws.proofs.Runs.Places.{number-other}
-use Rattle.wl_laws.proofs.Runs.Settled.{ShowsSame, closed-none, come-shows, has-settled, never-none, put-shows, same-windows, shows-itself, tells-so, windows_by}
-use Rattle.wl_laws.proofs.Soundness.Trees.{each-append, each-flat}
-use Rattle.wl_ordered.specs.Ordered.{Ordered}
-use Rattle.wl_invariants.proofs.TreeSteps.Owners.{tree-owned}
-use Rattle.wl_ways.proofs.MessageWays.Gone.{same-applied}
-use Rattle.wl_ways.proofs.MessageWays.Lists.{any-left, filter-all, filter-every, filter-none, gone-least, least-gone}
+use Rattle.spec_desktop.specs.Popups.{stacked_popups}
+use Rattle.spec_desktop.specs.Stacking.{Owned, Standing, geometry_in, nothing_owned, without_client}
+use Rattle.spec_desktop.specs.Windows.{Root, StackedPopup, Window, contains, owner_of, root_on, roots_of, stacked, stacked_on, tree}
+use Rattle.spec_desktop.specs.declared.answers.Done.{Done}
+use Rattle.spec_desktop.specs.Act.{Act, Connect, Feed, Store, Leave, Tick, Send, Close, Motion, Button, IsClosed, IsSent, IsStored, lowest}
+use Rattle.spec_desktop.specs.Changing.{without_callbacks}
+use Rattle.spec_desktop.specs.Desktop.{Desktop, Resident, arrival, client_at, owned_in, owned_of, resident_of, with_client}
+use Rattle.spec_desktop.specs.Happenings.{Leads, Single, StarvesAt}
+use Rattle.spec_desktop.specs.Happens.{ChangesThen, ConnectsThen, LeavesThen, TellsFrames, callbacks_due, frames_told}
+use Rattle.spec_desktop.specs.LeftOut.{LeftOut}
+use Rattle.spec_desktop.specs.Step.{with_peer}
+use Rattle.law_desktop.specs.Focus.{EndedAreBare}
+use Rattle.spec_desktop.specs.Marks.{AreDistinct, at_least, in_output}
+use Rattle.spec_desktop.specs.Moments.{applied_between, marks_at_least, marks_at_least_through}
+use Rattle.spec_desktop.specs.Settling.{Midstep, Settles, Strike, becomes, ended_all, ended_at, ended_by, unstruck}
+use Rattle.spec_desktop.specs.Stacked.{all_windows}
+use Rattle.spec_desktop.specs.Through.{EndsFirstThrough, SettlesAllThrough, ending_through, ends_through, settling_through}
+use Rattle.law_desktop.proofs.Marks.Painted.{distinct-kept}
+use Rattle.law_desktop.proofs.Marks.Stacks.{Each, and-both, and-left, and-right, any-more, differ, each-map, equal-numbers, fields, unless}
+use Rattle.law_desktop.proofs.Runs.Output.{settles-still, tells-still}
+use Rattle.law_desktop.proofs.Runs.Places.{number-other}
+use Rattle.law_desktop.proofs.Runs.Settled.{ShowsSame, closed-none, come-shows, has-settled, never-none, put-shows, same-windows, shows-itself, tells-so, windows_by}
+use Rattle.law_desktop.proofs.Soundness.Trees.{each-append, each-flat}
+use Rattle.law_desktop.specs.Ordered.{Ordered}
+use Rattle.law_desktop.proofs.TreeSteps.Owners.{tree-owned}
+use Rattle.law_desktop.proofs.MessageWays.Gone.{same-applied}
+use Rattle.law_desktop.proofs.MessageWays.Lists.{any-left, filter-all, filter-every, filter-none, gone-least, least-gone}
 use Rattle.wl_clients.proofs.Altering.{ended-bare}
 
 -- ---- the windows of the others stay as a client ends

@@ -2,29 +2,29 @@
 use Rattle.std.proofs.Common.{◌≡◌, ◌≢◌, ℕ, suc, ◌+◌, ◌<◌, List, Bool, true, false, Option, Some, None, set, refl, ap, subst, sym, ◌∙◌, arith, ◌⊎◌, inl, inr}
 use Rattle.std.proofs.lemmas.Bool.{or_left}
 use Rattle.std.specs.Prelude.{pos, ◌==◌, ◌&&◌, ◌||◌, is_some}
-use Rattle.wl_peer.specs.declared.cause.Cause.{Cause}
-use Rattle.wl_peer.specs.Told.{Output as Sides}
+use Rattle.spec_desktop.specs.declared.cause.Cause.{Cause}
+use Rattle.spec_desktop.specs.Told.{Output as Sides}
 use Rattle.wl_client.specs.declared.outputs.Output.{Output}
 use Rattle.wl_paint.specs.Damage.{Damaged, has}
-use Rattle.wl_stacking.specs.Windows.{contains}
-use Rattle.wl_plain.specs.Desktop.{Desktop, Resident, client_at, status_in, status_of}
-use Rattle.wl_plain.specs.Framing.{FramesTold, FramesToldAt}
-use Rattle.wl_plain.specs.Moments.{marks_at_most}
-use Rattle.wl_laws.proofs.Marks.Stacks.{differ}
-use Rattle.wl_laws.proofs.Marks.Through.{unmarked-on}
-use Rattle.wl_laws.proofs.Runs.Fates.{same-or}
-use Rattle.wl_invariants.specs.Touching.{has_window_at}
-use Rattle.wl_invariants.proofs.KeptRecords.Marks.Framing.{told-more}
-use Rattle.wl_ordered.specs.Ordered.{Ordered}
-use Rattle.wl_ordered.proofs.Laws.{frames_keep_ordered}
-use Rattle.wl_ways.specs.Ways.{IsGone}
-use Rattle.wl_ways.proofs.MessageWays.Ends.{untold_is_gone}
-use Rattle.wl_marking.specs.Marking.{IsAsLarge}
+use Rattle.spec_desktop.specs.Windows.{contains}
+use Rattle.spec_desktop.specs.Desktop.{Desktop, Resident, client_at, status_in, status_of}
+use Rattle.spec_desktop.specs.Framing.{FramesTold, FramesToldAt}
+use Rattle.spec_desktop.specs.Moments.{marks_at_most}
+use Rattle.law_desktop.proofs.Marks.Stacks.{differ}
+use Rattle.law_desktop.proofs.Marks.Through.{unmarked-on}
+use Rattle.law_desktop.proofs.Runs.Fates.{same-or}
+use Rattle.law_desktop.specs.Touching.{has_window_at}
+use Rattle.law_desktop.proofs.KeptRecords.Marks.Framing.{told-more}
+use Rattle.law_desktop.specs.Ordered.{Ordered}
+use Rattle.law_desktop.proofs.KeptInOrder.Laws.{frames_keep_ordered}
+use Rattle.law_desktop.specs.Ways.{IsGone}
+use Rattle.law_desktop.proofs.MessageWays.Ends.{untold_is_gone}
+use Rattle.wl_scene.specs.Marking.{IsAsLarge}
 use Rattle.wl_requests.specs.declared.residents.Resident.{Resident as Kept}
-use Rattle.wl_resident.specs.Agreement.{Matches, numbers_in}
-use Rattle.wl_resident.specs.Marking.{MarksAtLeast, MarksMost, MarksOwnIf}
-use Rattle.wl_resident.specs.Seats.{IsSeated}
-use Rattle.wl_resident.specs.View.{DeskView, MarkedDesk, Pile}
+use Rattle.wl_clients.specs.Agreement.{Matches, numbers_in}
+use Rattle.wl_clients.specs.Marking.{MarksAtLeast, MarksMost, MarksOwnIf}
+use Rattle.wl_clients.specs.Seats.{IsSeated}
+use Rattle.wl_clients.specs.View.{DeskView, MarkedDesk, Pile}
 use Rattle.wl_clients.specs.Agreeing.{Agrees}
 use Rattle.wl_clients.specs.Framing.{MarksIfEnds, WasTold}
 use Rattle.wl_clients.specs.Residents.{client_views}

@@ -1,7 +1,7 @@
 -- What is handed in for a grab is what one is allowed by, where one is asked for.
 use Rattle.std.proofs.Common.{◌≡◌, ℕ, Bool, true, Some, refl, subst}
-use Rattle.wl_plain.specs.Changing.{grab_holder, is_held_elsewhere}
-use Rattle.wl_plain.specs.Desktop.{Desktop, Resident, client_at}
+use Rattle.spec_desktop.specs.Changing.{grab_holder, is_held_elsewhere}
+use Rattle.spec_desktop.specs.Desktop.{Desktop, Resident, client_at}
 use Rattle.wl_proto.specs.declared.xdg_popup.XdgPopupRequest.TheVariants as popup
 use Rattle.wl_requests.specs.Grabbing.{IsGrabbing, IsGrabbingFor, IsGrabbingOf}
 use Rattle.wl_requests.specs.declared.messages.Asked.{Asked}

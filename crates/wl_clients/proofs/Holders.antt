@@ -6,27 +6,27 @@ use Rattle.std.specs.Prelude.{◌==◌, if◌then◌else◌}
 use Rattle.std.proofs.lemmas.Bool.{eqb-false, eqb-true}
 use Rattle.wl_surface.specs.Surfaces.{history_in}
 use Rattle.wl_shell.specs.Found.{AreFound}
-use Rattle.wl_shell.specs.Popups.{is_grabbing}
+use Rattle.wl_shell.specs.PopupsKept.{is_grabbing}
 use Rattle.wl_shell.proofs.Reading.{shells_find}
-use Rattle.wl_xdg_state.specs.Kept.{kept_of}
-use Rattle.wl_xdg_state.specs.Popups.{Popped, popups_of}
-use Rattle.wl_stacking.specs.Stacking.{Owned}
-use Rattle.wl_named_popups.proofs.Popped.{popups-named}
-use Rattle.wl_owning.specs.Owning.{IsOwned, Names, number_in}
-use Rattle.wl_owning.specs.RoleNames.{names_of}
-use Rattle.wl_owning.specs.Twins.{by_numbers}
-use Rattle.wl_owning.proofs.Popups.Renamed.{any-renamed}
-use Rattle.wl_owning.proofs.Twins.{kept-by-numbers}
+use Rattle.wl_shell.specs.Kept.{kept_of}
+use Rattle.wl_shell.specs.Popups.{Popped, popups_of}
+use Rattle.spec_desktop.specs.Stacking.{Owned}
+use Rattle.law_desktop.proofs.PopupsByNames.Popped.{popups-named}
+use Rattle.law_desktop.specs.Owning.{IsOwned, Names, number_in}
+use Rattle.law_desktop.specs.RoleNames.{names_of}
+use Rattle.law_desktop.specs.Twins.{by_numbers}
+use Rattle.law_desktop.proofs.OwnedPopups.Renamed.{any-renamed}
+use Rattle.law_desktop.proofs.Twins.{kept-by-numbers}
 use Rattle.wl_client.specs.View.{ClientView}
 use Rattle.wl_client.specs.declared.outputs.Output.{Output}
-use Rattle.wl_plain.specs.Changing.{grab_holder, holder_from, holds_grab}
-use Rattle.wl_plain.specs.Desktop.{Resident, client_at, place}
-use Rattle.wl_plain.specs.Settling.{Midstep}
-use Rattle.wl_laws.proofs.Lists.Keys.{differ}
+use Rattle.spec_desktop.specs.Changing.{grab_holder, holder_from, holds_grab}
+use Rattle.spec_desktop.specs.Desktop.{Resident, client_at, place}
+use Rattle.spec_desktop.specs.Settling.{Midstep}
+use Rattle.law_desktop.proofs.Lists.Keys.{differ}
 use Rattle.wl_requests.specs.declared.residents.Resident.{Resident as Kept}
-use Rattle.wl_resident.specs.Agreement.{IsPlace}
-use Rattle.wl_resident.specs.Seats.{opened_kept}
-use Rattle.wl_resident.specs.View.{DeskView, OwnedView, Pile, owned_view}
+use Rattle.wl_clients.specs.Agreement.{IsPlace}
+use Rattle.wl_clients.specs.Seats.{opened_kept}
+use Rattle.wl_clients.specs.View.{DeskView, OwnedView, Pile, owned_view}
 use Rattle.wl_clients.specs.Agreeing.{Agrees}
 use Rattle.wl_clients.specs.Holders.{IsFirstHolder, NoneHolds, SaysGrab}
 use Rattle.wl_clients.specs.Midway.{IsMid}

@@ -1,34 +1,34 @@
 -- A piece is kept of a client of the desk, one of its messages is taken, and it ends.
 use Rattle.std.proofs.Common.{◌≡◌, ℕ, ◌<◌, ◌++◌, List, length, Option, Some, None, Result, set, refl, subst, sym, ◌∙◌, ap}
 use Rattle.std.specs.Prelude.{Ok, Err, OnErr, OnOk, is_some}
-use Rattle.wl_interface.specs.declared.interface.Interface.TheVariants.{WlSurface}
-use Rattle.wl_owning.specs.Owning.{targets_in}
-use Rattle.wl_peer.specs.Objects.{ById}
-use Rattle.wl_peer.specs.Peer.{IsIdleAt, with_rest}
-use Rattle.wl_peer.specs.Told.{Output as Shown}
+use Rattle.wl_proto.specs.declared.interface.Interface.TheVariants.{WlSurface}
+use Rattle.law_desktop.specs.Owning.{targets_in}
+use Rattle.spec_desktop.specs.Objects.{ById}
+use Rattle.spec_desktop.specs.Peer.{IsIdleAt, with_rest}
+use Rattle.spec_desktop.specs.Told.{Output as Shown}
 use Rattle.wl_client.specs.Agreement.{IsPeer}
 use Rattle.wl_client.specs.View.{ClientView}
-use Rattle.wl_peer.specs.declared.cause.Cause.{Cause}
-use Rattle.wl_peer.specs.declared.cause.Cause.TheVariants as cause
+use Rattle.spec_desktop.specs.declared.cause.Cause.{Cause}
+use Rattle.spec_desktop.specs.declared.cause.Cause.TheVariants as cause
 use Rattle.wl_client.specs.declared.outputs.Output.{Output}
 use Rattle.wl_paint.specs.Damage.{Damaged}
-use Rattle.wl_stacking.specs.Windows.{Window}
-use Rattle.wl_lending.specs.Stacked.{AreStacked}
-use Rattle.wl_plain.specs.Act.{fed_of, peer_at, status_of}
-use Rattle.wl_plain.specs.Desktop.{Desktop, Resident, become, client_at, with_client, with_number}
-use Rattle.wl_plain.specs.LeftOut.{nothing_left_out}
-use Rattle.wl_plain.specs.Stacked.{all_windows}
-use Rattle.wl_plain.specs.Step.{with_peer}
-use Rattle.wl_plain.specs.Through.{ServesThrough}
-use Rattle.wl_plain.specs.declared.answers.Fed.TheVariants as fed
-use Rattle.wl_laws.proofs.Lists.Keys.{differ}
-use Rattle.wl_laws.proofs.Runs.Places.{number-same, number-twice}
-use Rattle.wl_ordered.specs.Ordered.{Ordered}
+use Rattle.spec_desktop.specs.Windows.{Window}
+use Rattle.wl_scene.specs.StackedAgreement.{AreStacked}
+use Rattle.spec_desktop.specs.Act.{fed_of, peer_at, status_of}
+use Rattle.spec_desktop.specs.Desktop.{Desktop, Resident, become, client_at, with_client, with_number}
+use Rattle.spec_desktop.specs.LeftOut.{nothing_left_out}
+use Rattle.spec_desktop.specs.Stacked.{all_windows}
+use Rattle.spec_desktop.specs.Step.{with_peer}
+use Rattle.spec_desktop.specs.Through.{ServesThrough}
+use Rattle.spec_desktop.specs.declared.answers.Fed.TheVariants as fed
+use Rattle.law_desktop.proofs.Lists.Keys.{differ}
+use Rattle.law_desktop.proofs.Runs.Places.{number-same, number-twice}
+use Rattle.law_desktop.specs.Ordered.{Ordered}
 use Rattle.wl_requests.specs.declared.residents.Resident.{Resident as Kept}
-use Rattle.wl_resident.specs.Agreement.{Matches, numbers_in, with_numbers}
-use Rattle.wl_resident.specs.Marking.{MarksThrough}
-use Rattle.wl_resident.specs.Seats.{IsSeated, ended_by}
-use Rattle.wl_resident.specs.View.{DeskView, Pile}
+use Rattle.wl_clients.specs.Agreement.{Matches, numbers_in, with_numbers}
+use Rattle.wl_clients.specs.Marking.{MarksThrough}
+use Rattle.wl_clients.specs.Seats.{IsSeated, ended_by}
+use Rattle.wl_clients.specs.View.{DeskView, Pile}
 use Rattle.wl_clients.specs.Feeding.{IsIdleIn, IsIdleOf, kept_at, kept_by, kept_of, kept_while, rest_in}
 use Rattle.wl_clients.specs.Residents.{client_views}
 use Rattle.wl_clients.proofs.Calls.{back, ended_at, ended_of, out, peer-here}

@@ -2,26 +2,26 @@
 use Rattle.std.proofs.Common.{◌≡◌, ℕ, Bool, true, false, List, Option, Some, None, refl, ap, subst, sym, ◌∙◌}
 use Rattle.std.specs.Prelude.{◌<◌, ◌||◌, pos}
 use Rattle.std.proofs.lemmas.Bool.{or_left, or_right}
-use Rattle.wl_peer.specs.declared.cause.Cause.{Cause}
-use Rattle.wl_peer.specs.declared.cause.Cause.TheVariants as cause
-use Rattle.wl_peer.specs.Peer.{ended}
+use Rattle.spec_desktop.specs.declared.cause.Cause.{Cause}
+use Rattle.spec_desktop.specs.declared.cause.Cause.TheVariants as cause
+use Rattle.spec_desktop.specs.Peer.{ended}
 use Rattle.wl_paint.specs.Damage.{Damaged, has}
-use Rattle.wl_plain.specs.Act.{Act, Tick, fed_of, peer_at, peer_of, status_of}
-use Rattle.wl_plain.specs.declared.answers.Done.{Done}
-use Rattle.wl_plain.specs.declared.answers.Done.TheVariants as gave
-use Rattle.wl_plain.specs.declared.answers.Fed.TheVariants as fed
-use Rattle.wl_plain.specs.Desktop.{Desktop, Resident, client_at}
-use Rattle.wl_plain.specs.Happenings.{Happening, Leads, Message, Single, Starve, StarvesAt}
-use Rattle.wl_plain.specs.Happens.{Happens}
-use Rattle.wl_plain.specs.LeftOut.{nothing_left_out}
-use Rattle.wl_plain.specs.Moments.{marks_at_most, marks_at_most_through}
-use Rattle.wl_plain.specs.Settling.{becomes, unstruck}
-use Rattle.wl_plain.specs.Stacked.{all_windows}
-use Rattle.wl_plain.specs.Through.{ServesThrough, raised_in}
-use Rattle.wl_laws.specs.Through.{IsSingle}
-use Rattle.wl_laws.proofs.Runs.Through.{happens_leads_through, settling-with}
-use Rattle.wl_resident.specs.Marking.{MarksAtLeast, MarksMost, MarksThrough, MarksThroughBy}
-use Rattle.wl_resident.specs.View.{DeskView}
+use Rattle.spec_desktop.specs.Act.{Act, Tick, fed_of, peer_at, peer_of, status_of}
+use Rattle.spec_desktop.specs.declared.answers.Done.{Done}
+use Rattle.spec_desktop.specs.declared.answers.Done.TheVariants as gave
+use Rattle.spec_desktop.specs.declared.answers.Fed.TheVariants as fed
+use Rattle.spec_desktop.specs.Desktop.{Desktop, Resident, client_at}
+use Rattle.spec_desktop.specs.Happenings.{Happening, Leads, Message, Single, Starve, StarvesAt}
+use Rattle.spec_desktop.specs.Happens.{Happens}
+use Rattle.spec_desktop.specs.LeftOut.{nothing_left_out}
+use Rattle.spec_desktop.specs.Moments.{marks_at_most, marks_at_most_through}
+use Rattle.spec_desktop.specs.Settling.{becomes, unstruck}
+use Rattle.spec_desktop.specs.Stacked.{all_windows}
+use Rattle.spec_desktop.specs.Through.{ServesThrough, raised_in}
+use Rattle.law_desktop.specs.Through.{IsSingle}
+use Rattle.law_desktop.proofs.Runs.Through.{happens_leads_through, settling-with}
+use Rattle.wl_clients.specs.Marking.{MarksAtLeast, MarksMost, MarksThrough, MarksThroughBy}
+use Rattle.wl_clients.specs.View.{DeskView}
 use Rattle.wl_clients.specs.Agreeing.{Agrees, TakesStep}
 use Rattle.wl_clients.specs.Feeding.{Ends, EndsBy, EndsOf}
 use Rattle.wl_clients.specs.Framing.{MarksIfEnds}

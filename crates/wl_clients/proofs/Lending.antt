@@ -2,17 +2,18 @@
 use Rattle.std.proofs.Common.{◌≡◌, ℕ, zero, suc, Option, Some, None, refl, ap}
 use Rattle.std.specs.Prelude.{slice_index_or}
 use Rattle.std.specs.Option.{option_map}
-use Rattle.wl_peer.specs.Objects.{nothing}
+use Rattle.spec_desktop.specs.Objects.{nothing}
 use Rattle.wl_client.specs.View.{ClientView}
 use Rattle.wl_store.specs.Stores.{Stock}
 use Rattle.wl_surface.specs.Slots.{Slots, no_slots}
 use Rattle.wl_surface.specs.Surfaces.{no_surfaces}
-use Rattle.wl_plain.specs.Desktop.{Desktop, Resident, client_at, owned_in, owned_of, place}
-use Rattle.wl_lending.specs.Hit.{AreKept}
-use Rattle.wl_lending.specs.Lent.{slots_or_none}
-use Rattle.wl_lending.specs.Painting.{AreLent, IsStoodFor}
-use Rattle.wl_resident.specs.Agreement.{Matches, IsPlace, numbers_in, numbers_of}
-use Rattle.wl_resident.specs.View.{DeskView, OwnedView}
+use Rattle.spec_desktop.specs.Desktop.{Desktop, Resident, client_at, owned_in, owned_of, place}
+use Rattle.wl_scene.specs.Hit.{AreKept}
+use Rattle.wl_scene.specs.Hit.{slots_or_none}
+use Rattle.wl_clients.specs.Painting.{AreLent}
+use Rattle.wl_scene.specs.Hit.{IsStoodFor}
+use Rattle.wl_clients.specs.Agreement.{Matches, IsPlace, numbers_in, numbers_of}
+use Rattle.wl_clients.specs.View.{DeskView, OwnedView}
 use Rattle.wl_clients.specs.Lent.{client_lent, slots_lent}
 
 -- nothing is kept of a client that isn't there

@@ -6,13 +6,14 @@ use Rattle.std.proofs.lemmas.Bool.Decides.{nat_tests}
 use Rattle.std.proofs.lemmas.List.{length-map}
 use Rattle.std.proofs.lemmas.Option.{slice_get-get_or, slice_get-map}
 use Rattle.wl_geom.specs.Region.{Area}
-use Rattle.wl_state.specs.Kept.{counting_of}
+use Rattle.wl_surface.specs.Kept.{counting_of}
 use Rattle.wl_surface.specs.Slots.{Slots, kept_at}
 use Rattle.wl_paint.specs.Window.{Window}
-use Rattle.wl_stacked.specs.declared.stacked.Stacked.{Stacked}
-use Rattle.wl_lending.specs.Lent.{slots_or_none, window_kept, window_lent}
+use Rattle.wl_scene.specs.declared.stacked.Stacked.{Stacked}
+use Rattle.wl_clients.specs.LentPictures.{window_kept, window_lent}
+use Rattle.wl_scene.specs.Hit.{slots_or_none}
 use Rattle.wl_requests.specs.declared.residents.Resident.{Resident as Kept}
-use Rattle.wl_resident.specs.View.{OwnedView, owned_view}
+use Rattle.wl_clients.specs.View.{OwnedView, owned_view}
 use Rattle.wl_clients.specs.Lent.{client_lent, slots_lent}
 use Rattle.wl_clients.specs.Residents.{client_views, owned_views, resident_at}
 use Rattle.wl_clients.proofs.Desktops.{at, at-map, at-past, at-within}

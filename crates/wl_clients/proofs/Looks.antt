@@ -9,25 +9,25 @@ use Rattle.std.proofs.lemmas.List.Sums.{position_or_len_is}
 use Rattle.wl_client.specs.View.{ClientView}
 use Rattle.wl_client.specs.declared.outputs.Output.{Output}
 use Rattle.wl_paint.specs.Damage.{Damaged}
-use Rattle.wl_peer.specs.Objects.{ById}
-use Rattle.wl_peer.specs.declared.cause.Cause.{Cause}
-use Rattle.wl_plain.specs.Changing.{is_focus_in}
-use Rattle.wl_plain.specs.Desktop.{Desktop, Resident, client_at}
-use Rattle.wl_plain.specs.Replies.{focus_window}
-use Rattle.wl_plain.specs.Settling.{Midstep, Strike, is_struck}
-use Rattle.wl_plain.specs.Stacked.{all_windows}
-use Rattle.wl_laws.proofs.Lists.Keys.{differ}
+use Rattle.spec_desktop.specs.Objects.{ById}
+use Rattle.spec_desktop.specs.declared.cause.Cause.{Cause}
+use Rattle.spec_desktop.specs.Changing.{is_focus_in}
+use Rattle.spec_desktop.specs.Desktop.{Desktop, Resident, client_at}
+use Rattle.spec_desktop.specs.Replies.{focus_window}
+use Rattle.spec_desktop.specs.Settling.{Midstep, Strike, is_struck}
+use Rattle.spec_desktop.specs.Stacked.{all_windows}
+use Rattle.law_desktop.proofs.Lists.Keys.{differ}
 use Rattle.wl_scene.specs.Kept.{standing_of}
 use Rattle.wl_scene.specs.declared.scene.Toplevel.{Toplevel}
-use Rattle.wl_stacking.specs.Pointer.{is_stacked}
-use Rattle.wl_stacking.specs.Stacking.{is_of}
-use Rattle.wl_stacked.specs.declared.stacked.Stacked.{Stacked}
-use Rattle.wl_stacked.proofs.Places.{absent}
-use Rattle.wl_lending.specs.Hit.{IsStackedOrNone, is_window_of}
-use Rattle.wl_lending.specs.Stacked.{AreStacked}
+use Rattle.spec_desktop.specs.Pointer.{is_stacked}
+use Rattle.spec_desktop.specs.Stacking.{is_of}
+use Rattle.wl_scene.specs.declared.stacked.Stacked.{Stacked}
+use Rattle.wl_scene.proofs.Places.{absent}
+use Rattle.wl_scene.specs.Hit.{IsStackedOrNone, is_window_of}
+use Rattle.wl_scene.specs.StackedAgreement.{AreStacked}
 use Rattle.wl_requests.specs.declared.residents.Resident.{Resident as Kept}
-use Rattle.wl_resident.specs.Agreement.{IsStack, numbers_in}
-use Rattle.wl_resident.specs.View.{DeskView, MarkedDesk, Pile}
+use Rattle.wl_clients.specs.Agreement.{IsStack, numbers_in}
+use Rattle.wl_clients.specs.View.{DeskView, MarkedDesk, Pile}
 use Rattle.wl_clients.specs.Midway.{IsMid, first_struck, is_refused, strike_for, strikes_from}
 use Rattle.wl_clients.specs.Pointing.{is_in_tree, windows_numbered}
 use Rattle.wl_clients.specs.Residents.{client_views, resident_at}

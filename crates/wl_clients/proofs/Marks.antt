@@ -2,29 +2,29 @@
 use Rattle.std.proofs.Common.{◌≡◌, ◌<◌, ℕ, List, Bool, true, false, Option, Some, None, refl, ap, subst, sym, ◌∙◌, inl, inr}
 use Rattle.std.proofs.lemmas.Bool.{or_left, or_right}
 use Rattle.std.specs.Prelude.{◌⊎◌, ◌&&◌, ◌||◌, is_none, is_some, pos}
-use Rattle.wl_peer.specs.Told.{Output as Sides}
-use Rattle.wl_peer.specs.declared.cause.Cause.{Cause}
+use Rattle.spec_desktop.specs.Told.{Output as Sides}
+use Rattle.spec_desktop.specs.declared.cause.Cause.{Cause}
 use Rattle.wl_client.specs.declared.outputs.Output.{Output}
 use Rattle.wl_paint.specs.Damage.{Damaged, has}
-use Rattle.wl_plain.specs.declared.answers.Done.{Done}
-use Rattle.wl_plain.specs.Act.{Act, Leave}
-use Rattle.wl_plain.specs.Desktop.{Desktop, Resident, client_at, status_of}
-use Rattle.wl_plain.specs.Happens.{Happens}
-use Rattle.wl_plain.specs.LeftOut.{nothing_left_out}
-use Rattle.wl_plain.specs.Moments.{marks_at_least, marks_at_most}
-use Rattle.wl_laws.proofs.Marks.Stacks.{differ, or-left, or-right, unless}
-use Rattle.wl_invariants.specs.Shown.{ShownStand}
-use Rattle.wl_invariants.specs.Touching.{has_window_at}
-use Rattle.wl_ordered.specs.Ordered.{Ordered}
-use Rattle.wl_toplevels.proofs.RootsOf.Orders.{in-order-has-trees}
-use Rattle.wl_ways.specs.Ways.{IsGone}
-use Rattle.wl_ways.proofs.MessageWays.Ends.{left_is_gone}
-use Rattle.wl_ways.proofs.MessageWays.Gone.{gone_marks_least}
+use Rattle.spec_desktop.specs.declared.answers.Done.{Done}
+use Rattle.spec_desktop.specs.Act.{Act, Leave}
+use Rattle.spec_desktop.specs.Desktop.{Desktop, Resident, client_at, status_of}
+use Rattle.spec_desktop.specs.Happens.{Happens}
+use Rattle.spec_desktop.specs.LeftOut.{nothing_left_out}
+use Rattle.spec_desktop.specs.Moments.{marks_at_least, marks_at_most}
+use Rattle.law_desktop.proofs.Marks.Stacks.{differ, or-left, or-right, unless}
+use Rattle.law_desktop.specs.Shown.{ShownStand}
+use Rattle.law_desktop.specs.Touching.{has_window_at}
+use Rattle.law_desktop.specs.Ordered.{Ordered}
+use Rattle.law_desktop.proofs.RootsOf.Orders.{in-order-has-trees}
+use Rattle.law_desktop.specs.Ways.{IsGone}
+use Rattle.law_desktop.proofs.MessageWays.Ends.{left_is_gone}
+use Rattle.law_desktop.proofs.MessageWays.Gone.{gone_marks_least}
 use Rattle.wl_requests.specs.declared.residents.Resident.{Resident as Kept}
-use Rattle.wl_resident.specs.Agreement.{numbers_in}
-use Rattle.wl_resident.specs.Marking.{MarksAtLeast, MarksMost, MarksOwn}
-use Rattle.wl_resident.specs.Seats.{IsSeated}
-use Rattle.wl_resident.specs.View.{DeskView, MarkedDesk, Pile}
+use Rattle.wl_clients.specs.Agreement.{numbers_in}
+use Rattle.wl_clients.specs.Marking.{MarksAtLeast, MarksMost, MarksOwn}
+use Rattle.wl_clients.specs.Seats.{IsSeated}
+use Rattle.wl_clients.specs.View.{DeskView, MarkedDesk, Pile}
 use Rattle.wl_clients.specs.Agreeing.{Agrees}
 use Rattle.wl_clients.specs.Feeding.{Ends}
 use Rattle.wl_clients.specs.Residents.{client_views}

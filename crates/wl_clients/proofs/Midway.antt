@@ -4,10 +4,10 @@ use Rattle.std.specs.Option.{option_map}
 use Rattle.std.specs.Prelude.{◌||◌, is_none, is_some}
 use Rattle.std.proofs.Math.Path.{fun_ext}
 use Rattle.std.proofs.lemmas.List.{set-get_or}
-use Rattle.wl_interface.specs.declared.interface.Interface.TheVariants.{WlSurface}
-use Rattle.wl_owning.specs.Owning.{targets_in}
-use Rattle.wl_stacked.specs.declared.stacked.Stacked.{Stacked}
-use Rattle.wl_state.specs.Surface.{Surface}
+use Rattle.wl_proto.specs.declared.interface.Interface.TheVariants.{WlSurface}
+use Rattle.law_desktop.specs.Owning.{targets_in}
+use Rattle.wl_scene.specs.declared.stacked.Stacked.{Stacked}
+use Rattle.wl_surface.specs.Surface.{Surface}
 use Rattle.wl_surface.specs.Surfaces.{history_in, surface_at}
 use Rattle.wl_client.specs.Agreement.{IsPeer}
 use Rattle.wl_client.specs.Pointers.{TellsPointers, pointers_told, serial_after}
@@ -15,21 +15,21 @@ use Rattle.wl_client.specs.View.{ClientView, opened}
 use Rattle.wl_client.specs.declared.outputs.Output.{Output}
 use Rattle.wl_client.specs.declared.pointers.PointerEvent.{PointerEvent}
 use Rattle.wl_paint.specs.Damage.{Damaged}
-use Rattle.wl_peer.specs.declared.cause.Cause.{Cause}
-use Rattle.wl_peer.specs.Objects.{ById}
-use Rattle.wl_peer.specs.Peer.{Peer, QueuesTo, ended}
-use Rattle.wl_peer.specs.Told.{Said}
-use Rattle.wl_plain.specs.Desktop.{Desktop, Resident, become, client_at, with_client}
-use Rattle.wl_plain.specs.Settling.{Midstep, Strike, Tells, TellsAt, TellsUnless, ended_at as plain_ended, ended_by, is_struck, struck_by}
-use Rattle.wl_ordered.specs.Ordered.{Ordered}
-use Rattle.wl_invariants.proofs.KeptRecords.Toplevels.Serves.{becomes-same}
-use Rattle.wl_lending.specs.Hit.{AreKept}
-use Rattle.wl_lending.specs.Stacked.{AreNumberedOnce}
+use Rattle.spec_desktop.specs.declared.cause.Cause.{Cause}
+use Rattle.spec_desktop.specs.Objects.{ById}
+use Rattle.spec_desktop.specs.Peer.{Peer, QueuesTo, ended}
+use Rattle.spec_desktop.specs.Told.{Said}
+use Rattle.spec_desktop.specs.Desktop.{Desktop, Resident, become, client_at, with_client}
+use Rattle.spec_desktop.specs.Settling.{Midstep, Strike, Tells, TellsAt, TellsUnless, ended_at as plain_ended, ended_by, is_struck, struck_by}
+use Rattle.law_desktop.specs.Ordered.{Ordered}
+use Rattle.law_desktop.proofs.KeptRecords.Toplevels.Serves.{becomes-same}
+use Rattle.wl_scene.specs.Hit.{AreKept}
+use Rattle.wl_scene.specs.StackedAgreement.{AreNumberedOnce}
 use Rattle.wl_requests.specs.declared.residents.Resident.{Resident as Kept}
-use Rattle.wl_resident.specs.Agreement.{IsPlace, Matches, numbers_in, numbers_of}
-use Rattle.wl_resident.specs.Marking.{MarksAtLeast, MarksMost, MarksOwnIf}
-use Rattle.wl_resident.specs.Seats.{IsSeated, ended_by as ended_while, opened_kept}
-use Rattle.wl_resident.specs.View.{DeskView, MarkedDesk, OwnedView, Pile}
+use Rattle.wl_clients.specs.Agreement.{IsPlace, Matches, numbers_in, numbers_of}
+use Rattle.wl_clients.specs.Marking.{MarksAtLeast, MarksMost, MarksOwnIf}
+use Rattle.wl_clients.specs.Seats.{IsSeated, ended_by as ended_while, opened_kept}
+use Rattle.wl_clients.specs.View.{DeskView, MarkedDesk, OwnedView, Pile}
 use Rattle.wl_clients.specs.Agreeing.{Agrees}
 use Rattle.wl_clients.specs.Feeding.{Ends}
 use Rattle.wl_clients.specs.Midway.{IsMid, MidBeginsAndEnds, MidIsNumberedOnce, MidNamesSurfaces, RefusedLives, opened_desk, strike_for, strikes_from}

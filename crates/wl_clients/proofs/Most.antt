@@ -3,23 +3,23 @@ use Rattle.std.proofs.Common.{◌≡◌, ℕ, Bool, true, false, List, [], ◌�
 use Rattle.std.specs.Prelude.{ℤ, ◌==◌, ◌&&◌, ◌||◌, ◌⊎◌, filter, not}
 use Rattle.std.specs.List.{list_any}
 use Rattle.std.proofs.lemmas.Bool.{eqb-true, or_left, or_right}
-use Rattle.wl_stacking.specs.Windows.{Window, contains}
-use Rattle.wl_peer.specs.Peer.{ended}
-use Rattle.wl_peer.specs.Told.{Output}
-use Rattle.wl_peer.specs.declared.cause.Cause.TheVariants.{Memory}
-use Rattle.wl_plain.specs.Desktop.{Desktop, Resident, client_at}
-use Rattle.wl_plain.specs.Happenings.{Happening, Leads, Message, Receive, ReceivesAt, Single, Starve, StarvesAt}
-use Rattle.wl_plain.specs.LeftOut.{LeftOut}
-use Rattle.wl_plain.specs.Marks.{AreDistinct, has_changed_tree, has_same_record, in_output, is_allowed_at, is_raised, same_records}
-use Rattle.wl_plain.specs.Moments.{marks_at_least, marks_at_least_of, marks_at_least_through, marks_at_most, marks_at_most_of, marks_at_most_through}
-use Rattle.wl_plain.specs.Settling.{Midstep, becomes, unstruck}
-use Rattle.wl_plain.specs.Stacked.{all_windows}
-use Rattle.wl_plain.specs.Through.{ending_through, settling_through}
-use Rattle.wl_laws.proofs.Marks.Painted.{contains-same}
-use Rattle.wl_laws.proofs.Marks.Stacks.{and-both, and-left, and-right, any-more, differ, either-more, equal-numbers, fields, recorded}
-use Rattle.wl_laws.proofs.Marks.Through.{leads-output, marked_through}
-use Rattle.wl_laws.proofs.Runs.Following.{Along, Follow, ending-follows, settling-follows}
-use Rattle.wl_laws.proofs.Runs.Through.{happened, served}
+use Rattle.spec_desktop.specs.Windows.{Window, contains}
+use Rattle.spec_desktop.specs.Peer.{ended}
+use Rattle.spec_desktop.specs.Told.{Output}
+use Rattle.spec_desktop.specs.declared.cause.Cause.TheVariants.{Memory}
+use Rattle.spec_desktop.specs.Desktop.{Desktop, Resident, client_at}
+use Rattle.spec_desktop.specs.Happenings.{Happening, Leads, Message, Receive, ReceivesAt, Single, Starve, StarvesAt}
+use Rattle.spec_desktop.specs.LeftOut.{LeftOut}
+use Rattle.spec_desktop.specs.Marks.{AreDistinct, has_changed_tree, has_same_record, in_output, is_allowed_at, is_raised, same_records}
+use Rattle.spec_desktop.specs.Moments.{marks_at_least, marks_at_least_of, marks_at_least_through, marks_at_most, marks_at_most_of, marks_at_most_through}
+use Rattle.spec_desktop.specs.Settling.{Midstep, becomes, unstruck}
+use Rattle.spec_desktop.specs.Stacked.{all_windows}
+use Rattle.spec_desktop.specs.Through.{ending_through, settling_through}
+use Rattle.law_desktop.proofs.Marks.Painted.{contains-same}
+use Rattle.law_desktop.proofs.Marks.Stacks.{and-both, and-left, and-right, any-more, differ, either-more, equal-numbers, fields, recorded}
+use Rattle.law_desktop.proofs.Marks.Through.{leads-output, marked_through}
+use Rattle.law_desktop.proofs.Runs.Following.{Along, Follow, ending-follows, settling-follows}
+use Rattle.law_desktop.proofs.Runs.Through.{happened, served}
 
 -- ---- the desktops of a happening
 

@@ -3,26 +3,26 @@ use Rattle.std.proofs.Common.{◌≡◌, ◌≢◌, ℕ, suc, zero, List, [], �
 use Rattle.std.specs.List.{list_any}
 use Rattle.std.specs.Option.{option_and_then, option_map}
 use Rattle.std.specs.Prelude.{◌==◌, ◌&&◌, ◌||◌, IfNone, IfSome, find, if◌then◌else◌, is_some}
-use Rattle.wl_interface.specs.declared.interface.Interface.{Interface}
-use Rattle.wl_interface.specs.declared.interface.Interface.TheVariants.{WlSurface}
+use Rattle.wl_proto.specs.declared.interface.Interface.{Interface}
+use Rattle.wl_proto.specs.declared.interface.Interface.TheVariants.{WlSurface}
 use Rattle.wl_table.specs.Objects.{Finds, Held, StandsFor, entry_of}
 use Rattle.wl_table.specs.declared.entry.Entry.{Entry}
-use Rattle.wl_peer.specs.Objects.{ById, interface_number, nothing}
-use Rattle.wl_stacking.specs.Pointer.{is_stacked}
-use Rattle.wl_stacking.specs.Stacking.{Standing, is_of}
-use Rattle.wl_stacking.specs.Windows.{Window}
-use Rattle.wl_stacked.specs.declared.stacked.Stacked.{Stacked}
-use Rattle.wl_lending.specs.ByNumbers.{by_numbers}
-use Rattle.wl_lending.specs.Hit.{IsStackedOrNone, is_window_of}
-use Rattle.wl_lending.specs.Stacked.{AreNumberedOnce, AreStacked, IsStacked}
-use Rattle.wl_lending.proofs.Standing.{any-same}
-use Rattle.wl_lending.proofs.Truth.{same-equal, some-same}
-use Rattle.wl_owning.specs.Owning.{target_as, targets_in}
-use Rattle.wl_owning.proofs.Keeping.OwningNames.{targets-at}
-use Rattle.wl_plain.specs.Changing.{is_focus_in}
-use Rattle.wl_plain.specs.Replies.{focus_window}
+use Rattle.spec_desktop.specs.Objects.{ById, interface_number, nothing}
+use Rattle.spec_desktop.specs.Pointer.{is_stacked}
+use Rattle.spec_desktop.specs.Stacking.{Standing, is_of}
+use Rattle.spec_desktop.specs.Windows.{Window}
+use Rattle.wl_scene.specs.declared.stacked.Stacked.{Stacked}
+use Rattle.wl_scene.specs.ByNumbers.{by_numbers}
+use Rattle.wl_scene.specs.Hit.{IsStackedOrNone, is_window_of}
+use Rattle.wl_scene.specs.StackedAgreement.{AreNumberedOnce, AreStacked, IsStacked}
+use Rattle.wl_scene.proofs.Standing.{any-same}
+use Rattle.wl_scene.proofs.Truth.{same-equal, some-same}
+use Rattle.law_desktop.specs.Owning.{target_as, targets_in}
+use Rattle.law_desktop.proofs.Keeping.OwningNames.{targets-at}
+use Rattle.spec_desktop.specs.Changing.{is_focus_in}
+use Rattle.spec_desktop.specs.Replies.{focus_window}
 use Rattle.wl_requests.specs.declared.residents.Resident.{Resident as Kept}
-use Rattle.wl_resident.specs.Agreement.{IsStack, numbers_in, numbers_of}
+use Rattle.wl_clients.specs.Agreement.{IsStack, numbers_in, numbers_of}
 use Rattle.wl_clients.specs.Pointing.{is_in_tree}
 use Rattle.wl_clients.specs.Residents.{client_views, resident_at}
 use Rattle.wl_clients.proofs.Desktops.{at-map}

@@ -3,11 +3,11 @@ use Rattle.std.proofs.Common.{◌≡◌, ℕ, suc, zero, List, [], ◌∷◌, ma
 use Rattle.std.specs.Option.{option_map}
 use Rattle.wl_client.specs.View.{ClientView, opened}
 use Rattle.wl_client.specs.declared.outputs.Output.{Output}
-use Rattle.wl_peer.specs.declared.cause.Cause.{Cause}
+use Rattle.spec_desktop.specs.declared.cause.Cause.{Cause}
 use Rattle.wl_requests.specs.declared.residents.Resident.{Resident as Kept}
-use Rattle.wl_resident.specs.Agreement.{numbers_in, numbers_of}
-use Rattle.wl_resident.specs.Seats.{opened_kept}
-use Rattle.wl_resident.specs.View.{OwnedView, Pile, owned_view}
+use Rattle.wl_clients.specs.Agreement.{numbers_in, numbers_of}
+use Rattle.wl_clients.specs.Seats.{opened_kept}
+use Rattle.wl_clients.specs.View.{OwnedView, Pile, owned_view}
 use Rattle.std.proofs.Math.Path.{fun_ext}
 use Rattle.wl_clients.specs.Midway.{opened_desk}
 use Rattle.wl_clients.specs.Residents.{client_views, owned_views}

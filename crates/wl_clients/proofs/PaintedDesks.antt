@@ -5,15 +5,15 @@ use Rattle.wl_blend.specs.declared.color.Rgb.{Rgb}
 use Rattle.wl_geom.specs.Region.{Area, Stands as Covers}
 use Rattle.wl_client.specs.declared.outputs.Output.{Output}
 use Rattle.wl_paint.specs.Window.{AreOpaqueAsSaid, scratch as painted}
-use Rattle.wl_stacked.specs.declared.stacked.Stacked.{Stacked}
-use Rattle.wl_plain.specs.Desktop.{Desktop}
-use Rattle.wl_plain.specs.Scratch.{scratch}
-use Rattle.wl_lending.specs.Lent.{windows_lent}
-use Rattle.wl_lending.specs.Painting.{AreLent, IsColor, IsOpaqueAsSaid}
-use Rattle.wl_lending.proofs.Lent.{lends_opaque_as_said, paints_the_desktop}
+use Rattle.wl_scene.specs.declared.stacked.Stacked.{Stacked}
+use Rattle.spec_desktop.specs.Desktop.{Desktop}
+use Rattle.spec_desktop.specs.Scratch.{scratch}
+use Rattle.wl_clients.specs.LentPictures.{windows_lent}
+use Rattle.wl_clients.specs.Painting.{AreLent, IsColor, IsOpaqueAsSaid}
+use Rattle.wl_clients.proofs.LentPainted.{lends_opaque_as_said, paints_the_desktop}
 use Rattle.wl_requests.specs.declared.residents.Resident.{Resident as Kept}
-use Rattle.wl_resident.specs.Agreement.{numbers_in}
-use Rattle.wl_resident.specs.View.{Pile}
+use Rattle.wl_clients.specs.Agreement.{numbers_in}
+use Rattle.wl_clients.specs.View.{Pile}
 use Rattle.wl_clients.specs.Agreeing.{Agrees}
 use Rattle.wl_clients.specs.Lent.{client_lent, slots_lent}
 use Rattle.wl_clients.specs.Residents.{client_views, owned_views}

@@ -4,22 +4,22 @@ use Rattle.std.specs.Prelude.{◌||◌, is_some, pos}
 use Rattle.wl_client.specs.View.{ClientView}
 use Rattle.wl_client.specs.declared.outputs.Output.{Output}
 use Rattle.wl_paint.specs.Damage.{Damaged, has}
-use Rattle.wl_peer.specs.declared.cause.Cause.{Cause}
-use Rattle.wl_peer.specs.Objects.{ById}
-use Rattle.wl_peer.specs.Peer.{Peer}
-use Rattle.wl_peer.specs.Told.{Said}
-use Rattle.wl_stacking.specs.Pointer.{Pointer}
-use Rattle.wl_plain.specs.Desktop.{Desktop, Resident, client_at, unpointed}
-use Rattle.wl_plain.specs.Replies.{popups_done}
-use Rattle.wl_plain.specs.Settling.{Midstep, QueuesTo, Tells, TellsAt, TellsUnless, is_struck, struck_by, without_grabs}
-use Rattle.wl_plain.specs.Stacked.{all_windows}
-use Rattle.wl_ordered.specs.Ordered.{Ordered}
-use Rattle.wl_ordered.proofs.Laws.{presses_keep_ordered}
+use Rattle.spec_desktop.specs.declared.cause.Cause.{Cause}
+use Rattle.spec_desktop.specs.Objects.{ById}
+use Rattle.spec_desktop.specs.Peer.{Peer}
+use Rattle.spec_desktop.specs.Told.{Said}
+use Rattle.spec_desktop.specs.Pointer.{Pointer}
+use Rattle.spec_desktop.specs.Desktop.{Desktop, Resident, client_at, unpointed}
+use Rattle.spec_desktop.specs.Replies.{popups_done}
+use Rattle.spec_desktop.specs.Settling.{Midstep, QueuesTo, Tells, TellsAt, TellsUnless, is_struck, struck_by, without_grabs}
+use Rattle.spec_desktop.specs.Stacked.{all_windows}
+use Rattle.law_desktop.specs.Ordered.{Ordered}
+use Rattle.law_desktop.proofs.KeptInOrder.Laws.{presses_keep_ordered}
 use Rattle.wl_requests.specs.declared.residents.Resident.{Resident as Kept}
-use Rattle.wl_resident.specs.Agreement.{numbers_in}
-use Rattle.wl_resident.specs.Releasing.{IsReleased, MarksJust, MarksReleased, released_as, with_released}
-use Rattle.wl_resident.specs.Seats.{IsSeated, opened_kept}
-use Rattle.wl_resident.specs.View.{MarkedDesk, Pile}
+use Rattle.wl_clients.specs.Agreement.{numbers_in}
+use Rattle.wl_clients.specs.Releasing.{IsReleased, MarksJust, MarksReleased, released_as, with_released}
+use Rattle.wl_clients.specs.Seats.{IsSeated, opened_kept}
+use Rattle.wl_clients.specs.View.{MarkedDesk, Pile}
 use Rattle.wl_clients.specs.Holders.{IsReleasedBy, MarksReleasedBy}
 use Rattle.wl_clients.specs.Midway.{IsMid}
 use Rattle.wl_clients.specs.Residents.{client_views, resident_at}

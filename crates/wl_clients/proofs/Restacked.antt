@@ -3,30 +3,30 @@ use Rattle.std.proofs.Common.{◌≡◌, ℕ, zero, suc, List, Option, Some, Non
 use Rattle.std.specs.Option.{option_map}
 use Rattle.std.specs.Prelude.{ℤ}
 use Rattle.std.proofs.lemmas.List.{set-get_or}
-use Rattle.wl_interface.specs.declared.interface.Interface.TheVariants.{WlSurface}
+use Rattle.wl_proto.specs.declared.interface.Interface.TheVariants.{WlSurface}
 use Rattle.wl_client.specs.View.{ClientView}
 use Rattle.wl_client.specs.declared.outputs.Output.{Output}
-use Rattle.wl_owning.specs.Owning.{targets_in}
+use Rattle.law_desktop.specs.Owning.{targets_in}
 use Rattle.wl_paint.specs.Damage.{Damaged}
-use Rattle.wl_peer.specs.Objects.{ById}
-use Rattle.wl_peer.specs.Told.{Output as Shown}
-use Rattle.wl_peer.specs.declared.cause.Cause.{Cause}
-use Rattle.wl_stacking.specs.Stacking.{Standing, raised}
-use Rattle.wl_plain.specs.Desktop.{Desktop, Resident, client_at, toplevels_of}
-use Rattle.wl_plain.specs.Pointing.{moved_standing}
-use Rattle.wl_plain.specs.Settling.{Midstep, with_standing}
-use Rattle.wl_laws.specs.Laws.{AreApart}
-use Rattle.wl_laws.specs.Own.{StandTheSame}
-use Rattle.wl_laws.proofs.Isolation.Own.{none-stand, of, stand-moved, stand-raised}
-use Rattle.wl_laws.proofs.Lists.Standings.{apart-left}
-use Rattle.wl_invariants.specs.InOrder.{InOrderAt, InOrderBy}
-use Rattle.wl_ordered.specs.Ordered.{Ordered}
+use Rattle.spec_desktop.specs.Objects.{ById}
+use Rattle.spec_desktop.specs.Told.{Output as Shown}
+use Rattle.spec_desktop.specs.declared.cause.Cause.{Cause}
+use Rattle.spec_desktop.specs.Stacking.{Standing, raised}
+use Rattle.spec_desktop.specs.Desktop.{Desktop, Resident, client_at, toplevels_of}
+use Rattle.spec_desktop.specs.Pointing.{moved_standing}
+use Rattle.spec_desktop.specs.Settling.{Midstep, with_standing}
+use Rattle.law_desktop.specs.Laws.{AreApart}
+use Rattle.law_desktop.specs.Own.{StandTheSame}
+use Rattle.law_desktop.proofs.Isolation.Own.{none-stand, of, stand-moved, stand-raised}
+use Rattle.law_desktop.proofs.Lists.Standings.{apart-left}
+use Rattle.law_desktop.specs.InOrder.{InOrderAt, InOrderBy}
+use Rattle.law_desktop.specs.Ordered.{Ordered}
 use Rattle.wl_requests.specs.declared.residents.Resident.{Resident as Kept}
-use Rattle.wl_resident.specs.Agreement.{numbers_in, numbers_of}
-use Rattle.wl_resident.specs.Moving.{with_moved}
-use Rattle.wl_resident.specs.Raising.{with_raised}
-use Rattle.wl_resident.specs.Seats.{IsSeated, opened_kept}
-use Rattle.wl_resident.specs.View.{MarkedDesk, Pile}
+use Rattle.wl_clients.specs.Agreement.{numbers_in, numbers_of}
+use Rattle.wl_clients.specs.Moving.{with_moved}
+use Rattle.wl_clients.specs.Raising.{with_raised}
+use Rattle.wl_clients.specs.Seats.{IsSeated, opened_kept}
+use Rattle.wl_clients.specs.View.{MarkedDesk, Pile}
 use Rattle.wl_clients.specs.Midway.{IsMid, RefusedLives, strikes_from}
 use Rattle.wl_clients.specs.Residents.{client_views, resident_at}
 use Rattle.wl_clients.proofs.Desktops.{at, at-map}

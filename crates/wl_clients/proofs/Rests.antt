@@ -5,9 +5,9 @@ use Rattle.std.proofs.lemmas.Bool.{eqb-false, eqb-true}
 use Rattle.wl_client.specs.View.{ClientView}
 use Rattle.wl_client.specs.declared.outputs.Output.{Output}
 use Rattle.wl_client.specs.declared.pointers.PointerEvent.{PointerEvent}
-use Rattle.wl_peer.specs.declared.cause.Cause.{Cause}
+use Rattle.spec_desktop.specs.declared.cause.Cause.{Cause}
 use Rattle.wl_requests.specs.declared.residents.Resident.{Resident as Kept}
-use Rattle.wl_resident.specs.View.{MarkedDesk, Pile}
+use Rattle.wl_clients.specs.View.{MarkedDesk, Pile}
 use Rattle.wl_clients.specs.Feeding.{rest_in, rest_of}
 use Rattle.wl_clients.specs.Pointing.{IsToldBy}
 use Rattle.wl_clients.specs.Residents.{client_views}

@@ -6,13 +6,13 @@ use Rattle.std.proofs.lemmas.List.{set-get_or}
 use Rattle.wl_client.specs.View.{ClientView}
 use Rattle.wl_client.specs.declared.outputs.Output.{Output}
 use Rattle.wl_paint.specs.Damage.{Damaged, has}
-use Rattle.wl_resident.specs.Agreement.{IsPlace, Matches}
-use Rattle.wl_marking.specs.Marking.{IsAsLarge}
-use Rattle.wl_resident.specs.View.{DeskView, MarkedDesk, OwnedView, Pile, owned_view}
+use Rattle.wl_clients.specs.Agreement.{IsPlace, Matches}
+use Rattle.wl_scene.specs.Marking.{IsAsLarge}
+use Rattle.wl_clients.specs.View.{DeskView, MarkedDesk, OwnedView, Pile, owned_view}
 use Rattle.wl_requests.specs.declared.residents.Resident.{Resident as Kept}
-use Rattle.wl_plain.specs.Act.{lowest, next_of}
-use Rattle.wl_plain.specs.Desktop.{Desktop, Resident, client_at}
-use Rattle.wl_laws.proofs.Lists.Keys.{some-same}
+use Rattle.spec_desktop.specs.Act.{lowest, next_of}
+use Rattle.spec_desktop.specs.Desktop.{Desktop, Resident, client_at}
+use Rattle.law_desktop.proofs.Lists.Keys.{some-same}
 use Rattle.wl_clients.specs.Agreeing.{MarksNothing}
 use Rattle.wl_clients.specs.Residents.{client_views, owned_views, resident_at}
 use Rattle.wl_clients.proofs.Desktops.{IsPut, at, at-map, at-past, at-within, map-length, place-at, put-map, put-set}

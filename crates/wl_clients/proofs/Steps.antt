@@ -1,33 +1,33 @@
 -- What the calls of a desk make of its clients and toplevels is what happens to the desktop, and leaves that in order.
 use Rattle.std.proofs.Common.{◌≡◌, ℕ, List, ◌++◌, true, Option, Some, None, refl, ap, subst, sym, ◌∙◌, inl, inr}
 use Rattle.std.specs.Prelude.{◌⊎◌, is_some}
-use Rattle.wl_peer.specs.Peer.{Peer, ended}
-use Rattle.wl_peer.specs.Told.{Output as Shown}
-use Rattle.wl_peer.specs.declared.cause.Cause.{Cause}
-use Rattle.wl_peer.specs.declared.cause.Cause.TheVariants.{Gone}
+use Rattle.spec_desktop.specs.Peer.{Peer, ended}
+use Rattle.spec_desktop.specs.Told.{Output as Shown}
+use Rattle.spec_desktop.specs.declared.cause.Cause.{Cause}
+use Rattle.spec_desktop.specs.declared.cause.Cause.TheVariants.{Gone}
 use Rattle.wl_paint.specs.Damage.{Damaged}
-use Rattle.wl_resident.specs.Agreement.{Matches}
-use Rattle.wl_resident.specs.Marking.{MarksThrough}
-use Rattle.wl_resident.specs.Seats.{ended_by}
-use Rattle.wl_resident.specs.View.{DeskView, MarkedDesk}
-use Rattle.wl_plain.specs.declared.answers.Done.{Done}
-use Rattle.wl_plain.specs.Act.{Act, Leave}
-use Rattle.wl_plain.specs.Desktop.{Desktop, Resident, become, client_at, empty, status_in, status_of, toplevels_of, with_client}
-use Rattle.wl_plain.specs.Happens.{Happens}
-use Rattle.wl_plain.specs.LeftOut.{nothing_left_out}
-use Rattle.wl_plain.specs.Settling.{EndsAndSettles, becomes, unstruck}
-use Rattle.wl_plain.specs.Through.{ServesThrough}
-use Rattle.wl_laws.proofs.Runs.Forms.{LeavesAt}
-use Rattle.wl_laws.proofs.Runs.Places.{client-kept, status-become}
-use Rattle.wl_laws.proofs.Runs.Through.{messages_lead_through}
-use Rattle.wl_invariants.specs.Acts.{LeavesPointer}
-use Rattle.wl_invariants.proofs.KeptRecords.Toplevels.Back.{settled-back}
-use Rattle.wl_invariants.proofs.KeptRecords.Toplevels.Serves.{becomes-same, settles-to}
-use Rattle.wl_invariants.specs.InOrder.{InOrderAt}
-use Rattle.wl_ordered.specs.Ordered.{Ordered}
-use Rattle.wl_ordered.proofs.Laws.{empty_is_ordered, ends_keep_ordered, messages_keep_ordered, ordered_stays, pieces_keep_ordered}
-use Rattle.wl_ways.specs.Ways.{IsGone}
-use Rattle.wl_ways.proofs.MessageWays.Ends.{end_is_gone}
+use Rattle.wl_clients.specs.Agreement.{Matches}
+use Rattle.wl_clients.specs.Marking.{MarksThrough}
+use Rattle.wl_clients.specs.Seats.{ended_by}
+use Rattle.wl_clients.specs.View.{DeskView, MarkedDesk}
+use Rattle.spec_desktop.specs.declared.answers.Done.{Done}
+use Rattle.spec_desktop.specs.Act.{Act, Leave}
+use Rattle.spec_desktop.specs.Desktop.{Desktop, Resident, become, client_at, empty, status_in, status_of, toplevels_of, with_client}
+use Rattle.spec_desktop.specs.Happens.{Happens}
+use Rattle.spec_desktop.specs.LeftOut.{nothing_left_out}
+use Rattle.spec_desktop.specs.Settling.{EndsAndSettles, becomes, unstruck}
+use Rattle.spec_desktop.specs.Through.{ServesThrough}
+use Rattle.law_desktop.proofs.Runs.Forms.{LeavesAt}
+use Rattle.law_desktop.proofs.Runs.Places.{client-kept, status-become}
+use Rattle.law_desktop.proofs.Runs.Through.{messages_lead_through}
+use Rattle.law_desktop.specs.Acts.{LeavesPointer}
+use Rattle.law_desktop.proofs.KeptRecords.Toplevels.Back.{settled-back}
+use Rattle.law_desktop.proofs.KeptRecords.Toplevels.Serves.{becomes-same, settles-to}
+use Rattle.law_desktop.specs.InOrder.{InOrderAt}
+use Rattle.law_desktop.specs.Ordered.{Ordered}
+use Rattle.law_desktop.proofs.KeptInOrder.Laws.{empty_is_ordered, ends_keep_ordered, messages_keep_ordered, ordered_stays, pieces_keep_ordered}
+use Rattle.law_desktop.specs.Ways.{IsGone}
+use Rattle.law_desktop.proofs.MessageWays.Ends.{end_is_gone}
 use Rattle.wl_clients.specs.Agreeing.{Agrees, TakesStep}
 use Rattle.wl_clients.specs.Feeding.{Ends, EndsBy, EndsOf, IsIdleIn, kept_at, kept_by, kept_of}
 use Rattle.wl_clients.proofs.Altering.{Alters, alters-whole, stays-by}

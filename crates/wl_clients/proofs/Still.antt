@@ -2,31 +2,31 @@
 use Rattle.std.proofs.Common.{◌≡◌, ℕ, zero, suc, ◌+◌, List, [], ◌∷◌, Bool, false, true, map, Option, Some, None, refl, ap, ap₂, sym, subst, ◌∙◌, inl, inr}
 use Rattle.std.proofs.Math.Path.{fun_ext}
 use Rattle.std.specs.Prelude.{ℤ, ◌&&◌, is_some}
-use Rattle.wl_peer.specs.declared.cause.Cause.{Cause}
-use Rattle.wl_peer.specs.Peer.{Peer, with_rest}
-use Rattle.wl_stacking.specs.Stacking.{Owned as Owns, Standing, nothing_owned, root_of}
-use Rattle.wl_stacking.specs.Windows.{Window, contains, windows}
-use Rattle.wl_plain.specs.declared.answers.Done.{Done}
-use Rattle.wl_plain.specs.Act.{Close, IsClosed, IsSent, IsStored, Send, Store, lowest}
-use Rattle.wl_plain.specs.Desktop.{Desktop, Resident, arrival, client_at, client_in, owned_in, owned_of, place, with_client, with_number, with_place}
-use Rattle.wl_plain.specs.Happens.{Happens}
-use Rattle.wl_plain.specs.LeftOut.{nothing_left_out}
-use Rattle.wl_plain.specs.Marks.{at_least}
-use Rattle.wl_plain.specs.Moments.{applied_between, marks_at_least}
-use Rattle.wl_stacking.specs.Popups.{stacked_popups}
-use Rattle.wl_plain.specs.Stacked.{all_windows}
-use Rattle.wl_plain.specs.Step.{with_peer}
-use Rattle.wl_laws.proofs.Marks.Stacks.{differ, unless}
-use Rattle.wl_laws.proofs.Runs.Forms.{ChangesAt, ConnectsAt}
-use Rattle.wl_laws.proofs.Runs.OneRun.{changed-held, held}
-use Rattle.wl_laws.proofs.Soundness.Windows.{sound_is_distinct}
-use Rattle.wl_laws.specs.Laws.{AreApart}
-use Rattle.wl_invariants.specs.Shown.{AreShown, ShownStand}
-use Rattle.wl_ordered.specs.Ordered.{Ordered}
-use Rattle.wl_invariants.proofs.EachClient.Clients.{comes-at}
-use Rattle.wl_invariants.proofs.InOrder.Sound.{in_order_is_sound}
-use Rattle.wl_ways.proofs.MessageWays.Gone.{same-applied}
-use Rattle.wl_ways.proofs.MessageWays.Lists.{any-never, filter-every, is_gone_at, least-gone}
+use Rattle.spec_desktop.specs.declared.cause.Cause.{Cause}
+use Rattle.spec_desktop.specs.Peer.{Peer, with_rest}
+use Rattle.spec_desktop.specs.Stacking.{Owned as Owns, Standing, nothing_owned, root_of}
+use Rattle.spec_desktop.specs.Windows.{Window, contains, windows}
+use Rattle.spec_desktop.specs.declared.answers.Done.{Done}
+use Rattle.spec_desktop.specs.Act.{Close, IsClosed, IsSent, IsStored, Send, Store, lowest}
+use Rattle.spec_desktop.specs.Desktop.{Desktop, Resident, arrival, client_at, client_in, owned_in, owned_of, place, with_client, with_number, with_place}
+use Rattle.spec_desktop.specs.Happens.{Happens}
+use Rattle.spec_desktop.specs.LeftOut.{nothing_left_out}
+use Rattle.spec_desktop.specs.Marks.{at_least}
+use Rattle.spec_desktop.specs.Moments.{applied_between, marks_at_least}
+use Rattle.spec_desktop.specs.Popups.{stacked_popups}
+use Rattle.spec_desktop.specs.Stacked.{all_windows}
+use Rattle.spec_desktop.specs.Step.{with_peer}
+use Rattle.law_desktop.proofs.Marks.Stacks.{differ, unless}
+use Rattle.law_desktop.proofs.Runs.Forms.{ChangesAt, ConnectsAt}
+use Rattle.law_desktop.proofs.Runs.OneRun.{changed-held, held}
+use Rattle.law_desktop.proofs.Soundness.Windows.{sound_is_distinct}
+use Rattle.law_desktop.specs.Laws.{AreApart}
+use Rattle.law_desktop.specs.Shown.{AreShown, ShownStand}
+use Rattle.law_desktop.specs.Ordered.{Ordered}
+use Rattle.law_desktop.proofs.EachClient.Clients.{comes-at}
+use Rattle.law_desktop.proofs.InOrder.Sound.{in_order_is_sound}
+use Rattle.law_desktop.proofs.MessageWays.Gone.{same-applied}
+use Rattle.law_desktop.proofs.MessageWays.Lists.{any-never, filter-every, is_gone_at, least-gone}
 use Rattle.wl_clients.proofs.Altering.{closed-leaves, ended-bare, leaves-over, sent-leaves, stored-leaves}
 
 -- The output is the same, each client owns what it did, and the same toplevels stand.

@@ -5,8 +5,8 @@ use Rattle.std.specs.Prelude.{◌==◌, ◌||◌, if◌then◌else◌, is_some}
 use Rattle.std.proofs.lemmas.List.Folds.{list_any-append}
 use Rattle.std.proofs.lemmas.Bool.{eqb-true, le-ltb, lt-ltb}
 use Rattle.wl_client.specs.View.{ClientView}
-use Rattle.wl_peer.specs.declared.cause.Cause.{Cause}
-use Rattle.wl_plain.specs.Settling.{Strike, in_order, is_struck, struck_by}
+use Rattle.spec_desktop.specs.declared.cause.Cause.{Cause}
+use Rattle.spec_desktop.specs.Settling.{Strike, in_order, is_struck, struck_by}
 use Rattle.wl_clients.specs.Midway.{strike_for, strike_of, strikes_from}
 use Rattle.wl_clients.proofs.Desktops.{at}
 

@@ -2,20 +2,20 @@
 use Rattle.std.proofs.Common.{◌≡◌, ◌≢◌, ℕ, Bool, true, List, Option, Some, None, refl, ap, subst, sym, ◌∙◌, inl, inr}
 use Rattle.std.specs.List.{list_any}
 use Rattle.std.specs.Prelude.{◌⊎◌, ◌==◌, is_some, not}
-use Rattle.wl_peer.specs.declared.cause.Cause.{Cause}
-use Rattle.wl_stacking.specs.Windows.{Window}
-use Rattle.wl_plain.specs.Desktop.{Desktop, Resident, become_by, client_at, owned_of, status_in, status_of}
-use Rattle.wl_plain.specs.Framing.{FramesToldAt, FramesToldBy, done_due}
-use Rattle.wl_plain.specs.Stacked.{all_windows}
-use Rattle.wl_laws.proofs.Marks.Stacks.{differ}
-use Rattle.wl_laws.proofs.Runs.Fates.{same-or}
-use Rattle.wl_laws.proofs.Runs.Following.{Owns}
-use Rattle.wl_laws.proofs.Runs.Places.{other-become, status-become}
-use Rattle.wl_laws.proofs.Soundness.ObjectsKeys.{any-of-filter}
-use Rattle.wl_ordered.specs.Ordered.{Ordered}
-use Rattle.wl_ways.specs.Ways.{IsGone}
-use Rattle.wl_ways.proofs.MessageWays.Ends.{untold_is_gone}
-use Rattle.wl_ways.proofs.MessageWays.Gone.{gone_windows}
+use Rattle.spec_desktop.specs.declared.cause.Cause.{Cause}
+use Rattle.spec_desktop.specs.Windows.{Window}
+use Rattle.spec_desktop.specs.Desktop.{Desktop, Resident, become_by, client_at, owned_of, status_in, status_of}
+use Rattle.spec_desktop.specs.Framing.{FramesToldAt, FramesToldBy, done_due}
+use Rattle.spec_desktop.specs.Stacked.{all_windows}
+use Rattle.law_desktop.proofs.Marks.Stacks.{differ}
+use Rattle.law_desktop.proofs.Runs.Fates.{same-or}
+use Rattle.law_desktop.proofs.Runs.Following.{Owns}
+use Rattle.law_desktop.proofs.Runs.Places.{other-become, status-become}
+use Rattle.law_desktop.proofs.Soundness.ObjectsKeys.{any-of-filter}
+use Rattle.law_desktop.specs.Ordered.{Ordered}
+use Rattle.law_desktop.specs.Ways.{IsGone}
+use Rattle.law_desktop.proofs.MessageWays.Ends.{untold_is_gone}
+use Rattle.law_desktop.proofs.MessageWays.Gone.{gone_windows}
 use Rattle.wl_clients.proofs.Still.{IsStill, put-still, same-still, still-windows}
 
 -- ---- the client that is told

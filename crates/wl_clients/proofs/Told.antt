@@ -6,29 +6,29 @@ use Rattle.wl_client.specs.Pointers.{TellsPointers}
 use Rattle.wl_client.specs.declared.pointers.PointerEvent.{PointerEvent}
 use Rattle.wl_clients.specs.Pointing.{IsToldBy}
 use Rattle.wl_client.specs.View.{ClientView, opened}
-use Rattle.wl_peer.specs.declared.cause.Cause.{Cause}
-use Rattle.wl_peer.specs.Objects.{ById}
-use Rattle.wl_peer.specs.Peer.{Peer, QueuesFirst, QueuesTo, has_room, queued}
-use Rattle.wl_peer.specs.Told.{Said}
-use Rattle.wl_interface.specs.declared.interface.Interface.TheVariants.{WlSurface}
-use Rattle.wl_owning.specs.Owning.{targets_in}
-use Rattle.wl_stacking.specs.Windows.{Window}
-use Rattle.wl_lending.specs.Stacked.{AreStacked}
-use Rattle.wl_plain.specs.Desktop.{Desktop, Resident, client_at, owned_of, toplevels_of, with_client, with_number}
-use Rattle.wl_plain.specs.Stacked.{all_windows}
-use Rattle.wl_plain.specs.Step.{with_peer}
-use Rattle.wl_laws.proofs.Lists.Keys.{differ, some-same}
-use Rattle.wl_laws.proofs.Runs.Fates.{same-or}
-use Rattle.wl_laws.proofs.Runs.Places.{number-other, number-same, number-twice}
-use Rattle.wl_invariants.specs.InOrder.{InOrderAt, InOrderBy, OwnsInOrder}
-use Rattle.wl_ordered.specs.Ordered.{Ordered, OwnsOrdered}
-use Rattle.wl_invariants.specs.Roots.{AreOwnSubsurfaces, HasSubsurface}
-use Rattle.wl_invariants.specs.Shown.{ShownStand}
-use Rattle.wl_ordered.proofs.Laws.{peers_keep_ordered}
+use Rattle.spec_desktop.specs.declared.cause.Cause.{Cause}
+use Rattle.spec_desktop.specs.Objects.{ById}
+use Rattle.spec_desktop.specs.Peer.{Peer, QueuesFirst, QueuesTo, has_room, queued}
+use Rattle.spec_desktop.specs.Told.{Said}
+use Rattle.wl_proto.specs.declared.interface.Interface.TheVariants.{WlSurface}
+use Rattle.law_desktop.specs.Owning.{targets_in}
+use Rattle.spec_desktop.specs.Windows.{Window}
+use Rattle.wl_scene.specs.StackedAgreement.{AreStacked}
+use Rattle.spec_desktop.specs.Desktop.{Desktop, Resident, client_at, owned_of, toplevels_of, with_client, with_number}
+use Rattle.spec_desktop.specs.Stacked.{all_windows}
+use Rattle.spec_desktop.specs.Step.{with_peer}
+use Rattle.law_desktop.proofs.Lists.Keys.{differ, some-same}
+use Rattle.law_desktop.proofs.Runs.Fates.{same-or}
+use Rattle.law_desktop.proofs.Runs.Places.{number-other, number-same, number-twice}
+use Rattle.law_desktop.specs.InOrder.{InOrderAt, InOrderBy, OwnsInOrder}
+use Rattle.law_desktop.specs.Ordered.{Ordered, OwnsOrdered}
+use Rattle.law_desktop.specs.Roots.{AreOwnSubsurfaces, HasSubsurface}
+use Rattle.law_desktop.specs.Shown.{ShownStand}
+use Rattle.law_desktop.proofs.KeptInOrder.Laws.{peers_keep_ordered}
 use Rattle.wl_requests.specs.declared.residents.Resident.{Resident as Kept}
-use Rattle.wl_resident.specs.Agreement.{with_numbers}
-use Rattle.wl_resident.specs.Seats.{IsSeated}
-use Rattle.wl_resident.specs.View.{Pile}
+use Rattle.wl_clients.specs.Agreement.{with_numbers}
+use Rattle.wl_clients.specs.Seats.{IsSeated}
+use Rattle.wl_clients.specs.View.{Pile}
 use Rattle.wl_clients.proofs.Still.{IsStill, put-still, still-stands, still-windows}
 
 -- ---- what is queued

@@ -2,26 +2,26 @@
 use Rattle.std.proofs.Common.{◌≡◌, ℕ, List, Option, None, Some, subst, inl, inr}
 use Rattle.wl_wire.specs.Wire.{split_of}
 use Rattle.wl_client.specs.declared.outputs.Output.{Output}
-use Rattle.wl_laws.proofs.Lists.Keys.{none-some}
-use Rattle.wl_laws.proofs.Runs.Through.{messages_lead_through}
-use Rattle.wl_ordered.specs.Ordered.{Ordered, OwnsOrdered}
-use Rattle.wl_plain.specs.Demand.{Demand}
-use Rattle.wl_plain.specs.Desktop.{Desktop, Resident, client_at}
-use Rattle.wl_plain.specs.LeftOut.{nothing_left_out}
+use Rattle.law_desktop.proofs.Lists.Keys.{none-some}
+use Rattle.law_desktop.proofs.Runs.Through.{messages_lead_through}
+use Rattle.law_desktop.specs.Ordered.{Ordered, OwnsOrdered}
+use Rattle.spec_desktop.specs.Demand.{Demand}
+use Rattle.spec_desktop.specs.Desktop.{Desktop, Resident, client_at}
+use Rattle.spec_desktop.specs.LeftOut.{nothing_left_out}
 use Rattle.wl_requests.specs.declared.messages.Asked.{Asked}
 use Rattle.wl_requests.specs.declared.residents.Resident.{Resident as Kept}
 use Rattle.wl_requests.specs.Messages.{IsAsked}
 use Rattle.wl_requests.specs.Residents.{IsResident}
-use Rattle.wl_toplevels.specs.Done.{touched_by}
-use Rattle.wl_toplevels.specs.Messages.{IsDemanded, MessageChanges}
-use Rattle.wl_toplevels.specs.StackedWith.{ChangesAt}
-use Rattle.wl_toplevels.proofs.RootsOf.Messages.{messages-change}
-use Rattle.wl_resident.specs.Agreement.{Matches, numbers_in}
-use Rattle.wl_resident.specs.Screens.{IsTouchedBy}
-use Rattle.wl_resident.specs.Seats.{IsSeated}
-use Rattle.wl_resident.specs.View.{Pile}
-use Rattle.wl_resident.proofs.Numbers as seat
-use Rattle.wl_resident.proofs.Touches.{IsTouchNamed, touch-named}
+use Rattle.law_desktop.specs.Done.{touched_by}
+use Rattle.law_desktop.specs.Messages.{IsDemanded, MessageChanges}
+use Rattle.law_desktop.specs.StackedWith.{ChangesAt}
+use Rattle.law_desktop.proofs.RootsOf.Messages.{messages-change}
+use Rattle.wl_clients.specs.Agreement.{Matches, numbers_in}
+use Rattle.wl_clients.specs.Screens.{IsTouchedBy}
+use Rattle.wl_clients.specs.Seats.{IsSeated}
+use Rattle.wl_clients.specs.View.{Pile}
+use Rattle.wl_clients.proofs.OnScreen.Numbers as seat
+use Rattle.wl_clients.proofs.OnScreen.Touches.{IsTouchNamed, touch-named}
 use Rattle.wl_clients.specs.Residents.{client_views}
 use Rattle.wl_clients.specs.Touching.{ChangesNoWindow}
 use Rattle.wl_clients.proofs.Calls.{out}

@@ -1,15 +1,15 @@
 -- A desk agrees with a desktop, and what its calls make of both.
 use Rattle.std.specs.Prelude.{ℕ, ◌≡◌, ◌<◌}
 use Rattle.wl_paint.specs.Damage.{has}
-use Rattle.wl_plain.specs.declared.answers.Done.{Done}
-use Rattle.wl_plain.specs.Desktop.{Desktop}
-use Rattle.wl_plain.specs.LeftOut.{nothing_left_out}
-use Rattle.wl_ordered.specs.Ordered.{Ordered}
-use Rattle.wl_plain.specs.Act.{Act}
-use Rattle.wl_plain.specs.Happens.{Happens}
-use Rattle.wl_resident.specs.Agreement.{Matches}
-use Rattle.wl_resident.specs.Marking.{MarksAtLeast}
-use Rattle.wl_resident.specs.View.{DeskView, MarkedDesk}
+use Rattle.spec_desktop.specs.declared.answers.Done.{Done}
+use Rattle.spec_desktop.specs.Desktop.{Desktop}
+use Rattle.spec_desktop.specs.LeftOut.{nothing_left_out}
+use Rattle.law_desktop.specs.Ordered.{Ordered}
+use Rattle.spec_desktop.specs.Act.{Act}
+use Rattle.spec_desktop.specs.Happens.{Happens}
+use Rattle.wl_clients.specs.Agreement.{Matches}
+use Rattle.wl_clients.specs.Marking.{MarksAtLeast}
+use Rattle.wl_clients.specs.View.{DeskView, MarkedDesk}
 
 -- What is kept is what the desktop has, and what each client owns there is in order.
 pub record Agrees (v : DeskView) (d : Desktop) : Type 0 where

@@ -1,17 +1,17 @@
 -- What the calls of a desk make of the desktop, message by message.
 use Rattle.std.specs.Prelude.{ℕ, zero, suc, ◌≡◌, ◌++◌, List, [], slice_index_or, Option, Some, None}
-use Rattle.wl_peer.specs.Peer.{IsIdle, ended, with_rest}
+use Rattle.spec_desktop.specs.Peer.{IsIdle, ended, with_rest}
 use Rattle.wl_client.specs.View.{ClientView}
-use Rattle.wl_peer.specs.declared.cause.Cause.{Cause}
-use Rattle.wl_peer.specs.declared.cause.Cause.TheVariants as cause
+use Rattle.spec_desktop.specs.declared.cause.Cause.{Cause}
+use Rattle.spec_desktop.specs.declared.cause.Cause.TheVariants as cause
 use Rattle.wl_client.specs.declared.served.Served.{Served}
 use Rattle.wl_client.specs.declared.served.Served.TheVariants as served
-use Rattle.wl_plain.specs.Desktop.{Desktop, Resident, client_at, with_client}
-use Rattle.wl_plain.specs.Settling.{EndsAndSettles, becomes, unstruck}
-use Rattle.wl_plain.specs.Step.{with_peer}
-use Rattle.wl_resident.specs.View.{DeskView}
-use Rattle.wl_plain.specs.declared.answers.Fed.{Fed}
-use Rattle.wl_plain.specs.declared.answers.Fed.TheVariants as fed
+use Rattle.spec_desktop.specs.Desktop.{Desktop, Resident, client_at, with_client}
+use Rattle.spec_desktop.specs.Settling.{EndsAndSettles, becomes, unstruck}
+use Rattle.spec_desktop.specs.Step.{with_peer}
+use Rattle.wl_clients.specs.View.{DeskView}
+use Rattle.spec_desktop.specs.declared.answers.Fed.{Fed}
+use Rattle.spec_desktop.specs.declared.answers.Fed.TheVariants as fed
 
 -- a piece is kept behind what came before, of a client that lives
 abbrev pub kept_by : ℕ → List ℕ → Option Cause → Resident → Desktop → Desktop

@@ -1,11 +1,11 @@
 -- What comes of telling one client of a frame, and what a frame marks.
 use Rattle.std.specs.Prelude.{ℕ, ◌≡◌, ◌<◌, ◌⊎◌, is_some, pos, true}
 use Rattle.wl_paint.specs.Damage.{Damaged, has}
-use Rattle.wl_plain.specs.Desktop.{Desktop, client_at, status_in}
-use Rattle.wl_plain.specs.Framing.{FramesToldAt}
-use Rattle.wl_invariants.specs.Touching.{has_window_at}
-use Rattle.wl_resident.specs.Marking.{MarksAtLeast}
-use Rattle.wl_resident.specs.View.{MarkedDesk}
+use Rattle.spec_desktop.specs.Desktop.{Desktop, client_at, status_in}
+use Rattle.spec_desktop.specs.Framing.{FramesToldAt}
+use Rattle.law_desktop.specs.Touching.{has_window_at}
+use Rattle.wl_clients.specs.Marking.{MarksAtLeast}
+use Rattle.wl_clients.specs.View.{MarkedDesk}
 use Rattle.wl_clients.specs.Agreeing.{Agrees}
 
 -- the same points are to be painted

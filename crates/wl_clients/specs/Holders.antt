@@ -3,14 +3,14 @@
 use Rattle.std.specs.Prelude.{ℕ, ◌≡◌, ◌<◌, Bool, true, false, Option, Some, None, List, slice_index_or}
 use Rattle.std.specs.List.{list_any}
 use Rattle.wl_paint.specs.Damage.{Damaged}
-use Rattle.wl_peer.specs.declared.cause.Cause.{Cause}
-use Rattle.wl_xdg_state.specs.Kept.{kept_of}
-use Rattle.wl_xdg_state.specs.Popups.{popups_of}
-use Rattle.wl_stacking.specs.Stacking.{Owned}
-use Rattle.wl_owning.specs.Owning.{IsOwned, Names}
+use Rattle.spec_desktop.specs.declared.cause.Cause.{Cause}
+use Rattle.wl_shell.specs.Kept.{kept_of}
+use Rattle.wl_shell.specs.Popups.{popups_of}
+use Rattle.spec_desktop.specs.Stacking.{Owned}
+use Rattle.law_desktop.specs.Owning.{IsOwned, Names}
 use Rattle.wl_requests.specs.declared.residents.Resident.{Resident as Kept}
-use Rattle.wl_resident.specs.Releasing.{IsReleased, MarksReleased}
-use Rattle.wl_resident.specs.View.{Pile}
+use Rattle.wl_clients.specs.Releasing.{IsReleased, MarksReleased}
+use Rattle.wl_clients.specs.View.{Pile}
 
 -- ---- who holds one
 

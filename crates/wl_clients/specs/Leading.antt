@@ -1,12 +1,12 @@
 -- What one thing that happens leads to, and what it marks on the way.
 use Rattle.std.specs.Prelude.{ℕ, List, Option, None}
 use Rattle.wl_paint.specs.Damage.{Damaged}
-use Rattle.wl_plain.specs.Desktop.{Desktop}
-use Rattle.wl_plain.specs.Happenings.{Happening, Leads, Single}
-use Rattle.wl_plain.specs.LeftOut.{nothing_left_out}
-use Rattle.wl_plain.specs.Through.{raised_in}
-use Rattle.wl_resident.specs.Marking.{MarksThroughBy}
-use Rattle.wl_resident.specs.View.{MarkedDesk}
+use Rattle.spec_desktop.specs.Desktop.{Desktop}
+use Rattle.spec_desktop.specs.Happenings.{Happening, Leads, Single}
+use Rattle.spec_desktop.specs.LeftOut.{nothing_left_out}
+use Rattle.spec_desktop.specs.Through.{raised_in}
+use Rattle.wl_clients.specs.Marking.{MarksThroughBy}
+use Rattle.wl_clients.specs.View.{MarkedDesk}
 use Rattle.wl_clients.specs.Agreeing.{Agrees}
 use Rattle.wl_clients.specs.Framing.{MarksIfEnds}
 

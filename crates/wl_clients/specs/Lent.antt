@@ -3,8 +3,8 @@ use Rattle.std.specs.Prelude.{ℕ, zero, suc, List, Option, None, slice_index_or
 use Rattle.std.specs.Option.{option_map}
 use Rattle.wl_surface.specs.Slots.{Slots, no_slots}
 use Rattle.wl_client.specs.View.{ClientView}
-use Rattle.wl_lending.specs.Lent.{slots_or_none}
-use Rattle.wl_resident.specs.View.{OwnedView}
+use Rattle.wl_scene.specs.Hit.{slots_or_none}
+use Rattle.wl_clients.specs.View.{OwnedView}
 
 -- What is kept of client c is lent at index c - 1. There is no client 0.
 abbrev pub client_lent : List (Option ClientView) → ℕ → Option ClientView

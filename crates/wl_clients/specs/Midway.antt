@@ -2,14 +2,14 @@
 use Rattle.std.specs.Prelude.{ℕ, suc, Bool, false, is_some, slice_index_or, ◌≡◌, ◌≢◌, ◌++◌, List, [], ◌∷◌, Option, Some, None, map}
 use Rattle.std.specs.Option.{option_map}
 use Rattle.wl_client.specs.View.{ClientView, opened}
-use Rattle.wl_peer.specs.declared.cause.Cause.{Cause}
-use Rattle.wl_plain.specs.Desktop.{Desktop, Resident, client_at}
+use Rattle.spec_desktop.specs.declared.cause.Cause.{Cause}
+use Rattle.spec_desktop.specs.Desktop.{Desktop, Resident, client_at}
 use Rattle.wl_requests.specs.declared.residents.Resident.{Resident as Kept}
 use Rattle.wl_surface.specs.Surfaces.{history_in}
-use Rattle.wl_plain.specs.Settling.{Midstep, Strike, unstruck}
-use Rattle.wl_resident.specs.Agreement.{numbers_in}
-use Rattle.wl_resident.specs.View.{DeskView}
-use Rattle.wl_lending.specs.Stacked.{AreNumberedOnce}
+use Rattle.spec_desktop.specs.Settling.{Midstep, Strike, unstruck}
+use Rattle.wl_clients.specs.Agreement.{numbers_in}
+use Rattle.wl_clients.specs.View.{DeskView}
+use Rattle.wl_scene.specs.StackedAgreement.{AreNumberedOnce}
 use Rattle.wl_clients.specs.Agreeing.{Agrees}
 
 -- the same, as if each event had been queued

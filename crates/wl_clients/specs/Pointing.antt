@@ -4,19 +4,19 @@ use Rattle.wl_client.specs.declared.pointers.PointerEvent.{PointerEvent}
 use Rattle.wl_client.specs.Agreement.{IsPeer}
 use Rattle.wl_client.specs.Pointers.{TellsPointers, pointers_told, serial_after}
 use Rattle.wl_client.specs.View.{ClientView, opened}
-use Rattle.wl_peer.specs.declared.cause.Cause.{Cause}
-use Rattle.wl_peer.specs.Peer.{Peer}
-use Rattle.wl_peer.specs.Objects.{ById}
-use Rattle.wl_peer.specs.Told.{Said}
-use Rattle.wl_stacking.specs.Windows.{Window}
-use Rattle.wl_stacked.specs.declared.stacked.Stacked.{Stacked}
-use Rattle.wl_lending.specs.ByNumbers.{by_numbers}
-use Rattle.wl_plain.specs.Demand.{Demand}
-use Rattle.wl_plain.specs.Desktop.{Desktop, Resident}
-use Rattle.wl_plain.specs.Stacked.{all_windows}
+use Rattle.spec_desktop.specs.declared.cause.Cause.{Cause}
+use Rattle.spec_desktop.specs.Peer.{Peer}
+use Rattle.spec_desktop.specs.Objects.{ById}
+use Rattle.spec_desktop.specs.Told.{Said}
+use Rattle.spec_desktop.specs.Windows.{Window}
+use Rattle.wl_scene.specs.declared.stacked.Stacked.{Stacked}
+use Rattle.wl_scene.specs.ByNumbers.{by_numbers}
+use Rattle.spec_desktop.specs.Demand.{Demand}
+use Rattle.spec_desktop.specs.Desktop.{Desktop, Resident}
+use Rattle.spec_desktop.specs.Stacked.{all_windows}
 use Rattle.wl_requests.specs.declared.pointer_asked.PointerAsked.{PointerAsked}
 use Rattle.wl_requests.specs.PointerAsks.{AsksPointer}
-use Rattle.wl_resident.specs.View.{DeskView}
+use Rattle.wl_clients.specs.View.{DeskView}
 use Rattle.wl_clients.specs.declared.grabs.Latest.{Latest}
 
 -- a message that asks this of the desktop asks that of the pointer, if it isn't refused

@@ -3,7 +3,7 @@ use Rattle.std.specs.Prelude.{ℕ, zero, suc, List, Option, None, map, slice_ind
 use Rattle.std.specs.Option.{option_map}
 use Rattle.wl_client.specs.View.{ClientView}
 use Rattle.wl_requests.specs.declared.residents.Resident.{Resident}
-use Rattle.wl_resident.specs.View.{OwnedView, owned_view}
+use Rattle.wl_clients.specs.View.{OwnedView, owned_view}
 
 -- what is kept of each client
 abbrev pub client_views : {A : Type 0} → List (Option (Resident A)) → List (Option ClientView)

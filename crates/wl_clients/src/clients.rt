@@ -5,39 +5,39 @@ ghost use Rattle.std.specs.Option.{option_copied};
 ghost use Rattle.wl_client.specs.Agreement.{output_of};
 ghost use Rattle.wl_paint.specs.Damage.{has};
 ghost use Rattle.wl_paint.specs.Frame.{color_at, is_side};
-ghost use Rattle.wl_plain.specs.Desktop.{Desktop, client_at, empty, status_in};
-ghost use Rattle.wl_plain.specs.Act.{Connect, Store, Leave, Tick, Send, Close, lowest, peer_at, unsent_of, status_of, store_size_of};
+ghost use Rattle.spec_desktop.specs.Desktop.{Desktop, client_at, empty, status_in};
+ghost use Rattle.spec_desktop.specs.Act.{Connect, Store, Leave, Tick, Send, Close, lowest, peer_at, unsent_of, status_of, store_size_of};
 ghost use Rattle.wl_clients.specs.NextStore.{next_store_of};
 ghost use Rattle.wl_clients.specs.Agreeing.{Agrees, MarksNothing, MarksStep, TakesStep};
-ghost use Rattle.wl_resident.specs.Marking.{MarksAtLeast, MarksMost};
+ghost use Rattle.wl_clients.specs.Marking.{MarksAtLeast, MarksMost};
 ghost use Rattle.wl_clients.specs.Feeding.{Ends, IsIdleIn, kept_at, kept_while, rest_in};
-ghost use Rattle.wl_marking.specs.Marking.{IsAsLarge};
+ghost use Rattle.wl_scene.specs.Marking.{IsAsLarge};
 ghost use Rattle.wl_clients.specs.Framing.{MarksIfEnds, WasTold};
 ghost use Rattle.wl_clients.specs.Leading.{LeadsBy, LeadsQuietly, Led};
 ghost use Rattle.wl_clients.specs.Pointing.{AsksOfPointer, IsLatest};
 ghost use Rattle.wl_clients.specs.Touching.{ChangesNoWindow};
 ghost use Rattle.wl_clients.specs.Residents.{resident_at};
-ghost use Rattle.wl_pointed.specs.Pointed.{asked};
-ghost use Rattle.wl_resident.specs.Agreement.{numbers_in};
-ghost use Rattle.wl_resident.specs.Screens.{IsTouchedBy};
-ghost use Rattle.wl_lending.specs.Painting.{IsOpaqueAsSaid};
-ghost use Rattle.wl_plain.specs.Scratch.{scratch};
-ghost use Rattle.wl_plain.specs.LeftOut.{nothing_left_out};
-ghost use Rattle.wl_plain.specs.Happenings.{Message, Single, Starve};
-ghost use Rattle.wl_plain.specs.Happens.{Happens};
-ghost use Rattle.wl_invariants.specs.Touching.{has_window_at};
+ghost use Rattle.law_desktop.specs.Pointed.Pointed.{asked};
+ghost use Rattle.wl_clients.specs.Agreement.{numbers_in};
+ghost use Rattle.wl_clients.specs.Screens.{IsTouchedBy};
+ghost use Rattle.wl_clients.specs.Painting.{IsOpaqueAsSaid};
+ghost use Rattle.spec_desktop.specs.Scratch.{scratch};
+ghost use Rattle.spec_desktop.specs.LeftOut.{nothing_left_out};
+ghost use Rattle.spec_desktop.specs.Happenings.{Message, Single, Starve};
+ghost use Rattle.spec_desktop.specs.Happens.{Happens};
+ghost use Rattle.law_desktop.specs.Touching.{has_window_at};
 
 use crate::grabs::Latest;
+use crate::screen::{Screen, bare, touched_by};
 use crate::windows::{Lent, resident_of};
+use spec_desktop::{ClientNo, ConnectError, Done, Fed, Stored};
 use std::alloc::{AllocError, Allocator};
 use std::marker::Model;
 use wl_client::{Cause, Client, Output, StoreNo};
 use wl_geom::Region;
+use wl_links::Subsurfaces;
 use wl_paint::{Damage, FrameError, Framebuffer, MAX_SIDE};
-use wl_plain::{ClientNo, ConnectError, Done, Fed, Stored};
 use wl_requests::{Asked, PointerAsked, Resident};
-use wl_resident::{Screen, bare, touched_by};
-use wl_subsurfaces::Subsurfaces;
 
 /// How many clients there may be at once.
 const CLIENT_LIMIT: usize = 32;
@@ -61,7 +61,7 @@ pub struct Taken {
 
 impl<A: Allocator> Model for Clients<A> {
     ghost use Rattle.std.specs.Prelude.{◌≡◌, length};
-    ghost use Rattle.wl_resident.specs.View.{MarkedDesk, pile_of};
+    ghost use Rattle.wl_clients.specs.View.{MarkedDesk, pile_of};
     ghost use Rattle.wl_clients.specs.Residents.{client_views, owned_views};
 
     ghost Value = { MarkedDesk };
@@ -275,7 +275,7 @@ impl<A: Allocator + Copy> Clients<A> {
         let Some(resident) = &mut self.residents[k] else {
             return Stored::NoClient;
         };
-        wl_resident::store(resident, store, at, bytes)
+        crate::screen::store(resident, store, at, bytes)
     }
 
     /// How many bytes a client's store has.
@@ -336,7 +336,7 @@ impl<A: Allocator + Copy> Clients<A> {
         let Some(resident) = &mut self.residents[k] else {
             return false;
         };
-        wl_resident::sent(resident, count)
+        crate::screen::sent(resident, count)
     }
 
     /// Frees the number of a client that ended. True where it had.

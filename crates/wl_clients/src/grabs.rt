@@ -1,15 +1,15 @@
 //! Grabs of popups: which client holds one, what one is allowed by, and how they end (xdg-shell.xml, xdg_popup.grab).
 
 ghost use Rattle.std.specs.Prelude.{ℕ, ◌≡◌, ◌<◌, ◌≤◌, IfNone, IfSome, Some, length};
-ghost use Rattle.wl_marking.specs.Marking.{IsAsLarge};
-ghost use Rattle.wl_plain.specs.Changing.{grab_holder, is_held_elsewhere};
-ghost use Rattle.wl_plain.specs.Desktop.{Desktop, Resident as Plain};
-ghost use Rattle.wl_plain.specs.Replies.{popups_done};
-ghost use Rattle.wl_plain.specs.Settling.{Midstep, Tells, without_grabs};
+ghost use Rattle.wl_scene.specs.Marking.{IsAsLarge};
+ghost use Rattle.spec_desktop.specs.Changing.{grab_holder, is_held_elsewhere};
+ghost use Rattle.spec_desktop.specs.Desktop.{Desktop, Resident as Plain};
+ghost use Rattle.spec_desktop.specs.Replies.{popups_done};
+ghost use Rattle.spec_desktop.specs.Settling.{Midstep, Tells, without_grabs};
 ghost use Rattle.wl_requests.specs.Grabbing.{IsGrabbingOf};
-ghost use Rattle.wl_resident.specs.Agreement.{numbers_in};
-ghost use Rattle.wl_resident.specs.Releasing.{MarksJust};
-ghost use Rattle.wl_resident.specs.View.{pile_of};
+ghost use Rattle.wl_clients.specs.Agreement.{numbers_in};
+ghost use Rattle.wl_clients.specs.Releasing.{MarksJust};
+ghost use Rattle.wl_clients.specs.View.{pile_of};
 ghost use Rattle.wl_clients.specs.Agreeing.{Agrees};
 ghost use Rattle.wl_clients.specs.Feeding.{rest_in};
 ghost use Rattle.wl_clients.specs.Grabbing.{is_grab};
@@ -18,11 +18,11 @@ ghost use Rattle.wl_clients.specs.Midway.{IsMid};
 ghost use Rattle.wl_clients.specs.Pointing.{IsLatest};
 
 use crate::clients::{Clients, place_of};
+use crate::screen::Screen;
+use spec_desktop::ClientNo;
 use std::alloc::Allocator;
-use wl_plain::ClientNo;
 use wl_proto::XdgPopupRequest;
 use wl_requests::{Asked, Grabbing, Kind, Resident};
-use wl_resident::Screen;
 
 /// The serials of the latest press and of the latest release of a button that a client was told of (wayland.xml, wl_pointer.button).
 #[derive(Clone, Copy, Debug, PartialEq, Eq)]

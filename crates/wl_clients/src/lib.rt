@@ -1,15 +1,22 @@
-//! All clients by number, and the windows that they show: a desktop where nobody points.
+//! All clients by number, and the screen that they change: each message is served, the toplevels and the windows stacked with them follow, what
+//! changed is marked to be painted again, and the windows are lent to be painted. A desktop where nobody points.
 #![tactic(auto)]
 
 mod clients;
 mod grabs;
 mod moving;
+mod painting;
+mod pictures;
 mod pointing;
+mod screen;
 mod windows;
 
 pub use clients::{Clients, Taken};
 pub use grabs::Latest;
+pub use painting::{lends_opaque_as_said, paints_the_desktop};
+pub use pictures::lend;
 pub use pointing::{mid_begins_and_ends, mid_is_numbered_once, mid_names_surfaces};
+pub use screen::{Screen, bare, sent, store, touched_by};
+pub use spec_desktop::{ClientNo, ConnectError, Done, Fed, Stored};
 pub use wl_client::PointerEvent;
-pub use wl_plain::{ClientNo, ConnectError, Done, Fed, Stored};
 pub use wl_requests::PointerAsked;

@@ -1,20 +1,20 @@
 //! A toplevel of a client comes to the top, or goes along with the pointer.
 
 ghost use Rattle.std.specs.Prelude.{ℕ, ◌≡◌, if◌then◌else◌, None, Some};
-ghost use Rattle.wl_stacking.specs.Stacking.{raised};
-ghost use Rattle.wl_marking.specs.Marking.{IsAsLarge};
-ghost use Rattle.wl_plain.specs.Pointing.{moved_standing};
-ghost use Rattle.wl_plain.specs.Settling.{Midstep, with_standing};
-ghost use Rattle.wl_plain.specs.Through.{is_topmost};
-ghost use Rattle.wl_resident.specs.Agreement.{numbers_in};
-ghost use Rattle.wl_resident.specs.Marking.{MarksAtLeast, MarksMost, MarksMostBy};
-ghost use Rattle.wl_resident.specs.Moving.{with_moved};
-ghost use Rattle.wl_resident.specs.Raising.{with_raised};
+ghost use Rattle.spec_desktop.specs.Stacking.{raised};
+ghost use Rattle.wl_scene.specs.Marking.{IsAsLarge};
+ghost use Rattle.spec_desktop.specs.Pointing.{moved_standing};
+ghost use Rattle.spec_desktop.specs.Settling.{Midstep, with_standing};
+ghost use Rattle.spec_desktop.specs.Through.{is_topmost};
+ghost use Rattle.wl_clients.specs.Agreement.{numbers_in};
+ghost use Rattle.wl_clients.specs.Marking.{MarksAtLeast, MarksMost, MarksMostBy};
+ghost use Rattle.wl_clients.specs.Moving.{with_moved};
+ghost use Rattle.wl_clients.specs.Raising.{with_raised};
 ghost use Rattle.wl_clients.specs.Midway.{IsMid};
 
 use crate::clients::{Clients, place_of};
+use spec_desktop::ClientNo;
 use std::alloc::Allocator;
-use wl_plain::ClientNo;
 use wl_surface::SurfaceNo;
 
 impl<A: Allocator + Copy> Clients<A> {

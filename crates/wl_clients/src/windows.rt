@@ -2,17 +2,17 @@
 
 ghost use Rattle.std.specs.Prelude.{◌≡◌, option_copied};
 ghost use Rattle.wl_paint.specs.Painting.{window_of};
-ghost use Rattle.wl_lending.specs.Lent.{window_lent};
+ghost use Rattle.wl_clients.specs.LentPictures.{window_lent};
 ghost use Rattle.wl_clients.specs.Lent.{client_lent, slots_lent};
 ghost use Rattle.wl_clients.specs.Residents.{client_views, owned_views, resident_at};
 
+use crate::pictures::lend;
+use spec_desktop::ClientNo;
 use std::alloc::Allocator;
 use wl_geom::Region;
-use wl_lending::{Surfaced, lend};
 use wl_paint::{Painted, Windows};
-use wl_plain::ClientNo;
 use wl_requests::Resident;
-use wl_stacked::Stacked;
+use wl_scene::{Stacked, Surfaced};
 use wl_surface::Surfaces;
 
 /// The windows of the output with the clients and what each owns, that of client c at index c - 1, and a region without a point.
@@ -82,7 +82,7 @@ impl<'a, A: Allocator> Surfaced for Owners<'a, A> {
 impl<'a, A: Allocator + Copy> Windows for Lent<'a, A> {
     type Heap = A;
 
-    ghost use Rattle.wl_lending.specs.Lent.{windows_lent};
+    ghost use Rattle.wl_clients.specs.LentPictures.{windows_lent};
     ghost use Rattle.wl_clients.specs.Lent.{client_lent, slots_lent};
     ghost use Rattle.wl_clients.specs.Residents.{client_views, owned_views};
 

@@ -3,17 +3,17 @@ use Rattle.std.proofs.Common.{◌≡◌, ◌≢◌, ℕ, zero, suc, ◌<◌, ◌
 use Rattle.std.proofs.Common.{length, map, drop, drop-cons, get_or, arith}
 use Rattle.std.specs.Prelude.{filter}
 use Rattle.std.proofs.lemmas.List.{drop_all}
-use Rattle.wl_peer.specs.Told.{Said}
-use Rattle.wl_stacking.specs.Pointer.{Pointer, Target}
-use Rattle.wl_stacking.specs.PointerActions.{PointerAction, Leave, Enter, Motion, Button, Raise, MoveWindow, Dismiss}
-use Rattle.wl_stacking.specs.Windows.{Place, Window}
-use Rattle.wl_plain.specs.Changing.{drawing}
-use Rattle.wl_plain.specs.Desktop.{Resident}
-use Rattle.wl_plain.specs.Pointing.{button_told, has_pointers}
-use Rattle.wl_plain.specs.Settling.{Applies, AppliesAll, Midstep, Tells, noted, noted_if, number_of, with_focus}
-use Rattle.wl_plain.specs.Stacked.{all_windows}
-use Rattle.wl_laws.proofs.Marks.Stacks.{Each}
-use Rattle.wl_laws.proofs.Runs.Settled.{same-windows}
+use Rattle.spec_desktop.specs.Told.{Said}
+use Rattle.spec_desktop.specs.Pointer.{Pointer, Target}
+use Rattle.spec_desktop.specs.PointerActions.{PointerAction, Leave, Enter, Motion, Button, Raise, MoveWindow, Dismiss}
+use Rattle.spec_desktop.specs.Windows.{Place, Window}
+use Rattle.spec_desktop.specs.Changing.{drawing}
+use Rattle.spec_desktop.specs.Desktop.{Resident}
+use Rattle.spec_desktop.specs.Pointing.{button_told, has_pointers}
+use Rattle.spec_desktop.specs.Settling.{Applies, AppliesAll, Midstep, Tells, noted, noted_if, number_of, with_focus}
+use Rattle.spec_desktop.specs.Stacked.{all_windows}
+use Rattle.law_desktop.proofs.Marks.Stacks.{Each}
+use Rattle.law_desktop.proofs.Runs.Settled.{same-windows}
 use Rattle.wl_scene.specs.Focus.{action_of}
 use Rattle.wl_scene.specs.declared.actions.Action.{Action}
 use Rattle.wl_desk.specs.Doing.{IsTellable, is_told}

@@ -4,33 +4,33 @@ use Rattle.std.specs.Prelude.{◌-◌, ◌||◌, is_some}
 use Rattle.wl_wire.specs.Wire.{split_of}
 use Rattle.wl_wire.specs.declared.header.Split.{Split}
 use Rattle.wl_wire.specs.declared.header.Split.TheVariants.{Message as Whole, More, Bad}
-use Rattle.wl_peer.specs.declared.cause.Cause.{Cause}
-use Rattle.wl_peer.specs.declared.cause.Cause.TheVariants.{Protocol}
-use Rattle.wl_peer.specs.declared.refusals.ErrorCode.TheVariants.{InvalidMethod}
-use Rattle.wl_peer.specs.declared.refusals.Refusal.{Refusal}
-use Rattle.wl_peer.specs.Peer.{Errs, Peer, QueuesOr, ended, has_room, queued, with_rest}
-use Rattle.wl_peer.specs.Told.{Said, code_number, display_error, error_told}
-use Rattle.wl_plain.specs.Changing.{drawing, has_focus}
-use Rattle.wl_plain.specs.Demand.{Demand, GetPointer}
-use Rattle.wl_plain.specs.Demanding.{judge_all}
-use Rattle.wl_plain.specs.Desktop.{Desktop, Resident, become_by, client_at, status_in, status_of, unpointed}
-use Rattle.wl_plain.specs.Happens.{AnswersThen, BecomesThen, ServesThen, TakesThen}
-use Rattle.wl_plain.specs.LeftOut.{LeftOut}
-use Rattle.wl_plain.specs.Moments.{marks_at_least_through, marks_at_most_through}
-use Rattle.wl_plain.specs.Marks.{AreDistinct}
-use Rattle.wl_plain.specs.Settling.{Midstep, Strike, Tells, TellsAt, TellsUnless, becomes, ended_by, struck_by, unstruck}
-use Rattle.wl_plain.specs.Stacked.{all_windows}
-use Rattle.wl_plain.specs.Step.{with_peer}
-use Rattle.wl_plain.specs.Through.{ServesThrough, SettlesAllThrough, settling_through}
-use Rattle.wl_laws.proofs.Lists.Keys.{differ, none-some}
-use Rattle.wl_laws.proofs.Runs.Places.{status-become}
-use Rattle.wl_pointed.specs.Apart.{SettlesOn}
-use Rattle.wl_pointed.specs.Entering.{TellsNew, new_entered}
-use Rattle.wl_pointed.specs.Pointed.{MovedStands, asked, asked_by, asked_first, asked_of, pointer_after, put_back}
-use Rattle.wl_pointed.proofs.Entering.{new-pointer-apart-through}
-use Rattle.wl_pointed.proofs.Marking.{marks-apart, new-pointer-marks}
-use Rattle.wl_pointed.proofs.Messages.{after-status, becomes-still, pointer-apart-through}
-use Rattle.wl_pointed.proofs.Pointers.{settled-nowhere}
+use Rattle.spec_desktop.specs.declared.cause.Cause.{Cause}
+use Rattle.spec_desktop.specs.declared.cause.Cause.TheVariants.{Protocol}
+use Rattle.spec_desktop.specs.declared.refusals.ErrorCode.TheVariants.{InvalidMethod}
+use Rattle.spec_desktop.specs.declared.refusals.Refusal.{Refusal}
+use Rattle.spec_desktop.specs.Peer.{Errs, Peer, QueuesOr, ended, has_room, queued, with_rest}
+use Rattle.spec_desktop.specs.Told.{Said, code_number, display_error, error_told}
+use Rattle.spec_desktop.specs.Changing.{drawing, has_focus}
+use Rattle.spec_desktop.specs.Demand.{Demand, GetPointer}
+use Rattle.spec_desktop.specs.Demanding.{judge_all}
+use Rattle.spec_desktop.specs.Desktop.{Desktop, Resident, become_by, client_at, status_in, status_of, unpointed}
+use Rattle.spec_desktop.specs.Happens.{AnswersThen, BecomesThen, ServesThen, TakesThen}
+use Rattle.spec_desktop.specs.LeftOut.{LeftOut}
+use Rattle.spec_desktop.specs.Moments.{marks_at_least_through, marks_at_most_through}
+use Rattle.spec_desktop.specs.Marks.{AreDistinct}
+use Rattle.spec_desktop.specs.Settling.{Midstep, Strike, Tells, TellsAt, TellsUnless, becomes, ended_by, struck_by, unstruck}
+use Rattle.spec_desktop.specs.Stacked.{all_windows}
+use Rattle.spec_desktop.specs.Step.{with_peer}
+use Rattle.spec_desktop.specs.Through.{ServesThrough, SettlesAllThrough, settling_through}
+use Rattle.law_desktop.proofs.Lists.Keys.{differ, none-some}
+use Rattle.law_desktop.proofs.Runs.Places.{status-become}
+use Rattle.law_desktop.specs.Pointed.Apart.{SettlesOn}
+use Rattle.law_desktop.specs.Pointed.Entering.{TellsNew, new_entered}
+use Rattle.law_desktop.specs.Pointed.Pointed.{MovedStands, asked, asked_by, asked_first, asked_of, pointer_after, put_back}
+use Rattle.law_desktop.proofs.PointerAside.Entering.{new-pointer-apart-through}
+use Rattle.law_desktop.proofs.PointerAside.Marking.{marks-apart, new-pointer-marks}
+use Rattle.law_desktop.proofs.PointerAside.Messages.{after-status, becomes-still, pointer-apart-through}
+use Rattle.law_desktop.proofs.PointerAside.Pointers.{settled-nowhere}
 use Rattle.wl_desk.proofs.Onward.{MarksSame, none-more}
 
 -- ---- what is asked

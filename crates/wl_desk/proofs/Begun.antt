@@ -1,23 +1,23 @@
 -- Which toplevel is moved after a message.
 use Rattle.std.proofs.Common.{◌≡◌, ◌≢◌, ℕ, List, Bool, true, false, Option, Some, None, if◌then◌else◌, refl, ap, ap₂, subst, sym, ◌∙◌}
 use Rattle.std.specs.Prelude.{◌&&◌, is_some}
-use Rattle.wl_peer.specs.declared.cause.Cause.{Cause}
-use Rattle.wl_peer.specs.Objects.{ById}
-use Rattle.wl_stacking.specs.Pointer.{Pointer, Target, settled}
-use Rattle.wl_stacking.specs.Stacking.{Standing}
-use Rattle.wl_plain.specs.Changing.{is_focus_in, is_serial, kept_move}
-use Rattle.wl_plain.specs.Demand.{Demand, Asks, EndSurface, AskFrame, CommitTree, GetSubsurface, EndSubsurface, SetMode, GetPointer, MakeCursor, Reposition}
-use Rattle.wl_plain.specs.Demand.{GetPopup, Grab, EndPopup, EndToplevel, Move}
-use Rattle.wl_plain.specs.Desktop.{Desktop, status_in, unpointed}
-use Rattle.wl_plain.specs.LeftOut.{LeftOut, nothing_left_out}
-use Rattle.wl_plain.specs.Settling.{pointer_without, unless_of}
-use Rattle.wl_plain.specs.Stacked.{all_windows}
-use Rattle.wl_plain.specs.Through.{ServesThrough}
+use Rattle.spec_desktop.specs.declared.cause.Cause.{Cause}
+use Rattle.spec_desktop.specs.Objects.{ById}
+use Rattle.spec_desktop.specs.Pointer.{Pointer, Target, settled}
+use Rattle.spec_desktop.specs.Stacking.{Standing}
+use Rattle.spec_desktop.specs.Changing.{is_focus_in, is_serial, kept_move}
+use Rattle.spec_desktop.specs.Demand.{Demand, Asks, EndSurface, AskFrame, CommitTree, GetSubsurface, EndSubsurface, SetMode, GetPointer, MakeCursor, Reposition}
+use Rattle.spec_desktop.specs.Demand.{GetPopup, Grab, EndPopup, EndToplevel, Move}
+use Rattle.spec_desktop.specs.Desktop.{Desktop, status_in, unpointed}
+use Rattle.spec_desktop.specs.LeftOut.{LeftOut, nothing_left_out}
+use Rattle.spec_desktop.specs.Settling.{pointer_without, unless_of}
+use Rattle.spec_desktop.specs.Stacked.{all_windows}
+use Rattle.spec_desktop.specs.Through.{ServesThrough}
 use Rattle.wl_scene.specs.Focus.{unless_of as unless_of_scene}
-use Rattle.wl_laws.proofs.Lists.Keys.{differ}
-use Rattle.wl_laws.specs.Focus.{IsSettled}
-use Rattle.wl_pointed.specs.Pointed.{MovedStands, asked, keeping, pointed, pointer_after, pointer_asked, pointer_for, pointer_if}
-use Rattle.wl_pointed.proofs.Pointers.{keeping-stays}
+use Rattle.law_desktop.proofs.Lists.Keys.{differ}
+use Rattle.law_desktop.specs.Focus.{IsSettled}
+use Rattle.law_desktop.specs.Pointed.Pointed.{MovedStands, asked, keeping, pointed, pointer_after, pointer_asked, pointer_for, pointer_if}
+use Rattle.law_desktop.proofs.PointerAside.Pointers.{keeping-stays}
 use Rattle.wl_requests.specs.declared.pointer_asked.PointerAsked.{PointerAsked}
 use Rattle.wl_clients.specs.Pointing.{AsksOfPointer}
 use Rattle.wl_desk.specs.Agreeing.{IsPlaced}

@@ -3,10 +3,10 @@ use Rattle.std.proofs.Common.{◌≡◌, ℕ, List, [], ◌∷◌, Bool, true, f
 use Rattle.std.specs.Prelude.{if◌then◌else◌}
 use Rattle.wl_client.specs.Pointers.{has_any, pointers_told}
 use Rattle.wl_client.specs.declared.pointers.PointerEvent.TheVariants.{Button}
-use Rattle.wl_plain.specs.Changing.{drawing}
-use Rattle.wl_plain.specs.Desktop.{Resident, client_at}
-use Rattle.wl_plain.specs.Pointing.{button_told, has_pointers}
-use Rattle.wl_plain.specs.Settling.{Midstep, noted, noted_if, number_of}
+use Rattle.spec_desktop.specs.Changing.{drawing}
+use Rattle.spec_desktop.specs.Desktop.{Resident, client_at}
+use Rattle.spec_desktop.specs.Pointing.{button_told, has_pointers}
+use Rattle.spec_desktop.specs.Settling.{Midstep, noted, noted_if, number_of}
 use Rattle.wl_clients.specs.Pointing.{IsTold}
 use Rattle.wl_desk.specs.Midway.{IsToldOf}
 use Rattle.wl_desk.proofs.Telling.{told-each}

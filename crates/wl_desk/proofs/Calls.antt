@@ -2,17 +2,17 @@
 use Rattle.std.proofs.Common.{◌≡◌, ◌≢◌, ℕ, List, true, refl, ap, ap₂, subst, sym, ◌∙◌, inl, inr}
 use Rattle.wl_paint.specs.Damage.{Damaged}
 use Rattle.std.specs.Prelude.{Result, Ok, Err}
-use Rattle.wl_marking.specs.Marking.{IsAsLarge}
-use Rattle.wl_stacking.specs.Pointer.{Pointer}
-use Rattle.wl_plain.specs.declared.answers.ConnectError.{ConnectError}
-use Rattle.wl_plain.specs.declared.answers.Done.{Done}
-use Rattle.wl_plain.specs.declared.answers.Done.TheVariants as gave
-use Rattle.wl_plain.specs.declared.answers.Fed.TheVariants.{Alive}
-use Rattle.wl_plain.specs.Act.{Act, Connect, Leave, Tick, peer_at, status_of}
-use Rattle.wl_plain.specs.Desktop.{Desktop, unpointed}
-use Rattle.wl_plain.specs.Happenings.{Message, Single, Starve}
-use Rattle.wl_plain.specs.Settling.{Midstep, pointer_without}
-use Rattle.wl_pointed.specs.Happenings.{is_quiet, pointer_left}
+use Rattle.wl_scene.specs.Marking.{IsAsLarge}
+use Rattle.spec_desktop.specs.Pointer.{Pointer}
+use Rattle.spec_desktop.specs.declared.answers.ConnectError.{ConnectError}
+use Rattle.spec_desktop.specs.declared.answers.Done.{Done}
+use Rattle.spec_desktop.specs.declared.answers.Done.TheVariants as gave
+use Rattle.spec_desktop.specs.declared.answers.Fed.TheVariants.{Alive}
+use Rattle.spec_desktop.specs.Act.{Act, Connect, Leave, Tick, peer_at, status_of}
+use Rattle.spec_desktop.specs.Desktop.{Desktop, unpointed}
+use Rattle.spec_desktop.specs.Happenings.{Message, Single, Starve}
+use Rattle.spec_desktop.specs.Settling.{Midstep, pointer_without}
+use Rattle.law_desktop.specs.Pointed.Happenings.{is_quiet, pointer_left}
 use Rattle.wl_clients.specs.Agreeing.{Agrees as KeptAgrees, MarksNothing as KeptMarksNothing}
 use Rattle.wl_clients.specs.Leading.{LeadsBy as KeptLeadsBy, LeadsQuietly as KeptLeadsQuietly, Led}
 use Rattle.wl_clients.specs.View.{MarkedDesk as KeptDesk}

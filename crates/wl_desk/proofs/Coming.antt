@@ -2,22 +2,22 @@
 use Rattle.std.proofs.Common.{◌≡◌, ◌≢◌, ℕ, zero, suc, ◌+◌, List, [], ◌∷◌, Option, Some, None, refl, ap, subst, sym, ◌∙◌, arith, inl, inr}
 use Rattle.std.specs.Option.{option_map_or}
 use Rattle.std.specs.Prelude.{◌⊎◌, Result, Ok, Err, replicate}
-use Rattle.wl_peer.specs.Told.{Output}
-use Rattle.wl_stacking.specs.Pointer.{first_pointer}
-use Rattle.wl_plain.specs.declared.answers.ConnectError.{ConnectError}
-use Rattle.wl_plain.specs.declared.answers.Done.{Done}
-use Rattle.wl_plain.specs.declared.answers.Done.TheVariants as gave
-use Rattle.wl_plain.specs.Act.{Connect, lowest, next_of}
-use Rattle.wl_plain.specs.Desktop.{Desktop, Resident, client_at, empty, place, unpointed}
-use Rattle.wl_plain.specs.Happenings.{Leads, Single}
-use Rattle.wl_plain.specs.Happens.{ConnectsThen}
-use Rattle.wl_plain.specs.LeftOut.{nothing_left_out}
-use Rattle.wl_plain.specs.Settling.{unstruck}
-use Rattle.wl_plain.specs.Through.{ending_through}
-use Rattle.wl_laws.proofs.Runs.Fates.{same-or}
-use Rattle.wl_pointed.specs.Seats.{CameWithoutSerials, HadSerials, HasPointersAfter}
-use Rattle.wl_pointed.proofs.Pointing.{pointers-stay}
-use Rattle.wl_pointed.proofs.Serials.{serials-stay}
+use Rattle.spec_desktop.specs.Told.{Output}
+use Rattle.spec_desktop.specs.Pointer.{first_pointer}
+use Rattle.spec_desktop.specs.declared.answers.ConnectError.{ConnectError}
+use Rattle.spec_desktop.specs.declared.answers.Done.{Done}
+use Rattle.spec_desktop.specs.declared.answers.Done.TheVariants as gave
+use Rattle.spec_desktop.specs.Act.{Connect, lowest, next_of}
+use Rattle.spec_desktop.specs.Desktop.{Desktop, Resident, client_at, empty, place, unpointed}
+use Rattle.spec_desktop.specs.Happenings.{Leads, Single}
+use Rattle.spec_desktop.specs.Happens.{ConnectsThen}
+use Rattle.spec_desktop.specs.LeftOut.{nothing_left_out}
+use Rattle.spec_desktop.specs.Settling.{unstruck}
+use Rattle.spec_desktop.specs.Through.{ending_through}
+use Rattle.law_desktop.proofs.Runs.Fates.{same-or}
+use Rattle.law_desktop.specs.Pointed.Seats.{CameWithoutSerials, HadSerials, HasPointersAfter}
+use Rattle.law_desktop.proofs.PointerAside.Pointing.{pointers-stay}
+use Rattle.law_desktop.proofs.PointerAside.Serials.{serials-stay}
 use Rattle.wl_clients.specs.Agreeing.{Agrees as KeptAgrees}
 use Rattle.wl_clients.specs.Leading.{Led}
 use Rattle.wl_clients.specs.Pointing.{IsLatest}

@@ -4,17 +4,17 @@ use Rattle.std.specs.Option.{option_map}
 use Rattle.std.specs.Prelude.{◌⊎◌, ◌||◌, pos}
 use Rattle.wl_client.specs.View.{ClientView, opened}
 use Rattle.wl_paint.specs.Damage.{Damaged, has}
-use Rattle.wl_peer.specs.declared.cause.Cause.{Cause}
-use Rattle.wl_peer.specs.Peer.{ended}
-use Rattle.wl_stacking.specs.Pointer.{Pointer, Target}
+use Rattle.spec_desktop.specs.declared.cause.Cause.{Cause}
+use Rattle.spec_desktop.specs.Peer.{ended}
+use Rattle.spec_desktop.specs.Pointer.{Pointer, Target}
 use Rattle.wl_scene.specs.Focus.{unless_of as scene_unless}
-use Rattle.wl_plain.specs.Desktop.{Desktop, Resident, client_at, resident_of, unpointed}
-use Rattle.wl_plain.specs.Moments.{marks_at_least, marks_at_most}
-use Rattle.wl_plain.specs.Settling.{Midstep, Strike, ended_at, ended_by, pointer_without, unless_of}
-use Rattle.wl_laws.proofs.Lists.Keys.{none-some, some-same}
-use Rattle.wl_laws.proofs.Runs.Fates.{same-or}
-use Rattle.wl_laws.proofs.Runs.Places.{number-other, number-same}
-use Rattle.wl_pointed.specs.Rounds.{AreToEnd, Lives}
+use Rattle.spec_desktop.specs.Desktop.{Desktop, Resident, client_at, resident_of, unpointed}
+use Rattle.spec_desktop.specs.Moments.{marks_at_least, marks_at_most}
+use Rattle.spec_desktop.specs.Settling.{Midstep, Strike, ended_at, ended_by, pointer_without, unless_of}
+use Rattle.law_desktop.proofs.Lists.Keys.{none-some, some-same}
+use Rattle.law_desktop.proofs.Runs.Fates.{same-or}
+use Rattle.law_desktop.proofs.Runs.Places.{number-other, number-same}
+use Rattle.law_desktop.specs.Pointed.Rounds.{AreToEnd, Lives}
 use Rattle.wl_clients.specs.Agreement.{IsPlace}
 use Rattle.wl_clients.specs.Marking.{MarksAtLeast, MarksMost, MarksThrough}
 use Rattle.wl_clients.specs.declared.grabs.Latest.{Latest}

@@ -1,14 +1,14 @@
 -- The middle of a step where clients ended: the pointer leaves them, and the focus is settled.
 use Rattle.std.proofs.Common.{◌≡◌, ℕ, List, ap, subst, sym, ◌∙◌}
-use Rattle.wl_stacking.specs.Pointer.{Pointer}
-use Rattle.wl_plain.specs.Desktop.{Desktop, unpointed}
-use Rattle.wl_plain.specs.Happenings.{Happening}
-use Rattle.wl_plain.specs.LeftOut.{nothing_left_out}
-use Rattle.wl_plain.specs.Settling.{Midstep, pointer_without, unstruck}
-use Rattle.wl_marking.specs.Marking.{IsAsLarge}
-use Rattle.wl_pointed.specs.Happenings.{IsEndOf}
-use Rattle.wl_pointed.specs.Pointed.{pointed}
-use Rattle.wl_pointed.proofs.Happenings.{ends-apart}
+use Rattle.spec_desktop.specs.Pointer.{Pointer}
+use Rattle.spec_desktop.specs.Desktop.{Desktop, unpointed}
+use Rattle.spec_desktop.specs.Happenings.{Happening}
+use Rattle.spec_desktop.specs.LeftOut.{nothing_left_out}
+use Rattle.spec_desktop.specs.Settling.{Midstep, pointer_without, unstruck}
+use Rattle.wl_scene.specs.Marking.{IsAsLarge}
+use Rattle.law_desktop.specs.Pointed.Happenings.{IsEndOf}
+use Rattle.law_desktop.specs.Pointed.Pointed.{pointed}
+use Rattle.law_desktop.proofs.PointerAside.Happenings.{ends-apart}
 use Rattle.wl_clients.specs.Agreeing.{Agrees as KeptAgrees}
 use Rattle.wl_clients.specs.Leading.{Led, raised_by}
 use Rattle.wl_clients.specs.declared.grabs.Latest.{Latest}

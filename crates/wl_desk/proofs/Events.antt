@@ -3,14 +3,14 @@ use Rattle.std.proofs.Common.{◌≡◌, ℕ, List, [], ◌∷◌, Bool, true, f
 use Rattle.std.specs.Prelude.{ℤ, ◌&&◌, flat_map, if◌then◌else◌, is_some}
 use Rattle.wl_client.specs.Pointers.{has_any, pointers_told, serial_after}
 use Rattle.wl_client.specs.declared.pointers.PointerEvent.TheVariants.{Enter, Leave, Motion}
-use Rattle.wl_stacking.specs.Pointer.{fixed_from}
-use Rattle.wl_stacking.specs.Windows.{Place, Window}
+use Rattle.spec_desktop.specs.Pointer.{fixed_from}
+use Rattle.spec_desktop.specs.Windows.{Place, Window}
 use Rattle.wl_surface.specs.Surfaces.{history_in}
-use Rattle.wl_plain.specs.Changing.{drawing}
-use Rattle.wl_plain.specs.Desktop.{Resident}
-use Rattle.wl_plain.specs.Pointing.{entered_surface, has_pointers, left_surface, motion_at, motion_told}
-use Rattle.wl_plain.specs.Replies.{entered_at}
-use Rattle.wl_plain.specs.Settling.{leave_drawn, told_drawn}
+use Rattle.spec_desktop.specs.Changing.{drawing}
+use Rattle.spec_desktop.specs.Desktop.{Resident}
+use Rattle.spec_desktop.specs.Pointing.{entered_surface, has_pointers, left_surface, motion_at, motion_told}
+use Rattle.spec_desktop.specs.Replies.{entered_at}
+use Rattle.spec_desktop.specs.Settling.{leave_drawn, told_drawn}
 use Rattle.wl_desk.proofs.Points.{IsAt}
 
 -- ---- serials

@@ -4,28 +4,28 @@ use Rattle.std.specs.Prelude.{◌-◌, ◌⊎◌, Ok, Err}
 use Rattle.wl_wire.specs.Wire.{split_of}
 use Rattle.wl_wire.specs.declared.header.Split.{Split}
 use Rattle.wl_wire.specs.declared.header.Split.TheVariants.{Message as Whole, More, Bad}
-use Rattle.wl_peer.specs.declared.cause.Cause.{Cause}
-use Rattle.wl_peer.specs.declared.cause.Cause.TheVariants.{Memory}
-use Rattle.wl_peer.specs.declared.refusals.Refusal.{Refusal}
-use Rattle.wl_peer.specs.Peer.{LacksMemory, Peer, counted, with_rest}
-use Rattle.wl_peer.specs.Told.{Said}
-use Rattle.wl_plain.specs.Changing.{changed_for}
-use Rattle.wl_plain.specs.Demand.{Demand, GetPointer, Move}
-use Rattle.wl_plain.specs.Demanding.{judge_all}
-use Rattle.wl_plain.specs.Desktop.{Desktop, Resident, become_by, client_at, status_in, status_of, unpointed, with_client}
-use Rattle.wl_plain.specs.Happens.{AnswersThen, BecomesThen, DoesThen, ServesThen, TakesThen, WantsOrThen, changed_so, done_for, wants_memory}
-use Rattle.wl_plain.specs.LeftOut.{LeftOut}
-use Rattle.wl_plain.specs.Replies.{replies}
-use Rattle.wl_plain.specs.Settling.{QueuesTo, becomes}
-use Rattle.wl_plain.specs.Stacked.{all_windows}
-use Rattle.wl_plain.specs.Step.{with_peer}
-use Rattle.wl_plain.specs.Through.{ServesThrough, settling_through}
-use Rattle.wl_laws.proofs.Lists.Keys.{none-some, some-same}
-use Rattle.wl_laws.proofs.Runs.Places.{number-same, status-become}
-use Rattle.wl_pointed.specs.Pointed.{asked, asked_by, asked_first, asked_of}
-use Rattle.wl_pointed.proofs.Entering.{lacking, told-alone}
-use Rattle.wl_pointed.proofs.Messages.{after-status, becomes-still, done-still}
-use Rattle.wl_pointed.proofs.Pointers.{settled-nowhere}
+use Rattle.spec_desktop.specs.declared.cause.Cause.{Cause}
+use Rattle.spec_desktop.specs.declared.cause.Cause.TheVariants.{Memory}
+use Rattle.spec_desktop.specs.declared.refusals.Refusal.{Refusal}
+use Rattle.spec_desktop.specs.Peer.{LacksMemory, Peer, counted, with_rest}
+use Rattle.spec_desktop.specs.Told.{Said}
+use Rattle.spec_desktop.specs.Changing.{changed_for}
+use Rattle.spec_desktop.specs.Demand.{Demand, GetPointer, Move}
+use Rattle.spec_desktop.specs.Demanding.{judge_all}
+use Rattle.spec_desktop.specs.Desktop.{Desktop, Resident, become_by, client_at, status_in, status_of, unpointed, with_client}
+use Rattle.spec_desktop.specs.Happens.{AnswersThen, BecomesThen, DoesThen, ServesThen, TakesThen, WantsOrThen, changed_so, done_for, wants_memory}
+use Rattle.spec_desktop.specs.LeftOut.{LeftOut}
+use Rattle.spec_desktop.specs.Replies.{replies}
+use Rattle.spec_desktop.specs.Settling.{QueuesTo, becomes}
+use Rattle.spec_desktop.specs.Stacked.{all_windows}
+use Rattle.spec_desktop.specs.Step.{with_peer}
+use Rattle.spec_desktop.specs.Through.{ServesThrough, settling_through}
+use Rattle.law_desktop.proofs.Lists.Keys.{none-some, some-same}
+use Rattle.law_desktop.proofs.Runs.Places.{number-same, status-become}
+use Rattle.law_desktop.specs.Pointed.Pointed.{asked, asked_by, asked_first, asked_of}
+use Rattle.law_desktop.proofs.PointerAside.Entering.{lacking, told-alone}
+use Rattle.law_desktop.proofs.PointerAside.Messages.{after-status, becomes-still, done-still}
+use Rattle.law_desktop.proofs.PointerAside.Pointers.{settled-nowhere}
 
 -- A client that is there and lives asked this, and it is done or wants memory.
 pub record IsAsked (left : LeftOut) (c : ℕ) (demand : Demand) (d : Desktop) (path : List Desktop) (e : Desktop) : Type 0 where

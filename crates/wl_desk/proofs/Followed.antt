@@ -1,24 +1,24 @@
 -- How the pointer follows a message, by what is kept of the clients, of the wl_pointers, and of the pointer.
 use Rattle.std.proofs.Common.{◌≡◌, ◌≢◌, ◌==◌, ℕ, List, [], ◌∷◌, Bool, true, false, Option, Some, None, refl, ap, subst, sym, ◌∙◌, ◌⊎◌, inl, inr}
 use Rattle.std.specs.Prelude.{is_some}
-use Rattle.wl_marking.specs.Marking.{IsAsLarge}
-use Rattle.wl_peer.specs.declared.cause.Cause.{Cause}
-use Rattle.wl_stacking.specs.Pointer.{Pointer, Target, is_stacked}
+use Rattle.wl_scene.specs.Marking.{IsAsLarge}
+use Rattle.spec_desktop.specs.declared.cause.Cause.{Cause}
+use Rattle.spec_desktop.specs.Pointer.{Pointer, Target, is_stacked}
 use Rattle.wl_scene.specs.Focus.{unless_of}
-use Rattle.wl_plain.specs.declared.answers.Fed.{Fed}
-use Rattle.wl_plain.specs.declared.answers.Fed.TheVariants.{Ended}
-use Rattle.wl_plain.specs.Act.{peer_at, status_of}
-use Rattle.wl_plain.specs.Changing.{drawing, has_focus}
-use Rattle.wl_plain.specs.Demand.{GetPointer}
-use Rattle.wl_plain.specs.Desktop.{Desktop, Resident, status_in, unpointed}
-use Rattle.wl_plain.specs.Happenings.{Message}
-use Rattle.wl_plain.specs.LeftOut.{nothing_left_out}
-use Rattle.wl_plain.specs.Replies.{entered_at, focus_window}
-use Rattle.wl_plain.specs.Settling.{Midstep, Strike, Tells, ended_by, pointer_without, unstruck}
-use Rattle.wl_plain.specs.Stacked.{all_windows}
-use Rattle.wl_laws.specs.Focus.{IsSettled}
-use Rattle.wl_laws.proofs.Lists.Keys.{differ}
-use Rattle.wl_pointed.specs.Pointed.{asked, keeping}
+use Rattle.spec_desktop.specs.declared.answers.Fed.{Fed}
+use Rattle.spec_desktop.specs.declared.answers.Fed.TheVariants.{Ended}
+use Rattle.spec_desktop.specs.Act.{peer_at, status_of}
+use Rattle.spec_desktop.specs.Changing.{drawing, has_focus}
+use Rattle.spec_desktop.specs.Demand.{GetPointer}
+use Rattle.spec_desktop.specs.Desktop.{Desktop, Resident, status_in, unpointed}
+use Rattle.spec_desktop.specs.Happenings.{Message}
+use Rattle.spec_desktop.specs.LeftOut.{nothing_left_out}
+use Rattle.spec_desktop.specs.Replies.{entered_at, focus_window}
+use Rattle.spec_desktop.specs.Settling.{Midstep, Strike, Tells, ended_by, pointer_without, unstruck}
+use Rattle.spec_desktop.specs.Stacked.{all_windows}
+use Rattle.law_desktop.specs.Focus.{IsSettled}
+use Rattle.law_desktop.proofs.Lists.Keys.{differ}
+use Rattle.law_desktop.specs.Pointed.Pointed.{asked, keeping}
 use Rattle.wl_requests.specs.declared.pointer_asked.PointerAsked.{PointerAsked}
 use Rattle.wl_requests.specs.declared.pointer_asked.PointerAsked.TheVariants.{NewPointer}
 use Rattle.wl_clients.specs.Agreeing.{Agrees as KeptAgrees}

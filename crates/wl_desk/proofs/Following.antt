@@ -1,31 +1,31 @@
 -- From a message that was taken with the pointer put aside to where the focus is settled.
 use Rattle.std.proofs.Common.{◌≡◌, ◌≢◌, ℕ, List, [], ◌∷◌, ◌++◌, map, Bool, true, false, Option, Some, None, refl, ap, subst, sym, ◌∙◌, append_assoc, ◌⊎◌, inl, inr, eq-eqb}
 use Rattle.std.specs.Prelude.{is_some}
-use Rattle.wl_marking.specs.Marking.{IsAsLarge}
+use Rattle.wl_scene.specs.Marking.{IsAsLarge}
 use Rattle.wl_paint.specs.Damage.{Damaged}
-use Rattle.wl_peer.specs.declared.cause.Cause.{Cause}
-use Rattle.wl_stacking.specs.Pointer.{Pointer, Target, is_stacked}
-use Rattle.wl_stacking.specs.Windows.{Window}
-use Rattle.wl_plain.specs.Changing.{drawing, has_focus}
-use Rattle.wl_plain.specs.Demand.{GetPointer}
-use Rattle.wl_plain.specs.Desktop.{Desktop, Resident, status_in, unpointed}
-use Rattle.wl_plain.specs.Happenings.{Leads, Message}
-use Rattle.wl_plain.specs.LeftOut.{nothing_left_out}
-use Rattle.wl_plain.specs.Marks.{AreDistinct}
-use Rattle.wl_plain.specs.Moments.{marks_at_least_through, marks_at_most_through}
-use Rattle.wl_plain.specs.Replies.{entered_at, focus_window}
-use Rattle.wl_plain.specs.Settling.{Midstep, Strike, Tells, ended_by, unstruck}
-use Rattle.wl_plain.specs.Stacked.{all_windows}
-use Rattle.wl_plain.specs.Through.{ServesThrough}
-use Rattle.wl_laws.specs.Focus.{IsSettled}
-use Rattle.wl_laws.proofs.Lists.Keys.{differ}
-use Rattle.wl_laws.proofs.Runs.Settled.{same-windows}
-use Rattle.wl_pointed.specs.Apart.{SettlesOn}
-use Rattle.wl_pointed.specs.Entering.{TellsNew, new_entered}
-use Rattle.wl_pointed.specs.Pointed.{asked, pointed, pointer_after, put_back}
-use Rattle.wl_pointed.proofs.Marking.{last-marks-nothing, marks-apart}
-use Rattle.wl_pointed.proofs.Rounds.{rounds-settle}
-use Rattle.wl_pointed.proofs.Unshown.{new-pointer-shows-nothing}
+use Rattle.spec_desktop.specs.declared.cause.Cause.{Cause}
+use Rattle.spec_desktop.specs.Pointer.{Pointer, Target, is_stacked}
+use Rattle.spec_desktop.specs.Windows.{Window}
+use Rattle.spec_desktop.specs.Changing.{drawing, has_focus}
+use Rattle.spec_desktop.specs.Demand.{GetPointer}
+use Rattle.spec_desktop.specs.Desktop.{Desktop, Resident, status_in, unpointed}
+use Rattle.spec_desktop.specs.Happenings.{Leads, Message}
+use Rattle.spec_desktop.specs.LeftOut.{nothing_left_out}
+use Rattle.spec_desktop.specs.Marks.{AreDistinct}
+use Rattle.spec_desktop.specs.Moments.{marks_at_least_through, marks_at_most_through}
+use Rattle.spec_desktop.specs.Replies.{entered_at, focus_window}
+use Rattle.spec_desktop.specs.Settling.{Midstep, Strike, Tells, ended_by, unstruck}
+use Rattle.spec_desktop.specs.Stacked.{all_windows}
+use Rattle.spec_desktop.specs.Through.{ServesThrough}
+use Rattle.law_desktop.specs.Focus.{IsSettled}
+use Rattle.law_desktop.proofs.Lists.Keys.{differ}
+use Rattle.law_desktop.proofs.Runs.Settled.{same-windows}
+use Rattle.law_desktop.specs.Pointed.Apart.{SettlesOn}
+use Rattle.law_desktop.specs.Pointed.Entering.{TellsNew, new_entered}
+use Rattle.law_desktop.specs.Pointed.Pointed.{asked, pointed, pointer_after, put_back}
+use Rattle.law_desktop.proofs.PointerAside.Marking.{last-marks-nothing, marks-apart}
+use Rattle.law_desktop.proofs.PointerAside.Rounds.{rounds-settle}
+use Rattle.law_desktop.proofs.PointerAside.Unshown.{new-pointer-shows-nothing}
 use Rattle.wl_requests.specs.declared.pointer_asked.PointerAsked.{PointerAsked}
 use Rattle.wl_requests.specs.declared.pointer_asked.PointerAsked.TheVariants.{NewPointer}
 use Rattle.wl_clients.specs.Agreeing.{Agrees as KeptAgrees}

@@ -3,25 +3,25 @@ use Rattle.std.proofs.Common.{◌≡◌, ℕ, List, [], ◌∷◌, Bool, true, f
 use Rattle.std.proofs.lemmas.Bool.{eqb-true}
 use Rattle.std.specs.List.{list_any}
 use Rattle.std.specs.Prelude.{◌==◌, ◌&&◌, ◌||◌, cond, if◌then◌else◌, filter, is_none, is_some}
-use Rattle.wl_peer.specs.declared.cause.Cause.{Cause}
+use Rattle.spec_desktop.specs.declared.cause.Cause.{Cause}
 use Rattle.wl_surface.specs.Surfaces.{history_in}
-use Rattle.wl_stacking.specs.Pointer.{Pointer, Target, is_stacked}
-use Rattle.wl_stacking.specs.Stacking.{Owned, Standing, is_of, nothing_owned}
-use Rattle.wl_stacking.specs.Windows.{Window}
-use Rattle.wl_plain.specs.declared.answers.Fed.TheVariants.{Ended}
-use Rattle.wl_plain.specs.Act.{fed_of, peer_at, peer_of, status_of as fed_of_peer}
-use Rattle.wl_plain.specs.Changing.{kept_move}
-use Rattle.wl_plain.specs.Desktop.{Desktop, Resident, client_at, owned_in, owned_of, status_in, status_of, toplevels_of, unpointed}
-use Rattle.wl_plain.specs.Settling.{pointer_without, unless_of}
-use Rattle.wl_plain.specs.Stacked.{all_windows}
-use Rattle.wl_laws.specs.Focus.{EndedAreBare, IsSettled}
-use Rattle.wl_laws.proofs.Lists.Keys.{differ}
-use Rattle.wl_laws.proofs.Marks.ShownWindows.{IsShown, all-shown}
-use Rattle.wl_laws.proofs.Marks.Stacks.{Each, and-left, same-number}
-use Rattle.wl_invariants.specs.InOrder.{InOrderAt, InOrderBy}
-use Rattle.wl_ordered.specs.Ordered.{Ordered}
-use Rattle.wl_pointed.specs.Happenings.{pointer_left, unless_ended}
-use Rattle.wl_pointed.specs.Pointed.{MovedStands, pointer_if}
+use Rattle.spec_desktop.specs.Pointer.{Pointer, Target, is_stacked}
+use Rattle.spec_desktop.specs.Stacking.{Owned, Standing, is_of, nothing_owned}
+use Rattle.spec_desktop.specs.Windows.{Window}
+use Rattle.spec_desktop.specs.declared.answers.Fed.TheVariants.{Ended}
+use Rattle.spec_desktop.specs.Act.{fed_of, peer_at, peer_of, status_of as fed_of_peer}
+use Rattle.spec_desktop.specs.Changing.{kept_move}
+use Rattle.spec_desktop.specs.Desktop.{Desktop, Resident, client_at, owned_in, owned_of, status_in, status_of, toplevels_of, unpointed}
+use Rattle.spec_desktop.specs.Settling.{pointer_without, unless_of}
+use Rattle.spec_desktop.specs.Stacked.{all_windows}
+use Rattle.law_desktop.specs.Focus.{EndedAreBare, IsSettled}
+use Rattle.law_desktop.proofs.Lists.Keys.{differ}
+use Rattle.law_desktop.proofs.Marks.ShownWindows.{IsShown, all-shown}
+use Rattle.law_desktop.proofs.Marks.Stacks.{Each, and-left, same-number}
+use Rattle.law_desktop.specs.InOrder.{InOrderAt, InOrderBy}
+use Rattle.law_desktop.specs.Ordered.{Ordered}
+use Rattle.law_desktop.specs.Pointed.Happenings.{pointer_left, unless_ended}
+use Rattle.law_desktop.specs.Pointed.Pointed.{MovedStands, pointer_if}
 use Rattle.wl_desk.specs.Agreeing.{Agrees}
 use Rattle.wl_desk.specs.Following.{left_of}
 use Rattle.wl_desk.specs.View.{DeskView}

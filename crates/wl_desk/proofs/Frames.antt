@@ -1,35 +1,35 @@
 -- A frame is shown: the pointer leaves each client that ended by it, and its focus is settled. Where none ended nothing more is marked.
 use Rattle.std.proofs.Common.{◌≡◌, ◌≢◌, ℕ, zero, suc, List, [], ◌∷◌, ◌++◌, Bool, true, false, Option, Some, None, refl, ap, subst, sym, ◌∙◌, inl, inr}
 use Rattle.std.specs.Prelude.{◌||◌, ◌⊎◌, ◌<◌, if◌then◌else◌, is_some}
-use Rattle.wl_peer.specs.declared.cause.Cause.{Cause}
-use Rattle.wl_peer.specs.Told.{Said}
-use Rattle.wl_marking.specs.Marking.{IsAsLarge}
+use Rattle.spec_desktop.specs.declared.cause.Cause.{Cause}
+use Rattle.spec_desktop.specs.Told.{Said}
+use Rattle.wl_scene.specs.Marking.{IsAsLarge}
 use Rattle.wl_paint.specs.Damage.{Damaged, has}
-use Rattle.wl_stacking.specs.Pointer.{Pointer, Target, first_pointer, is_same, settled}
-use Rattle.wl_stacking.specs.PointerActions.{Leave, Enter, enter_of, leave_of}
-use Rattle.wl_stacking.specs.Windows.{Window}
-use Rattle.wl_plain.specs.declared.answers.Done.{Done}
-use Rattle.wl_plain.specs.declared.answers.Done.TheVariants as gave
-use Rattle.wl_plain.specs.Act.{Tick}
-use Rattle.wl_plain.specs.Changing.{without_callbacks}
-use Rattle.wl_plain.specs.Desktop.{Desktop, Resident, client_at, status_in, status_of, unpointed, with_client}
-use Rattle.wl_plain.specs.Happenings.{Happening, Leads, Single}
-use Rattle.wl_plain.specs.Happens.{TellsFrames, callbacks_due, frames_told}
-use Rattle.wl_plain.specs.LeftOut.{nothing_left_out}
-use Rattle.wl_plain.specs.Settling.{Applies, AppliesAll, Midstep, Settles, Strike, Tells, TellsAt, TellsUnless, ended_all, ended_by, is_struck, unstruck}
-use Rattle.wl_plain.specs.Stacked.{all_windows}
-use Rattle.wl_plain.specs.Through.{EndsFirstThrough, HappensThrough, SettlesAllThrough}
-use Rattle.wl_laws.proofs.Runs.Ends.{drawn-status, ended-after, queues-status}
-use Rattle.wl_laws.proofs.Runs.Fates.{AreStruck, Follows, fate, same-or}
-use Rattle.wl_laws.proofs.Runs.Moves.{frames-leads}
-use Rattle.wl_laws.proofs.Runs.Places.{number-other, number-same}
-use Rattle.wl_pointed.specs.Happenings.{pointer_left}
-use Rattle.wl_pointed.specs.Pointed.{pointed}
-use Rattle.wl_pointed.specs.Rounds.{AreRounds, AreToEnd}
-use Rattle.wl_pointed.proofs.Frames.{frames-apart}
-use Rattle.wl_pointed.proofs.Pointers.{all-nowhere}
-use Rattle.wl_pointed.proofs.Rounds.{settles-idly}
-use Rattle.wl_pointed.proofs.Ended.{ended-stay, rounds-end-clients}
+use Rattle.spec_desktop.specs.Pointer.{Pointer, Target, first_pointer, is_same, settled}
+use Rattle.spec_desktop.specs.PointerActions.{Leave, Enter, enter_of, leave_of}
+use Rattle.spec_desktop.specs.Windows.{Window}
+use Rattle.spec_desktop.specs.declared.answers.Done.{Done}
+use Rattle.spec_desktop.specs.declared.answers.Done.TheVariants as gave
+use Rattle.spec_desktop.specs.Act.{Tick}
+use Rattle.spec_desktop.specs.Changing.{without_callbacks}
+use Rattle.spec_desktop.specs.Desktop.{Desktop, Resident, client_at, status_in, status_of, unpointed, with_client}
+use Rattle.spec_desktop.specs.Happenings.{Happening, Leads, Single}
+use Rattle.spec_desktop.specs.Happens.{TellsFrames, callbacks_due, frames_told}
+use Rattle.spec_desktop.specs.LeftOut.{nothing_left_out}
+use Rattle.spec_desktop.specs.Settling.{Applies, AppliesAll, Midstep, Settles, Strike, Tells, TellsAt, TellsUnless, ended_all, ended_by, is_struck, unstruck}
+use Rattle.spec_desktop.specs.Stacked.{all_windows}
+use Rattle.spec_desktop.specs.Through.{EndsFirstThrough, HappensThrough, SettlesAllThrough}
+use Rattle.law_desktop.proofs.Runs.Ends.{drawn-status, ended-after, queues-status}
+use Rattle.law_desktop.proofs.Runs.Fates.{AreStruck, Follows, fate, same-or}
+use Rattle.law_desktop.proofs.Runs.Moves.{frames-leads}
+use Rattle.law_desktop.proofs.Runs.Places.{number-other, number-same}
+use Rattle.law_desktop.specs.Pointed.Happenings.{pointer_left}
+use Rattle.law_desktop.specs.Pointed.Pointed.{pointed}
+use Rattle.law_desktop.specs.Pointed.Rounds.{AreRounds, AreToEnd}
+use Rattle.law_desktop.proofs.PointerAside.Frames.{frames-apart}
+use Rattle.law_desktop.proofs.PointerAside.Pointers.{all-nowhere}
+use Rattle.law_desktop.proofs.PointerAside.Rounds.{settles-idly}
+use Rattle.law_desktop.proofs.PointerAside.Ended.{ended-stay, rounds-end-clients}
 use Rattle.wl_clients.specs.Agreeing.{Agrees as KeptAgrees}
 use Rattle.wl_clients.specs.Framing.{HasSame, MarksIfEnds}
 use Rattle.wl_clients.specs.Leading.{Led}

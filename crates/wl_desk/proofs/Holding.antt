@@ -4,10 +4,10 @@ use Rattle.std.proofs.lemmas.Bool.{eqb-true}
 use Rattle.std.specs.Option.{option_map}
 use Rattle.std.specs.Prelude.{◌==◌, if◌then◌else◌, length}
 use Rattle.wl_client.specs.Pointers.{has_any}
-use Rattle.wl_stacking.specs.Pointer.{Pointer, Target}
-use Rattle.wl_plain.specs.Desktop.{Desktop, Resident, client_at, status_of, unpointed}
-use Rattle.wl_plain.specs.Happens.{hold_from, press_serial, serial_for}
-use Rattle.wl_laws.proofs.Marks.Stacks.{differ}
+use Rattle.spec_desktop.specs.Pointer.{Pointer, Target}
+use Rattle.spec_desktop.specs.Desktop.{Desktop, Resident, client_at, status_of, unpointed}
+use Rattle.spec_desktop.specs.Happens.{hold_from, press_serial, serial_for}
+use Rattle.law_desktop.proofs.Marks.Stacks.{differ}
 use Rattle.wl_desk.specs.Agreeing.{Agrees}
 use Rattle.wl_desk.specs.View.{DeskView, seat_of}
 use Rattle.wl_desk.proofs.Buttons.{has-any}

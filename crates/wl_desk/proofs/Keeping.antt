@@ -1,15 +1,15 @@
 -- A piece of a client's stream is kept, and the desktop with which what is kept agrees.
 use Rattle.std.proofs.Common.{◌≡◌, ◌≢◌, ℕ, List, ◌++◌, Option, Some, None, refl, ap, subst, sym, ◌∙◌, inl, inr}
 use Rattle.std.specs.Prelude.{◌⊎◌}
-use Rattle.wl_peer.specs.declared.cause.Cause.{Cause}
-use Rattle.wl_peer.specs.Peer.{with_rest}
-use Rattle.wl_stacking.specs.Pointer.{settled}
-use Rattle.wl_plain.specs.Desktop.{Desktop, Resident, client_at, unpointed, with_client}
-use Rattle.wl_plain.specs.Settling.{unstruck}
-use Rattle.wl_plain.specs.Step.{with_peer}
-use Rattle.wl_laws.proofs.Runs.Fates.{same-or}
-use Rattle.wl_laws.proofs.Runs.Places.{number-other, number-same}
-use Rattle.wl_laws.proofs.Runs.Settled.{put-shows, same-windows}
+use Rattle.spec_desktop.specs.declared.cause.Cause.{Cause}
+use Rattle.spec_desktop.specs.Peer.{with_rest}
+use Rattle.spec_desktop.specs.Pointer.{settled}
+use Rattle.spec_desktop.specs.Desktop.{Desktop, Resident, client_at, unpointed, with_client}
+use Rattle.spec_desktop.specs.Settling.{unstruck}
+use Rattle.spec_desktop.specs.Step.{with_peer}
+use Rattle.law_desktop.proofs.Runs.Fates.{same-or}
+use Rattle.law_desktop.proofs.Runs.Places.{number-other, number-same}
+use Rattle.law_desktop.proofs.Runs.Settled.{put-shows, same-windows}
 use Rattle.wl_clients.specs.Agreeing.{Agrees as KeptAgrees}
 use Rattle.wl_clients.specs.Feeding.{kept_at, kept_by, kept_of}
 use Rattle.wl_clients.specs.declared.grabs.Latest.{Latest}

@@ -3,23 +3,23 @@
 use Rattle.std.proofs.Common.{◌≡◌, ◌≢◌, ℕ, List, [], ◌∷◌, Bool, true, false, Option, Some, None, refl, ap, subst, sym, ◌∙◌, inl, inr}
 use Rattle.std.proofs.lemmas.Bool.{eqb-true}
 use Rattle.std.specs.Prelude.{◌⊎◌, ◌||◌, ◌==◌, nat_lt, if◌then◌else◌, is_some, Ok, Err}
-use Rattle.wl_peer.specs.declared.cause.Cause.{Cause}
-use Rattle.wl_peer.specs.Peer.{Peer, ended}
-use Rattle.wl_peer.specs.Told.{Said}
-use Rattle.wl_plain.specs.declared.answers.ConnectError.{ConnectError}
-use Rattle.wl_plain.specs.declared.answers.Done.{Done}
-use Rattle.wl_plain.specs.declared.answers.Done.TheVariants as gave
-use Rattle.wl_plain.specs.Act.{Act, Button, Connect, Leave, Tick}
-use Rattle.wl_plain.specs.Desktop.{Desktop, Resident, client_at, resident_of, unpointed, with_client}
-use Rattle.wl_plain.specs.Happenings.{Happening, Leads, Message, Single, Starve}
-use Rattle.wl_plain.specs.LeftOut.{nothing_left_out}
-use Rattle.wl_plain.specs.Settling.{Midstep, Strike, Tells, TellsAt, TellsUnless, ended_at, ended_by, in_order, is_struck, struck_by, unstruck}
-use Rattle.wl_laws.proofs.Lists.Keys.{differ, none-some, some-same}
-use Rattle.wl_laws.proofs.Runs.Fates.{same-or}
-use Rattle.wl_laws.proofs.Runs.Places.{number-other, number-same}
-use Rattle.wl_pointed.specs.Happenings.{IsEndOf, is_quiet}
-use Rattle.wl_pointed.specs.Seats.{CameWithoutSerials, HadSerials, IsNoButton}
-use Rattle.wl_pointed.proofs.Serials.{serials-stay}
+use Rattle.spec_desktop.specs.declared.cause.Cause.{Cause}
+use Rattle.spec_desktop.specs.Peer.{Peer, ended}
+use Rattle.spec_desktop.specs.Told.{Said}
+use Rattle.spec_desktop.specs.declared.answers.ConnectError.{ConnectError}
+use Rattle.spec_desktop.specs.declared.answers.Done.{Done}
+use Rattle.spec_desktop.specs.declared.answers.Done.TheVariants as gave
+use Rattle.spec_desktop.specs.Act.{Act, Button, Connect, Leave, Tick}
+use Rattle.spec_desktop.specs.Desktop.{Desktop, Resident, client_at, resident_of, unpointed, with_client}
+use Rattle.spec_desktop.specs.Happenings.{Happening, Leads, Message, Single, Starve}
+use Rattle.spec_desktop.specs.LeftOut.{nothing_left_out}
+use Rattle.spec_desktop.specs.Settling.{Midstep, Strike, Tells, TellsAt, TellsUnless, ended_at, ended_by, in_order, is_struck, struck_by, unstruck}
+use Rattle.law_desktop.proofs.Lists.Keys.{differ, none-some, some-same}
+use Rattle.law_desktop.proofs.Runs.Fates.{same-or}
+use Rattle.law_desktop.proofs.Runs.Places.{number-other, number-same}
+use Rattle.law_desktop.specs.Pointed.Happenings.{IsEndOf, is_quiet}
+use Rattle.law_desktop.specs.Pointed.Seats.{CameWithoutSerials, HadSerials, IsNoButton}
+use Rattle.law_desktop.proofs.PointerAside.Serials.{serials-stay}
 use Rattle.wl_clients.specs.Pointing.{IsLatest}
 use Rattle.wl_clients.specs.declared.grabs.Latest.{Latest}
 use Rattle.wl_desk.specs.Agreeing.{AreLatest}

@@ -2,20 +2,20 @@
 use Rattle.std.proofs.Common.{◌≡◌, ℕ, ◌<◌, List, [], Bool, true, false, None, refl, ap, ap₂, subst, sym, ◌∙◌}
 use Rattle.std.specs.Prelude.{◌||◌, pos}
 use Rattle.wl_paint.specs.Damage.{Damaged, has}
-use Rattle.wl_marking.specs.Marking.{IsAsLarge}
-use Rattle.wl_stacking.specs.Pointer.{Pointer}
-use Rattle.wl_plain.specs.Desktop.{Desktop, unpointed}
-use Rattle.wl_plain.specs.Happenings.{Happening, Leads}
-use Rattle.wl_plain.specs.LeftOut.{nothing_left_out}
-use Rattle.wl_plain.specs.Marks.{AreDistinct}
-use Rattle.wl_plain.specs.Moments.{marks_at_least_through, marks_at_most_through}
-use Rattle.wl_plain.specs.Settling.{Midstep, Strike, unstruck}
-use Rattle.wl_plain.specs.Stacked.{all_windows}
-use Rattle.wl_laws.specs.Focus.{IsSettled}
-use Rattle.wl_laws.proofs.Marks.Stacks.{differ}
-use Rattle.wl_pointed.specs.Apart.{SettlesOn}
-use Rattle.wl_pointed.specs.Pointed.{pointed}
-use Rattle.wl_pointed.proofs.Whole.{steps-by-rounds}
+use Rattle.wl_scene.specs.Marking.{IsAsLarge}
+use Rattle.spec_desktop.specs.Pointer.{Pointer}
+use Rattle.spec_desktop.specs.Desktop.{Desktop, unpointed}
+use Rattle.spec_desktop.specs.Happenings.{Happening, Leads}
+use Rattle.spec_desktop.specs.LeftOut.{nothing_left_out}
+use Rattle.spec_desktop.specs.Marks.{AreDistinct}
+use Rattle.spec_desktop.specs.Moments.{marks_at_least_through, marks_at_most_through}
+use Rattle.spec_desktop.specs.Settling.{Midstep, Strike, unstruck}
+use Rattle.spec_desktop.specs.Stacked.{all_windows}
+use Rattle.law_desktop.specs.Focus.{IsSettled}
+use Rattle.law_desktop.proofs.Marks.Stacks.{differ}
+use Rattle.law_desktop.specs.Pointed.Apart.{SettlesOn}
+use Rattle.law_desktop.specs.Pointed.Pointed.{pointed}
+use Rattle.law_desktop.proofs.PointerAside.Whole.{steps-by-rounds}
 use Rattle.wl_clients.specs.Agreeing.{Agrees as KeptAgrees}
 use Rattle.wl_clients.specs.Leading.{Led, raised_by}
 use Rattle.wl_clients.specs.Marking.{MarksThrough}

@@ -3,14 +3,14 @@ use Rattle.std.proofs.Common.{◌≡◌, ℕ, List, [], ◌∷◌, Bool, true, f
 use Rattle.std.proofs.lemmas.Bool.{eqb-true}
 use Rattle.std.specs.List.{list_any}
 use Rattle.std.specs.Prelude.{◌==◌, ◌&&◌, ◌||◌}
-use Rattle.wl_peer.specs.Objects.{ById}
-use Rattle.wl_stacking.specs.Pointer.{Pointer, Target}
-use Rattle.wl_stacking.specs.Stacking.{Standing, is_of}
-use Rattle.wl_plain.specs.Changing.{kept_move}
-use Rattle.wl_plain.specs.Desktop.{Desktop}
-use Rattle.wl_laws.proofs.Lists.Keys.{none-some}
-use Rattle.wl_pointed.specs.Pointed.{keeping}
-use Rattle.wl_pointed.proofs.Pointers.{keeping-stays}
+use Rattle.spec_desktop.specs.Objects.{ById}
+use Rattle.spec_desktop.specs.Pointer.{Pointer, Target}
+use Rattle.spec_desktop.specs.Stacking.{Standing, is_of}
+use Rattle.spec_desktop.specs.Changing.{kept_move}
+use Rattle.spec_desktop.specs.Desktop.{Desktop}
+use Rattle.law_desktop.proofs.Lists.Keys.{none-some}
+use Rattle.law_desktop.specs.Pointed.Pointed.{keeping}
+use Rattle.law_desktop.proofs.PointerAside.Pointers.{keeping-stays}
 use Rattle.wl_clients.specs.Agreeing.{Agrees as KeptAgrees}
 use Rattle.wl_clients.specs.Agreement.{IsStack, numbers_in}
 use Rattle.wl_clients.specs.View.{DeskView}

@@ -3,21 +3,21 @@ use Rattle.std.proofs.Common.{◌≡◌, ◌≢◌, ℕ, List, [], ◌∷◌, Bo
 use Rattle.std.proofs.lemmas.Bool.{eqb-true}
 use Rattle.std.specs.List.{list_any}
 use Rattle.std.specs.Prelude.{◌==◌, ◌&&◌, ◌||◌, cond}
-use Rattle.wl_peer.specs.Objects.{ById}
-use Rattle.wl_stacking.specs.Pointer.{Pointer, Target}
-use Rattle.wl_stacking.specs.Windows.{Window}
-use Rattle.wl_stacked.specs.declared.stacked.Stacked.{Stacked}
+use Rattle.spec_desktop.specs.Objects.{ById}
+use Rattle.spec_desktop.specs.Pointer.{Pointer, Target}
+use Rattle.spec_desktop.specs.Windows.{Window}
+use Rattle.wl_scene.specs.declared.stacked.Stacked.{Stacked}
 use Rattle.wl_scene.specs.Focus.{target_of}
-use Rattle.wl_lending.specs.Hit.{IsStackedOrNone}
-use Rattle.wl_lending.specs.Stacked.{AreNumberedOnce, IsStacked}
-use Rattle.wl_plain.specs.Changing.{is_focus_in, is_serial}
-use Rattle.wl_plain.specs.Desktop.{Desktop, unpointed}
-use Rattle.wl_plain.specs.Marks.{AreDistinct, is_same_surface}
-use Rattle.wl_plain.specs.Replies.{focus_window}
-use Rattle.wl_plain.specs.Settling.{unstruck}
-use Rattle.wl_plain.specs.Stacked.{all_windows}
-use Rattle.wl_laws.proofs.Lists.Keys.{differ, found-passes, none-some, some-same}
-use Rattle.wl_laws.proofs.Marks.Stacks.{and-both, and-left, and-right, equal-numbers}
+use Rattle.wl_scene.specs.Hit.{IsStackedOrNone}
+use Rattle.wl_scene.specs.StackedAgreement.{AreNumberedOnce, IsStacked}
+use Rattle.spec_desktop.specs.Changing.{is_focus_in, is_serial}
+use Rattle.spec_desktop.specs.Desktop.{Desktop, unpointed}
+use Rattle.spec_desktop.specs.Marks.{AreDistinct, is_same_surface}
+use Rattle.spec_desktop.specs.Replies.{focus_window}
+use Rattle.spec_desktop.specs.Settling.{unstruck}
+use Rattle.spec_desktop.specs.Stacked.{all_windows}
+use Rattle.law_desktop.proofs.Lists.Keys.{differ, found-passes, none-some, some-same}
+use Rattle.law_desktop.proofs.Marks.Stacks.{and-both, and-left, and-right, equal-numbers}
 use Rattle.wl_clients.specs.Agreement.{numbers_in}
 use Rattle.wl_clients.proofs.Agreed.{agrees-apart}
 use Rattle.wl_clients.proofs.Midway.{mid_begins_and_ends, mid_is_numbered_once}

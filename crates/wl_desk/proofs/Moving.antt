@@ -4,27 +4,27 @@ use Rattle.std.proofs.lemmas.Bool.{eqb-true}
 use Rattle.std.specs.Prelude.{ℤ, ◌==◌, if◌then◌else◌}
 use Rattle.wl_client.specs.Agreement.{output_of}
 use Rattle.wl_client.specs.declared.outputs.Output.{Output as Sides}
-use Rattle.wl_peer.specs.Told.{Output}
-use Rattle.wl_stacking.specs.Pointer.{Pointer, Target, is_same, is_stacked, settled}
-use Rattle.wl_stacking.specs.PointerActions.{PointerAction, GoTo, Went, actions, enter_of, leave_of, motion_of, move_of}
-use Rattle.wl_stacking.specs.Windows.{Place, Window}
+use Rattle.spec_desktop.specs.Told.{Output}
+use Rattle.spec_desktop.specs.Pointer.{Pointer, Target, is_same, is_stacked, settled}
+use Rattle.spec_desktop.specs.PointerActions.{PointerAction, GoTo, Went, actions, enter_of, leave_of, motion_of, move_of}
+use Rattle.spec_desktop.specs.Windows.{Place, Window}
 use Rattle.wl_scene.specs.Focus.{IsSeen}
 use Rattle.wl_paint.specs.Damage.{Damaged}
-use Rattle.wl_marking.specs.Marking.{IsAsLarge}
-use Rattle.wl_plain.specs.declared.answers.Done.TheVariants as gave
-use Rattle.wl_plain.specs.Act.{Motion}
-use Rattle.wl_plain.specs.Desktop.{Desktop, unpointed}
-use Rattle.wl_plain.specs.Happenings.{Single}
-use Rattle.wl_plain.specs.Happens.{placed, point_in, within}
-use Rattle.wl_plain.specs.Pointing.{motion_told}
-use Rattle.wl_plain.specs.Replies.{focus_window}
-use Rattle.wl_plain.specs.Settling.{AppliesAll, Midstep, PointerActs, unstruck, with_standing}
-use Rattle.wl_plain.specs.Stacked.{all_windows}
-use Rattle.wl_laws.proofs.Lists.Keys.{none-some}
-use Rattle.wl_laws.proofs.Marks.Stacks.{Each, and-left, and-right, differ}
-use Rattle.wl_laws.proofs.Runs.Settled.{HasFocus, ShowsSame, has-settled, shows-itself, tells-so}
-use Rattle.wl_pointed.specs.Pointed.{MovedStands}
-use Rattle.wl_pointed.proofs.Rounds.{motions-end}
+use Rattle.wl_scene.specs.Marking.{IsAsLarge}
+use Rattle.spec_desktop.specs.declared.answers.Done.TheVariants as gave
+use Rattle.spec_desktop.specs.Act.{Motion}
+use Rattle.spec_desktop.specs.Desktop.{Desktop, unpointed}
+use Rattle.spec_desktop.specs.Happenings.{Single}
+use Rattle.spec_desktop.specs.Happens.{placed, point_in, within}
+use Rattle.spec_desktop.specs.Pointing.{motion_told}
+use Rattle.spec_desktop.specs.Replies.{focus_window}
+use Rattle.spec_desktop.specs.Settling.{AppliesAll, Midstep, PointerActs, unstruck, with_standing}
+use Rattle.spec_desktop.specs.Stacked.{all_windows}
+use Rattle.law_desktop.proofs.Lists.Keys.{none-some}
+use Rattle.law_desktop.proofs.Marks.Stacks.{Each, and-left, and-right, differ}
+use Rattle.law_desktop.proofs.Runs.Settled.{HasFocus, ShowsSame, has-settled, shows-itself, tells-so}
+use Rattle.law_desktop.specs.Pointed.Pointed.{MovedStands}
+use Rattle.law_desktop.proofs.PointerAside.Rounds.{motions-end}
 use Rattle.wl_clients.specs.Agreeing.{Agrees as KeptAgrees}
 use Rattle.wl_clients.specs.Leading.{Led}
 use Rattle.wl_clients.specs.declared.grabs.Latest.{Latest}

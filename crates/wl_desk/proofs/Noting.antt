@@ -5,18 +5,18 @@ use Rattle.std.specs.Option.{option_map}
 use Rattle.std.specs.Prelude.{◌⊎◌, ◌==◌}
 use Rattle.wl_client.specs.Pointers.{has_any}
 use Rattle.wl_client.specs.declared.pointers.PointerEvent.TheVariants.{Button}
-use Rattle.wl_peer.specs.declared.cause.Cause.{Cause}
-use Rattle.wl_peer.specs.Told.{Said}
-use Rattle.wl_stacking.specs.Stacking.{Standing}
-use Rattle.wl_plain.specs.declared.answers.Fed.{Fed}
-use Rattle.wl_plain.specs.declared.answers.Fed.TheVariants.{Alive}
-use Rattle.wl_plain.specs.Act.{fed_of, peer_at, peer_of, status_of as status_fed}
-use Rattle.wl_plain.specs.Changing.{drawing}
-use Rattle.wl_plain.specs.Desktop.{Desktop, Resident, client_at, toplevels_of}
-use Rattle.wl_plain.specs.Pointing.{button_told, has_pointers}
-use Rattle.wl_plain.specs.Settling.{Midstep, Tells, noted, noted_if, number_of}
-use Rattle.wl_laws.proofs.Lists.Keys.{differ}
-use Rattle.wl_invariants.specs.InOrder.{InOrderAt, InOrderBy}
+use Rattle.spec_desktop.specs.declared.cause.Cause.{Cause}
+use Rattle.spec_desktop.specs.Told.{Said}
+use Rattle.spec_desktop.specs.Stacking.{Standing}
+use Rattle.spec_desktop.specs.declared.answers.Fed.{Fed}
+use Rattle.spec_desktop.specs.declared.answers.Fed.TheVariants.{Alive}
+use Rattle.spec_desktop.specs.Act.{fed_of, peer_at, peer_of, status_of as status_fed}
+use Rattle.spec_desktop.specs.Changing.{drawing}
+use Rattle.spec_desktop.specs.Desktop.{Desktop, Resident, client_at, toplevels_of}
+use Rattle.spec_desktop.specs.Pointing.{button_told, has_pointers}
+use Rattle.spec_desktop.specs.Settling.{Midstep, Tells, noted, noted_if, number_of}
+use Rattle.law_desktop.proofs.Lists.Keys.{differ}
+use Rattle.law_desktop.specs.InOrder.{InOrderAt, InOrderBy}
 use Rattle.wl_clients.specs.Pointing.{IsLatest}
 use Rattle.wl_clients.specs.declared.grabs.Latest.{Latest}
 use Rattle.wl_clients.proofs.Desktops.{map-length}

@@ -1,13 +1,13 @@
 -- What is marked on the way to where the focus is settled, from where it isn't yet.
 use Rattle.std.proofs.Common.{◌≡◌, ℕ, ◌<◌, List, [], ◌∷◌, ◌++◌, Bool, true, false, None, refl, ap, ap₂, subst, sym, ◌∙◌}
 use Rattle.std.specs.Prelude.{ℤ, ◌||◌, pos}
-use Rattle.wl_marking.specs.Marking.{IsAsLarge}
+use Rattle.wl_scene.specs.Marking.{IsAsLarge}
 use Rattle.wl_paint.specs.Damage.{Damaged, has}
-use Rattle.wl_plain.specs.Desktop.{Desktop}
-use Rattle.wl_plain.specs.Moments.{marks_at_least_through, marks_at_most_through}
-use Rattle.wl_plain.specs.Stacked.{all_windows}
-use Rattle.wl_pointed.specs.Marking.{last_of}
-use Rattle.wl_pointed.proofs.Marking.{marks-in-parts}
+use Rattle.spec_desktop.specs.Desktop.{Desktop}
+use Rattle.spec_desktop.specs.Moments.{marks_at_least_through, marks_at_most_through}
+use Rattle.spec_desktop.specs.Stacked.{all_windows}
+use Rattle.law_desktop.specs.Pointed.Marking.{last_of}
+use Rattle.law_desktop.proofs.PointerAside.Marking.{marks-in-parts}
 use Rattle.wl_clients.specs.Marking.{MarksThrough}
 
 -- ---- truth values

@@ -3,24 +3,24 @@ use Rattle.std.proofs.Common.{◌≡◌, ℕ, ◌<◌, List, [], ◌∷◌, ◌+
 use Rattle.std.proofs.Math.Path.{fun_ext}
 use Rattle.std.specs.Prelude.{ℤ, ◌&&◌, ◌||◌, int_le, map, pos, unsigned_abs}
 use Rattle.wl_paint.specs.Damage.{Damaged, has}
-use Rattle.wl_marking.specs.Marking.{IsAsLarge}
+use Rattle.wl_scene.specs.Marking.{IsAsLarge}
 use Rattle.wl_surface.specs.Surfaces.{history_in}
-use Rattle.wl_stacking.specs.Popups.{stacked_popups}
-use Rattle.wl_stacking.specs.Stacking.{Owned, Standing, root_of}
-use Rattle.wl_stacking.specs.Windows.{Window, windows}
-use Rattle.wl_plain.specs.Desktop.{Desktop}
-use Rattle.wl_plain.specs.Happenings.{Happening, Leads}
-use Rattle.wl_plain.specs.LeftOut.{nothing_left_out}
-use Rattle.wl_plain.specs.Marks.{Applied, at_least, at_most}
-use Rattle.wl_plain.specs.Moments.{history_of, is_applied_by, marks_at_least_of, marks_at_least_through, marks_at_most_of, marks_at_most_through}
-use Rattle.wl_plain.specs.Settling.{Midstep}
-use Rattle.wl_plain.specs.Stacked.{all_windows}
-use Rattle.wl_plain.specs.Through.{SettlesAllThrough}
-use Rattle.wl_laws.specs.Focus.{IsSettled}
-use Rattle.wl_laws.proofs.Marks.Stacks.{differ}
-use Rattle.wl_laws.proofs.Runs.Settled.{ShowsSame}
-use Rattle.wl_pointed.proofs.Marking.{last-marks-nothing, marks-own-then-rounds}
-use Rattle.wl_pointed.proofs.Rounds.{rounds-settle}
+use Rattle.spec_desktop.specs.Popups.{stacked_popups}
+use Rattle.spec_desktop.specs.Stacking.{Owned, Standing, root_of}
+use Rattle.spec_desktop.specs.Windows.{Window, windows}
+use Rattle.spec_desktop.specs.Desktop.{Desktop}
+use Rattle.spec_desktop.specs.Happenings.{Happening, Leads}
+use Rattle.spec_desktop.specs.LeftOut.{nothing_left_out}
+use Rattle.spec_desktop.specs.Marks.{Applied, at_least, at_most}
+use Rattle.spec_desktop.specs.Moments.{history_of, is_applied_by, marks_at_least_of, marks_at_least_through, marks_at_most_of, marks_at_most_through}
+use Rattle.spec_desktop.specs.Settling.{Midstep}
+use Rattle.spec_desktop.specs.Stacked.{all_windows}
+use Rattle.spec_desktop.specs.Through.{SettlesAllThrough}
+use Rattle.law_desktop.specs.Focus.{IsSettled}
+use Rattle.law_desktop.proofs.Marks.Stacks.{differ}
+use Rattle.law_desktop.proofs.Runs.Settled.{ShowsSame}
+use Rattle.law_desktop.proofs.PointerAside.Marking.{last-marks-nothing, marks-own-then-rounds}
+use Rattle.law_desktop.proofs.PointerAside.Rounds.{rounds-settle}
 use Rattle.wl_clients.specs.Leading.{Led, raised_by}
 use Rattle.wl_clients.specs.Marking.{MarksThroughBy}
 use Rattle.wl_desk.specs.Agreeing.{Agrees}

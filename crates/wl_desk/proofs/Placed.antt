@@ -1,28 +1,28 @@
 -- What is moved stands, and a pointer that isn't anywhere has no focus: where clients end, and where the focus is settled.
 use Rattle.std.proofs.Common.{◌≡◌, ℕ, List, [], ◌∷◌, ◌++◌, map, Bool, true, false, Option, Some, None, if◌then◌else◌, refl, ap, ap₂, subst, sym, ◌∙◌}
 use Rattle.std.specs.List.{list_any}
-use Rattle.wl_peer.specs.declared.cause.Cause.{Cause}
-use Rattle.wl_stacking.specs.Pointer.{Pointer, Target, settled}
-use Rattle.wl_stacking.specs.PointerActions.{PointerInput, Settle}
-use Rattle.wl_stacking.specs.Stacking.{Standing, is_of}
-use Rattle.wl_plain.specs.Changing.{kept_move}
-use Rattle.wl_plain.specs.declared.answers.Done.{Done}
-use Rattle.wl_plain.specs.Act.{Tick}
-use Rattle.wl_plain.specs.Desktop.{Desktop, Resident, client_at, unpointed}
-use Rattle.wl_plain.specs.Happenings.{Happening, Leads, Single}
-use Rattle.wl_plain.specs.LeftOut.{nothing_left_out}
-use Rattle.wl_plain.specs.Settling.{Midstep, PointerActs, Settles, Strike, ended_at, ended_by, pointer_without, unless_of}
-use Rattle.wl_plain.specs.Stacked.{all_windows}
-use Rattle.wl_laws.specs.Focus.{IsSettled}
-use Rattle.wl_laws.proofs.Runs.Settled.{HasFocus, has-settled}
-use Rattle.wl_pointed.specs.Apart.{SettlesOn}
-use Rattle.wl_pointed.specs.Happenings.{IsEndOf, pointer_left, unless_ended}
-use Rattle.wl_pointed.specs.Pointed.{MovedStands, keeping, pointed, pointer_if}
-use Rattle.wl_pointed.proofs.Frames.{frames-apart}
-use Rattle.wl_pointed.proofs.Happenings.{ends-apart}
-use Rattle.wl_pointed.proofs.Moved.{KeepsMoved, acts-keep, moved-stands-on}
-use Rattle.wl_pointed.proofs.Pointers.{kept-without}
-use Rattle.wl_pointed.proofs.Rounds.{settled-at-once}
+use Rattle.spec_desktop.specs.declared.cause.Cause.{Cause}
+use Rattle.spec_desktop.specs.Pointer.{Pointer, Target, settled}
+use Rattle.spec_desktop.specs.PointerActions.{PointerInput, Settle}
+use Rattle.spec_desktop.specs.Stacking.{Standing, is_of}
+use Rattle.spec_desktop.specs.Changing.{kept_move}
+use Rattle.spec_desktop.specs.declared.answers.Done.{Done}
+use Rattle.spec_desktop.specs.Act.{Tick}
+use Rattle.spec_desktop.specs.Desktop.{Desktop, Resident, client_at, unpointed}
+use Rattle.spec_desktop.specs.Happenings.{Happening, Leads, Single}
+use Rattle.spec_desktop.specs.LeftOut.{nothing_left_out}
+use Rattle.spec_desktop.specs.Settling.{Midstep, PointerActs, Settles, Strike, ended_at, ended_by, pointer_without, unless_of}
+use Rattle.spec_desktop.specs.Stacked.{all_windows}
+use Rattle.law_desktop.specs.Focus.{IsSettled}
+use Rattle.law_desktop.proofs.Runs.Settled.{HasFocus, has-settled}
+use Rattle.law_desktop.specs.Pointed.Apart.{SettlesOn}
+use Rattle.law_desktop.specs.Pointed.Happenings.{IsEndOf, pointer_left, unless_ended}
+use Rattle.law_desktop.specs.Pointed.Pointed.{MovedStands, keeping, pointed, pointer_if}
+use Rattle.law_desktop.proofs.PointerAside.Frames.{frames-apart}
+use Rattle.law_desktop.proofs.PointerAside.Happenings.{ends-apart}
+use Rattle.law_desktop.proofs.PointerAside.Moved.{KeepsMoved, acts-keep, moved-stands-on}
+use Rattle.law_desktop.proofs.PointerAside.Pointers.{kept-without}
+use Rattle.law_desktop.proofs.PointerAside.Rounds.{settled-at-once}
 use Rattle.wl_desk.specs.Agreeing.{IsPlaced}
 use Rattle.wl_desk.specs.Beginning.{begun}
 use Rattle.wl_desk.proofs.Points.{settled-nowhere}

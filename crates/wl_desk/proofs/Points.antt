@@ -2,12 +2,12 @@
 use Rattle.std.proofs.Common.{◌≡◌, ◌≢◌, ℕ, List, [], ◌∷◌, ◌++◌, Bool, true, false, Option, Some, None, refl, ap, ap₂, subst, sym, ◌∙◌, inl, inr}
 use Rattle.std.specs.Prelude.{ℤ, ◌==◌, ◌&&◌, ◌||◌, ◌⊎◌, cond, fold, if◌then◌else◌}
 use Rattle.std.proofs.lemmas.Bool.{eqb-true}
-use Rattle.wl_stacking.specs.Pointer.{Pointer, Target, fixed_from, hit_by, is_same, is_stacked, kept_focus, settled, settled_focus, target_of}
-use Rattle.wl_stacking.specs.PointerActions.{PointerAction, Settle, actions, enter_of, leave_of}
-use Rattle.wl_stacking.specs.Windows.{Place, Window, hit, hit_after, is_hit}
-use Rattle.wl_plain.specs.Replies.{focus_window}
-use Rattle.wl_laws.proofs.Lists.Keys.{found-passes, none-some, some-same}
-use Rattle.wl_laws.proofs.Marks.Stacks.{Each, and-both, and-right, same-number}
+use Rattle.spec_desktop.specs.Pointer.{Pointer, Target, fixed_from, hit_by, is_same, is_stacked, kept_focus, settled, settled_focus, target_of}
+use Rattle.spec_desktop.specs.PointerActions.{PointerAction, Settle, actions, enter_of, leave_of}
+use Rattle.spec_desktop.specs.Windows.{Place, Window, hit, hit_after, is_hit}
+use Rattle.spec_desktop.specs.Replies.{focus_window}
+use Rattle.law_desktop.proofs.Lists.Keys.{found-passes, none-some, some-same}
+use Rattle.law_desktop.proofs.Marks.Stacks.{Each, and-both, and-right, same-number}
 use Rattle.wl_desk.specs.Doing.{IsTellable}
 use Rattle.wl_desk.specs.Points.{point_told}
 

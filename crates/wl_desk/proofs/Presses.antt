@@ -2,30 +2,30 @@
 use Rattle.std.proofs.Common.{◌≡◌, ℕ, List, [], ◌∷◌, ◌++◌, Bool, true, false, Option, Some, None, refl, ap, ap₂, subst, sym, ◌∙◌}
 use Rattle.std.specs.Prelude.{◌==◌, ◌||◌, filter, if◌then◌else◌, pos}
 use Rattle.wl_paint.specs.Damage.{Damaged, has}
-use Rattle.wl_marking.specs.Marking.{IsAsLarge}
-use Rattle.wl_stacking.specs.Pointer.{Pointer, Target, hit_now, is_down, is_press, without_button}
-use Rattle.wl_stacking.specs.PointerActions.{PointerAction, Dismiss, Press, Release, Settle, actions, button_of, dismiss_of, raise_of}
-use Rattle.wl_stacking.specs.Stacking.{Standing}
-use Rattle.wl_stacking.specs.Windows.{Place, Window}
+use Rattle.wl_scene.specs.Marking.{IsAsLarge}
+use Rattle.spec_desktop.specs.Pointer.{Pointer, Target, hit_now, is_down, is_press, without_button}
+use Rattle.spec_desktop.specs.PointerActions.{PointerAction, Dismiss, Press, Release, Settle, actions, button_of, dismiss_of, raise_of}
+use Rattle.spec_desktop.specs.Stacking.{Standing}
+use Rattle.spec_desktop.specs.Windows.{Place, Window}
 use Rattle.wl_scene.specs.Focus.{toplevel_of, with_buttons}
-use Rattle.wl_plain.specs.declared.answers.Done.TheVariants as gave
-use Rattle.wl_plain.specs.Act.{Button}
-use Rattle.wl_plain.specs.Changing.{grab_holder, kept_move}
-use Rattle.wl_plain.specs.Desktop.{Desktop, unpointed}
-use Rattle.wl_plain.specs.Happenings.{Leads, Single}
-use Rattle.wl_plain.specs.Happens.{PressesThen, ReleasesThen, hold_from, released_to, with_press, with_release}
-use Rattle.wl_plain.specs.LeftOut.{nothing_left_out}
-use Rattle.wl_plain.specs.Marks.{AreDistinct}
-use Rattle.wl_plain.specs.Moments.{marks_at_most_of}
-use Rattle.wl_plain.specs.Pointing.{button_told, has_pointers}
-use Rattle.wl_plain.specs.Replies.{popups_done}
-use Rattle.wl_plain.specs.Settling.{AppliesAll, Midstep, PointerActs, noted_if, number_of, unstruck, with_standing, without_grabs}
-use Rattle.wl_plain.specs.Stacked.{all_windows}
-use Rattle.wl_plain.specs.Through.{ending_through, raised_from, raised_if}
-use Rattle.wl_laws.proofs.Marks.Stacks.{Each}
-use Rattle.wl_laws.proofs.Runs.Settled.{ShowsSame, shows-itself}
-use Rattle.wl_pointed.specs.Pointed.{MovedStands}
-use Rattle.wl_pointed.proofs.Rounds.{buttons-end}
+use Rattle.spec_desktop.specs.declared.answers.Done.TheVariants as gave
+use Rattle.spec_desktop.specs.Act.{Button}
+use Rattle.spec_desktop.specs.Changing.{grab_holder, kept_move}
+use Rattle.spec_desktop.specs.Desktop.{Desktop, unpointed}
+use Rattle.spec_desktop.specs.Happenings.{Leads, Single}
+use Rattle.spec_desktop.specs.Happens.{PressesThen, ReleasesThen, hold_from, released_to, with_press, with_release}
+use Rattle.spec_desktop.specs.LeftOut.{nothing_left_out}
+use Rattle.spec_desktop.specs.Marks.{AreDistinct}
+use Rattle.spec_desktop.specs.Moments.{marks_at_most_of}
+use Rattle.spec_desktop.specs.Pointing.{button_told, has_pointers}
+use Rattle.spec_desktop.specs.Replies.{popups_done}
+use Rattle.spec_desktop.specs.Settling.{AppliesAll, Midstep, PointerActs, noted_if, number_of, unstruck, with_standing, without_grabs}
+use Rattle.spec_desktop.specs.Stacked.{all_windows}
+use Rattle.spec_desktop.specs.Through.{ending_through, raised_from, raised_if}
+use Rattle.law_desktop.proofs.Marks.Stacks.{Each}
+use Rattle.law_desktop.proofs.Runs.Settled.{ShowsSame, shows-itself}
+use Rattle.law_desktop.specs.Pointed.Pointed.{MovedStands}
+use Rattle.law_desktop.proofs.PointerAside.Rounds.{buttons-end}
 use Rattle.wl_clients.specs.declared.grabs.Latest.{Latest}
 use Rattle.wl_clients.specs.Leading.{raised_by}
 use Rattle.wl_clients.specs.Marking.{MarksThroughBy}
@@ -33,7 +33,7 @@ use Rattle.wl_clients.specs.Midway.{IsMid}
 use Rattle.wl_clients.specs.Releasing.{MarksJust}
 use Rattle.wl_clients.specs.View.{MarkedDesk as KeptDesk}
 use Rattle.wl_clients.proofs.Midway.{mid_begins_and_ends}
-use Rattle.wl_clients.proofs.Pressed.{released-change}
+use Rattle.wl_clients.proofs.OnScreen.Pressed.{released-change}
 use Rattle.wl_desk.specs.Agreeing.{Agrees, IsPlaced, LeadsBy}
 use Rattle.wl_desk.specs.Doing.{IsTellable, is_told}
 use Rattle.wl_desk.specs.Midway.{IsMidway, IsTelling, SettlesDown}

@@ -1,29 +1,29 @@
 -- A step in which nobody is told anything and nobody ends leaves the pointer as it is.
 use Rattle.std.proofs.Common.{◌≡◌, ℕ, ◌+◌, List, [], ◌∷◌, ◌++◌, Bool, true, false, Option, Some, None, refl, ap, ap₂, subst, sym, ◌∙◌, inl, inr}
 use Rattle.std.specs.Prelude.{is_some}
-use Rattle.wl_peer.specs.declared.cause.Cause.{Cause}
-use Rattle.wl_peer.specs.Peer.{Peer, with_rest}
-use Rattle.wl_stacking.specs.Pointer.{settled}
-use Rattle.wl_stacking.specs.Stacking.{nothing_owned}
-use Rattle.wl_plain.specs.declared.answers.Done.{Done}
-use Rattle.wl_plain.specs.declared.answers.Done.TheVariants as gave
-use Rattle.wl_plain.specs.Act.{Connect, Feed, Store, Leave, Tick, Send, Close, Motion, Button, IsClosed, IsSent, IsStored, lowest}
-use Rattle.wl_plain.specs.Desktop.{Desktop, Resident, arrival, client_at, toplevels_of, unpointed, with_client}
-use Rattle.wl_plain.specs.Happenings.{Happening, Leads, Message, Receive, ReceivesAt, Single, Starve}
-use Rattle.wl_plain.specs.Happens.{ChangesThen, ConnectsThen, LeavesThen}
-use Rattle.wl_plain.specs.LeftOut.{LeftOut, nothing_left_out}
-use Rattle.wl_plain.specs.Settling.{Midstep, unstruck}
-use Rattle.wl_plain.specs.Step.{with_peer}
-use Rattle.wl_plain.specs.Through.{ending_through, settling_through}
-use Rattle.wl_laws.specs.Focus.{EndedAreBare, IsSettled}
-use Rattle.wl_laws.proofs.Lists.Keys.{differ}
-use Rattle.wl_laws.proofs.Runs.Settled.{ShowsSame, closed-none, come-shows, never-none, put-shows, same-windows, shows-itself}
-use Rattle.wl_invariants.specs.InOrder.{InOrderAt, InOrderBy}
-use Rattle.wl_ordered.specs.Ordered.{Ordered}
-use Rattle.wl_pointed.specs.Happenings.{is_quiet}
-use Rattle.wl_pointed.specs.Pointed.{pointed}
-use Rattle.wl_pointed.proofs.Happenings.{quiet-apart}
-use Rattle.wl_pointed.proofs.Moved.{moved-stands-on}
+use Rattle.spec_desktop.specs.declared.cause.Cause.{Cause}
+use Rattle.spec_desktop.specs.Peer.{Peer, with_rest}
+use Rattle.spec_desktop.specs.Pointer.{settled}
+use Rattle.spec_desktop.specs.Stacking.{nothing_owned}
+use Rattle.spec_desktop.specs.declared.answers.Done.{Done}
+use Rattle.spec_desktop.specs.declared.answers.Done.TheVariants as gave
+use Rattle.spec_desktop.specs.Act.{Connect, Feed, Store, Leave, Tick, Send, Close, Motion, Button, IsClosed, IsSent, IsStored, lowest}
+use Rattle.spec_desktop.specs.Desktop.{Desktop, Resident, arrival, client_at, toplevels_of, unpointed, with_client}
+use Rattle.spec_desktop.specs.Happenings.{Happening, Leads, Message, Receive, ReceivesAt, Single, Starve}
+use Rattle.spec_desktop.specs.Happens.{ChangesThen, ConnectsThen, LeavesThen}
+use Rattle.spec_desktop.specs.LeftOut.{LeftOut, nothing_left_out}
+use Rattle.spec_desktop.specs.Settling.{Midstep, unstruck}
+use Rattle.spec_desktop.specs.Step.{with_peer}
+use Rattle.spec_desktop.specs.Through.{ending_through, settling_through}
+use Rattle.law_desktop.specs.Focus.{EndedAreBare, IsSettled}
+use Rattle.law_desktop.proofs.Lists.Keys.{differ}
+use Rattle.law_desktop.proofs.Runs.Settled.{ShowsSame, closed-none, come-shows, never-none, put-shows, same-windows, shows-itself}
+use Rattle.law_desktop.specs.InOrder.{InOrderAt, InOrderBy}
+use Rattle.law_desktop.specs.Ordered.{Ordered}
+use Rattle.law_desktop.specs.Pointed.Happenings.{is_quiet}
+use Rattle.law_desktop.specs.Pointed.Pointed.{pointed}
+use Rattle.law_desktop.proofs.PointerAside.Happenings.{quiet-apart}
+use Rattle.law_desktop.proofs.PointerAside.Moved.{moved-stands-on}
 use Rattle.wl_clients.specs.Agreeing.{Agrees as KeptAgrees}
 use Rattle.wl_clients.specs.Leading.{Led, raised_by}
 use Rattle.wl_clients.specs.Marking.{MarksThrough}

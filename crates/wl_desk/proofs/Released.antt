@@ -1,8 +1,8 @@
 -- What a press dismisses, as the desk does it.
 use Rattle.std.proofs.Common.{ℕ, Option, Some, None, ap, inl}
-use Rattle.wl_plain.specs.Desktop.{unpointed}
-use Rattle.wl_plain.specs.Settling.{Midstep}
-use Rattle.wl_clients.proofs.Pressed.{Dismissed, dismissed-told}
+use Rattle.spec_desktop.specs.Desktop.{unpointed}
+use Rattle.spec_desktop.specs.Settling.{Midstep}
+use Rattle.wl_clients.proofs.OnScreen.Pressed.{Dismissed, dismissed-told}
 use Rattle.wl_desk.specs.Releasing.{Releases}
 
 -- the popups of a client with a grab, or none, whatever the pointer

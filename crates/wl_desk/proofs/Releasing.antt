@@ -2,11 +2,11 @@
 use Rattle.std.proofs.Common.{◌≡◌, ℕ, List, Bool, true, false, Some, None, refl, ap, subst, sym, ◌∙◌}
 use Rattle.std.specs.Prelude.{◌||◌, pos}
 use Rattle.wl_paint.specs.Damage.{Damaged, has}
-use Rattle.wl_peer.specs.Told.{Said}
-use Rattle.wl_stacking.specs.Pointer.{Pointer, first_pointer}
-use Rattle.wl_plain.specs.Desktop.{Resident, client_at}
-use Rattle.wl_plain.specs.Replies.{popups_done}
-use Rattle.wl_plain.specs.Settling.{Midstep, Tells, without_grabs}
+use Rattle.spec_desktop.specs.Told.{Said}
+use Rattle.spec_desktop.specs.Pointer.{Pointer, first_pointer}
+use Rattle.spec_desktop.specs.Desktop.{Resident, client_at}
+use Rattle.spec_desktop.specs.Replies.{popups_done}
+use Rattle.spec_desktop.specs.Settling.{Midstep, Tells, without_grabs}
 use Rattle.wl_clients.specs.Midway.{IsMid}
 use Rattle.wl_clients.specs.Releasing.{MarksJust}
 use Rattle.wl_desk.specs.Agreeing.{AreSeats}

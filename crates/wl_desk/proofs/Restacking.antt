@@ -4,29 +4,29 @@ use Rattle.std.specs.Prelude.{ℤ, ◌==◌, ◌||◌, if◌then◌else◌, is_s
 use Rattle.std.specs.List.{list_any}
 use Rattle.std.proofs.lemmas.Bool.{eqb-true}
 use Rattle.wl_paint.specs.Damage.{Damaged, has}
-use Rattle.wl_peer.specs.Objects.{ById}
-use Rattle.wl_stacking.specs.Pointer.{Target, hit_now}
-use Rattle.wl_stacking.specs.Stacking.{Standing, is_of}
-use Rattle.wl_stacking.specs.Windows.{Place, Window, hit}
-use Rattle.wl_stacked.specs.declared.stacked.Stacked.{Stacked}
+use Rattle.spec_desktop.specs.Objects.{ById}
+use Rattle.spec_desktop.specs.Pointer.{Target, hit_now}
+use Rattle.spec_desktop.specs.Stacking.{Standing, is_of}
+use Rattle.spec_desktop.specs.Windows.{Place, Window, hit}
+use Rattle.wl_scene.specs.declared.stacked.Stacked.{Stacked}
 use Rattle.wl_scene.specs.Focus.{action_of, place_of, toplevel_of}
 use Rattle.wl_scene.specs.declared.actions.Action.{Action}
 use Rattle.wl_scene.specs.declared.actions.Action.TheVariants as does
 use Rattle.wl_scene.specs.declared.actions.Target.{Target as Named}
 use Rattle.wl_scene.specs.declared.focus.Point.{Point}
-use Rattle.wl_plain.specs.Changing.{kept_move}
-use Rattle.wl_plain.specs.Desktop.{Desktop, unpointed}
-use Rattle.wl_plain.specs.Marks.{AreDistinct}
-use Rattle.wl_plain.specs.Moments.{marks_at_least_of, marks_at_most_of}
-use Rattle.wl_plain.specs.Pointing.{moved_standing}
-use Rattle.wl_plain.specs.Settling.{Midstep, unstruck, with_standing}
-use Rattle.wl_plain.specs.Stacked.{all_windows}
-use Rattle.wl_laws.proofs.Lists.Keys.{none-some}
-use Rattle.wl_laws.proofs.Marks.Stacks.{and-left, and-right, differ}
-use Rattle.wl_lending.specs.Hit.{IsStackedOrNone}
-use Rattle.wl_lending.specs.Stacked.{AreNumberedOnce}
-use Rattle.wl_pointed.proofs.Marking.{settling-marks-nothing}
-use Rattle.wl_pointed.proofs.Rounds.{settles-idly}
+use Rattle.spec_desktop.specs.Changing.{kept_move}
+use Rattle.spec_desktop.specs.Desktop.{Desktop, unpointed}
+use Rattle.spec_desktop.specs.Marks.{AreDistinct}
+use Rattle.spec_desktop.specs.Moments.{marks_at_least_of, marks_at_most_of}
+use Rattle.spec_desktop.specs.Pointing.{moved_standing}
+use Rattle.spec_desktop.specs.Settling.{Midstep, unstruck, with_standing}
+use Rattle.spec_desktop.specs.Stacked.{all_windows}
+use Rattle.law_desktop.proofs.Lists.Keys.{none-some}
+use Rattle.law_desktop.proofs.Marks.Stacks.{and-left, and-right, differ}
+use Rattle.wl_scene.specs.Hit.{IsStackedOrNone}
+use Rattle.wl_scene.specs.StackedAgreement.{AreNumberedOnce}
+use Rattle.law_desktop.proofs.PointerAside.Marking.{settling-marks-nothing}
+use Rattle.law_desktop.proofs.PointerAside.Rounds.{settles-idly}
 use Rattle.wl_clients.specs.Agreement.{IsStack, numbers_in}
 use Rattle.wl_clients.specs.Midway.{IsMid, opened_desk}
 use Rattle.wl_clients.specs.View.{DeskView as ClientsView}

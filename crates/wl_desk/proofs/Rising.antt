@@ -3,7 +3,7 @@ use Rattle.std.proofs.Common.{◌≡◌, ℕ, suc, ◌+◌, ◌≤◌, List, [],
 use Rattle.std.specs.Prelude.{cond, nat_lt, not}
 use Rattle.std.specs.List.{insert, position, position_or_len, prefix_len}
 use Rattle.std.proofs.lemmas.Bool.Decides.{nat_tests}
-use Rattle.wl_plain.specs.Changing.{in_rising_order}
+use Rattle.spec_desktop.specs.Changing.{in_rising_order}
 
 prefix-within : (p : ℕ → Bool) (xs : List ℕ) → prefix_len p xs ≤ length xs
 prefix-within p [] = omega arith

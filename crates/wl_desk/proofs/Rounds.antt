@@ -3,24 +3,24 @@ use Rattle.std.proofs.Common.{◌≡◌, ℕ, zero, suc, ◌<◌, ◌≤◌, Lis
 use Rattle.std.proofs.Common.{length, arith, inl, inr}
 use Rattle.std.specs.Prelude.{◌⊎◌, ◌||◌, filter, pos}
 use Rattle.wl_paint.specs.Damage.{Damaged, has}
-use Rattle.wl_marking.specs.Marking.{IsAsLarge}
-use Rattle.wl_peer.specs.Told.{Said}
-use Rattle.wl_stacking.specs.Pointer.{Pointer, Target, settled}
-use Rattle.wl_stacking.specs.PointerActions.{PointerAction, Leave, Enter, Settle, actions}
-use Rattle.wl_stacking.specs.Windows.{Window}
-use Rattle.wl_plain.specs.Desktop.{Desktop, Resident, client_at}
-use Rattle.wl_plain.specs.Marks.{AreDistinct}
-use Rattle.wl_plain.specs.Moments.{marks_at_least_of, marks_at_least_through, marks_at_most_of, marks_at_most_through}
-use Rattle.wl_plain.specs.Settling.{Applies, AppliesAll, Midstep, Settles, Strike, Tells, TellsAt, TellsUnless, ended_at, ended_by}
-use Rattle.wl_plain.specs.Stacked.{all_windows}
-use Rattle.wl_laws.specs.Focus.{IsSettled}
-use Rattle.wl_laws.proofs.Marks.Stacks.{Each}
-use Rattle.wl_laws.proofs.Runs.Fates.{number-long}
-use Rattle.wl_laws.proofs.Runs.Focus.{settles-keeps}
-use Rattle.wl_laws.proofs.Runs.Settled.{HasFocus, has-settled}
-use Rattle.wl_pointed.specs.Rounds.{AreRounds, IsRound}
-use Rattle.wl_pointed.proofs.Rounds.{rounds-are-few, settles-idly}
-use Rattle.wl_pointed.proofs.Marking.{rounds-mark-in-turn}
+use Rattle.wl_scene.specs.Marking.{IsAsLarge}
+use Rattle.spec_desktop.specs.Told.{Said}
+use Rattle.spec_desktop.specs.Pointer.{Pointer, Target, settled}
+use Rattle.spec_desktop.specs.PointerActions.{PointerAction, Leave, Enter, Settle, actions}
+use Rattle.spec_desktop.specs.Windows.{Window}
+use Rattle.spec_desktop.specs.Desktop.{Desktop, Resident, client_at}
+use Rattle.spec_desktop.specs.Marks.{AreDistinct}
+use Rattle.spec_desktop.specs.Moments.{marks_at_least_of, marks_at_least_through, marks_at_most_of, marks_at_most_through}
+use Rattle.spec_desktop.specs.Settling.{Applies, AppliesAll, Midstep, Settles, Strike, Tells, TellsAt, TellsUnless, ended_at, ended_by}
+use Rattle.spec_desktop.specs.Stacked.{all_windows}
+use Rattle.law_desktop.specs.Focus.{IsSettled}
+use Rattle.law_desktop.proofs.Marks.Stacks.{Each}
+use Rattle.law_desktop.proofs.Runs.Fates.{number-long}
+use Rattle.law_desktop.proofs.Runs.Focus.{settles-keeps}
+use Rattle.law_desktop.proofs.Runs.Settled.{HasFocus, has-settled}
+use Rattle.law_desktop.specs.Pointed.Rounds.{AreRounds, IsRound}
+use Rattle.law_desktop.proofs.PointerAside.Rounds.{rounds-are-few, settles-idly}
+use Rattle.law_desktop.proofs.PointerAside.Marking.{rounds-mark-in-turn}
 use Rattle.wl_clients.specs.Marking.{MarksThrough}
 use Rattle.wl_clients.proofs.Agreed.{agrees-apart}
 use Rattle.wl_clients.specs.Midway.{first_struck, opened_desk}

@@ -1,19 +1,19 @@
 -- The wl_pointers of each client after a message, where there was room for one more.
 use Rattle.std.proofs.Common.{◌≡◌, ◌≢◌, ℕ, zero, suc, ◌<◌, ◌+◌, List, [], ◌∷◌, Bool, true, false, length, map, slice_index_or, slice_set, Option, Some, None, refl, ap, subst, sym, ◌∙◌, arith, ◌⊎◌, inl, inr}
 use Rattle.std.specs.Prelude.{is_some}
-use Rattle.wl_peer.specs.declared.cause.Cause.{Cause}
-use Rattle.wl_peer.specs.Objects.{ById}
-use Rattle.wl_plain.specs.Changing.{in_rising_order}
-use Rattle.wl_plain.specs.Demand.{Demand, GetPointer}
-use Rattle.wl_plain.specs.Demand.{Move as MoveToplevel}
-use Rattle.wl_plain.specs.Desktop.{Desktop, Resident, client_at, status_in, status_of, unpointed}
-use Rattle.wl_plain.specs.Happenings.{Message}
-use Rattle.wl_plain.specs.LeftOut.{nothing_left_out}
-use Rattle.wl_plain.specs.Through.{ServesThrough}
-use Rattle.wl_laws.proofs.Lists.Keys.{differ}
-use Rattle.wl_pointed.specs.Pointed.{asked}
-use Rattle.wl_pointed.specs.Seats.{AskedForPointer, HadPointers, HasPointersAfter}
-use Rattle.wl_pointed.proofs.Pointing.{pointers-stay}
+use Rattle.spec_desktop.specs.declared.cause.Cause.{Cause}
+use Rattle.spec_desktop.specs.Objects.{ById}
+use Rattle.spec_desktop.specs.Changing.{in_rising_order}
+use Rattle.spec_desktop.specs.Demand.{Demand, GetPointer}
+use Rattle.spec_desktop.specs.Demand.{Move as MoveToplevel}
+use Rattle.spec_desktop.specs.Desktop.{Desktop, Resident, client_at, status_in, status_of, unpointed}
+use Rattle.spec_desktop.specs.Happenings.{Message}
+use Rattle.spec_desktop.specs.LeftOut.{nothing_left_out}
+use Rattle.spec_desktop.specs.Through.{ServesThrough}
+use Rattle.law_desktop.proofs.Lists.Keys.{differ}
+use Rattle.law_desktop.specs.Pointed.Pointed.{asked}
+use Rattle.law_desktop.specs.Pointed.Seats.{AskedForPointer, HadPointers, HasPointersAfter}
+use Rattle.law_desktop.proofs.PointerAside.Pointing.{pointers-stay}
 use Rattle.wl_requests.specs.declared.pointer_asked.PointerAsked.{PointerAsked}
 use Rattle.wl_requests.specs.declared.pointer_asked.PointerAsked.TheVariants.{Nothing, NewPointer, Move}
 use Rattle.wl_clients.specs.Pointing.{AsksOfPointer}

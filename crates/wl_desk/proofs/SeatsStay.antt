@@ -1,14 +1,14 @@
 -- A step that isn't a message, and in which nobody comes, leaves the wl_pointers as they are.
 use Rattle.std.proofs.Common.{◌≡◌, ◌≢◌, ℕ, List, true, sym, ◌∙◌, inl, inr}
 use Rattle.std.specs.Prelude.{Ok}
-use Rattle.wl_plain.specs.declared.answers.Done.TheVariants as gave
-use Rattle.wl_plain.specs.Act.{Connect, Leave}
-use Rattle.wl_plain.specs.Desktop.{Desktop, unpointed}
-use Rattle.wl_plain.specs.Happenings.{Happening, Leads, Message, Single, Starve}
-use Rattle.wl_plain.specs.LeftOut.{nothing_left_out}
-use Rattle.wl_pointed.specs.Happenings.{IsEndOf}
-use Rattle.wl_pointed.specs.Seats.{HasPointersAfter}
-use Rattle.wl_pointed.proofs.Pointing.{pointers-stay}
+use Rattle.spec_desktop.specs.declared.answers.Done.TheVariants as gave
+use Rattle.spec_desktop.specs.Act.{Connect, Leave}
+use Rattle.spec_desktop.specs.Desktop.{Desktop, unpointed}
+use Rattle.spec_desktop.specs.Happenings.{Happening, Leads, Message, Single, Starve}
+use Rattle.spec_desktop.specs.LeftOut.{nothing_left_out}
+use Rattle.law_desktop.specs.Pointed.Happenings.{IsEndOf}
+use Rattle.law_desktop.specs.Pointed.Seats.{HasPointersAfter}
+use Rattle.law_desktop.proofs.PointerAside.Pointing.{pointers-stay}
 use Rattle.wl_desk.specs.Agreeing.{AreSeats}
 use Rattle.wl_desk.specs.View.{seat_of}
 

@@ -1,16 +1,16 @@
 -- What the focus goes by: what is hit where no button is down, and whether the surface that has the focus has a window where one is.
 use Rattle.std.proofs.Common.{◌≡◌, ◌≢◌, ℕ, List, [], ◌∷◌, Bool, true, false, Option, Some, None, refl, ap, subst, sym, ◌∙◌}
 use Rattle.std.specs.Prelude.{◌||◌, cond, is_some}
-use Rattle.wl_peer.specs.Objects.{ById}
-use Rattle.wl_stacking.specs.Pointer.{Pointer, Target, hit_by, is_stacked}
-use Rattle.wl_stacking.specs.Windows.{Window}
+use Rattle.spec_desktop.specs.Objects.{ById}
+use Rattle.spec_desktop.specs.Pointer.{Pointer, Target, hit_by, is_stacked}
+use Rattle.spec_desktop.specs.Windows.{Window}
 use Rattle.wl_scene.specs.Focus.{IsSeen}
-use Rattle.wl_stacked.specs.declared.stacked.Stacked.{Stacked}
-use Rattle.wl_lending.specs.Hit.{IsStackedOrNone}
-use Rattle.wl_plain.specs.Replies.{focus_window}
-use Rattle.wl_plain.specs.Settling.{Midstep}
-use Rattle.wl_plain.specs.Stacked.{all_windows}
-use Rattle.wl_laws.proofs.Lists.Keys.{none-some, some-same}
+use Rattle.wl_scene.specs.declared.stacked.Stacked.{Stacked}
+use Rattle.wl_scene.specs.Hit.{IsStackedOrNone}
+use Rattle.spec_desktop.specs.Replies.{focus_window}
+use Rattle.spec_desktop.specs.Settling.{Midstep}
+use Rattle.spec_desktop.specs.Stacked.{all_windows}
+use Rattle.law_desktop.proofs.Lists.Keys.{none-some, some-same}
 use Rattle.wl_desk.specs.Midway.{IsMidway, IsTelling}
 use Rattle.wl_desk.specs.View.{DeskView}
 use Rattle.wl_desk.proofs.Points.{is_window}

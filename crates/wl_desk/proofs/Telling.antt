@@ -4,18 +4,18 @@ use Rattle.std.specs.Prelude.{ℤ, is_some}
 use Rattle.wl_client.specs.Pointers.{pointers_told, serial_after}
 use Rattle.wl_client.specs.declared.pointers.PointerEvent.{PointerEvent}
 use Rattle.wl_client.specs.declared.pointers.PointerEvent.TheVariants.{Enter, Leave, Motion}
-use Rattle.wl_peer.specs.declared.cause.Cause.{Cause}
-use Rattle.wl_peer.specs.Told.{Said}
-use Rattle.wl_stacking.specs.Pointer.{Pointer, Target, first_pointer}
-use Rattle.wl_stacking.specs.Windows.{Place, Window}
+use Rattle.spec_desktop.specs.declared.cause.Cause.{Cause}
+use Rattle.spec_desktop.specs.Told.{Said}
+use Rattle.spec_desktop.specs.Pointer.{Pointer, Target, first_pointer}
+use Rattle.spec_desktop.specs.Windows.{Place, Window}
 use Rattle.wl_surface.specs.Surfaces.{history_in}
-use Rattle.wl_plain.specs.Changing.{drawing}
-use Rattle.wl_plain.specs.Desktop.{Resident, client_at}
-use Rattle.wl_plain.specs.Pointing.{entered_surface, left_surface, motion_told}
-use Rattle.wl_plain.specs.Replies.{entered_at, focus_window}
-use Rattle.wl_plain.specs.Stacked.{all_windows}
-use Rattle.wl_stacking.specs.PointerActions.{Leave as Left, Enter as Entered}
-use Rattle.wl_plain.specs.Settling.{Applies, Midstep, Tells, leave_drawn, told_drawn, with_focus}
+use Rattle.spec_desktop.specs.Changing.{drawing}
+use Rattle.spec_desktop.specs.Desktop.{Resident, client_at}
+use Rattle.spec_desktop.specs.Pointing.{entered_surface, left_surface, motion_told}
+use Rattle.spec_desktop.specs.Replies.{entered_at, focus_window}
+use Rattle.spec_desktop.specs.Stacked.{all_windows}
+use Rattle.spec_desktop.specs.PointerActions.{Leave as Left, Enter as Entered}
+use Rattle.spec_desktop.specs.Settling.{Applies, Midstep, Tells, leave_drawn, told_drawn, with_focus}
 use Rattle.wl_clients.specs.Agreement.{numbers_in}
 use Rattle.wl_clients.specs.View.{DeskView as KeptView}
 use Rattle.wl_clients.specs.Midway.{IsMid}

@@ -1,15 +1,15 @@
 -- What a client is told leaves the desktop otherwise as it was.
 use Rattle.std.proofs.Common.{◌≡◌, ◌≢◌, ℕ, List, [], Bool, true, false, Option, Some, None, refl, ap, subst, sym, ◌∙◌, inl, inr}
 use Rattle.std.specs.Prelude.{◌⊎◌, ◌||◌, is_some}
-use Rattle.wl_peer.specs.declared.cause.Cause.{Cause}
-use Rattle.wl_peer.specs.Peer.{Peer, QueuesTo}
-use Rattle.wl_peer.specs.Told.{Said}
-use Rattle.wl_stacking.specs.Pointer.{Pointer, first_pointer}
-use Rattle.wl_plain.specs.Desktop.{Desktop, Resident, client_at, with_client}
-use Rattle.wl_plain.specs.Settling.{Midstep, Tells, TellsAt, TellsUnless, is_struck}
-use Rattle.wl_laws.proofs.Runs.Fates.{same-or}
-use Rattle.wl_laws.proofs.Runs.Places.{client-kept, number-other, number-same}
-use Rattle.wl_laws.proofs.Runs.Settled.{ShowsSame, put-shows, shows-itself}
+use Rattle.spec_desktop.specs.declared.cause.Cause.{Cause}
+use Rattle.spec_desktop.specs.Peer.{Peer, QueuesTo}
+use Rattle.spec_desktop.specs.Told.{Said}
+use Rattle.spec_desktop.specs.Pointer.{Pointer, first_pointer}
+use Rattle.spec_desktop.specs.Desktop.{Desktop, Resident, client_at, with_client}
+use Rattle.spec_desktop.specs.Settling.{Midstep, Tells, TellsAt, TellsUnless, is_struck}
+use Rattle.law_desktop.proofs.Runs.Fates.{same-or}
+use Rattle.law_desktop.proofs.Runs.Places.{client-kept, number-other, number-same}
+use Rattle.law_desktop.proofs.Runs.Settled.{ShowsSame, put-shows, shows-itself}
 
 -- ---- lists of one
 

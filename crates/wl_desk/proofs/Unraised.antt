@@ -1,13 +1,13 @@
 -- Nothing but a press raises a toplevel.
 use Rattle.std.proofs.Common.{◌≡◌, ℕ, List, true, Option, None, refl, ap, subst, sym, inl, inr}
 use Rattle.wl_paint.specs.Damage.{Damaged}
-use Rattle.wl_plain.specs.declared.answers.Done.{Done}
-use Rattle.wl_plain.specs.Act.{Act, Connect, Feed, Store, Leave, Tick, Send, Close, Motion, Button}
-use Rattle.wl_plain.specs.Desktop.{Desktop}
-use Rattle.wl_plain.specs.Happenings.{Happening, Message, Receive, Single, Starve}
-use Rattle.wl_plain.specs.Through.{raised_in}
-use Rattle.wl_laws.proofs.Lists.Keys.{differ}
-use Rattle.wl_pointed.specs.Happenings.{IsEndOf, is_quiet, is_quiet_act}
+use Rattle.spec_desktop.specs.declared.answers.Done.{Done}
+use Rattle.spec_desktop.specs.Act.{Act, Connect, Feed, Store, Leave, Tick, Send, Close, Motion, Button}
+use Rattle.spec_desktop.specs.Desktop.{Desktop}
+use Rattle.spec_desktop.specs.Happenings.{Happening, Message, Receive, Single, Starve}
+use Rattle.spec_desktop.specs.Through.{raised_in}
+use Rattle.law_desktop.proofs.Lists.Keys.{differ}
+use Rattle.law_desktop.specs.Pointed.Happenings.{IsEndOf, is_quiet, is_quiet_act}
 use Rattle.wl_clients.specs.Leading.{raised_by}
 use Rattle.wl_clients.specs.Marking.{MarksThrough, MarksThroughBy}
 

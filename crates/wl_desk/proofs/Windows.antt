@@ -3,23 +3,23 @@ use Rattle.std.proofs.Common.{◌≡◌, ◌≢◌, ℕ, zero, suc, List, [], �
 use Rattle.std.specs.Option.{option_map}
 use Rattle.std.specs.Prelude.{ℤ, ◌==◌, cond, is_some}
 use Rattle.std.proofs.lemmas.Bool.{eqb-true}
-use Rattle.wl_peer.specs.Objects.{ById}
+use Rattle.spec_desktop.specs.Objects.{ById}
 use Rattle.wl_surface.specs.Surfaces.{history_in, surface_at}
-use Rattle.wl_state.specs.Surface.{Surface}
+use Rattle.wl_surface.specs.Surface.{Surface}
 use Rattle.wl_client.specs.View.{ClientView}
-use Rattle.wl_stacking.specs.Pointer.{Target, fixed_from, hit_by, target_of}
-use Rattle.wl_stacking.specs.Windows.{Place, Window, hit}
-use Rattle.wl_stacked.specs.declared.stacked.Stacked.{Stacked}
+use Rattle.spec_desktop.specs.Pointer.{Target, fixed_from, hit_by, target_of}
+use Rattle.spec_desktop.specs.Windows.{Place, Window, hit}
+use Rattle.wl_scene.specs.declared.stacked.Stacked.{Stacked}
 use Rattle.wl_scene.specs.Focus.{place_of}
 use Rattle.wl_scene.specs.declared.focus.Point.{Point}
-use Rattle.wl_lending.specs.Hit.{IsStackedOrNone}
-use Rattle.wl_lending.specs.Stacked.{AreNumberedOnce, AreStacked}
-use Rattle.wl_plain.specs.Desktop.{Resident, client_at}
-use Rattle.wl_plain.specs.Replies.{focus_window}
-use Rattle.wl_plain.specs.Settling.{Midstep}
-use Rattle.wl_plain.specs.Stacked.{all_windows}
-use Rattle.wl_laws.proofs.Lists.Keys.{none-some}
-use Rattle.wl_laws.proofs.Marks.Stacks.{and-left, and-right}
+use Rattle.wl_scene.specs.Hit.{IsStackedOrNone}
+use Rattle.wl_scene.specs.StackedAgreement.{AreNumberedOnce, AreStacked}
+use Rattle.spec_desktop.specs.Desktop.{Resident, client_at}
+use Rattle.spec_desktop.specs.Replies.{focus_window}
+use Rattle.spec_desktop.specs.Settling.{Midstep}
+use Rattle.spec_desktop.specs.Stacked.{all_windows}
+use Rattle.law_desktop.proofs.Lists.Keys.{none-some}
+use Rattle.law_desktop.proofs.Marks.Stacks.{and-left, and-right}
 use Rattle.wl_clients.specs.Agreement.{IsPlace, numbers_in, numbers_of}
 use Rattle.wl_clients.specs.View.{DeskView, OwnedView}
 use Rattle.wl_clients.specs.Midway.{IsMid, opened_desk}

@@ -1,15 +1,15 @@
 -- A desk agrees with a desktop, and what its calls make of both.
 use Rattle.std.specs.Prelude.{ℕ, ◌≡◌, ◌<◌, false, List, None, Some}
 use Rattle.wl_paint.specs.Damage.{has}
-use Rattle.wl_plain.specs.declared.answers.Done.{Done}
-use Rattle.wl_plain.specs.Act.{Act}
-use Rattle.wl_plain.specs.Desktop.{Desktop, Resident, client_at, unpointed}
-use Rattle.wl_plain.specs.Happenings.{Happening}
-use Rattle.wl_plain.specs.Happens.{Happens}
-use Rattle.wl_plain.specs.LeftOut.{nothing_left_out}
-use Rattle.wl_plain.specs.Settling.{Midstep, is_struck, unstruck}
-use Rattle.wl_laws.specs.Focus.{IsSettled}
-use Rattle.wl_pointed.specs.Pointed.{MovedStands}
+use Rattle.spec_desktop.specs.declared.answers.Done.{Done}
+use Rattle.spec_desktop.specs.Act.{Act}
+use Rattle.spec_desktop.specs.Desktop.{Desktop, Resident, client_at, unpointed}
+use Rattle.spec_desktop.specs.Happenings.{Happening}
+use Rattle.spec_desktop.specs.Happens.{Happens}
+use Rattle.spec_desktop.specs.LeftOut.{nothing_left_out}
+use Rattle.spec_desktop.specs.Settling.{Midstep, is_struck, unstruck}
+use Rattle.law_desktop.specs.Focus.{IsSettled}
+use Rattle.law_desktop.specs.Pointed.Pointed.{MovedStands}
 use Rattle.wl_clients.specs.Agreeing.{Agrees as KeptAgrees}
 use Rattle.wl_clients.specs.Framing.{MarksIfEnds}
 use Rattle.wl_clients.specs.Leading.{Led}

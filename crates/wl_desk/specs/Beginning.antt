@@ -1,14 +1,14 @@
 -- Which toplevel a message begins to move with the pointer (xdg-shell.xml, xdg_toplevel.move).
 use Rattle.std.specs.Prelude.{ℕ, ◌≡◌, ◌==◌, ◌&&◌, if◌then◌else◌, Option, Some, None}
-use Rattle.wl_peer.specs.Objects.{ById}
+use Rattle.spec_desktop.specs.Objects.{ById}
 use Rattle.wl_requests.specs.declared.pointer_asked.PointerAsked.{PointerAsked}
 use Rattle.wl_requests.specs.declared.pointer_asked.PointerAsked.TheVariants.{Nothing, NewPointer, Move as AsksMove}
 use Rattle.wl_scene.specs.Focus.{target_of}
-use Rattle.wl_stacking.specs.Pointer.{Pointer, Target}
-use Rattle.wl_plain.specs.Changing.{is_focus_in, is_serial}
-use Rattle.wl_plain.specs.Demand.{Demand, Move}
-use Rattle.wl_plain.specs.Desktop.{Desktop}
-use Rattle.wl_plain.specs.Stacked.{all_windows}
+use Rattle.spec_desktop.specs.Pointer.{Pointer, Target}
+use Rattle.spec_desktop.specs.Changing.{is_focus_in, is_serial}
+use Rattle.spec_desktop.specs.Demand.{Demand, Move}
+use Rattle.spec_desktop.specs.Desktop.{Desktop}
+use Rattle.spec_desktop.specs.Stacked.{all_windows}
 use Rattle.wl_desk.specs.declared.moves.Movable.{Movable}
 
 -- the toplevel of which this is asked, by the serial of the press that began the present hold, where the focus is in its own tree

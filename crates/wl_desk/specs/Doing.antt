@@ -1,8 +1,8 @@
 -- What is told of what the pointer does.
 use Rattle.std.specs.Prelude.{◌≡◌, ◌≢◌, Bool, true, false, Option, None, List}
-use Rattle.wl_stacking.specs.Pointer.{is_stacked}
-use Rattle.wl_stacking.specs.PointerActions.{PointerAction, Leave, Enter, Motion, Button, Raise, MoveWindow, Dismiss}
-use Rattle.wl_stacking.specs.Windows.{Place, Window}
+use Rattle.spec_desktop.specs.Pointer.{is_stacked}
+use Rattle.spec_desktop.specs.PointerActions.{PointerAction, Leave, Enter, Motion, Button, Raise, MoveWindow, Dismiss}
+use Rattle.spec_desktop.specs.Windows.{Place, Window}
 
 -- that a toplevel comes to the top or is moved, and that popups are dismissed, is done apart
 abbrev pub is_told : PointerAction → Bool

@@ -1,15 +1,15 @@
 -- What a message does before the focus is settled: it is taken with the pointer put aside, and then the pointer follows it.
 use Rattle.std.specs.Prelude.{ℕ, ◌≡◌, ◌++◌, Bool, true, List, Option, Some, None}
-use Rattle.wl_marking.specs.Marking.{IsAsLarge}
-use Rattle.wl_stacking.specs.Pointer.{Pointer, Target}
-use Rattle.wl_plain.specs.Desktop.{Desktop, status_in, unpointed}
-use Rattle.wl_plain.specs.Happenings.{Leads, Message}
-use Rattle.wl_plain.specs.LeftOut.{nothing_left_out}
-use Rattle.wl_plain.specs.Settling.{unstruck}
-use Rattle.wl_plain.specs.Through.{SettlesAllThrough}
-use Rattle.wl_laws.specs.Focus.{IsSettled}
-use Rattle.wl_pointed.specs.Marking.{last_of}
-use Rattle.wl_pointed.specs.Pointed.{asked, pointer_if}
+use Rattle.wl_scene.specs.Marking.{IsAsLarge}
+use Rattle.spec_desktop.specs.Pointer.{Pointer, Target}
+use Rattle.spec_desktop.specs.Desktop.{Desktop, status_in, unpointed}
+use Rattle.spec_desktop.specs.Happenings.{Leads, Message}
+use Rattle.spec_desktop.specs.LeftOut.{nothing_left_out}
+use Rattle.spec_desktop.specs.Settling.{unstruck}
+use Rattle.spec_desktop.specs.Through.{SettlesAllThrough}
+use Rattle.law_desktop.specs.Focus.{IsSettled}
+use Rattle.law_desktop.specs.Pointed.Marking.{last_of}
+use Rattle.law_desktop.specs.Pointed.Pointed.{asked, pointer_if}
 use Rattle.wl_requests.specs.declared.pointer_asked.PointerAsked.{PointerAsked}
 use Rattle.wl_clients.specs.Agreeing.{Agrees as KeptAgrees}
 use Rattle.wl_clients.specs.Agreement.{numbers_in}

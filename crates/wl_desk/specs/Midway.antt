@@ -1,15 +1,15 @@
 -- The middle of a step: the focus isn't settled yet, and clients are to end.
 use Rattle.std.specs.Prelude.{ℕ, ◌≡◌, ◌<◌, true, Option, Some, None, List, []}
 use Rattle.wl_client.specs.declared.pointers.PointerEvent.{PointerEvent}
-use Rattle.wl_peer.specs.Told.{Said}
-use Rattle.wl_stacking.specs.Pointer.{is_stacked}
-use Rattle.wl_stacking.specs.PointerActions.{PointerAction, Leave, Enter, Motion}
-use Rattle.wl_stacking.specs.Windows.{Window}
-use Rattle.wl_plain.specs.Desktop.{Desktop, Resident, unpointed}
-use Rattle.wl_plain.specs.Marks.{AreDistinct}
-use Rattle.wl_plain.specs.Settling.{Midstep, Settles}
-use Rattle.wl_plain.specs.Stacked.{all_windows}
-use Rattle.wl_pointed.specs.Rounds.{AreRounds}
+use Rattle.spec_desktop.specs.Told.{Said}
+use Rattle.spec_desktop.specs.Pointer.{is_stacked}
+use Rattle.spec_desktop.specs.PointerActions.{PointerAction, Leave, Enter, Motion}
+use Rattle.spec_desktop.specs.Windows.{Window}
+use Rattle.spec_desktop.specs.Desktop.{Desktop, Resident, unpointed}
+use Rattle.spec_desktop.specs.Marks.{AreDistinct}
+use Rattle.spec_desktop.specs.Settling.{Midstep, Settles}
+use Rattle.spec_desktop.specs.Stacked.{all_windows}
+use Rattle.law_desktop.specs.Pointed.Rounds.{AreRounds}
 use Rattle.wl_clients.specs.Marking.{MarksThrough}
 use Rattle.wl_clients.specs.Midway.{IsMid}
 use Rattle.wl_clients.specs.Pointing.{IsTold}

@@ -1,7 +1,7 @@
 -- Where a surface is told that the pointer is.
 use Rattle.std.specs.Prelude.{ℤ, Option, Some, None}
-use Rattle.wl_stacking.specs.Pointer.{fixed_from}
-use Rattle.wl_stacking.specs.Windows.{Place, Window}
+use Rattle.spec_desktop.specs.Pointer.{fixed_from}
+use Rattle.spec_desktop.specs.Windows.{Place, Window}
 
 -- where the pointer is in a surface that has this window: from the upper left corner, as 24.8 fixed numbers
 abbrev pub point_told : Option Place → Option Window → Option (ℤ × ℤ)

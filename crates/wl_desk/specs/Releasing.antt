@@ -1,8 +1,8 @@
 -- A press that hits no surface of the client that holds a grab dismisses its popups with a grab (xdg-shell.xml, xdg_popup.grab).
 use Rattle.std.specs.Prelude.{ℕ, ◌≡◌, ◌==◌, if◌then◌else◌, Option, Some, None}
-use Rattle.wl_stacking.specs.Pointer.{Target}
-use Rattle.wl_plain.specs.Replies.{popups_done}
-use Rattle.wl_plain.specs.Settling.{Midstep, Tells, without_grabs}
+use Rattle.spec_desktop.specs.Pointer.{Target}
+use Rattle.spec_desktop.specs.Replies.{popups_done}
+use Rattle.spec_desktop.specs.Settling.{Midstep, Tells, without_grabs}
 
 -- the client whose popups a press dismisses, where this one holds a grab, if one does, and the press hits this toplevel
 abbrev pub released_by : Option ℕ → Option Target → Option ℕ

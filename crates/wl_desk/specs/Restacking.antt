@@ -1,9 +1,9 @@
 -- How a press and a motion change the stack of toplevels.
 use Rattle.std.specs.Prelude.{◌≡◌, is_some, true, Option, Some, None, List, [], ◌∷◌}
-use Rattle.wl_stacking.specs.Pointer.{Target}
-use Rattle.wl_stacking.specs.PointerActions.{PointerAction, MoveWindow}
-use Rattle.wl_stacking.specs.Stacking.{Standing}
-use Rattle.wl_plain.specs.Pointing.{moved_standing}
+use Rattle.spec_desktop.specs.Pointer.{Target}
+use Rattle.spec_desktop.specs.PointerActions.{PointerAction, MoveWindow}
+use Rattle.spec_desktop.specs.Stacking.{Standing}
+use Rattle.spec_desktop.specs.Pointing.{moved_standing}
 use Rattle.wl_clients.specs.Agreement.{numbers_in}
 use Rattle.wl_desk.specs.View.{DeskView}
 

@@ -1,6 +1,6 @@
 -- The wl_pointers of one client, among those of all.
 use Rattle.std.specs.Prelude.{ℕ, zero, suc, Bool, true, false, List, [], ◌∷◌}
-use Rattle.wl_plain.specs.Changing.{in_rising_order}
+use Rattle.spec_desktop.specs.Changing.{in_rising_order}
 use Rattle.wl_requests.specs.declared.pointer_asked.PointerAsked.{PointerAsked}
 use Rattle.wl_requests.specs.declared.pointer_asked.PointerAsked.TheVariants.{Nothing, NewPointer, Move}
 

@@ -1,6 +1,6 @@
 -- The serials of the latest press and release that one client was told of, among those of all.
 use Rattle.std.specs.Prelude.{ℕ, zero, suc, ◌≡◌, ◌≢◌, Bool, true, false, Option, Some, None, List, [], ◌∷◌}
-use Rattle.wl_plain.specs.Desktop.{Resident}
+use Rattle.spec_desktop.specs.Desktop.{Resident}
 use Rattle.wl_clients.specs.Pointing.{IsLatest}
 use Rattle.wl_clients.specs.declared.grabs.Latest.{Latest}
 use Rattle.wl_desk.specs.View.{latest_of}

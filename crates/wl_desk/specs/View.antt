@@ -1,7 +1,7 @@
 -- What a desk keeps, as plain values.
 use Rattle.std.specs.Prelude.{ℕ, zero, suc, List, [], None, slice_index_or}
 use Rattle.wl_paint.specs.Damage.{Damaged}
-use Rattle.wl_stacking.specs.Pointer.{Pointer}
+use Rattle.spec_desktop.specs.Pointer.{Pointer}
 use Rattle.wl_clients.specs.declared.grabs.Latest.{Latest}
 use Rattle.wl_clients.specs.View.{DeskView as ClientsView}
 

@@ -2,12 +2,12 @@
 
 ghost use Rattle.std.specs.Prelude.{◌≡◌, None, Some, map};
 ghost use Rattle.wl_scene.specs.Focus.{action_of, target_of};
-ghost use Rattle.wl_marking.specs.Marking.{IsAsLarge};
-ghost use Rattle.wl_plain.specs.Act.{Motion};
-ghost use Rattle.wl_plain.specs.Happenings.{Single};
-ghost use Rattle.wl_plain.specs.Happens.{within};
-ghost use Rattle.wl_plain.specs.Pointing.{moved_standing};
-ghost use Rattle.wl_plain.specs.Settling.{Midstep, with_standing};
+ghost use Rattle.wl_scene.specs.Marking.{IsAsLarge};
+ghost use Rattle.spec_desktop.specs.Act.{Motion};
+ghost use Rattle.spec_desktop.specs.Happenings.{Single};
+ghost use Rattle.spec_desktop.specs.Happens.{within};
+ghost use Rattle.spec_desktop.specs.Pointing.{moved_standing};
+ghost use Rattle.spec_desktop.specs.Settling.{Midstep, with_standing};
 ghost use Rattle.wl_desk.specs.Agreeing.{LeadsBy};
 ghost use Rattle.wl_desk.specs.Midway.{IsTelling};
 ghost use Rattle.wl_clients.specs.Raising.{MarksChange};

@@ -2,10 +2,10 @@
 
 ghost use Rattle.std.specs.Prelude.{◌≡◌};
 ghost use Rattle.std.specs.List.{list_any};
-ghost use Rattle.wl_stacking.specs.Stacking.{is_of};
+ghost use Rattle.spec_desktop.specs.Stacking.{is_of};
 ghost use Rattle.wl_scene.specs.Focus.{target_or_none};
-ghost use Rattle.wl_plain.specs.Desktop.{Desktop};
-ghost use Rattle.wl_pointed.specs.Pointed.{keeping};
+ghost use Rattle.spec_desktop.specs.Desktop.{Desktop};
+ghost use Rattle.law_desktop.specs.Pointed.Pointed.{keeping};
 ghost use Rattle.wl_clients.specs.Agreeing.{Agrees as KeptAgrees};
 ghost use Rattle.wl_clients.specs.Agreement.{numbers_in};
 ghost use Rattle.wl_desk.specs.Agreeing.{Agrees};

@@ -2,20 +2,20 @@
 
 ghost use Rattle.std.specs.Prelude.{ℕ, ◌≡◌, ◌≢◌, ◌≤◌, ◌∷◌, [], List, Some, None, true, false, filter, length, map};
 ghost use Rattle.wl_client.specs.Pointers.{has_any};
-ghost use Rattle.wl_peer.specs.Told.{Said};
-ghost use Rattle.wl_stacking.specs.Pointer.{hit_by, is_stacked};
-ghost use Rattle.wl_stacking.specs.Windows.{Window};
+ghost use Rattle.spec_desktop.specs.Told.{Said};
+ghost use Rattle.spec_desktop.specs.Pointer.{hit_by, is_stacked};
+ghost use Rattle.spec_desktop.specs.Windows.{Window};
 ghost use Rattle.wl_scene.specs.Focus.{IsSeen, action_of, target_of, target_or_none};
-ghost use Rattle.wl_marking.specs.Marking.{IsAsLarge};
-ghost use Rattle.wl_plain.specs.Changing.{drawing};
-ghost use Rattle.wl_plain.specs.Desktop.{Resident, client_at};
-ghost use Rattle.wl_plain.specs.Pointing.{button_told, entered_surface, has_pointers, left_surface, motion_told};
-ghost use Rattle.wl_plain.specs.Replies.{entered_at, focus_window};
-ghost use Rattle.wl_plain.specs.Settling.{AppliesAll, Midstep, Settles, Strike, Tells, ended_by, leave_drawn, noted_if, number_of, told_drawn};
-ghost use Rattle.wl_plain.specs.Stacked.{all_windows};
-ghost use Rattle.wl_lending.specs.Hit.{IsStackedOrNone};
-ghost use Rattle.wl_laws.proofs.Marks.Stacks.{Each};
-ghost use Rattle.wl_laws.specs.Focus.{IsSettled};
+ghost use Rattle.wl_scene.specs.Marking.{IsAsLarge};
+ghost use Rattle.spec_desktop.specs.Changing.{drawing};
+ghost use Rattle.spec_desktop.specs.Desktop.{Resident, client_at};
+ghost use Rattle.spec_desktop.specs.Pointing.{button_told, entered_surface, has_pointers, left_surface, motion_told};
+ghost use Rattle.spec_desktop.specs.Replies.{entered_at, focus_window};
+ghost use Rattle.spec_desktop.specs.Settling.{AppliesAll, Midstep, Settles, Strike, Tells, ended_by, leave_drawn, noted_if, number_of, told_drawn};
+ghost use Rattle.spec_desktop.specs.Stacked.{all_windows};
+ghost use Rattle.wl_scene.specs.Hit.{IsStackedOrNone};
+ghost use Rattle.law_desktop.proofs.Marks.Stacks.{Each};
+ghost use Rattle.law_desktop.specs.Focus.{IsSettled};
 ghost use Rattle.wl_clients.specs.Agreement.{numbers_in};
 ghost use Rattle.wl_clients.specs.Marking.{MarksThrough};
 ghost use Rattle.wl_clients.specs.Feeding.{rest_in};
@@ -32,8 +32,7 @@ use crate::latest::note;
 use crate::seats::seat_of;
 use std::alloc::Allocator;
 use wl_clients::{ClientNo, PointerEvent};
-use wl_scene::{Action, Actions, Target, fixed};
-use wl_stacked::Stacked;
+use wl_scene::{Action, Actions, Stacked, Target, fixed};
 
 /// How often the focus may have to be settled in a step: each time but the last ends a client, of 32.
 const SETTLINGS: usize = 33;

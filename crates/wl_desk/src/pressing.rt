@@ -1,15 +1,15 @@
 //! Buttons: a press raises a toplevel and begins a hold, and clients are told of presses and releases.
 
 ghost use Rattle.std.specs.Prelude.{◌≡◌, false, true};
-ghost use Rattle.wl_stacking.specs.Pointer.{hit_now};
+ghost use Rattle.spec_desktop.specs.Pointer.{hit_now};
 ghost use Rattle.wl_scene.specs.Focus.{target_or_none, toplevel_of};
-ghost use Rattle.wl_marking.specs.Marking.{IsAsLarge};
-ghost use Rattle.wl_plain.specs.Act.{Button};
-ghost use Rattle.wl_plain.specs.Desktop.{Desktop};
-ghost use Rattle.wl_plain.specs.Happenings.{Single};
-ghost use Rattle.wl_plain.specs.Happens.{hold_from, press_serial};
-ghost use Rattle.wl_plain.specs.Settling.{Midstep, with_standing};
-ghost use Rattle.wl_plain.specs.Stacked.{all_windows};
+ghost use Rattle.wl_scene.specs.Marking.{IsAsLarge};
+ghost use Rattle.spec_desktop.specs.Act.{Button};
+ghost use Rattle.spec_desktop.specs.Desktop.{Desktop};
+ghost use Rattle.spec_desktop.specs.Happenings.{Single};
+ghost use Rattle.spec_desktop.specs.Happens.{hold_from, press_serial};
+ghost use Rattle.spec_desktop.specs.Settling.{Midstep, with_standing};
+ghost use Rattle.spec_desktop.specs.Stacked.{all_windows};
 ghost use Rattle.wl_desk.specs.Agreeing.{Agrees, LeadsBy};
 ghost use Rattle.wl_desk.specs.Midway.{IsTelling};
 ghost use Rattle.wl_clients.specs.Releasing.{MarksJust};

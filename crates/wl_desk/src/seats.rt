@@ -3,11 +3,11 @@
 ghost use Rattle.std.specs.Prelude.{◌≡◌, ◌<◌, ◌≤◌, length, map, nat_lt, true, vec_len};
 ghost use Rattle.std.specs.List.{position, position_or_len};
 ghost use Rattle.std.specs.Vec.{vec_capacity};
-ghost use Rattle.wl_plain.specs.Changing.{in_rising_order};
+ghost use Rattle.spec_desktop.specs.Changing.{in_rising_order};
 ghost use Rattle.wl_desk.specs.View.{seat_of};
 
+use spec_desktop::ClientNo;
 use std::alloc::Allocator;
-use wl_plain::ClientNo;
 
 /// The wl_pointers of the client of this number: none where it is the number of no place.
 pub(crate) fn seat_of<A: Allocator>(seats: &[Vec<u32, A>], client: ClientNo) -> &[u32]

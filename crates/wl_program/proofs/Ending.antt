@@ -10,18 +10,18 @@ use Rattle.wl_replay.specs.Told.{IsFirst, Stage}
 use Rattle.wl_recording.specs.declared.error.ReplayError.{ReplayError}
 use Rattle.wl_recording.specs.declared.error.ReplayError.TheVariants as stopped
 use Rattle.wl_recording.specs.declared.error.Summary.{Summary}
-use Rattle.wl_options.specs.Command.{Asks, IsRefused, refusals}
-use Rattle.wl_options.specs.Folder.{FolderView, folder_files}
+use Rattle.wl_program.specs.Command.{Asks, IsRefused, refusals}
+use Rattle.wl_program.specs.Folder.{FolderView, folder_files}
 use Rattle.wl_program.specs.Run.{Ends, Fails, FailsServing, IsReported, IsToldBy, config_of, folder_of}
-use Rattle.wl_options.specs.Status.{fault_by, status_of}
-use Rattle.wl_options.specs.declared.command.Asked.TheVariants as asked
-use Rattle.wl_options.specs.declared.command.CommandError.TheVariants as refused
-use Rattle.wl_options.specs.declared.command.Replay.{Replay}
-use Rattle.wl_options.specs.declared.command.Serve.{Serve}
-use Rattle.wl_options.specs.declared.fault.Fault.{Fault}
-use Rattle.wl_options.specs.declared.fault.Fault.TheVariants.{Read, Write, Side, Bind, Rate, Size, BadLine, Memory}
-use Rattle.wl_options.specs.declared.fault.Status.{Status}
-use Rattle.wl_options.specs.declared.fault.Status.TheVariants as status
+use Rattle.wl_program.specs.Status.{fault_by, status_of}
+use Rattle.wl_program.specs.declared.command.Asked.TheVariants as asked
+use Rattle.wl_program.specs.declared.command.CommandError.TheVariants as refused
+use Rattle.wl_program.specs.declared.command.Replay.{Replay}
+use Rattle.wl_program.specs.declared.command.Serve.{Serve}
+use Rattle.wl_program.specs.declared.fault.Fault.{Fault}
+use Rattle.wl_program.specs.declared.fault.Fault.TheVariants.{Read, Write, Side, Bind, Rate, Size, BadLine, Memory}
+use Rattle.wl_program.specs.declared.fault.Status.{Status}
+use Rattle.wl_program.specs.declared.fault.Status.TheVariants as status
 
 -- what was appended stays appended where the bytes are kept
 appends-kept : (old mid new : Option (List ℕ)) (text : List ℕ) → Appends old mid text → Keeps mid new → Appends old new text

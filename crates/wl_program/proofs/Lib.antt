@@ -1,4 +1,10 @@
+mod Accepted
 mod Ending
+pub mod Locals
+mod Named
+mod OptionsRows
+mod PaceRows
+mod Paced
 mod PointerLines
-mod Rows
 mod Served
+mod Sides

@@ -4,7 +4,7 @@ use Rattle.wl_recording.specs.Lines.{TakesLine}
 use Rattle.wl_recording.specs.Pointer.{pointer_by}
 use Rattle.wl_recording.specs.declared.pointer.PointerLine.{PointerLine}
 use Rattle.wl_recording.specs.declared.pointer.PointerLine.TheVariants.{Bad}
-use Rattle.wl_options.specs.declared.fault.Fault.{Fault}
+use Rattle.wl_program.specs.declared.fault.Fault.{Fault}
 use Rattle.wl_program.specs.Pointing.{FailsLine, FailsLines, IsBadPointer, ReadsPointer, TakesPointer}
 use Rattle.wl_program.specs.Pointing.ReadsPointer.{more}
 

@@ -2,7 +2,7 @@
 use Rattle.std.proofs.Common.{◌≡◌, ◌⊎◌, ◌+◌, ◌∙◌, ap, inl, inr, refl, subst, ℕ, false, List, [], Option, Result, Ok, Err}
 use Rattle.std.specs.Prelude.{◌<◌, ⊤, is_some}
 use Rattle.std.specs.Result.{IfErr, OnOk}
-use Rattle.wl_plain.specs.Desktop.{empty}
+use Rattle.spec_desktop.specs.Desktop.{empty}
 use Rattle.wl_replay.specs.Told.{IsFirst}
 use Rattle.wl_server.specs.Agreeing.{Agrees}
 use Rattle.wl_server.specs.Course.{moment}
@@ -14,7 +14,7 @@ use Rattle.wl_server.specs.declared.seat.Seat.{Seat}
 use Rattle.wl_recording.specs.Side.{Files}
 use Rattle.wl_recording.specs.declared.pointer.PointerLine.{PointerLine}
 use Rattle.mio.specs.declared.net.uds.stream.UnixStream.{UnixStream}
-use Rattle.wl_options.specs.Folder.{FolderView, folder_files, new_folder}
+use Rattle.wl_program.specs.Folder.{FolderView, folder_files, new_folder}
 use Rattle.wl_server.specs.Acting.{InTurn, IsServed, Stretch, Takes, Then}
 use Rattle.wl_server.specs.Phases.{IsTurn, StartsTurn}
 use Rattle.wl_server.specs.Telling.{IsToldOf, Tells, gathered, pictured, reported}
@@ -23,12 +23,12 @@ use Rattle.wl_server.proofs.Telling.{Tells-weaker}
 use Rattle.wl_server.proofs.Turning.{Tells-both}
 use Rattle.std.specs.Io.KnownBytes.{Keeps}
 use Rattle.std.proofs.KnownBytes.{Appends-kept, Appends-nil}
-use Rattle.wl_options.specs.declared.command.Serve.{Serve}
-use Rattle.wl_options.specs.declared.fault.Fault.{Fault}
-use Rattle.wl_options.specs.declared.fault.Fault.TheVariants.{Read, Write, Side, Bind, Rate, Size, BadLine, Memory}
+use Rattle.wl_program.specs.declared.command.Serve.{Serve}
+use Rattle.wl_program.specs.declared.fault.Fault.{Fault}
+use Rattle.wl_program.specs.declared.fault.Fault.TheVariants.{Read, Write, Side, Bind, Rate, Size, BadLine, Memory}
 use Rattle.wl_program.specs.Run.{FailsServing}
 use Rattle.wl_server.proofs.Frames.{served-as}
-use Rattle.wl_options.specs.declared.rate.Rate as paced
+use Rattle.wl_program.specs.declared.rate.Rate as paced
 use Rattle.wl_program.specs.Pace.{count_of, hertz_of, time_of}
 use Rattle.wl_program.specs.Serving.{AreTurns, BeginsTurns, IsOfPointer, ServedTurns, begun_of, moment_of, output_of, socket_ways, stage_of}
 

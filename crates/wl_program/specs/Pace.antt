@@ -1,6 +1,6 @@
 -- How many turns are taken, and which time each has.
 use Rattle.std.specs.Prelude.{ℕ, ◌*◌, ◌/◌, ◌%◌, ◌^◌, ◌-◌, Option, Some, None, unwrap_or, option_map}
-use Rattle.wl_options.specs.declared.rate.Rate.{Rate}
+use Rattle.wl_program.specs.declared.rate.Rate.{Rate}
 
 -- as many turns as are asked, or as can be counted
 abbrev pub count_of : Option ℕ → ℕ

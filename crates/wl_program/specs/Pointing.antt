@@ -5,8 +5,8 @@ use Rattle.wl_recording.specs.Lines.{IsTooLong, TakesLine}
 use Rattle.wl_recording.specs.Pointer.{pointer_by}
 use Rattle.wl_recording.specs.declared.pointer.PointerLine.{PointerLine}
 use Rattle.wl_recording.specs.declared.pointer.PointerLine.TheVariants.{Bad}
-use Rattle.wl_options.specs.declared.fault.Fault.{Fault}
-use Rattle.wl_options.specs.declared.fault.Fault.TheVariants.{Read, Write, Side, Bind, Rate, Size, BadLine, Memory}
+use Rattle.wl_program.specs.declared.fault.Fault.{Fault}
+use Rattle.wl_program.specs.declared.fault.Fault.TheVariants.{Read, Write, Side, Bind, Rate, Size, BadLine, Memory}
 
 -- The known bytes begin with a line of at most 140,000 bytes that asks this of the pointer, or nothing, and lose it.
 abbrev pub TakesPointer : Option (List ℕ) → Option (List ℕ) → PointerLine → Type 0

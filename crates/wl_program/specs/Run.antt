@@ -9,17 +9,17 @@ use Rattle.wl_replay.specs.Config.{Config}
 use Rattle.wl_recording.specs.declared.error.ReplayError.{ReplayError}
 use Rattle.wl_recording.specs.declared.error.ReplayError.TheVariants as stopped
 use Rattle.wl_recording.specs.declared.error.Summary.{Summary}
-use Rattle.wl_options.specs.Command.{Asks, HasFault, refusals}
-use Rattle.wl_options.specs.Folder.{FolderView, folder_files, new_folder}
-use Rattle.wl_options.specs.declared.command.Asked.{Asked}
-use Rattle.wl_options.specs.declared.command.Asked.TheVariants as asked
-use Rattle.wl_options.specs.declared.command.CommandError.{CommandError}
-use Rattle.wl_options.specs.declared.command.Replay.{Replay}
-use Rattle.wl_options.specs.declared.command.Serve.{Serve}
-use Rattle.wl_options.specs.declared.fault.Fault.{Fault}
-use Rattle.wl_options.specs.declared.fault.Fault.TheVariants.{Read, Write, Side, Bind, Rate, Size, BadLine, Memory}
-use Rattle.wl_options.specs.declared.fault.Status.{Status}
-use Rattle.wl_options.specs.declared.fault.Status.TheVariants as status
+use Rattle.wl_program.specs.Command.{Asks, HasFault, refusals}
+use Rattle.wl_program.specs.Folder.{FolderView, folder_files, new_folder}
+use Rattle.wl_program.specs.declared.command.Asked.{Asked}
+use Rattle.wl_program.specs.declared.command.Asked.TheVariants as asked
+use Rattle.wl_program.specs.declared.command.CommandError.{CommandError}
+use Rattle.wl_program.specs.declared.command.Replay.{Replay}
+use Rattle.wl_program.specs.declared.command.Serve.{Serve}
+use Rattle.wl_program.specs.declared.fault.Fault.{Fault}
+use Rattle.wl_program.specs.declared.fault.Fault.TheVariants.{Read, Write, Side, Bind, Rate, Size, BadLine, Memory}
+use Rattle.wl_program.specs.declared.fault.Status.{Status}
+use Rattle.wl_program.specs.declared.fault.Status.TheVariants as status
 use Rattle.wl_program.specs.Serving.{ServedTurns, output_of}
 
 -- the output of a replay

@@ -1,18 +1,18 @@
 -- What is served: turns of the plain desktop, one after another.
 use Rattle.std.specs.Prelude.{◌≡◌, ◌<◌, ◌+◌, ⊤, ℕ, Bool, true, false, is_some, List, [], Option}
 use Rattle.mio.specs.declared.net.uds.stream.UnixStream.{UnixStream}
-use Rattle.wl_hub.specs.Sockets.{MayAccept, MayClose, MayMove}
+use Rattle.wl_server.specs.Sockets.{MayAccept, MayClose, MayMove}
 use Rattle.wl_recording.specs.Side.{Files}
 use Rattle.wl_recording.specs.declared.pointer.PointerLine.{PointerLine}
-use Rattle.wl_options.specs.Folder.{FolderView, folder_files, new_folder}
-use Rattle.wl_options.specs.declared.command.Serve.{Serve}
-use Rattle.wl_options.specs.declared.fault.Fault.{Fault}
-use Rattle.wl_options.specs.declared.fault.Fault.TheVariants.{Read, Write, Side, Bind, Rate, Size, BadLine, Memory}
-use Rattle.wl_options.specs.declared.rate.Rate as paced
-use Rattle.wl_options.specs.declared.size.Size as declared
-use Rattle.wl_plain.specs.Act.{Act}
-use Rattle.wl_plain.specs.Desktop.{empty}
-use Rattle.wl_plain.specs.LeftOut.{nothing_left_out}
+use Rattle.wl_program.specs.Folder.{FolderView, folder_files, new_folder}
+use Rattle.wl_program.specs.declared.command.Serve.{Serve}
+use Rattle.wl_program.specs.declared.fault.Fault.{Fault}
+use Rattle.wl_program.specs.declared.fault.Fault.TheVariants.{Read, Write, Side, Bind, Rate, Size, BadLine, Memory}
+use Rattle.wl_program.specs.declared.rate.Rate as paced
+use Rattle.wl_program.specs.declared.size.Size as declared
+use Rattle.spec_desktop.specs.Act.{Act}
+use Rattle.spec_desktop.specs.Desktop.{empty}
+use Rattle.spec_desktop.specs.LeftOut.{nothing_left_out}
 use Rattle.wl_replay.specs.Told.{IsFirst, Stage}
 use Rattle.wl_server.specs.Acting.{InTurn, ShowsScratch, Stretch, Then}
 use Rattle.wl_server.specs.Phases.{IsTurn, StartsTurn}

@@ -1,15 +1,23 @@
-//! All of the program but its `main`: a recording is played or clients are served, as the command line asks.
+//! All of the program but its `main`: the command line, the side files of a folder, the statuses by which it ends; a recording is played or clients
+//! are served, as the command line asks.
 #![tactic(auto)]
 
+mod command;
+mod fault;
+mod folder;
 mod pace;
 mod pointing;
+mod rate;
 mod run;
 mod serving;
+mod size;
 mod streams;
 
+pub use command::{Asked, CommandError, Replay, Serve, parse};
+pub use fault::{Fault, Status};
+pub use folder::Folder;
 pub use pace::{Pace, Schedule};
+pub use rate::Rate;
 pub use run::run_program;
 pub use serving::serve_on;
-pub use wl_options::{
-    Asked, CommandError, Fault, Folder, Rate, Replay, Serve, Size, Status, parse,
-};
+pub use size::Size;

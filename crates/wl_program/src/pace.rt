@@ -3,9 +3,9 @@
 ghost use Rattle.std.specs.Prelude.{◌≡◌, ◌%◌, ◌^◌};
 ghost use Rattle.wl_program.specs.Pace.{count_of, hertz_of, time_of};
 
+use crate::rate::Rate;
 use std::thread;
 use std::time::{Clock, Duration, Instant};
-use wl_options::Rate;
 
 /// How many turns are taken, and how often they begin.
 #[derive(Clone, Copy)]

@@ -6,11 +6,11 @@ ghost use Rattle.wl_recording.specs.Lines.{TakesLine};
 ghost use Rattle.wl_program.specs.Pointing.{AreLines, FailsLine, FailsLines, IsNextLine};
 ghost use Rattle.wl_program.specs.Serving.{IsOfPointer};
 
+use crate::fault::Fault;
 use std::alloc::Allocator;
 use std::io::{BufRead, BufReader, ErrorKind};
 use std::rt::Files;
 use std::{fs, io};
-use wl_options::Fault;
 use wl_recording::{LINE_LIMIT, LineError, PointerLine, pointer_line, read_line};
 
 /// Reads the lines of the pointer's file, where there is one.

@@ -4,6 +4,9 @@ ghost use Rattle.std.specs.Prelude.{IfErr, OnOk, map, string_bytes};
 ghost use Rattle.clap.specs.Words.{kind_of};
 ghost use Rattle.wl_program.specs.Run.{Ends, Fails, IsReported, IsToldBy};
 
+use crate::command::{Asked, CommandError, Replay, parse};
+use crate::fault::{Fault, Status};
+use crate::folder::Folder;
 use crate::serving::serve;
 use crate::streams::{create, flush};
 use clap::error::ErrorKind;
@@ -12,7 +15,6 @@ use std::io::{BufRead, Write};
 use std::net::Net;
 use std::rt::Files;
 use std::time::Clock;
-use wl_options::{Asked, CommandError, Fault, Folder, Replay, Status, parse};
 use wl_replay::{Config, Rgb};
 
 /// The background of every output.

@@ -1,7 +1,7 @@
 //! Clients are served.
 
 ghost use Rattle.std.specs.Prelude.{◌≡◌, ◌⊎◌, IfErr, IfOk, OnErr, OnOk};
-ghost use Rattle.wl_plain.specs.Desktop.{empty};
+ghost use Rattle.spec_desktop.specs.Desktop.{empty};
 ghost use Rattle.wl_replay.specs.Told.{IsFirst};
 ghost use Rattle.wl_server.specs.Agreeing.{Agrees};
 ghost use Rattle.wl_server.specs.Liars.{IsRightBut, nobody};
@@ -13,20 +13,22 @@ ghost use Rattle.wl_server.specs.Ways.{serving, ways};
 ghost use Rattle.wl_program.specs.Run.{FailsServing};
 ghost use Rattle.wl_program.specs.Serving.{AreTurns, BeginsTurns, ServedTurns, moment_of, output_of, stage_of};
 
+use crate::command::Serve;
+use crate::fault::Fault;
+use crate::folder::Folder;
 use crate::pace::{Pace, Schedule, Timer};
 use crate::pointing::read_pointer;
 use crate::run::BLACK;
+use crate::size::Size;
 use crate::streams::{create, flush};
 use std::alloc::Allocator;
 use std::io::{self, ErrorKind, Write};
 use std::net::Net;
 use std::rt::Files;
 use std::time::Clock;
-use wl_hub::{Hub, SocketHub};
-use wl_options::{Fault, Folder, Serve, Size};
 use wl_recording::SideFiles;
 use wl_replay::Config;
-use wl_server::{Connections, Service, Session, TurnError, turn};
+use wl_server::{Connections, Hub, Service, Session, SocketHub, TurnError, turn};
 
 /// Serves the clients that connect to a socket, which is made at its path and stays there.
 pub(crate) fn serve<'a, F: Files + Net + Clock + AllocGlobal, A: Allocator + Copy, W: Write>(

@@ -4,10 +4,10 @@ ghost use Rattle.std.specs.Prelude.{◌≡◌, ◌⊎◌, IfErr};
 ghost use Rattle.std.specs.Io.KnownBytes.{Keeps};
 ghost use Rattle.wl_server.specs.Telling.{images_in};
 
+use crate::fault::Fault;
 use std::io::{BufWriter, ErrorKind, Write};
 use std::rt::Files;
 use std::{fs, io};
-use wl_options::Fault;
 
 /// Opens the file of the images, where there is to be one.
 pub(crate) fn create<F: Files + AllocGlobal>(

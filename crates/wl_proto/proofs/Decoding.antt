@@ -4,7 +4,7 @@ use Rattle.wl_wire.specs.declared.error.ArgError.{ArgError}
 use Rattle.wl_wire.specs.Wire.{Field, fields_at}
 use Rattle.wl_wire.specs.Laws.{AreBytes}
 use Rattle.wl_wire.proofs.ReadAgain.{read_as_spelled}
-use Rattle.wl_interface.specs.declared.interface.Interface.{Interface}
+use Rattle.wl_proto.specs.declared.interface.Interface.{Interface}
 use Rattle.wl_proto.specs.declared.error.ProtoError.{ProtoError}
 use Rattle.wl_proto.specs.declared.error.ProtoError.TheVariants.{NoMethod}
 use Rattle.wl_proto.specs.Table.{Signature, kinds_of, request_at}

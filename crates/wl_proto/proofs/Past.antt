@@ -1,7 +1,7 @@
 -- An opcode past the last has no request.
 use Rattle.std.proofs.Common.{◌≡◌, ℕ, ◌≤◌, List, length, Err, ap}
 use Rattle.std.proofs.lemmas.Option.{slice_get_past}
-use Rattle.wl_interface.specs.declared.interface.Interface.{Interface}
+use Rattle.wl_proto.specs.declared.interface.Interface.{Interface}
 use Rattle.wl_proto.specs.declared.error.ProtoError.TheVariants.{NoMethod}
 use Rattle.wl_proto.specs.Table.{requests_of, if_in_version}
 use Rattle.wl_proto.specs.Spelling.{message_in, decoded}

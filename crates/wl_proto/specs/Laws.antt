@@ -4,7 +4,7 @@ use Rattle.std.specs.List.{AllByRecursion}
 use Rattle.wl_wire.specs.declared.header.Split.TheVariants as split
 use Rattle.wl_wire.specs.Wire.{Field, kind_of, IsInRange, SpellsMessage, split_of}
 use Rattle.wl_wire.specs.Laws.{AreBytes}
-use Rattle.wl_interface.specs.declared.interface.Interface.{Interface}
+use Rattle.wl_proto.specs.declared.interface.Interface.{Interface}
 use Rattle.wl_proto.specs.Table.{Signature, kinds_of, request_at}
 use Rattle.wl_proto.specs.Messages.{Message, says}
 use Rattle.wl_proto.specs.Spelling.{SpellsEvent, decoded}

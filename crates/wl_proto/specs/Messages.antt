@@ -2,11 +2,11 @@
 -- wayland.xml and xdg-shell.xml.
 use Rattle.std.specs.Prelude.{ℕ, List, [], ◌∷◌}
 use Rattle.wl_wire.specs.Wire.{Field, Word, Number, Text, Block}
-use Rattle.wl_interface.specs.declared.interface.Interface.{Interface}
-use Rattle.wl_interface.specs.declared.interface.Interface.TheVariants.{WlDisplay, WlRegistry, WlCallback, WlCompositor, WlRegion}
-use Rattle.wl_interface.specs.declared.interface.Interface.TheVariants.{WlSurface, WlShm, WlShmPool, WlBuffer, WlSubcompositor}
-use Rattle.wl_interface.specs.declared.interface.Interface.TheVariants.{WlSubsurface, WlOutput, WlSeat, WlPointer, XdgWmBase, XdgPositioner}
-use Rattle.wl_interface.specs.declared.interface.Interface.TheVariants.{XdgSurface, XdgToplevel, XdgPopup}
+use Rattle.wl_proto.specs.declared.interface.Interface.{Interface}
+use Rattle.wl_proto.specs.declared.interface.Interface.TheVariants.{WlDisplay, WlRegistry, WlCallback, WlCompositor, WlRegion}
+use Rattle.wl_proto.specs.declared.interface.Interface.TheVariants.{WlSurface, WlShm, WlShmPool, WlBuffer, WlSubcompositor}
+use Rattle.wl_proto.specs.declared.interface.Interface.TheVariants.{WlSubsurface, WlOutput, WlSeat, WlPointer, XdgWmBase, XdgPositioner}
+use Rattle.wl_proto.specs.declared.interface.Interface.TheVariants.{XdgSurface, XdgToplevel, XdgPopup}
 use Rattle.wl_proto.specs.declared.wl_display.WlDisplayRequest.{WlDisplayRequest}
 use Rattle.wl_proto.specs.declared.wl_display.WlDisplayRequest.TheVariants as wl_display_requests
 use Rattle.wl_proto.specs.declared.wl_display.WlDisplayEvent.{WlDisplayEvent}

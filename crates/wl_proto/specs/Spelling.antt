@@ -6,7 +6,7 @@ use Rattle.wl_wire.specs.declared.error.ArgError.{ArgError}
 use Rattle.wl_wire.specs.declared.error.PutError.{PutError}
 use Rattle.wl_wire.specs.declared.error.PutError.TheVariants.{TooLong}
 use Rattle.wl_wire.specs.Wire.{Field, Kind, kind_of, IsInRange, SpellsAll, SpellsMessage, fields_at, fields_bytes, message_bytes}
-use Rattle.wl_interface.specs.declared.interface.Interface.{Interface}
+use Rattle.wl_proto.specs.declared.interface.Interface.{Interface}
 use Rattle.wl_proto.specs.declared.error.ProtoError.{ProtoError}
 use Rattle.wl_proto.specs.declared.error.ProtoError.TheVariants.{NoMethod, BadArgs}
 use Rattle.wl_proto.specs.Table.{Signature, kinds_of, request_at, events_of}

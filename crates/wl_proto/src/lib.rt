@@ -1,4 +1,4 @@
-//! The messages of the protocol (wayland.xml, xdg-shell.xml): which requests and events there are, and which bytes
+//! The messages of the protocol (wayland.xml, xdg-shell.xml): which interfaces, requests and events there are, and which bytes
 //! spell them.
 //!
 //! The table of messages stands in specs/Table.antt. A request is decoded exactly where the table spells one at
@@ -17,6 +17,7 @@ mod argument;
 mod body;
 mod error;
 mod event;
+mod interface;
 mod request;
 mod wl_buffer;
 mod wl_callback;
@@ -41,13 +42,13 @@ mod xdg_wm_base;
 pub use argument::{NewId, ObjectArg};
 pub use error::ProtoError;
 pub use event::{Event, EventBody};
+pub use interface::Interface;
 pub use request::Request;
 use std::alloc::Allocator;
 pub use wl_buffer::{WlBufferEvent, WlBufferRequest};
 pub use wl_callback::WlCallbackEvent;
 pub use wl_compositor::WlCompositorRequest;
 pub use wl_display::{WlDisplayEvent, WlDisplayRequest};
-pub use wl_interface::Interface;
 pub use wl_output::WlOutputEvent;
 pub use wl_pointer::{WlPointerEvent, WlPointerRequest};
 pub use wl_region::WlRegionRequest;

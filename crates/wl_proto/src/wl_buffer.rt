@@ -2,7 +2,7 @@
 
 ghost use Rattle.wl_proto.specs.Spelling.{Gives, decoded, Puts, HasSize};
 ghost use Rattle.wl_proto.specs.Messages.{wl_buffer_request, wl_buffer_event};
-ghost use Rattle.wl_interface.specs.declared.interface.Interface.TheVariants.{WlBuffer};
+ghost use Rattle.wl_proto.specs.declared.interface.Interface.TheVariants.{WlBuffer};
 
 use crate::ProtoError;
 use crate::body::nothing;

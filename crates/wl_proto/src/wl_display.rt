@@ -4,7 +4,7 @@ ghost use Rattle.std.specs.Prelude.{◌≡◌};
 ghost use Rattle.wl_proto.specs.Spelling.{Gives, decoded, Puts, HasSize};
 ghost use Rattle.wl_proto.specs.Objects.{new_id_in};
 ghost use Rattle.wl_proto.specs.Messages.{wl_display_request, wl_display_event};
-ghost use Rattle.wl_interface.specs.declared.interface.Interface.TheVariants.{WlDisplay};
+ghost use Rattle.wl_proto.specs.declared.interface.Interface.TheVariants.{WlDisplay};
 
 use crate::body::word;
 use crate::{Interface, NewId, ProtoError};

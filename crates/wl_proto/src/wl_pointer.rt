@@ -4,7 +4,7 @@ ghost use Rattle.std.specs.Prelude.{◌≡◌, flat_map, option_to_list};
 ghost use Rattle.wl_proto.specs.Spelling.{Gives, decoded, Puts, HasSize};
 ghost use Rattle.wl_proto.specs.Objects.{objects_in};
 ghost use Rattle.wl_proto.specs.Messages.{wl_pointer_request, wl_pointer_event};
-ghost use Rattle.wl_interface.specs.declared.interface.Interface.TheVariants.{WlPointer};
+ghost use Rattle.wl_proto.specs.declared.interface.Interface.TheVariants.{WlPointer};
 
 use crate::body::two_words_two_ints;
 use crate::{Interface, ObjectArg, ProtoError};

@@ -2,7 +2,7 @@
 
 ghost use Rattle.wl_proto.specs.Spelling.{Gives, decoded};
 ghost use Rattle.wl_proto.specs.Messages.{wl_region_request};
-ghost use Rattle.wl_interface.specs.declared.interface.Interface.TheVariants.{WlRegion};
+ghost use Rattle.wl_proto.specs.declared.interface.Interface.TheVariants.{WlRegion};
 
 use crate::ProtoError;
 use crate::body::{four_ints, nothing};

@@ -4,7 +4,7 @@ ghost use Rattle.std.specs.Prelude.{◌≡◌};
 ghost use Rattle.wl_proto.specs.Spelling.{Gives, decoded, Puts, HasSize};
 ghost use Rattle.wl_proto.specs.Objects.{new_id_in};
 ghost use Rattle.wl_proto.specs.Messages.{wl_registry_request, wl_registry_event};
-ghost use Rattle.wl_interface.specs.declared.interface.Interface.TheVariants.{WlRegistry};
+ghost use Rattle.wl_proto.specs.declared.interface.Interface.TheVariants.{WlRegistry};
 
 use crate::body::word_text_two_words;
 use crate::{NewId, ProtoError};

@@ -4,7 +4,7 @@ ghost use Rattle.std.specs.Prelude.{◌≡◌};
 ghost use Rattle.wl_proto.specs.Spelling.{Gives, decoded, Puts, HasSize};
 ghost use Rattle.wl_proto.specs.Objects.{new_id_in};
 ghost use Rattle.wl_proto.specs.Messages.{wl_shm_request, wl_shm_event};
-ghost use Rattle.wl_interface.specs.declared.interface.Interface.TheVariants.{WlShm};
+ghost use Rattle.wl_proto.specs.declared.interface.Interface.TheVariants.{WlShm};
 
 use crate::body::word_int;
 use crate::{Interface, NewId, ProtoError};

@@ -4,7 +4,7 @@ ghost use Rattle.std.specs.Prelude.{◌≡◌};
 ghost use Rattle.wl_proto.specs.Spelling.{Gives, decoded};
 ghost use Rattle.wl_proto.specs.Objects.{new_id_in};
 ghost use Rattle.wl_proto.specs.Messages.{wl_shm_pool_request};
-ghost use Rattle.wl_interface.specs.declared.interface.Interface.TheVariants.{WlShmPool};
+ghost use Rattle.wl_proto.specs.declared.interface.Interface.TheVariants.{WlShmPool};
 
 use crate::body::{int, nothing, word_four_ints_word};
 use crate::{Interface, NewId, ProtoError};

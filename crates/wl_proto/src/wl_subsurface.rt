@@ -4,7 +4,7 @@ ghost use Rattle.std.specs.Prelude.{◌≡◌, flat_map, option_to_list};
 ghost use Rattle.wl_proto.specs.Spelling.{Gives, decoded};
 ghost use Rattle.wl_proto.specs.Objects.{objects_in};
 ghost use Rattle.wl_proto.specs.Messages.{wl_subsurface_request};
-ghost use Rattle.wl_interface.specs.declared.interface.Interface.TheVariants.{WlSubsurface};
+ghost use Rattle.wl_proto.specs.declared.interface.Interface.TheVariants.{WlSubsurface};
 
 use crate::body::{nothing, two_ints, word};
 use crate::{Interface, ObjectArg, ProtoError};

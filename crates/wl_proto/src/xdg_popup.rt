@@ -4,7 +4,7 @@ ghost use Rattle.std.specs.Prelude.{◌≡◌, flat_map, option_to_list};
 ghost use Rattle.wl_proto.specs.Spelling.{Gives, decoded, Puts, HasSize};
 ghost use Rattle.wl_proto.specs.Objects.{objects_in};
 ghost use Rattle.wl_proto.specs.Messages.{xdg_popup_request, xdg_popup_event};
-ghost use Rattle.wl_interface.specs.declared.interface.Interface.TheVariants.{XdgPopup};
+ghost use Rattle.wl_proto.specs.declared.interface.Interface.TheVariants.{XdgPopup};
 
 use crate::body::{nothing, two_words};
 use crate::{Interface, ObjectArg, ProtoError};

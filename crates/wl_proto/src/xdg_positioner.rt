@@ -2,7 +2,7 @@
 
 ghost use Rattle.wl_proto.specs.Spelling.{Gives, decoded};
 ghost use Rattle.wl_proto.specs.Messages.{xdg_positioner_request};
-ghost use Rattle.wl_interface.specs.declared.interface.Interface.TheVariants.{XdgPositioner};
+ghost use Rattle.wl_proto.specs.declared.interface.Interface.TheVariants.{XdgPositioner};
 
 use crate::ProtoError;
 use crate::body::{four_ints, nothing, two_ints, word};

@@ -4,7 +4,7 @@ ghost use Rattle.std.specs.Prelude.{◌≡◌, flat_map, option_to_list};
 ghost use Rattle.wl_proto.specs.Spelling.{Gives, decoded, Puts, HasSize};
 ghost use Rattle.wl_proto.specs.Objects.{objects_in, new_id_in};
 ghost use Rattle.wl_proto.specs.Messages.{xdg_surface_request, xdg_surface_event};
-ghost use Rattle.wl_interface.specs.declared.interface.Interface.TheVariants.{XdgSurface};
+ghost use Rattle.wl_proto.specs.declared.interface.Interface.TheVariants.{XdgSurface};
 
 use crate::body::{four_ints, nothing, three_words, word};
 use crate::{Interface, NewId, ObjectArg, ProtoError};

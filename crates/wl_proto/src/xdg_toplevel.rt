@@ -5,7 +5,7 @@ ghost use Rattle.wl_wire.specs.Wire.{Number, Block};
 ghost use Rattle.wl_proto.specs.Spelling.{Gives, decoded, Puts, HasSize};
 ghost use Rattle.wl_proto.specs.Objects.{objects_in};
 ghost use Rattle.wl_proto.specs.Messages.{xdg_toplevel_request, says};
-ghost use Rattle.wl_interface.specs.declared.interface.Interface.TheVariants.{XdgToplevel};
+ghost use Rattle.wl_proto.specs.declared.interface.Interface.TheVariants.{XdgToplevel};
 
 use crate::body::{nothing, text, three_words, two_ints, two_words, two_words_two_ints, word};
 use crate::{Interface, ObjectArg, ProtoError};

@@ -4,7 +4,7 @@ ghost use Rattle.std.specs.Prelude.{◌≡◌, flat_map, option_to_list};
 ghost use Rattle.wl_proto.specs.Spelling.{Gives, decoded};
 ghost use Rattle.wl_proto.specs.Objects.{objects_in, new_id_in};
 ghost use Rattle.wl_proto.specs.Messages.{xdg_wm_base_request};
-ghost use Rattle.wl_interface.specs.declared.interface.Interface.TheVariants.{XdgWmBase};
+ghost use Rattle.wl_proto.specs.declared.interface.Interface.TheVariants.{XdgWmBase};
 
 use crate::body::{nothing, two_words, word};
 use crate::{Interface, NewId, ObjectArg, ProtoError};

@@ -4,9 +4,9 @@ ghost use Rattle.std.specs.Prelude.{◌≡◌, ◌*◌, ◌<◌, ◌≤◌, leng
 ghost use Rattle.std.specs.Io.KnownBytes.{Appends};
 ghost use Rattle.wl_recording.specs.Text.{cause_text, client_line, end_line, frame_line, full_line, hex_digit, hex_of, none_line, nostore_line, outside_line, to_line};
 
+use spec_desktop::Cause;
 use std::io;
 use std::io::Write;
-use wl_peer::Cause;
 
 /// How many bytes are written as hex digits at once.
 const CHUNK: usize = 1024;

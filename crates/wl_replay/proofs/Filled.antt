@@ -2,9 +2,9 @@
 use Rattle.std.proofs.Common.{◌≡◌, ◌<◌, ◌≤◌, ◌+◌, ℕ, List, [], ◌∷◌, length, sym, subst, inr, arith}
 use Rattle.wl_session.specs.Course.{TakesCourse}
 use Rattle.wl_session.specs.View.{SessionView}
-use Rattle.wl_plain.specs.Act.{Act}
-use Rattle.wl_plain.specs.Act as act
-use Rattle.wl_plain.specs.declared.answers.Done.{Done}
+use Rattle.spec_desktop.specs.Act.{Act}
+use Rattle.spec_desktop.specs.Act as act
+use Rattle.spec_desktop.specs.declared.answers.Done.{Done}
 use Rattle.wl_recording.specs.declared.place.Place.{Place}
 use Rattle.wl_recording.specs.Side.{Files}
 use Rattle.wl_replay.specs.Storing.{Fills, FillsAll, Puts, more}

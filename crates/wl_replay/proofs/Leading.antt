@@ -2,9 +2,9 @@
 use Rattle.std.proofs.Common.{◌≡◌, ℕ, ℤ, Bool, List, [], Option, refl, sym, subst, ◌∙◌, add-zero, append-nil}
 use Rattle.std.specs.Io.KnownBytes.{Appends}
 use Rattle.std.proofs.KnownBytes.{Appends-nil, Appends-trans}
-use Rattle.wl_plain.specs.Act.{Act, Button, Motion}
-use Rattle.wl_plain.specs.declared.answers.Done.{Done}
-use Rattle.wl_plain.specs.declared.answers.Done.TheVariants as gave
+use Rattle.spec_desktop.specs.Act.{Act, Button, Motion}
+use Rattle.spec_desktop.specs.declared.answers.Done.{Done}
+use Rattle.spec_desktop.specs.declared.answers.Done.TheVariants as gave
 use Rattle.wl_session.specs.Course.{TakesCourse}
 use Rattle.wl_session.specs.View.{SessionView}
 use Rattle.wl_recording.specs.declared.line.Line.{Line}

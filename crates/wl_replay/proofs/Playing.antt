@@ -4,7 +4,7 @@ use Rattle.std.specs.Prelude.{IfErr, IfOk, Ok, Err}
 use Rattle.std.specs.Io.KnownBytes.{IsAtEnd}
 use Rattle.std.proofs.KnownBytes.{Appends-nil, Appends-trans}
 use Rattle.std.proofs.lemmas.List.{length_push}
-use Rattle.wl_plain.specs.Desktop.{Desktop}
+use Rattle.spec_desktop.specs.Desktop.{Desktop}
 use Rattle.wl_session.specs.View.{SessionView}
 use Rattle.wl_session.specs.declared.sessions.Config.{Config}
 use Rattle.wl_recording.specs.declared.error.Summary.{Summary}

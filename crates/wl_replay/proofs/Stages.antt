@@ -1,10 +1,10 @@
 -- What a session's calls make of a stage.
 use Rattle.std.proofs.Common.{◌≡◌, ◌++◌, ◌*◌, ℕ, false, List, [], ap, refl, subst, ◌∙◌}
-use Rattle.wl_plain.specs.Act.{Act, Tick}
-use Rattle.wl_plain.specs.Desktop.{empty}
-use Rattle.wl_plain.specs.LeftOut.{nothing_left_out}
-use Rattle.wl_plain.specs.declared.answers.Done.{Done}
-use Rattle.wl_plain.specs.declared.answers.Done.TheVariants as gave
+use Rattle.spec_desktop.specs.Act.{Act, Tick}
+use Rattle.spec_desktop.specs.Desktop.{empty}
+use Rattle.spec_desktop.specs.LeftOut.{nothing_left_out}
+use Rattle.spec_desktop.specs.declared.answers.Done.{Done}
+use Rattle.spec_desktop.specs.declared.answers.Done.TheVariants as gave
 use Rattle.wl_session.specs.Agreeing.{Agrees}
 use Rattle.wl_session.specs.Course.{Course, moment}
 use Rattle.wl_session.specs.Damage.{Damaged, has}

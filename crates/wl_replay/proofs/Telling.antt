@@ -1,7 +1,7 @@
 -- The clients up to a number, one after another.
 use Rattle.std.proofs.Common.{◌≡◌, ℕ, suc, ◌+◌, List, [], ◌∷◌, ◌++◌, Option, Some, length, refl, sym, subst, add-one}
-use Rattle.wl_plain.specs.declared.answers.Done.{Done}
-use Rattle.wl_plain.specs.Act.{Send}
+use Rattle.spec_desktop.specs.declared.answers.Done.{Done}
+use Rattle.spec_desktop.specs.Act.{Send}
 use Rattle.wl_replay.specs.Told.{Stage, Steps}
 use Rattle.wl_replay.specs.Clients.{Sends, TellsClient, TellsFirst}
 use Rattle.wl_recording.specs.Text.{to_line}

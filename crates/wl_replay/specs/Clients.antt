@@ -1,10 +1,10 @@
 -- What each client is sent after a line, and how it is closed.
 use Rattle.std.specs.Prelude.{◌≡◌, ℕ, zero, suc, Option, Some, None, List, [], ◌∷◌, ◌++◌, length}
-use Rattle.wl_plain.specs.Act as act
-use Rattle.wl_plain.specs.Act.{peer_at, status_of, unsent_of}
-use Rattle.wl_plain.specs.declared.answers.Done.{Done}
-use Rattle.wl_plain.specs.declared.answers.Fed.{Fed}
-use Rattle.wl_plain.specs.declared.answers.Fed.TheVariants.{Alive, Ended, NoClient}
+use Rattle.spec_desktop.specs.Act as act
+use Rattle.spec_desktop.specs.Act.{peer_at, status_of, unsent_of}
+use Rattle.spec_desktop.specs.declared.answers.Done.{Done}
+use Rattle.spec_desktop.specs.declared.answers.Fed.{Fed}
+use Rattle.spec_desktop.specs.declared.answers.Fed.TheVariants.{Alive, Ended, NoClient}
 use Rattle.wl_recording.specs.Text.{end_line, to_line}
 use Rattle.wl_replay.specs.Told.{Stage, Steps}
 

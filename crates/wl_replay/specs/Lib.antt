@@ -1,9 +1,9 @@
-pub mod Told
 pub mod Clients
-pub mod Storing
 pub mod Report
-pub use Rattle.wl_plain.specs.Desktop
-pub use Rattle.wl_plain.specs.Act
+pub mod Storing
+pub mod Told
+pub use Rattle.spec_desktop.specs.Act
+pub use Rattle.spec_desktop.specs.Desktop
 pub use Rattle.wl_recording.specs.Line
 pub use Rattle.wl_recording.specs.Lines
 pub use Rattle.wl_recording.specs.Side

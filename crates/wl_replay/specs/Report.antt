@@ -4,16 +4,16 @@ use Rattle.std.specs.Io.KnownBytes.{Appends, IsAtEnd}
 use Rattle.std.specs.Option.{option_and_then}
 use Rattle.wl_session.specs.View.{SessionView}
 use Rattle.wl_session.specs.Damage.{count_points, has}
-use Rattle.wl_plain.specs.Desktop.{Desktop}
+use Rattle.spec_desktop.specs.Desktop.{Desktop}
 use Rattle.wl_session.specs.Image.{image_of}
-use Rattle.wl_plain.specs.Act as act
-use Rattle.wl_plain.specs.Act.{peer_at, status_of}
-use Rattle.wl_plain.specs.declared.answers.ConnectError.{ConnectError}
-use Rattle.wl_plain.specs.declared.answers.ConnectError.TheVariants.{Full, Memory}
-use Rattle.wl_plain.specs.declared.answers.Done.{Done}
-use Rattle.wl_plain.specs.declared.answers.Done.TheVariants as gave
-use Rattle.wl_plain.specs.declared.answers.Fed.{Fed}
-use Rattle.wl_plain.specs.declared.answers.Fed.TheVariants.{Alive, Ended, NoClient}
+use Rattle.spec_desktop.specs.Act as act
+use Rattle.spec_desktop.specs.Act.{peer_at, status_of}
+use Rattle.spec_desktop.specs.declared.answers.ConnectError.{ConnectError}
+use Rattle.spec_desktop.specs.declared.answers.ConnectError.TheVariants.{Full, Memory}
+use Rattle.spec_desktop.specs.declared.answers.Done.{Done}
+use Rattle.spec_desktop.specs.declared.answers.Done.TheVariants as gave
+use Rattle.spec_desktop.specs.declared.answers.Fed.{Fed}
+use Rattle.spec_desktop.specs.declared.answers.Fed.TheVariants.{Alive, Ended, NoClient}
 use Rattle.wl_recording.specs.declared.error.ReplayError.{ReplayError}
 use Rattle.wl_recording.specs.declared.error.ReplayError.TheVariants as error
 use Rattle.wl_recording.specs.declared.error.Summary.{Summary}

@@ -3,15 +3,15 @@ use Rattle.std.specs.Prelude.{◌≡◌, ◌≢◌, ◌<◌, ◌≤◌, ◌+◌,
 use Rattle.std.specs.Prelude.{Result, Ok, Err}
 use Rattle.wl_session.specs.Course.{TakesCourse}
 use Rattle.wl_session.specs.View.{SessionView}
-use Rattle.wl_plain.specs.Desktop.{Desktop}
-use Rattle.wl_plain.specs.Act as act
-use Rattle.wl_plain.specs.Act.{peer_at, status_of, store_size_of}
-use Rattle.wl_plain.specs.declared.answers.Done.{Done}
-use Rattle.wl_plain.specs.declared.answers.Done.TheVariants as gave
-use Rattle.wl_plain.specs.declared.answers.Fed.{Fed}
-use Rattle.wl_plain.specs.declared.answers.Fed.TheVariants.{Alive, Ended, NoClient}
-use Rattle.wl_plain.specs.declared.answers.Stored.{Stored}
-use Rattle.wl_plain.specs.declared.answers.Stored.TheVariants as stored
+use Rattle.spec_desktop.specs.Desktop.{Desktop}
+use Rattle.spec_desktop.specs.Act as act
+use Rattle.spec_desktop.specs.Act.{peer_at, status_of, store_size_of}
+use Rattle.spec_desktop.specs.declared.answers.Done.{Done}
+use Rattle.spec_desktop.specs.declared.answers.Done.TheVariants as gave
+use Rattle.spec_desktop.specs.declared.answers.Fed.{Fed}
+use Rattle.spec_desktop.specs.declared.answers.Fed.TheVariants.{Alive, Ended, NoClient}
+use Rattle.spec_desktop.specs.declared.answers.Stored.{Stored}
+use Rattle.spec_desktop.specs.declared.answers.Stored.TheVariants as stored
 use Rattle.wl_recording.specs.declared.place.Place.{Place}
 use Rattle.wl_recording.specs.Side.{Files, Lacks}
 use Rattle.wl_recording.specs.Text.{none_line, nostore_line, outside_line}

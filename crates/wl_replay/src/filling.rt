@@ -2,7 +2,7 @@
 
 ghost use Rattle.std.specs.Prelude.{◌≡◌, ◌≤◌, ℕ, List, length, true, false, Ok, Err, IfOk, OnOk};
 ghost use Rattle.wl_session.specs.Agreeing.{Agrees};
-ghost use Rattle.wl_plain.specs.Desktop.{Desktop};
+ghost use Rattle.spec_desktop.specs.Desktop.{Desktop};
 ghost use Rattle.wl_recording.specs.Side.{CountsFault, files_of};
 ghost use Rattle.wl_replay.specs.Storing.{FillsAll, LacksFile, Puts, TellsFile, room_in};
 ghost use Rattle.wl_replay.specs.Told.{IsSilent, Leads, Stage, Stands};

@@ -4,7 +4,7 @@ ghost use Rattle.std.specs.Prelude.{◌≡◌, ◌≤◌, ◌⊎◌, ⊤, IfOk, 
 ghost use Rattle.std.specs.Io.KnownBytes.{IsAtEnd};
 ghost use Rattle.wl_session.specs.Frame.{is_side};
 ghost use Rattle.wl_session.specs.Agreeing.{Agrees};
-ghost use Rattle.wl_plain.specs.Desktop.{Desktop};
+ghost use Rattle.spec_desktop.specs.Desktop.{Desktop};
 ghost use Rattle.wl_recording.specs.Lines.{TakesLine};
 ghost use Rattle.wl_replay.specs.Report.{FailsAt, IsLackingLine, IsPlayed, StopsAs, TakesOne, images_in};
 ghost use Rattle.wl_recording.specs.Side.{files_of};

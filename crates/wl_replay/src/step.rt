@@ -4,7 +4,7 @@ ghost use Rattle.std.specs.Prelude.{◌≡◌, ◌≤◌, ◌⊎◌, Err, IfOk, 
 ghost use Rattle.std.specs.Io.KnownBytes.{Appends};
 ghost use Rattle.wl_session.specs.Image.{image_of};
 ghost use Rattle.wl_session.specs.Agreeing.{Agrees};
-ghost use Rattle.wl_plain.specs.Desktop.{Desktop};
+ghost use Rattle.spec_desktop.specs.Desktop.{Desktop};
 ghost use Rattle.wl_recording.specs.Line.{meaning};
 ghost use Rattle.wl_replay.specs.Report.{LacksAsked, TellsBytes, TellsConnect, TellsGone, TellsLine, TellsStep, TellsTick, absent_text, images_in};
 ghost use Rattle.wl_recording.specs.Side.{files_of};

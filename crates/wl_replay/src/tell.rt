@@ -2,7 +2,7 @@
 
 ghost use Rattle.std.specs.Prelude.{◌≡◌, ◌≤◌, ◌+◌, ◌*◌, ℕ, List, OnOk, IfOk, Ok, Err};
 ghost use Rattle.std.specs.Io.KnownBytes.{Appends};
-ghost use Rattle.wl_plain.specs.Act.{peer_at, status_of, unsent_of};
+ghost use Rattle.spec_desktop.specs.Act.{peer_at, status_of, unsent_of};
 ghost use Rattle.wl_replay.specs.Clients.{Closes, Sends, TellsClient, TellsFirst};
 ghost use Rattle.wl_replay.specs.Told.{Stage, Stands};
 

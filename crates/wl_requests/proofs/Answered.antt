@@ -3,30 +3,30 @@ use Rattle.std.proofs.Common.{◌≡◌, ℕ, ◌+◌, List, ◌++◌, true, fal
 use Rattle.std.specs.Prelude.{◌==◌, ◌||◌, is_some, slice_index_or, count_by, filter}
 use Rattle.std.specs.List.{list_any}
 use Rattle.std.specs.Option.{option_map}
-use Rattle.wl_interface.specs.declared.interface.Interface.{Interface}
-use Rattle.wl_interface.specs.declared.interface.Interface.TheVariants.{WlCallback, WlSurface, XdgPopup, XdgSurface, XdgToplevel}
+use Rattle.wl_proto.specs.declared.interface.Interface.{Interface}
+use Rattle.wl_proto.specs.declared.interface.Interface.TheVariants.{WlCallback, WlSurface, XdgPopup, XdgSurface, XdgToplevel}
 use Rattle.wl_table.specs.Objects.{Held, HoldsAt, entry_of}
 use Rattle.wl_table.specs.declared.entry.Entry.{Entry}
 use Rattle.wl_client.specs.Agreement.{IsPeer}
-use Rattle.wl_peer.specs.Objects.{ById, interface_number, is_of, object_of, objects_in}
-use Rattle.wl_peer.specs.Peer.{Peer, Queues, removed}
-use Rattle.wl_state.specs.Kept.{Kept as KeptSurface}
-use Rattle.wl_family.specs.Family.{Tied, is_there}
-use Rattle.wl_tree_laws.specs.Hanging.{Hang}
-use Rattle.wl_named.specs.Renaming.{renamed}
+use Rattle.spec_desktop.specs.Objects.{ById, interface_number, is_of, object_of, objects_in}
+use Rattle.spec_desktop.specs.Peer.{Peer, Queues, removed}
+use Rattle.wl_surface.specs.Kept.{Kept as KeptSurface}
+use Rattle.wl_links.specs.Family.{Tied, is_there}
+use Rattle.wl_surface.specs.Hanging.{Hang}
+use Rattle.law_desktop.specs.Renaming.{renamed}
 use Rattle.wl_surface.specs.Slots.{Slots, StandsAt}
 use Rattle.wl_surface.specs.Surfaces.{Surfaces}
 use Rattle.wl_surface.specs.Waiting.{AreUndue, Callback, IsNextDue, is_in}
 use Rattle.wl_surface.specs.Frames.{frames_counting}
-use Rattle.wl_xdg_state.specs.Kept.{Book, kept_of}
-use Rattle.wl_stacking.specs.Stacking.{Owned}
-use Rattle.wl_plain.specs.Desktop.{Resident}
-use Rattle.wl_plain.specs.Framing.{done_due}
-use Rattle.wl_plain.specs.Happens.{callbacks_due, frame_told, frames_told}
-use Rattle.wl_owning.specs.Owning.{AreKept, IsOwned, Names, by_number, number_in, targets_in}
-use Rattle.wl_owning.specs.RoleNames.{names_of}
-use Rattle.wl_owning.proofs.Keeping.FramingWaits.{framed-less}
-use Rattle.wl_laws.proofs.Soundness.ObjectsHas.{has_callback}
+use Rattle.wl_shell.specs.Kept.{Book, kept_of}
+use Rattle.spec_desktop.specs.Stacking.{Owned}
+use Rattle.spec_desktop.specs.Desktop.{Resident}
+use Rattle.spec_desktop.specs.Framing.{done_due}
+use Rattle.spec_desktop.specs.Happens.{callbacks_due, frame_told, frames_told}
+use Rattle.law_desktop.specs.Owning.{AreKept, IsOwned, Names, by_number, number_in, targets_in}
+use Rattle.law_desktop.specs.RoleNames.{names_of}
+use Rattle.law_desktop.proofs.Keeping.FramingWaits.{framed-less}
+use Rattle.law_desktop.proofs.Soundness.ObjectsHas.{has_callback}
 use Rattle.wl_requests.proofs.Roles.{names_object, names-other-gone}
 use Rattle.wl_requests.specs.declared.residents.Resident.{Resident as Kept}
 use Rattle.wl_requests.specs.Residents.{IsLeft, IsResident}

@@ -4,30 +4,30 @@ use Rattle.std.specs.Prelude.{◌==◌, ◌||◌, filter, find, flat_map, fold, 
 use Rattle.std.specs.List.{list_any}
 use Rattle.std.proofs.lemmas.List.Elements.{filter-append}
 use Rattle.std.proofs.lemmas.List.Folds.{list_any-append}
-use Rattle.wl_peer.specs.Objects.{ById, Objects, with_id}
-use Rattle.wl_peer.specs.Peer.{Peer, Queues, all_removed, removed}
-use Rattle.wl_peer.specs.Told.{Said}
+use Rattle.spec_desktop.specs.Objects.{ById, Objects, with_id}
+use Rattle.spec_desktop.specs.Peer.{Peer, Queues, all_removed, removed}
+use Rattle.spec_desktop.specs.Told.{Said}
 use Rattle.wl_client.proofs.Queueing.{queues-then, removed-over, removed-past}
-use Rattle.wl_interface.specs.declared.interface.Interface.TheVariants.{WlCallback}
-use Rattle.wl_state.specs.Frames.{frames_of}
-use Rattle.wl_family.specs.Family.{Tied}
+use Rattle.wl_proto.specs.declared.interface.Interface.TheVariants.{WlCallback}
+use Rattle.wl_surface.specs.FrameRequests.{frames_of}
+use Rattle.wl_links.specs.Family.{Tied}
 use Rattle.wl_surface.specs.Frames.{frames_counting}
 use Rattle.wl_surface.specs.Slots.{IsAny, Slots}
-use Rattle.wl_state.specs.State.{counting}
-use Rattle.wl_state.specs.Surface.{Surface}
+use Rattle.wl_surface.specs.State.{counting}
+use Rattle.wl_surface.specs.Surface.{Surface}
 use Rattle.wl_surface.specs.Surfaces.{Surfaces}
 use Rattle.wl_surface.specs.Waiting.{AreUndue, Callback, IsUndue, applied_at, is_in}
-use Rattle.wl_plain.specs.Desktop.{Resident}
-use Rattle.wl_plain.specs.Framing.{done_due}
-use Rattle.wl_plain.specs.Happens.{callbacks_due, frame_told, frames_told}
-use Rattle.wl_owning.specs.Owning.{AreKept, by_number}
-use Rattle.wl_laws.specs.Apart.{AreApartBy}
-use Rattle.wl_invariants.proofs.KeptRecords.Toplevels.Heard.{AreHeard}
-use Rattle.wl_invariants.proofs.KeptRecords.Toplevels.Messages.{told-objects}
-use Rattle.wl_laws.proofs.Soundness.ObjectsHas.{has_callback}
-use Rattle.wl_laws.proofs.Soundness.ObjectsKeys.{objects-gone}
-use Rattle.wl_laws.proofs.Lists.Keys.{differ, none-some}
-use Rattle.wl_owning.proofs.Keeping.OwningSurfaces.{any-is}
+use Rattle.spec_desktop.specs.Desktop.{Resident}
+use Rattle.spec_desktop.specs.Framing.{done_due}
+use Rattle.spec_desktop.specs.Happens.{callbacks_due, frame_told, frames_told}
+use Rattle.law_desktop.specs.Owning.{AreKept, by_number}
+use Rattle.law_desktop.specs.Apart.{AreApartBy}
+use Rattle.law_desktop.proofs.KeptRecords.Toplevels.Heard.{AreHeard}
+use Rattle.law_desktop.proofs.KeptRecords.Toplevels.Messages.{told-objects}
+use Rattle.law_desktop.proofs.Soundness.ObjectsHas.{has_callback}
+use Rattle.law_desktop.proofs.Soundness.ObjectsKeys.{objects-gone}
+use Rattle.law_desktop.proofs.Lists.Keys.{differ, none-some}
+use Rattle.law_desktop.proofs.Keeping.OwningSurfaces.{any-is}
 use Rattle.wl_requests.proofs.Framing.{left-by, told-requests}
 
 -- ---- which count

@@ -10,34 +10,34 @@ use Rattle.wl_proto.specs.declared.wl_seat.WlSeatRequest.{WlSeatRequest}
 use Rattle.wl_proto.specs.declared.wl_seat.WlSeatRequest.TheVariants.{GetKeyboard, GetTouch}
 use Rattle.wl_client.specs.Agreement.{IsPeer}
 use Rattle.wl_client.specs.First.{IsRefused, Passes, passing, passing_in}
-use Rattle.wl_peer.specs.Objects.{Object, Objects, fits, object_of, objects_in}
-use Rattle.wl_peer.specs.Peer.{Errs, Peer, QueuesOr, counted, ended, has_room, queued, with_rest}
+use Rattle.spec_desktop.specs.Objects.{Object, Objects, fits, object_of, objects_in}
+use Rattle.spec_desktop.specs.Peer.{Errs, Peer, QueuesOr, counted, ended, has_room, queued, with_rest}
 use Rattle.std.specs.List.{list_all}
 use Rattle.wl_proto.specs.Objects.{new_id_in, objects_in as objects_named}
 use Rattle.wl_proto.specs.declared.argument.NewId.{NewId}
-use Rattle.wl_peer.specs.Judgement.{is_free, judged_at}
-use Rattle.wl_peer.specs.Told.{code_number, display_error, error_told}
-use Rattle.wl_peer.specs.declared.cause.Cause.TheVariants.{Protocol}
-use Rattle.wl_xdg_state.specs.Popups.{is_toplevel}
-use Rattle.wl_xdg_state.specs.Shell.{Effect, Maps, Unmaps, xdg_of}
+use Rattle.spec_desktop.specs.Judgement.{is_free, judged_at}
+use Rattle.spec_desktop.specs.Told.{code_number, display_error, error_told}
+use Rattle.spec_desktop.specs.declared.cause.Cause.TheVariants.{Protocol}
+use Rattle.wl_shell.specs.Popups.{is_toplevel}
+use Rattle.wl_shell.specs.Shell.{Effect, Maps, Unmaps, xdg_of}
 use Rattle.wl_table.specs.Objects.{Held}
-use Rattle.wl_interface.specs.declared.interface.Interface.TheVariants.{WlSurface}
-use Rattle.wl_owning.specs.Owning.{targets_in}
+use Rattle.wl_proto.specs.declared.interface.Interface.TheVariants.{WlSurface}
+use Rattle.law_desktop.specs.Owning.{targets_in}
 use Rattle.wl_client.specs.View.{ClientView}
-use Rattle.wl_peer.specs.declared.refusals.ErrorCode.TheVariants.{InvalidMethod, MissingCapability}
-use Rattle.wl_peer.specs.declared.refusals.Refusal.{Refusal}
+use Rattle.spec_desktop.specs.declared.refusals.ErrorCode.TheVariants.{InvalidMethod, MissingCapability}
+use Rattle.spec_desktop.specs.declared.refusals.Refusal.{Refusal}
 use Rattle.wl_client.proofs.Passing.{judged-passing, judged-refused}
 use Rattle.wl_client.proofs.Peers.{IsPeer-with_rest}
 use Rattle.wl_requests.specs.declared.residents.Resident.{Resident as Kept}
 use Rattle.wl_requests.specs.declared.residents.Stacking.{Stacking}
 use Rattle.wl_requests.specs.declared.residents.Stacking.TheVariants.{Stays}
 use Rattle.wl_requests.specs.declared.residents.Stacking.TheVariants as on
-use Rattle.wl_plain.specs.Changing.{changed_for}
-use Rattle.wl_plain.specs.Demand.{Demand, CommitTree, EndToplevel}
-use Rattle.wl_plain.specs.Demanding.{demand_of, effect_of_commit, judge_all}
-use Rattle.wl_plain.specs.Desktop.{Desktop, Resident, unpointed}
-use Rattle.wl_plain.specs.LeftOut.{nothing_left_out}
-use Rattle.wl_ordered.specs.Ordered.{OwnsOrdered}
+use Rattle.spec_desktop.specs.Changing.{changed_for}
+use Rattle.spec_desktop.specs.Demand.{Demand, CommitTree, EndToplevel}
+use Rattle.spec_desktop.specs.Demanding.{demand_of, effect_of_commit, judge_all}
+use Rattle.spec_desktop.specs.Desktop.{Desktop, Resident, unpointed}
+use Rattle.spec_desktop.specs.LeftOut.{nothing_left_out}
+use Rattle.law_desktop.specs.Ordered.{OwnsOrdered}
 use Rattle.wl_requests.specs.Residents.{AnswersAs, AnswersGiven, AnswersPlacedAs, AnswersSo, IsResident, NewIsFree, ObjectsFit, Stacks, StacksBy, StacksFor, StacksIf, StacksSo, StacksTo, TakesAs, TakesSo}
 use Rattle.wl_requests.specs.Grabbing.{IsGrabbingFor}
 use Rattle.wl_requests.specs.Placing.{IsPlacingFor}
@@ -47,9 +47,9 @@ use Rattle.wl_requests.specs.declared.residents.Grabbing.{Grabbing}
 use Rattle.wl_requests.specs.declared.residents.Placing.{Placing}
 use Rattle.wl_proto.specs.declared.wl_surface.WlSurfaceRequest.TheVariants as surface
 use Rattle.wl_proto.specs.declared.xdg_popup.XdgPopupRequest.TheVariants as popup
-use Rattle.wl_plain.specs.Step.{with_peer}
+use Rattle.spec_desktop.specs.Step.{with_peer}
 use Rattle.wl_requests.proofs.Framing.{no-more}
-use Rattle.wl_laws.proofs.Pieces.Changing.{judged-behind}
+use Rattle.law_desktop.proofs.Pieces.Changing.{judged-behind}
 use Rattle.wl_requests.proofs.Numbers.{left-from}
 use Rattle.wl_requests.proofs.Meeting.{ordered-peer}
 use Rattle.wl_requests.proofs.Shelling.{meets-from, new-free, refused-whole}

@@ -2,21 +2,21 @@
 use Rattle.std.proofs.Common.{◌≡◌, ℕ, Bool, true, false, cond, Option, Some, None, refl, ap, sym, subst, ◌∙◌}
 use Rattle.std.specs.Prelude.{◌==◌, ◌&&◌, ◌||◌, is_some, not}
 use Rattle.std.specs.Option.{option_map, option_map_or}
-use Rattle.wl_children.specs.declared.placed.Member.TheVariants as kept
-use Rattle.wl_family.specs.declared.link.Link.{Link as KeptLink}
-use Rattle.wl_family.specs.Family.{is_bad_sibling, is_child, links_in, member_of}
-use Rattle.wl_interface.specs.declared.interface.Interface.TheVariants.{WlSurface}
-use Rattle.wl_named.proofs.Tying.{finds-named, siblings-named}
-use Rattle.wl_owning.specs.Owning.{number_in, targets_in}
-use Rattle.wl_owning.proofs.Keeping.OwningTies.{number-of-name, stand-by}
-use Rattle.wl_plain.specs.Desktop.{Resident}
-use Rattle.wl_plain.specs.WlSubsurface.{beside, sibling_of}
-use Rattle.wl_state.specs.Request.{Child, Itself, Member}
+use Rattle.wl_links.specs.declared.placed.Member.TheVariants as kept
+use Rattle.wl_links.specs.declared.link.Link.{Link as KeptLink}
+use Rattle.wl_links.specs.Family.{is_bad_sibling, is_child, links_in, member_of}
+use Rattle.wl_proto.specs.declared.interface.Interface.TheVariants.{WlSurface}
+use Rattle.law_desktop.proofs.ByNames.Tying.{finds-named, siblings-named}
+use Rattle.law_desktop.specs.Owning.{number_in, targets_in}
+use Rattle.law_desktop.proofs.Keeping.OwningTies.{number-of-name, stand-by}
+use Rattle.spec_desktop.specs.Desktop.{Resident}
+use Rattle.spec_desktop.specs.WlSubsurface.{beside, sibling_of}
+use Rattle.wl_surface.specs.Request.{Child, Itself, Member}
 use Rattle.wl_surface.specs.Surfaces.{Link, Surfaces}
 use Rattle.wl_surface.specs.Trees.{link_of}
-use Rattle.wl_tree_laws.specs.Hanging.{kids_of}
-use Rattle.wl_tree_laws.specs.Laws.{links_of}
-use Rattle.wl_tree_laws.specs.Stacks.{IsKept}
+use Rattle.wl_surface.specs.Hanging.{kids_of}
+use Rattle.wl_surface.specs.TreeLaws.{links_of}
+use Rattle.wl_surface.specs.Stacks.{IsKept}
 use Rattle.wl_requests.specs.declared.residents.Resident.{Resident as Kept}
 use Rattle.wl_requests.specs.Residents.{IsResident, IsSurface}
 use Rattle.wl_requests.proofs.Linking.{IsLinkOf}

@@ -3,37 +3,37 @@ use Rattle.std.proofs.Common.{◌≡◌, ℕ, List, [], ◌∷◌, Bool, true, f
 use Rattle.std.specs.Prelude.{◌==◌, ◌+◌, filter, fold, not}
 use Rattle.std.proofs.lemmas.Bool.{eqb-false}
 use Rattle.std.specs.Option.{option_map_or}
-use Rattle.wl_peer.specs.Objects.{ById, with_id}
-use Rattle.wl_family.specs.Family.{Tied}
-use Rattle.wl_state.specs.Frames.{frames_of}
-use Rattle.wl_state.specs.Request.{Buffer}
-use Rattle.wl_state.specs.Surface.{Surface}
+use Rattle.spec_desktop.specs.Objects.{ById, with_id}
+use Rattle.wl_links.specs.Family.{Tied}
+use Rattle.wl_surface.specs.FrameRequests.{frames_of}
+use Rattle.wl_surface.specs.Request.{Buffer}
+use Rattle.wl_surface.specs.Surface.{Surface}
 use Rattle.wl_surface.specs.Applied.{AreFreed}
 use Rattle.wl_surface.specs.Slots.{Slots}
 use Rattle.wl_surface.specs.Surfaces.{Link, Surfaces, link_at, surface_at}
 use Rattle.wl_surface.specs.Trees.{committed_in, descends_from, desynchronised_in, destroyed_in, ended_in, links_with, unlinked}
 use Rattle.wl_surface.specs.Waiting.{AreWaiting, Callback, frames_at, is_in}
-use Rattle.wl_linked.specs.Linked.{IsLink, Stand, numbered}
-use Rattle.wl_linked.specs.Tree.{AreAmong, AreShown, is_committed, is_released}
-use Rattle.wl_named.specs.Named.{Makes, MakesBy, StandBy}
-use Rattle.wl_named.proofs.Linking.{desynchronises-named, link-named, unlinks-named}
-use Rattle.wl_named.specs.Renaming.{has_surface, renamed, renamed_link, renamed_surface}
-use Rattle.wl_named.proofs.Names.Done.{commits-surface, destroys-surface, desynchronises, unlinks}
-use Rattle.wl_plain.specs.Desktop.{Resident}
-use Rattle.wl_plain.specs.Framing.{AreFramed}
-use Rattle.wl_laws.proofs.Lists.Keys.{none-some, some-same}
-use Rattle.wl_laws.proofs.Soundness.Moves.{found-left}
-use Rattle.wl_owning.specs.Freed.{AreFreedOf}
-use Rattle.wl_owning.specs.Owning.{AreKept, by_number, number_in}
-use Rattle.wl_owning.proofs.Keeping.Ids.{KeepsFraming, frames-committed, frames-desynchronised, frames-unlinked, frames-without-links, ids-committed, ids-desynchronised, ids-unlinked}
-use Rattle.wl_owning.proofs.Keeping.Ids.{ids-without-links}
-use Rattle.wl_owning.proofs.Keeping.Ids.{same-framing}
-use Rattle.wl_owning.proofs.Keeping.OwningNames.{with_id-other}
-use Rattle.wl_owning.proofs.Keeping.OwningSurfaces.{AreKept-left, AreKept-then}
-use Rattle.wl_owning.proofs.Keeping.OwningTies.{committed-by, left-by, number-of-name, own, present, renaming-of, stand-by}
-use Rattle.wl_owning.proofs.Keeping.OwningTrees.{frames-here, waits-here}
-use Rattle.wl_named.proofs.Linking.{ends-one}
-use Rattle.wl_owning.proofs.Keeping.Trees.{framed-many, freed-so}
+use Rattle.wl_surface.specs.Linked.{IsLink, Stand, numbered}
+use Rattle.wl_surface.specs.Tree.{AreAmong, AreShown, is_committed, is_released}
+use Rattle.law_desktop.specs.Named.{Makes, MakesBy, StandBy}
+use Rattle.law_desktop.proofs.ByNames.Linking.{desynchronises-named, link-named, unlinks-named}
+use Rattle.law_desktop.specs.Renaming.{has_surface, renamed, renamed_link, renamed_surface}
+use Rattle.law_desktop.proofs.ByNames.Names.Done.{commits-surface, destroys-surface, desynchronises, unlinks}
+use Rattle.spec_desktop.specs.Desktop.{Resident}
+use Rattle.spec_desktop.specs.Framing.{AreFramed}
+use Rattle.law_desktop.proofs.Lists.Keys.{none-some, some-same}
+use Rattle.law_desktop.proofs.Soundness.Moves.{found-left}
+use Rattle.law_desktop.specs.Freed.{AreFreedOf}
+use Rattle.law_desktop.specs.Owning.{AreKept, by_number, number_in}
+use Rattle.law_desktop.proofs.Keeping.Ids.{KeepsFraming, frames-committed, frames-desynchronised, frames-unlinked, frames-without-links, ids-committed, ids-desynchronised, ids-unlinked}
+use Rattle.law_desktop.proofs.Keeping.Ids.{ids-without-links}
+use Rattle.law_desktop.proofs.Keeping.Ids.{same-framing}
+use Rattle.law_desktop.proofs.Keeping.OwningNames.{with_id-other}
+use Rattle.law_desktop.proofs.Keeping.OwningSurfaces.{AreKept-left, AreKept-then}
+use Rattle.law_desktop.proofs.Keeping.OwningTies.{committed-by, left-by, number-of-name, own, present, renaming-of, stand-by}
+use Rattle.law_desktop.proofs.Keeping.OwningTrees.{frames-here, waits-here}
+use Rattle.law_desktop.proofs.ByNames.Linking.{ends-one}
+use Rattle.law_desktop.proofs.Keeping.Trees.{framed-many, freed-so}
 
 -- What a call made of the surfaces of a client, where it frees these buffers and these callbacks are left.
 pub record IsCalled (numbers now : ById ℕ) (slots new : Slots) (after : Tied) (r : Resident) (then : Surfaces) (left : List Callback) (freed : List ℕ) (shown : List Buffer) : Type 0 where

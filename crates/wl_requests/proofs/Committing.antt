@@ -3,28 +3,28 @@ use Rattle.std.proofs.Common.{◌≡◌, ℕ, [], ◌∷◌, ◌++◌, Bool, tru
 use Rattle.std.specs.Prelude.{ℤ, Ok, Err, is_some}
 use Rattle.wl_geom.specs.declared.rect.Rect.{Rect}
 use Rattle.std.specs.Option.{option_and_then, option_map}
-use Rattle.wl_peer.specs.Peer.{Peer}
-use Rattle.wl_peer.specs.declared.refusals.ErrorCode.TheVariants.{InvalidBufferSize}
-use Rattle.wl_peer.specs.declared.refusals.Refusal.{Refusal}
-use Rattle.wl_family.specs.Family.{Tied}
+use Rattle.spec_desktop.specs.Peer.{Peer}
+use Rattle.spec_desktop.specs.declared.refusals.ErrorCode.TheVariants.{InvalidBufferSize}
+use Rattle.spec_desktop.specs.declared.refusals.Refusal.{Refusal}
+use Rattle.wl_links.specs.Family.{Tied}
 use Rattle.wl_surface.specs.Slots.{Slots}
-use Rattle.wl_xdg_state.specs.Kept.{Kept, commit_answer, kind_toplevel, toplevel_in}
-use Rattle.wl_xdg_state.specs.Popups.{is_toplevel, is_toplevel_kind}
-use Rattle.wl_xdg_state.specs.Shell.{Effect, Stays, Unconfigured, Configures, Maps, Unmaps, IsPopup, Kind, RoleObject, Toplevel, XdgSurface, xdg_of}
-use Rattle.wl_xdg_state.specs.declared.acts.Placed.{Placed}
-use Rattle.wl_xdg_state.specs.declared.acts.ShellAct.{ShellAct}
-use Rattle.wl_xdg_state.specs.declared.acts.ShellAct.TheVariants.{Configure, Map, Unmap, Place, Nothing}
-use Rattle.wl_plain.specs.Changing.{Placing, effect_placing}
-use Rattle.wl_plain.specs.Demand.{Demand}
-use Rattle.wl_plain.specs.Demanding.{if_whole}
-use Rattle.wl_plain.specs.Desktop.{Resident}
-use Rattle.wl_plain.specs.WlSubsurface.{refuses}
-use Rattle.wl_plain.specs.Replies.{popup_told}
-use Rattle.wl_owning.specs.Owning.{IsOwned, Names, effect_by, kept_id}
-use Rattle.wl_owning.specs.Popups.{act_told, object_told, role_told}
+use Rattle.wl_shell.specs.Kept.{Kept, commit_answer, kind_toplevel, toplevel_in}
+use Rattle.wl_shell.specs.Popups.{is_toplevel, is_toplevel_kind}
+use Rattle.wl_shell.specs.Shell.{Effect, Stays, Unconfigured, Configures, Maps, Unmaps, IsPopup, Kind, RoleObject, Toplevel, XdgSurface, xdg_of}
+use Rattle.wl_shell.specs.declared.acts.Placed.{Placed}
+use Rattle.wl_shell.specs.declared.acts.ShellAct.{ShellAct}
+use Rattle.wl_shell.specs.declared.acts.ShellAct.TheVariants.{Configure, Map, Unmap, Place, Nothing}
+use Rattle.spec_desktop.specs.Changing.{Placing, effect_placing}
+use Rattle.spec_desktop.specs.Demand.{Demand}
+use Rattle.spec_desktop.specs.Demanding.{if_whole}
+use Rattle.spec_desktop.specs.Desktop.{Resident}
+use Rattle.spec_desktop.specs.WlSubsurface.{refuses}
+use Rattle.spec_desktop.specs.Replies.{popup_told}
+use Rattle.law_desktop.specs.Owning.{IsOwned, Names, effect_by, kept_id}
+use Rattle.law_desktop.specs.OwnedPopups.{act_told, object_told, role_told}
 use Rattle.wl_requests.specs.Residents.{drawn_by}
-use Rattle.wl_plain.specs.Step.{toplevel_configured, xdg_configured}
-use Rattle.wl_owning.proofs.Keeping.OwningXdg.{xdg-of, xdg-of-none}
+use Rattle.spec_desktop.specs.Step.{toplevel_configured, xdg_configured}
+use Rattle.law_desktop.proofs.Keeping.OwningXdg.{xdg-of, xdg-of-none}
 
 -- only a configure changes more of a client than its xdg_surface
 mapped-peer : (where_to : Placing) (id : ℕ) (o : Option XdgSurface) (r : Resident) → (effect_placing where_to id Maps o r).peer ≡ r.peer

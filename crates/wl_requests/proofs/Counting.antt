@@ -2,11 +2,11 @@
 use Rattle.std.proofs.Common.{◌≡◌, ℕ, Option}
 use Rattle.std.specs.Prelude.{is_some}
 use Rattle.wl_client.specs.Agreement.{IsPeer}
-use Rattle.wl_peer.specs.Peer.{counted}
-use Rattle.wl_plain.specs.Demand.{Demand}
-use Rattle.wl_plain.specs.Desktop.{Desktop, Resident}
-use Rattle.wl_plain.specs.Step.{with_peer}
-use Rattle.wl_ordered.specs.Ordered.{OwnsOrdered}
+use Rattle.spec_desktop.specs.Peer.{counted}
+use Rattle.spec_desktop.specs.Demand.{Demand}
+use Rattle.spec_desktop.specs.Desktop.{Desktop, Resident}
+use Rattle.spec_desktop.specs.Step.{with_peer}
+use Rattle.law_desktop.specs.Ordered.{OwnsOrdered}
 use Rattle.wl_requests.specs.declared.residents.Resident.{Resident as Kept}
 use Rattle.wl_requests.specs.Residents.{IsResident, MeetsAs, MeetsTold}
 use Rattle.wl_requests.proofs.Shelling.{counted-on, meets-from, objects-counted}

@@ -5,40 +5,40 @@ use Rattle.std.specs.Option.{option_map}
 use Rattle.wl_geom.specs.declared.rect.Rect.{Rect}
 use Rattle.wl_geom.specs.Region.{Area, Change}
 use Rattle.wl_client.specs.Agreement.{IsPeer, IsRegion}
-use Rattle.wl_peer.specs.Objects.{ById, held_at}
+use Rattle.spec_desktop.specs.Objects.{ById, held_at}
 use Rattle.wl_store.specs.Stores.{Stock}
 use Rattle.wl_client.proofs.Peers.{IsPeer-stores}
 use Rattle.wl_client.specs.View.{ClientView}
-use Rattle.wl_peer.specs.Peer.{LacksMemory, Peer}
-use Rattle.wl_state.specs.declared.content.Attached.{Attached}
-use Rattle.wl_state.specs.Kept.{buffer_of, Kept as KeptSurface}
-use Rattle.wl_family.specs.Family.{Tied}
+use Rattle.spec_desktop.specs.Peer.{LacksMemory, Peer}
+use Rattle.wl_surface.specs.declared.content.Attached.{Attached}
+use Rattle.wl_surface.specs.Kept.{buffer_of, Kept as KeptSurface}
+use Rattle.wl_links.specs.Family.{Tied}
 use Rattle.wl_surface.specs.Slots.{Changes, IsCopied, Numbered, Slots, had_at, StandForAll, StandsAt, kept_at}
-use Rattle.wl_state.specs.Request.{Request}
-use Rattle.wl_state.specs.State.{Values, asked, committed, geometry_asked, is_commit}
-use Rattle.wl_state.specs.Surface.{Surface, asking}
+use Rattle.wl_surface.specs.Request.{Request}
+use Rattle.wl_surface.specs.State.{Values, asked, committed, geometry_asked, is_commit}
+use Rattle.wl_surface.specs.Surface.{Surface, asking}
 use Rattle.wl_surface.specs.Surfaces.{Surfaces, surface_at}
-use Rattle.wl_state.specs.Frames.{frames_of}
+use Rattle.wl_surface.specs.FrameRequests.{frames_of}
 use Rattle.wl_surface.specs.declared.frames.Waiting.{Waiting}
-use Rattle.wl_xdg_state.specs.Kept.{kept_of}
+use Rattle.wl_shell.specs.Kept.{kept_of}
 use Rattle.wl_scene.specs.declared.owned.Owned.{Owned as Lent}
 use Rattle.wl_requests.specs.declared.residents.Resident.{Resident as Kept}
-use Rattle.wl_plain.specs.Ask.{AskSurface}
-use Rattle.wl_plain.specs.Desktop.{Resident}
-use Rattle.wl_interface.specs.declared.interface.Interface.TheVariants.{WlSurface}
+use Rattle.spec_desktop.specs.Ask.{AskSurface}
+use Rattle.spec_desktop.specs.Desktop.{Resident}
+use Rattle.wl_proto.specs.declared.interface.Interface.TheVariants.{WlSurface}
 use Rattle.wl_table.specs.Objects.{Held, entry_of}
 use Rattle.wl_table.specs.declared.entry.Entry.{Entry}
-use Rattle.wl_owning.specs.Owning.{AreKept, by_number, targets_in}
-use Rattle.wl_owning.specs.RoleNames.{names_of}
-use Rattle.wl_owning.proofs.Keeping.OwningNames.{targets-at}
+use Rattle.law_desktop.specs.Owning.{AreKept, by_number, targets_in}
+use Rattle.law_desktop.specs.RoleNames.{names_of}
+use Rattle.law_desktop.proofs.Keeping.OwningNames.{targets-at}
 use Rattle.wl_requests.specs.Residents.{IsLeft, IsResident, IsSurface, KeepsFrames, KeepsSubsurfaces, Owns}
-use Rattle.wl_plain.specs.Step.{changed_by}
-use Rattle.wl_owning.proofs.Keeping.Letting.{asked-keeps}
+use Rattle.spec_desktop.specs.Step.{changed_by}
+use Rattle.law_desktop.proofs.Keeping.Letting.{asked-keeps}
 use Rattle.wl_requests.proofs.Numbers.{keeps-same}
-use Rattle.wl_tree_laws.specs.Stacks.{is_about_children}
+use Rattle.wl_surface.specs.Stacks.{is_about_children}
 use Rattle.wl_requests.proofs.Framing.{IsFramed, framed-asked, no-more}
-use Rattle.wl_owning.proofs.Keeping.OwningAsks.{owned-asked}
-use Rattle.wl_owning.proofs.Keeping.OwningSurfaces.{surface-named, surface-read}
+use Rattle.law_desktop.proofs.Keeping.OwningAsks.{owned-asked}
+use Rattle.law_desktop.proofs.Keeping.OwningSurfaces.{surface-named, surface-read}
 
 -- what ended isn't there
 pub gone : {X : Type 0} (o : Option X) → is_some o ≡ true → o ≡ None → ⊥

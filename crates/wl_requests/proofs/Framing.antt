@@ -5,31 +5,31 @@ use Rattle.std.specs.List.{list_any}
 use Rattle.std.specs.Option.{option_map}
 use Rattle.std.proofs.Math.Path.{fun_ext}
 use Rattle.std.proofs.lemmas.Bool.{eqb-true}
-use Rattle.wl_interface.specs.declared.interface.Interface.TheVariants.{WlSurface}
-use Rattle.wl_peer.specs.Objects.{with_id}
-use Rattle.wl_peer.specs.Peer.{Peer, Queues, QueuesOr, ended, has_room, queued}
-use Rattle.wl_peer.specs.Told.{Said}
-use Rattle.wl_peer.specs.declared.cause.Cause.{Cause}
-use Rattle.wl_family.specs.Family.{Tied}
+use Rattle.wl_proto.specs.declared.interface.Interface.TheVariants.{WlSurface}
+use Rattle.spec_desktop.specs.Objects.{with_id}
+use Rattle.spec_desktop.specs.Peer.{Peer, Queues, QueuesOr, ended, has_room, queued}
+use Rattle.spec_desktop.specs.Told.{Said}
+use Rattle.spec_desktop.specs.declared.cause.Cause.{Cause}
+use Rattle.wl_links.specs.Family.{Tied}
 use Rattle.wl_surface.specs.declared.frames.Waiting.{Waiting}
-use Rattle.wl_state.specs.Frames.{frames_of}
+use Rattle.wl_surface.specs.FrameRequests.{frames_of}
 use Rattle.wl_surface.specs.Slots.{Numbered, Slots, StandForAll, changed_at, kept_at, with_at}
-use Rattle.wl_state.specs.Request.{Frame, Request}
-use Rattle.wl_state.specs.State.{is_commit}
-use Rattle.wl_state.specs.Surface.{Surface, asking, new_surface, with_role}
+use Rattle.wl_surface.specs.Request.{Frame, Request}
+use Rattle.wl_surface.specs.State.{is_commit}
+use Rattle.wl_surface.specs.Surface.{Surface, asking, new_surface, with_role}
 use Rattle.wl_surface.specs.Surfaces.{with_change, with_new}
 use Rattle.wl_surface.specs.Waiting.{AreWaiting, Callback, IsNewNumber, counted_at, frames_at, is_in}
-use Rattle.wl_state.specs.declared.role.Role.{Role}
+use Rattle.wl_surface.specs.declared.role.Role.{Role}
 use Rattle.wl_surface.proofs.Counting.{asked-in-role, asked-still, at-new, at-one, counts-in-role, counts-still}
 use Rattle.wl_table.specs.Objects.{Held}
-use Rattle.wl_plain.specs.Desktop.{Resident}
-use Rattle.wl_plain.specs.Framing.{AreFramed}
-use Rattle.wl_owning.specs.Owning.{AreKept, Names, by_number, targets_in}
-use Rattle.wl_owning.specs.RoleNames.{names_of}
-use Rattle.wl_owning.proofs.Keeping.FramingWaits.{framed-more, framed-same, is-new}
-use Rattle.wl_laws.proofs.Soundness.ObjectsCalls.{any-filtered, is_left}
-use Rattle.wl_owning.proofs.Keeping.OwningSurfaces.{surface-read, surfaces-changed, surfaces-made}
-use Rattle.wl_laws.proofs.Lists.Keys.{none-some}
+use Rattle.spec_desktop.specs.Desktop.{Resident}
+use Rattle.spec_desktop.specs.Framing.{AreFramed}
+use Rattle.law_desktop.specs.Owning.{AreKept, Names, by_number, targets_in}
+use Rattle.law_desktop.specs.RoleNames.{names_of}
+use Rattle.law_desktop.proofs.Keeping.FramingWaits.{framed-more, framed-same, is-new}
+use Rattle.law_desktop.proofs.Soundness.ObjectsCalls.{any-filtered, is_left}
+use Rattle.law_desktop.proofs.Keeping.OwningSurfaces.{surface-read, surfaces-changed, surfaces-made}
+use Rattle.law_desktop.proofs.Lists.Keys.{none-some}
 
 -- the surfaces of a client, by the numbers that its table names
 abbrev pub numbered : Held → Resident → Numbered

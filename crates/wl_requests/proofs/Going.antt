@@ -5,30 +5,30 @@ use Rattle.std.specs.List.{list_any}
 use Rattle.std.specs.Option.{option_and_then, option_map}
 use Rattle.std.proofs.Math.Path.{fun_ext}
 use Rattle.std.proofs.lemmas.Bool.{eqb-true}
-use Rattle.wl_interface.specs.declared.interface.Interface.{Interface}
-use Rattle.wl_interface.specs.declared.interface.Interface.TheVariants.{WlCallback, WlSurface, XdgPopup, XdgSurface, XdgToplevel}
+use Rattle.wl_proto.specs.declared.interface.Interface.{Interface}
+use Rattle.wl_proto.specs.declared.interface.Interface.TheVariants.{WlCallback, WlSurface, XdgPopup, XdgSurface, XdgToplevel}
 use Rattle.wl_table.specs.Objects.{Held, entry_of}
 use Rattle.wl_table.specs.declared.entry.Entry.{Entry}
-use Rattle.wl_peer.specs.Objects.{interface_number, is_of, object_of, objects_in}
-use Rattle.wl_peer.specs.Peer.{Peer, all_removed, removed}
+use Rattle.spec_desktop.specs.Objects.{interface_number, is_of, object_of, objects_in}
+use Rattle.spec_desktop.specs.Peer.{Peer, all_removed, removed}
 use Rattle.wl_client.specs.Serving.{HoldsWithout}
-use Rattle.wl_peer.specs.Told.{id_deleted, released_told}
-use Rattle.wl_state.specs.Frames.{frames_asked}
-use Rattle.wl_family.specs.Family.{Tied}
+use Rattle.spec_desktop.specs.Told.{id_deleted, released_told}
+use Rattle.wl_surface.specs.FrameRequests.{frames_asked}
+use Rattle.wl_links.specs.Family.{Tied}
 use Rattle.wl_surface.specs.Slots.{Slots}
-use Rattle.wl_state.specs.Surface.{Surface}
+use Rattle.wl_surface.specs.Surface.{Surface}
 use Rattle.wl_surface.specs.Surfaces.{history_in, surface_at}
 use Rattle.wl_surface.specs.Waiting.{Callback, frames_at, is_in}
-use Rattle.wl_plain.specs.Changing.{callbacks_of}
-use Rattle.wl_plain.specs.Desktop.{Resident}
-use Rattle.wl_invariants.specs.InOrder.{OwnsKnown}
-use Rattle.wl_owning.specs.Owning.{AreKept, target_as, targets_in, with_surface}
-use Rattle.wl_owning.specs.RoleNames.{is_of_role, names_of, role_target, roles_in}
+use Rattle.spec_desktop.specs.Changing.{callbacks_of}
+use Rattle.spec_desktop.specs.Desktop.{Resident}
+use Rattle.law_desktop.specs.InOrder.{OwnsKnown}
+use Rattle.law_desktop.specs.Owning.{AreKept, target_as, targets_in, with_surface}
+use Rattle.law_desktop.specs.RoleNames.{is_of_role, names_of, role_target, roles_in}
 use Rattle.std.proofs.lemmas.List.{append-nil}
-use Rattle.wl_laws.proofs.Soundness.ObjectsKeys.{any-of-filter}
-use Rattle.wl_laws.proofs.Lists.Keys.{differ}
+use Rattle.law_desktop.proofs.Soundness.ObjectsKeys.{any-of-filter}
+use Rattle.law_desktop.proofs.Lists.Keys.{differ}
 use Rattle.wl_requests.proofs.Roles.{names-with}
-use Rattle.wl_owning.proofs.Keeping.OwningSurfaces.{surface-read}
+use Rattle.law_desktop.proofs.Keeping.OwningSurfaces.{surface-read}
 use Rattle.wl_requests.proofs.Framing.{numbered}
 use Rattle.wl_requests.proofs.Shelling.{entry-named}
 

@@ -3,33 +3,33 @@ use Rattle.std.proofs.Common.{◌≡◌, ℕ, ◌==◌, Bool, true, false, Optio
 use Rattle.std.specs.Prelude.{if◌then◌else◌, Ok, Err}
 use Rattle.std.specs.Option.{option_map_or}
 use Rattle.std.proofs.lemmas.List.Elements.{recursion_from_All}
-use Rattle.wl_family.specs.Family.{Tied}
-use Rattle.wl_interface.specs.declared.interface.Interface.TheVariants.{WlSurface}
-use Rattle.wl_named.specs.Renaming.{has_surface, renamed}
-use Rattle.wl_named.proofs.Names.Known.{names-those-there}
-use Rattle.wl_named.proofs.Names.Lists.{each-weaker, map-same}
-use Rattle.wl_named.proofs.Renaming.{renames-named}
-use Rattle.wl_named_popups.specs.Popups.{RenamesOwned, renamed_owned, renamed_shell, renamed_xdg}
-use Rattle.wl_owning.specs.Owning.{IsOwned, Names, number_in, targets_in}
-use Rattle.wl_owning.proofs.Twins.{kept-by-numbers}
-use Rattle.wl_peer.specs.Objects.{ById, with_id}
-use Rattle.wl_peer.specs.Peer.{counted}
-use Rattle.wl_peer.specs.declared.refusals.Refusal.{Refusal}
-use Rattle.wl_plain.specs.Changing.{changed_for}
-use Rattle.wl_plain.specs.Demand.{Demand}
-use Rattle.wl_plain.specs.Desktop.{Desktop, Resident, unpointed}
-use Rattle.wl_plain.specs.Step.{with_peer}
+use Rattle.wl_links.specs.Family.{Tied}
+use Rattle.wl_proto.specs.declared.interface.Interface.TheVariants.{WlSurface}
+use Rattle.law_desktop.specs.Renaming.{has_surface, renamed}
+use Rattle.law_desktop.proofs.ByNames.Names.Known.{names-those-there}
+use Rattle.law_desktop.proofs.ByNames.Names.Lists.{each-weaker, map-same}
+use Rattle.law_desktop.proofs.ByNames.Renaming.{renames-named}
+use Rattle.law_desktop.specs.NamedPopups.{RenamesOwned, renamed_owned, renamed_shell, renamed_xdg}
+use Rattle.law_desktop.specs.Owning.{IsOwned, Names, number_in, targets_in}
+use Rattle.law_desktop.proofs.Twins.{kept-by-numbers}
+use Rattle.spec_desktop.specs.Objects.{ById, with_id}
+use Rattle.spec_desktop.specs.Peer.{counted}
+use Rattle.spec_desktop.specs.declared.refusals.Refusal.{Refusal}
+use Rattle.spec_desktop.specs.Changing.{changed_for}
+use Rattle.spec_desktop.specs.Demand.{Demand}
+use Rattle.spec_desktop.specs.Desktop.{Desktop, Resident, unpointed}
+use Rattle.spec_desktop.specs.Step.{with_peer}
 use Rattle.wl_requests.specs.Holding.{HoldsBy, HoldsSo, names_before}
 use Rattle.wl_requests.specs.declared.residents.Resident.{Resident as Kept}
 use Rattle.wl_scene.specs.Roots.{IsHeld}
 use Rattle.wl_shell.specs.Agreement.{IsShell}
-use Rattle.wl_stacking.specs.Stacking.{Owned}
-use Rattle.wl_state.specs.Surface.{Surface}
+use Rattle.spec_desktop.specs.Stacking.{Owned}
+use Rattle.wl_surface.specs.Surface.{Surface}
 use Rattle.wl_surface.specs.Slots.{Slots}
 use Rattle.wl_surface.specs.Surfaces.{Surfaces, history_in}
 use Rattle.wl_table.specs.Objects.{Held}
-use Rattle.wl_xdg_state.specs.Kept.{Book, kept_of}
-use Rattle.wl_xdg_state.specs.Shell.{Shell, XdgSurface}
+use Rattle.wl_shell.specs.Kept.{Book, kept_of}
+use Rattle.wl_shell.specs.Shell.{Shell, XdgSurface}
 
 -- ---- other names that give the surfaces that are there the same numbers
 

@@ -1,14 +1,14 @@
 -- What is kept stands so after the first message, by the numbers from before it.
 use Rattle.std.proofs.Common.{◌≡◌, ◌≤◌, ℕ, arith, Bool, true, drop, Result, ap, refl, subst, sym}
 use Rattle.wl_client.specs.First.{Passes}
-use Rattle.wl_ordered.specs.Ordered.{OwnsOrdered}
-use Rattle.wl_peer.specs.Peer.{with_rest}
-use Rattle.wl_peer.specs.declared.refusals.Refusal.{Refusal}
-use Rattle.wl_plain.specs.Demand.{Demand}
-use Rattle.wl_plain.specs.Demanding.{demand_of}
-use Rattle.wl_plain.specs.Desktop.{Desktop, Resident}
-use Rattle.wl_plain.specs.LeftOut.{nothing_left_out}
-use Rattle.wl_plain.specs.Step.{with_peer}
+use Rattle.law_desktop.specs.Ordered.{OwnsOrdered}
+use Rattle.spec_desktop.specs.Peer.{with_rest}
+use Rattle.spec_desktop.specs.declared.refusals.Refusal.{Refusal}
+use Rattle.spec_desktop.specs.Demand.{Demand}
+use Rattle.spec_desktop.specs.Demanding.{demand_of}
+use Rattle.spec_desktop.specs.Desktop.{Desktop, Resident}
+use Rattle.spec_desktop.specs.LeftOut.{nothing_left_out}
+use Rattle.spec_desktop.specs.Step.{with_peer}
 use Rattle.wl_proto.specs.Messages.{Message, wl_surface_request}
 use Rattle.wl_proto.specs.declared.wl_surface.WlSurfaceRequest.{WlSurfaceRequest}
 use Rattle.wl_requests.specs.Holding.{HoldsAs, HoldsFirst, HoldsPlaced, HoldsSo}

@@ -1,21 +1,21 @@
 -- What is kept stands, by the numbers from before, for what a client owns after xdg_popup.destroy.
 use Rattle.std.proofs.Common.{◌≡◌, ℕ, true, Option, Some, None, Result, refl, subst, sym}
 use Rattle.std.specs.Prelude.{Ok}
-use Rattle.wl_linked.specs.declared.linked.Linked.{Linked}
-use Rattle.wl_owning.specs.Owning.{IsOwned, IsXdg, with_toplevel}
-use Rattle.wl_owning.specs.RoleNames.{names_of}
-use Rattle.wl_owning.proofs.Keeping.OwningXdg.{toplevel-named}
-use Rattle.wl_owning.proofs.Popups.Going.{popups-go}
-use Rattle.wl_owning.proofs.Popups.Naming.{roles-named}
-use Rattle.wl_peer.specs.Peer.{counted}
-use Rattle.wl_peer.specs.declared.refusals.Refusal.{Refusal}
-use Rattle.wl_plain.specs.Changing.{changed_for}
-use Rattle.wl_plain.specs.Demand.{Demand, EndPopup}
-use Rattle.wl_plain.specs.Desktop.{Desktop, Resident, unpointed}
-use Rattle.wl_plain.specs.Step.{with_peer}
-use Rattle.wl_state.specs.State.{History}
-use Rattle.wl_xdg_state.specs.Kept.{Kept as KeptXdg, changing, kept_of, kept_without_role}
-use Rattle.wl_xdg_state.specs.Shell.{XdgSurface as Xdg, is_role, xdg_with}
+use Rattle.wl_surface.specs.declared.linked.Linked.{Linked}
+use Rattle.law_desktop.specs.Owning.{IsOwned, IsXdg, with_toplevel}
+use Rattle.law_desktop.specs.RoleNames.{names_of}
+use Rattle.law_desktop.proofs.Keeping.OwningXdg.{toplevel-named}
+use Rattle.law_desktop.proofs.OwnedPopups.Going.{popups-go}
+use Rattle.law_desktop.proofs.OwnedPopups.Naming.{roles-named}
+use Rattle.spec_desktop.specs.Peer.{counted}
+use Rattle.spec_desktop.specs.declared.refusals.Refusal.{Refusal}
+use Rattle.spec_desktop.specs.Changing.{changed_for}
+use Rattle.spec_desktop.specs.Demand.{Demand, EndPopup}
+use Rattle.spec_desktop.specs.Desktop.{Desktop, Resident, unpointed}
+use Rattle.spec_desktop.specs.Step.{with_peer}
+use Rattle.wl_surface.specs.State.{History}
+use Rattle.wl_shell.specs.Kept.{Kept as KeptXdg, changing, kept_of, kept_without_role}
+use Rattle.wl_shell.specs.Shell.{XdgSurface as Xdg, is_role, xdg_with}
 use Rattle.wl_requests.specs.Holding.{HoldsSo}
 use Rattle.wl_requests.specs.Residents.{IsPopup, IsResident}
 use Rattle.wl_requests.specs.declared.residents.Resident.{Resident as Kept}

@@ -2,9 +2,9 @@
 use Rattle.std.proofs.Common.{◌≡◌, ℕ, true, Option, Some, refl, ap, eq-eqb, ◌∙◌}
 use Rattle.std.specs.Prelude.{◌==◌}
 use Rattle.std.specs.Option.{option_map}
-use Rattle.wl_interface.specs.declared.interface.Interface.{Interface}
-use Rattle.wl_interface.specs.declared.interface.Interface.TheVariants.{WlSubcompositor, WlSubsurface, WlSurface, XdgPopup, XdgSurface, XdgWmBase}
-use Rattle.wl_peer.specs.Objects.{interface_number, is_of, object_of, objects_in}
+use Rattle.wl_proto.specs.declared.interface.Interface.{Interface}
+use Rattle.wl_proto.specs.declared.interface.Interface.TheVariants.{WlSubcompositor, WlSubsurface, WlSurface, XdgPopup, XdgSurface, XdgWmBase}
+use Rattle.spec_desktop.specs.Objects.{interface_number, is_of, object_of, objects_in}
 use Rattle.wl_proto.specs.Messages.{wl_subcompositor_request, wl_subsurface_request, wl_surface_request, xdg_popup_request, xdg_surface_request, xdg_wm_base_request}
 use Rattle.wl_proto.specs.declared.wl_subcompositor.WlSubcompositorRequest.{WlSubcompositorRequest}
 use Rattle.wl_proto.specs.declared.wl_subcompositor.WlSubcompositorRequest.TheVariants as subcompositor

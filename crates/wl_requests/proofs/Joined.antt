@@ -2,23 +2,23 @@
 use Rattle.std.proofs.Common.{◌≡◌, ℕ, ◌+◌, ◌≤◌, Bool, true, false, cond, List, length, Option, Some, None, map, arith, refl, ap, sym, subst, ◌∙◌, eq-eqb}
 use Rattle.std.specs.Prelude.{◌==◌, ◌||◌, find, is_some, []}
 use Rattle.std.specs.Option.{option_map}
-use Rattle.wl_interface.specs.declared.interface.Interface.TheVariants.{WlSubsurface}
+use Rattle.wl_proto.specs.declared.interface.Interface.TheVariants.{WlSubsurface}
 use Rattle.wl_client.specs.View.{ClientView}
-use Rattle.wl_family.specs.Family.{Tied}
-use Rattle.wl_laws.proofs.Lists.Keys.{any-found, found-any, found-map, found-passes}
-use Rattle.wl_ordered.specs.Ordered.{OwnsOrdered}
-use Rattle.wl_owning.specs.Owning.{AreKept, by_number}
-use Rattle.wl_owning.proofs.Keeping.OwningSurfaces.{surface-read}
-use Rattle.wl_peer.specs.Objects.{ById, is_of}
-use Rattle.wl_plain.specs.Desktop.{Resident, Subsurface}
-use Rattle.wl_plain.specs.Replies.{releases}
-use Rattle.wl_plain.specs.Step.{is_number}
-use Rattle.wl_invariants.proofs.KeptRecords.Toplevels.Releases.{none-released}
-use Rattle.wl_state.specs.Request.{AddChild, Request}
-use Rattle.wl_state.specs.State.{applied, committed, held, values}
-use Rattle.wl_state.specs.Surface.{Surface, asking, names, shows, with_role}
-use Rattle.wl_state.specs.declared.role.Role.TheVariants.{Subsurface as AsSubsurface}
-use Rattle.wl_state.proofs.Records.{applied-kept, held-kept}
+use Rattle.wl_links.specs.Family.{Tied}
+use Rattle.law_desktop.proofs.Lists.Keys.{any-found, found-any, found-map, found-passes}
+use Rattle.law_desktop.specs.Ordered.{OwnsOrdered}
+use Rattle.law_desktop.specs.Owning.{AreKept, by_number}
+use Rattle.law_desktop.proofs.Keeping.OwningSurfaces.{surface-read}
+use Rattle.spec_desktop.specs.Objects.{ById, is_of}
+use Rattle.spec_desktop.specs.Desktop.{Resident, Subsurface}
+use Rattle.spec_desktop.specs.Replies.{releases}
+use Rattle.spec_desktop.specs.Step.{is_number}
+use Rattle.law_desktop.proofs.KeptRecords.Toplevels.Releases.{none-released}
+use Rattle.wl_surface.specs.Request.{AddChild, Request}
+use Rattle.wl_surface.specs.State.{applied, committed, held, values}
+use Rattle.wl_surface.specs.Surface.{Surface, asking, names, shows, with_role}
+use Rattle.wl_surface.specs.declared.role.Role.TheVariants.{Subsurface as AsSubsurface}
+use Rattle.wl_surface.proofs.Records.{applied-kept, held-kept}
 use Rattle.wl_surface.proofs.Counting.{asked-still, counts-still}
 use Rattle.wl_surface.specs.Slots.{Slots, StandsAt, kept_at}
 use Rattle.wl_surface.specs.Surfaces.{Link, Surfaces, is_busy, link_at, surface_at}

@@ -2,33 +2,33 @@
 use Rattle.std.proofs.Common.{◌≡◌, ℕ, List, ◌∷◌, ◌++◌, Bool, true, false, Option, Some, None, Result, Ok, Err, refl, ap, ap₂, sym, subst, ◌∙◌, eq-eqb, eqb-true, Bor, []}
 use Rattle.std.specs.Prelude.{◌==◌, ◌||◌, IsErrAnd, find, if◌then◌else◌, is_some, slice_index_or}
 use Rattle.std.specs.Option.{option_and_then, option_copied}
-use Rattle.wl_family.specs.Family.{HangTogether, IsTooDeep, Tied, links_in}
-use Rattle.wl_laws.proofs.Lists.Keys.{any-found, found-any, some-same}
-use Rattle.wl_linked.specs.Linked.{IsRefused, Stand, is_other_role, is_taken, link_refusal}
-use Rattle.wl_linked.proofs.Refusing.{both-refuse}
-use Rattle.wl_named.proofs.Reading.{refuses-named}
-use Rattle.wl_named.proofs.Tying.{finds-named}
-use Rattle.wl_named.specs.Named.{StandBy}
-use Rattle.wl_invariants.proofs.InOrder.Whole.{child-there}
-use Rattle.wl_owning.specs.Owning.{IsOwned, Names, number_in}
-use Rattle.wl_owning.specs.Subsurfaces.{AreOfSurfaces}
-use Rattle.wl_owning.proofs.Keeping.OwningLinks.{owned-linked}
-use Rattle.wl_owning.proofs.Keeping.OwningTies.{number-of-name, stand-by}
-use Rattle.wl_owning.proofs.Keeping.OwningXdg.{xdg-there}
-use Rattle.wl_peer.specs.declared.refusals.ErrorCode.TheVariants.{BadParent, BadSurface}
-use Rattle.wl_peer.specs.declared.refusals.Refusal.{Refusal}
-use Rattle.wl_plain.specs.Demand.{Demand, GetSubsurface}
-use Rattle.wl_plain.specs.Desktop.{Resident, Subsurface}
-use Rattle.wl_plain.specs.WlSubsurface.{has_subsurface, is_no_subsurface, is_of_child, past_limit, refuses, subsurface_made}
-use Rattle.wl_plain.specs.XdgShell.{role_of}
-use Rattle.wl_named.specs.Renaming.{has_surface, renamed}
-use Rattle.wl_named.proofs.Names.Known.{keeps-refusals}
-use Rattle.wl_xdg_state.specs.Kept.{kept_of}
-use Rattle.wl_xdg_state.specs.Shell.{xdg_of}
-use Rattle.wl_state.specs.Surface.{Surface}
-use Rattle.wl_state.specs.declared.role.Role.{Role}
-use Rattle.wl_state.specs.declared.role.Role.TheVariants as roles
-use Rattle.wl_subsurfaces.specs.Subsurfaces.{IsSetAt}
+use Rattle.wl_links.specs.Family.{HangTogether, IsTooDeep, Tied, links_in}
+use Rattle.law_desktop.proofs.Lists.Keys.{any-found, found-any, some-same}
+use Rattle.wl_surface.specs.Linked.{IsRefused, Stand, is_other_role, is_taken, link_refusal}
+use Rattle.wl_surface.proofs.Refusing.{both-refuse}
+use Rattle.law_desktop.proofs.ByNames.Reading.{refuses-named}
+use Rattle.law_desktop.proofs.ByNames.Tying.{finds-named}
+use Rattle.law_desktop.specs.Named.{StandBy}
+use Rattle.law_desktop.proofs.InOrder.Whole.{child-there}
+use Rattle.law_desktop.specs.Owning.{IsOwned, Names, number_in}
+use Rattle.law_desktop.specs.Subsurfaces.{AreOfSurfaces}
+use Rattle.law_desktop.proofs.Keeping.OwningLinks.{owned-linked}
+use Rattle.law_desktop.proofs.Keeping.OwningTies.{number-of-name, stand-by}
+use Rattle.law_desktop.proofs.Keeping.OwningXdg.{xdg-there}
+use Rattle.spec_desktop.specs.declared.refusals.ErrorCode.TheVariants.{BadParent, BadSurface}
+use Rattle.spec_desktop.specs.declared.refusals.Refusal.{Refusal}
+use Rattle.spec_desktop.specs.Demand.{Demand, GetSubsurface}
+use Rattle.spec_desktop.specs.Desktop.{Resident, Subsurface}
+use Rattle.spec_desktop.specs.WlSubsurface.{has_subsurface, is_no_subsurface, is_of_child, past_limit, refuses, subsurface_made}
+use Rattle.spec_desktop.specs.XdgShell.{role_of}
+use Rattle.law_desktop.specs.Renaming.{has_surface, renamed}
+use Rattle.law_desktop.proofs.ByNames.Names.Known.{keeps-refusals}
+use Rattle.wl_shell.specs.Kept.{kept_of}
+use Rattle.wl_shell.specs.Shell.{xdg_of}
+use Rattle.wl_surface.specs.Surface.{Surface}
+use Rattle.wl_surface.specs.declared.role.Role.{Role}
+use Rattle.wl_surface.specs.declared.role.Role.TheVariants as roles
+use Rattle.wl_links.specs.Subsurfaces.{IsSetAt}
 use Rattle.wl_surface.specs.declared.error.SurfaceError.{SurfaceError}
 use Rattle.wl_surface.specs.declared.error.SurfaceError.TheVariants as error
 use Rattle.wl_surface.specs.Slots.{Slots, role_at}

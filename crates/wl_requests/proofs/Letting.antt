@@ -8,19 +8,19 @@ use Rattle.std.proofs.lemmas.List.{drop_all}
 use Rattle.std.proofs.lemmas.List.Folds.{list_any-append}
 use Rattle.wl_client.proofs.Queueing.{over-now, queues-over, queues-then}
 use Rattle.std.proofs.Math.Seq.{drop-cons, take-suc}
-use Rattle.wl_linked.specs.Tree.{AreOnce, is_among as among}
-use Rattle.wl_laws.proofs.Lists.Keys.{differ}
-use Rattle.wl_owning.specs.Freed.{freed_of}
-use Rattle.wl_peer.specs.Peer.{Peer, Queues, released}
-use Rattle.wl_peer.specs.Told.{Said}
-use Rattle.wl_peer.specs.declared.cause.Cause.{Cause}
-use Rattle.wl_plain.specs.Desktop.{Resident}
-use Rattle.wl_plain.specs.Releases.{let_if}
-use Rattle.wl_plain.specs.Step.{each_once, is_over, letting_go, with_peer, without_buffer}
-use Rattle.wl_state.specs.Kept.{buffer_of}
-use Rattle.wl_state.specs.Request.{Buffer}
-use Rattle.wl_state.specs.Surface.{listed}
-use Rattle.wl_state.specs.declared.content.Attached.{Attached}
+use Rattle.wl_surface.specs.Tree.{AreOnce, is_among as among}
+use Rattle.law_desktop.proofs.Lists.Keys.{differ}
+use Rattle.law_desktop.specs.Freed.{freed_of}
+use Rattle.spec_desktop.specs.Peer.{Peer, Queues, released}
+use Rattle.spec_desktop.specs.Told.{Said}
+use Rattle.spec_desktop.specs.declared.cause.Cause.{Cause}
+use Rattle.spec_desktop.specs.Desktop.{Resident}
+use Rattle.spec_desktop.specs.Releases.{let_if}
+use Rattle.spec_desktop.specs.Step.{each_once, is_over, letting_go, with_peer, without_buffer}
+use Rattle.wl_surface.specs.Kept.{buffer_of}
+use Rattle.wl_surface.specs.Request.{Buffer}
+use Rattle.wl_surface.specs.Surface.{listed}
+use Rattle.wl_surface.specs.declared.content.Attached.{Attached}
 use Rattle.wl_store.specs.Stores.{Stock}
 
 -- ---- a buffer is found

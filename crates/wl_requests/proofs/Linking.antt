@@ -2,20 +2,20 @@
 use Rattle.std.proofs.Common.{◌≡◌, ℕ, List, [], ◌∷◌, Bool, true, false, cond, Option, Some, None, refl, ap, sym, ◌∙◌, eq-eqb}
 use Rattle.std.specs.Prelude.{◌==◌, ◌&&◌, find, is_some, not}
 use Rattle.std.specs.Option.{option_and_then, option_map}
-use Rattle.wl_interface.specs.declared.interface.Interface.TheVariants.{WlSurface}
-use Rattle.wl_family.specs.Family.{links_in}
-use Rattle.wl_laws.proofs.Lists.Keys.{found-by, none-some, some-same}
-use Rattle.wl_laws.specs.Soundness.{IsLive}
-use Rattle.wl_invariants.specs.InOrder.{OwnsInOrder}
-use Rattle.wl_named.proofs.Linking.{ends-there}
-use Rattle.wl_named.proofs.Tying.{finds-named, ties-named}
-use Rattle.wl_named.specs.Named.{StandBy}
-use Rattle.wl_named.specs.Reading.{kept_by}
-use Rattle.wl_ordered.specs.Ordered.{OwnsOrdered}
-use Rattle.wl_owning.specs.Owning.{number_in, targets_in}
-use Rattle.wl_owning.proofs.Keeping.OwningTies.{number-of-name, renaming-of, stand-by}
-use Rattle.wl_plain.specs.Desktop.{Resident, Subsurface}
-use Rattle.wl_plain.specs.WlSubsurface.{is_of_child, link_of_subsurface, living, subsurface_at}
+use Rattle.wl_proto.specs.declared.interface.Interface.TheVariants.{WlSurface}
+use Rattle.wl_links.specs.Family.{links_in}
+use Rattle.law_desktop.proofs.Lists.Keys.{found-by, none-some, some-same}
+use Rattle.law_desktop.specs.Soundness.{IsLive}
+use Rattle.law_desktop.specs.InOrder.{OwnsInOrder}
+use Rattle.law_desktop.proofs.ByNames.Linking.{ends-there}
+use Rattle.law_desktop.proofs.ByNames.Tying.{finds-named, ties-named}
+use Rattle.law_desktop.specs.Named.{StandBy}
+use Rattle.law_desktop.specs.Reading.{kept_by}
+use Rattle.law_desktop.specs.Ordered.{OwnsOrdered}
+use Rattle.law_desktop.specs.Owning.{number_in, targets_in}
+use Rattle.law_desktop.proofs.Keeping.OwningTies.{number-of-name, renaming-of, stand-by}
+use Rattle.spec_desktop.specs.Desktop.{Resident, Subsurface}
+use Rattle.spec_desktop.specs.WlSubsurface.{is_of_child, link_of_subsurface, living, subsurface_at}
 use Rattle.wl_surface.specs.Surfaces.{Link, link_at}
 use Rattle.wl_surface.specs.Trees.{link_of}
 use Rattle.wl_requests.specs.declared.residents.Resident.{Resident as Kept}

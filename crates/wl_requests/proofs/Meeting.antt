@@ -1,26 +1,26 @@
 -- What is demanded is done and told, as where nobody points.
 use Rattle.std.proofs.Common.{◌≡◌, ℕ, ◌+◌, ◌≤◌, List, ◌++◌, arith, Bool, true, false, Result, refl, ap, subst, sym, ◌∙◌, inl, inr}
 use Rattle.std.specs.Prelude.{Ok, Err}
-use Rattle.wl_peer.specs.Peer.{Errs, LacksMemory, Peer, Queues, WantsOr, counted}
-use Rattle.wl_peer.specs.Told.{Said}
-use Rattle.wl_peer.specs.declared.refusals.Refusal.{Refusal}
-use Rattle.wl_plain.specs.Ask.{Ask}
-use Rattle.wl_plain.specs.Demand.{Demand, Asks}
-use Rattle.wl_plain.specs.Demanding.{demands}
-use Rattle.wl_plain.specs.Changing.{changed_for}
-use Rattle.wl_plain.specs.Desktop.{Desktop, Resident, unpointed}
-use Rattle.wl_plain.specs.Happens.{wants_memory}
-use Rattle.wl_plain.specs.Replies.{own_answers, releases, replies}
-use Rattle.wl_plain.specs.Stacked.{all_windows}
-use Rattle.wl_plain.specs.Step.{changed_by, takes_memory, with_peer}
-use Rattle.wl_plain.specs.LeftOut.{nothing_left_out}
-use Rattle.wl_invariants.specs.InOrder.{may_dismiss}
-use Rattle.wl_invariants.proofs.InOrder.Dismissed.{others_dismiss_none}
-use Rattle.wl_invariants.proofs.KeptRecords.Toplevels.Buffers.{nothing-after}
-use Rattle.wl_invariants.proofs.KeptRecords.Toplevels.Releases.{asked-told}
-use Rattle.wl_invariants.proofs.KeptRecords.Toplevels.Simply.{told_alone}
-use Rattle.wl_ordered.specs.Ordered.{OwnsOrdered}
-use Rattle.wl_ordered.proofs.Laws.{peers_keep_ordered}
+use Rattle.spec_desktop.specs.Peer.{Errs, LacksMemory, Peer, Queues, WantsOr, counted}
+use Rattle.spec_desktop.specs.Told.{Said}
+use Rattle.spec_desktop.specs.declared.refusals.Refusal.{Refusal}
+use Rattle.spec_desktop.specs.Ask.{Ask}
+use Rattle.spec_desktop.specs.Demand.{Demand, Asks}
+use Rattle.spec_desktop.specs.Demanding.{demands}
+use Rattle.spec_desktop.specs.Changing.{changed_for}
+use Rattle.spec_desktop.specs.Desktop.{Desktop, Resident, unpointed}
+use Rattle.spec_desktop.specs.Happens.{wants_memory}
+use Rattle.spec_desktop.specs.Replies.{own_answers, releases, replies}
+use Rattle.spec_desktop.specs.Stacked.{all_windows}
+use Rattle.spec_desktop.specs.Step.{changed_by, takes_memory, with_peer}
+use Rattle.spec_desktop.specs.LeftOut.{nothing_left_out}
+use Rattle.law_desktop.specs.InOrder.{may_dismiss}
+use Rattle.law_desktop.proofs.InOrder.Dismissed.{others_dismiss_none}
+use Rattle.law_desktop.proofs.KeptRecords.Toplevels.Buffers.{nothing-after}
+use Rattle.law_desktop.proofs.KeptRecords.Toplevels.Releases.{asked-told}
+use Rattle.law_desktop.proofs.KeptRecords.Toplevels.Simply.{told_alone}
+use Rattle.law_desktop.specs.Ordered.{OwnsOrdered}
+use Rattle.law_desktop.proofs.KeptInOrder.Laws.{peers_keep_ordered}
 use Rattle.wl_requests.specs.declared.residents.Resident.{Resident as Kept}
 use Rattle.wl_requests.specs.declared.residents.Stacking.TheVariants.{Stays}
 use Rattle.wl_requests.specs.Residents.{AnswersAs, AnswersSo as AnswersWhole, IsLeft, MeetsAs, MeetsSo, StacksSo as StacksWhole}

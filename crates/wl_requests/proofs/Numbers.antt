@@ -2,14 +2,14 @@
 use Rattle.std.proofs.Common.{◌≡◌, ℕ, Bool, true, false, Option, Some, None, cond, refl, ap, subst, sym, ◌∙◌}
 use Rattle.std.specs.Prelude.{◌==◌}
 use Rattle.std.proofs.lemmas.Bool.{eqb-true}
-use Rattle.wl_peer.specs.Objects.{ById, with_id}
+use Rattle.spec_desktop.specs.Objects.{ById, with_id}
 use Rattle.wl_table.specs.Objects.{Held}
-use Rattle.wl_interface.specs.declared.interface.Interface.TheVariants.{WlSurface}
+use Rattle.wl_proto.specs.declared.interface.Interface.TheVariants.{WlSurface}
 use Rattle.wl_requests.specs.declared.residents.Resident.{Resident as Kept}
-use Rattle.wl_plain.specs.Desktop.{Resident}
-use Rattle.wl_peer.specs.Peer.{Peer}
-use Rattle.wl_owning.specs.Owning.{Names, targets_in, with_surface, with_toplevel, with_xdg}
-use Rattle.wl_owning.specs.RoleNames.{names_of}
+use Rattle.spec_desktop.specs.Desktop.{Resident}
+use Rattle.spec_desktop.specs.Peer.{Peer}
+use Rattle.law_desktop.specs.Owning.{Names, targets_in, with_surface, with_toplevel, with_xdg}
+use Rattle.law_desktop.specs.RoleNames.{names_of}
 use Rattle.wl_requests.specs.Residents.{IsLeft, KeepsNumbers}
 
 same-number : (o : Option ℕ) (a b : ℕ) → o ≡ Some a → o ≡ Some b → a ≡ b

@@ -6,45 +6,45 @@ use Rattle.std.proofs.Math.Path.{fun_ext}
 use Rattle.wl_wire.specs.declared.header.Split.{Split}
 use Rattle.wl_wire.specs.declared.header.Split.TheVariants.{Message as Whole}
 use Rattle.wl_wire.specs.Wire.{split_of}
-use Rattle.wl_interface.specs.declared.interface.Interface.{Interface}
-use Rattle.wl_interface.specs.declared.interface.Interface.TheVariants.{WlDisplay, WlRegistry, WlRegion, WlSurface, WlShm, WlShmPool, WlBuffer, XdgPopup, XdgPositioner, XdgSurface, XdgToplevel}
+use Rattle.wl_proto.specs.declared.interface.Interface.{Interface}
+use Rattle.wl_proto.specs.declared.interface.Interface.TheVariants.{WlDisplay, WlRegistry, WlRegion, WlSurface, WlShm, WlShmPool, WlBuffer, XdgPopup, XdgPositioner, XdgSurface, XdgToplevel}
 use Rattle.wl_proto.specs.Messages.{Message, request_message}
 use Rattle.wl_client.specs.Agreement.{IsPeer}
-use Rattle.wl_peer.specs.Judgement.{action_of, judge as judge_own}
-use Rattle.wl_peer.specs.Requests.{request_of}
-use Rattle.wl_peer.specs.Peer.{Peer, known_of, with_rest, changed, counted}
+use Rattle.spec_desktop.specs.Judgement.{action_of, judge as judge_own}
+use Rattle.spec_desktop.specs.Requests.{request_of}
+use Rattle.spec_desktop.specs.Peer.{Peer, known_of, with_rest, changed, counted}
 use Rattle.wl_client.specs.Serving.{AnswersWith, AreUsed, IsOwnMessage, KeepsSurfaces, PassesTo, ServesWith, TakesWith, is_own, of_surface}
-use Rattle.wl_peer.specs.Used.{has_used, keeps_store}
+use Rattle.spec_desktop.specs.Used.{has_used, keeps_store}
 use Rattle.wl_client.specs.View.{ClientView}
-use Rattle.wl_peer.specs.declared.actions.Action.{Action}
-use Rattle.wl_peer.specs.declared.refusals.Refusal.{Refusal}
-use Rattle.wl_peer.specs.declared.actions.Action.TheVariants.{Sync, GetRegistry, Bind, CreateRegion, AddToRegion, SubtractFromRegion, DestroyRegion, CreatePool, CreateBuffer, ResizePool, DestroyPool}
-use Rattle.wl_peer.specs.declared.actions.Action.TheVariants.{DestroyBuffer, CreatePositioner, SetPositioner, DestroyPositioner}
+use Rattle.spec_desktop.specs.declared.actions.Action.{Action}
+use Rattle.spec_desktop.specs.declared.refusals.Refusal.{Refusal}
+use Rattle.spec_desktop.specs.declared.actions.Action.TheVariants.{Sync, GetRegistry, Bind, CreateRegion, AddToRegion, SubtractFromRegion, DestroyRegion, CreatePool, CreateBuffer, ResizePool, DestroyPool}
+use Rattle.spec_desktop.specs.declared.actions.Action.TheVariants.{DestroyBuffer, CreatePositioner, SetPositioner, DestroyPositioner}
 use Rattle.wl_surface.specs.Slots.{has_at}
-use Rattle.wl_state.specs.Surface.{has}
+use Rattle.wl_surface.specs.Surface.{has}
 use Rattle.wl_surface.specs.Surfaces.{is_used}
 use Rattle.wl_table.specs.Objects.{Held, entry_of}
 use Rattle.wl_table.specs.declared.entry.Entry.{Entry}
 use Rattle.wl_requests.specs.declared.residents.Resident.{Resident as Kept}
 use Rattle.wl_requests.specs.declared.residents.Stacking.TheVariants.{Stays}
-use Rattle.wl_plain.specs.Ask.{owns, Own}
-use Rattle.wl_plain.specs.Demand.{Demand}
-use Rattle.wl_plain.specs.Demanding.{demand_of, demands, judge_all}
-use Rattle.wl_plain.specs.Desktop.{Desktop, Resident}
-use Rattle.wl_plain.specs.LeftOut.{nothing_left_out}
-use Rattle.wl_ordered.specs.Ordered.{OwnsOrdered}
-use Rattle.wl_owning.specs.Owning.{Names, by_number, target_as, targets_in}
-use Rattle.wl_owning.specs.RoleNames.{names_of, role_target, roles_in}
+use Rattle.spec_desktop.specs.Ask.{owns, Own}
+use Rattle.spec_desktop.specs.Demand.{Demand}
+use Rattle.spec_desktop.specs.Demanding.{demand_of, demands, judge_all}
+use Rattle.spec_desktop.specs.Desktop.{Desktop, Resident}
+use Rattle.spec_desktop.specs.LeftOut.{nothing_left_out}
+use Rattle.law_desktop.specs.Ordered.{OwnsOrdered}
+use Rattle.law_desktop.specs.Owning.{Names, by_number, target_as, targets_in}
+use Rattle.law_desktop.specs.RoleNames.{names_of, role_target, roles_in}
 use Rattle.wl_requests.specs.Residents.{AnswersSo as AnswersWhole, IsLeft, IsResident, StacksSo as StacksWhole, TakesSo}
-use Rattle.wl_plain.specs.Step.{with_peer, changed_by}
+use Rattle.spec_desktop.specs.Step.{with_peer, changed_by}
 use Rattle.wl_requests.proofs.Asking.{demanded-first, judged-by, whole-first}
 use Rattle.wl_requests.proofs.Meeting.{AnswersSo, asks-stay, as-asked, ordered-peer}
 use Rattle.wl_requests.proofs.Numbers.{keeps-names}
 use Rattle.wl_requests.proofs.Framing.{IsFramed, framed-names, no-more}
 use Rattle.wl_requests.proofs.Roles.{names-with}
-use Rattle.wl_owning.proofs.Keeping.OwningSurfaces.{any-is}
+use Rattle.law_desktop.proofs.Keeping.OwningSurfaces.{any-is}
 use Rattle.wl_store.specs.Stores.{Stock}
-use Rattle.wl_stacking.specs.Stacking.{Owned}
+use Rattle.spec_desktop.specs.Stacking.{Owned}
 use Rattle.wl_scene.specs.declared.owned.Owned.{Owned as Lent}
 
 -- a message that is judged so passes, and is one of the client's own

@@ -4,7 +4,7 @@ use Rattle.std.specs.Prelude.{◌==◌, ◌||◌, ◌-◌, if◌then◌else◌, 
 use Rattle.wl_wire.specs.Wire.{split_of}
 use Rattle.wl_wire.specs.declared.header.Split.{Split}
 use Rattle.wl_wire.specs.declared.header.Split.TheVariants.{Message as Whole, More, Bad}
-use Rattle.wl_interface.specs.declared.interface.Interface.TheVariants.{WlSurface, XdgToplevel}
+use Rattle.wl_proto.specs.declared.interface.Interface.TheVariants.{WlSurface, XdgToplevel}
 use Rattle.wl_proto.specs.Messages.{Message, wl_compositor_request, wl_pointer_request, wl_seat_request, wl_subcompositor_request, wl_subsurface_request, wl_surface_request, xdg_surface_request}
 use Rattle.wl_proto.specs.Messages.{xdg_popup_request, xdg_wm_base_request}
 use Rattle.wl_proto.specs.declared.wl_compositor.WlCompositorRequest.{WlCompositorRequest}
@@ -23,43 +23,43 @@ use Rattle.wl_proto.specs.declared.xdg_surface.XdgSurfaceRequest.{XdgSurfaceRequ
 use Rattle.wl_proto.specs.declared.xdg_surface.XdgSurfaceRequest.TheVariants as requests
 use Rattle.wl_proto.specs.declared.xdg_wm_base.XdgWmBaseRequest.{XdgWmBaseRequest}
 use Rattle.wl_proto.specs.declared.xdg_wm_base.XdgWmBaseRequest.TheVariants as base
-use Rattle.wl_peer.specs.Objects.{ById}
-use Rattle.wl_peer.specs.Judgement.{action_of}
-use Rattle.wl_peer.specs.declared.actions.Action.{Action}
-use Rattle.wl_peer.specs.Requests.{rect, request_of, toplevel_request}
-use Rattle.wl_peer.specs.ToplevelRequest.{ToplevelRequest}
-use Rattle.wl_peer.specs.ToplevelRequest as toplevel
-use Rattle.wl_peer.specs.Peer.{known_of, with_rest}
-use Rattle.wl_peer.specs.declared.refusals.ErrorCode.TheVariants.{Role as HasAnotherRole}
-use Rattle.wl_peer.specs.declared.refusals.Refusal.{Refusal}
+use Rattle.spec_desktop.specs.Objects.{ById}
+use Rattle.spec_desktop.specs.Judgement.{action_of}
+use Rattle.spec_desktop.specs.declared.actions.Action.{Action}
+use Rattle.spec_desktop.specs.Requests.{rect, request_of, toplevel_request}
+use Rattle.spec_desktop.specs.ToplevelRequest.{ToplevelRequest}
+use Rattle.spec_desktop.specs.ToplevelRequest as toplevel
+use Rattle.spec_desktop.specs.Peer.{known_of, with_rest}
+use Rattle.spec_desktop.specs.declared.refusals.ErrorCode.TheVariants.{Role as HasAnotherRole}
+use Rattle.spec_desktop.specs.declared.refusals.Refusal.{Refusal}
 use Rattle.wl_client.specs.First.{IsRefused, Passes}
 use Rattle.wl_client.specs.Serving.{PassesTo}
 use Rattle.wl_client.proofs.Passing.{judged-refused}
-use Rattle.wl_state.specs.Request.{Member, PlaceAbove, PlaceBelow, Request as AskedOf}
+use Rattle.wl_surface.specs.Request.{Member, PlaceAbove, PlaceBelow, Request as AskedOf}
 use Rattle.wl_surface.specs.Surfaces.{Link}
 use Rattle.wl_surface.specs.Trees.{is_bad_parent, is_too_deep}
-use Rattle.wl_xdg_state.specs.Kept.{kept_of}
-use Rattle.wl_xdg_state.specs.Shell.{Effect, Configures, Maps, Stays, Unconfigured, Unmaps, XdgSurface as Xdg, is_full, xdg_at, xdg_of, xdg_with}
-use Rattle.wl_owning.specs.Owning.{targets_in}
-use Rattle.wl_owning.specs.RoleNames.{names_of}
-use Rattle.wl_owning.proofs.Keeping.OwningXdg.{toplevel-named}
-use Rattle.wl_owning.proofs.Keeping.OwningNames.{targets-at}
-use Rattle.wl_plain.specs.Ask.{Ask, Ignore, owns}
-use Rattle.wl_plain.specs.Demand.{Asks, CommitTree, Demand, EndSurface}
-use Rattle.wl_plain.specs.Demanding.{committed_by, demand_of, demands, effect_of_commit, if_whole, toplevel_asked, xdg_asked}
-use Rattle.wl_plain.specs.Desktop.{Resident}
-use Rattle.wl_plain.specs.LeftOut.{nothing_left_out}
-use Rattle.wl_plain.specs.XdgPopup.{grab_of, is_no_popup, may_be_parent, popup_asked, popup_made, positioner_of, repositioned_by}
-use Rattle.wl_xdg_state.specs.Popups.{Popped, is_parent, is_popup_mapped, popup_at, is_configured}
-use Rattle.wl_xdg_state.specs.Positioner.{Positioner, is_complete}
+use Rattle.wl_shell.specs.Kept.{kept_of}
+use Rattle.wl_shell.specs.Shell.{Effect, Configures, Maps, Stays, Unconfigured, Unmaps, XdgSurface as Xdg, is_full, xdg_at, xdg_of, xdg_with}
+use Rattle.law_desktop.specs.Owning.{targets_in}
+use Rattle.law_desktop.specs.RoleNames.{names_of}
+use Rattle.law_desktop.proofs.Keeping.OwningXdg.{toplevel-named}
+use Rattle.law_desktop.proofs.Keeping.OwningNames.{targets-at}
+use Rattle.spec_desktop.specs.Ask.{Ask, Ignore, owns}
+use Rattle.spec_desktop.specs.Demand.{Asks, CommitTree, Demand, EndSurface}
+use Rattle.spec_desktop.specs.Demanding.{committed_by, demand_of, demands, effect_of_commit, if_whole, toplevel_asked, xdg_asked}
+use Rattle.spec_desktop.specs.Desktop.{Resident}
+use Rattle.spec_desktop.specs.LeftOut.{nothing_left_out}
+use Rattle.spec_desktop.specs.XdgPopup.{grab_of, is_no_popup, may_be_parent, popup_asked, popup_made, positioner_of, repositioned_by}
+use Rattle.wl_shell.specs.Popups.{Popped, is_parent, is_popup_mapped, popup_at, is_configured}
+use Rattle.wl_shell.specs.Positioner.{Positioner, is_complete}
 use Rattle.wl_proto.specs.declared.xdg_popup.XdgPopupRequest.{XdgPopupRequest}
 use Rattle.wl_proto.specs.declared.xdg_popup.XdgPopupRequest.TheVariants as popups
-use Rattle.wl_owning.proofs.Popups.Naming.{roles-named}
-use Rattle.wl_plain.specs.Step.{with_peer}
-use Rattle.wl_plain.specs.WlPointer.{is_no_cursor}
-use Rattle.wl_plain.specs.WlSubsurface.{beside, demand_by_link, has_subsurface, is_no_subsurface, link_of_subsurface, past_limit, placed_beside, refuses}
-use Rattle.wl_plain.specs.WlSurface.{surface_created, transform_set, will_be_whole, scale_set}
-use Rattle.wl_plain.specs.XdgShell.{acknowledged_by, geometry_set, role_of, state_asked, toplevel_made, xdg_surface_destroyed}
+use Rattle.law_desktop.proofs.OwnedPopups.Naming.{roles-named}
+use Rattle.spec_desktop.specs.Step.{with_peer}
+use Rattle.spec_desktop.specs.WlPointer.{is_no_cursor}
+use Rattle.spec_desktop.specs.WlSubsurface.{beside, demand_by_link, has_subsurface, is_no_subsurface, link_of_subsurface, past_limit, placed_beside, refuses}
+use Rattle.spec_desktop.specs.WlSurface.{surface_created, transform_set, will_be_whole, scale_set}
+use Rattle.spec_desktop.specs.XdgShell.{acknowledged_by, geometry_set, role_of, state_asked, toplevel_made, xdg_surface_destroyed}
 use Rattle.wl_requests.specs.declared.messages.Asked.{Asked}
 use Rattle.wl_requests.specs.declared.messages.Asked.TheVariants as asks
 use Rattle.wl_requests.specs.declared.messages.Kind.{Kind}

@@ -1,22 +1,22 @@
 -- What is judged of wl_pointer.set_cursor, by what is kept, and what a surface that becomes a cursor leaves as it was.
 use Rattle.std.proofs.Common.{◌≡◌, ◌≢◌, ℕ, Bool, true, false, Option, Some, None, refl, ap, ap₂, sym, ◌∙◌}
 use Rattle.std.specs.Prelude.{◌||◌, Err, Ok, if◌then◌else◌, is_some}
-use Rattle.wl_owning.specs.Owning.{by_number}
-use Rattle.wl_owning.specs.RoleNames.{names_of}
-use Rattle.wl_owning.proofs.Keeping.OwningSurfaces.{surface-read}
-use Rattle.wl_owning.proofs.Keeping.OwningXdg.{xdg-there}
-use Rattle.wl_peer.specs.declared.refusals.ErrorCode.TheVariants.{Role as HasAnotherRole}
-use Rattle.wl_plain.specs.Demand.{MakeCursor}
-use Rattle.wl_plain.specs.Desktop.{Resident}
-use Rattle.wl_plain.specs.WlPointer.{cursor_set, is_no_cursor}
-use Rattle.wl_plain.specs.WlSubsurface.{refuses}
-use Rattle.wl_plain.specs.XdgShell.{role_of}
-use Rattle.wl_state.specs.declared.role.Role.{Role}
-use Rattle.wl_state.specs.declared.role.Role.TheVariants as roles
+use Rattle.law_desktop.specs.Owning.{by_number}
+use Rattle.law_desktop.specs.RoleNames.{names_of}
+use Rattle.law_desktop.proofs.Keeping.OwningSurfaces.{surface-read}
+use Rattle.law_desktop.proofs.Keeping.OwningXdg.{xdg-there}
+use Rattle.spec_desktop.specs.declared.refusals.ErrorCode.TheVariants.{Role as HasAnotherRole}
+use Rattle.spec_desktop.specs.Demand.{MakeCursor}
+use Rattle.spec_desktop.specs.Desktop.{Resident}
+use Rattle.spec_desktop.specs.WlPointer.{cursor_set, is_no_cursor}
+use Rattle.spec_desktop.specs.WlSubsurface.{refuses}
+use Rattle.spec_desktop.specs.XdgShell.{role_of}
+use Rattle.wl_surface.specs.declared.role.Role.{Role}
+use Rattle.wl_surface.specs.declared.role.Role.TheVariants as roles
 use Rattle.wl_surface.specs.Slots.{role_at}
 use Rattle.wl_surface.specs.Surfaces.{surface_at}
-use Rattle.wl_xdg_state.specs.Kept.{kept_of}
-use Rattle.wl_xdg_state.specs.Shell.{xdg_of}
+use Rattle.wl_shell.specs.Kept.{kept_of}
+use Rattle.wl_shell.specs.Shell.{xdg_of}
 use Rattle.wl_requests.specs.declared.residents.Resident.{Resident as Kept}
 use Rattle.wl_requests.specs.Residents.{IsResident, IsSurface}
 use Rattle.wl_requests.proofs.Judging.{or-first, or-second, role-same}

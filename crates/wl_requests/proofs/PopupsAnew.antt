@@ -2,38 +2,38 @@
 use Rattle.std.proofs.Common.{◌≡◌, ◌≤◌, ℕ, List, ◌++◌, Bool, true, false, Option, Some, None, Result, refl, ap, subst, sym, ◌∙◌, inr}
 use Rattle.std.specs.Prelude.{ℤ, ◌&&◌, Ok, Err, if◌then◌else◌, is_some}
 use Rattle.std.specs.Option.{option_and_then, option_map}
-use Rattle.wl_interface.specs.declared.interface.Interface.TheVariants.{XdgPopup}
+use Rattle.wl_proto.specs.declared.interface.Interface.TheVariants.{XdgPopup}
 use Rattle.wl_table.specs.declared.entry.Entry.{Entry}
 use Rattle.wl_client.specs.Agreement.{IsPeer}
 use Rattle.wl_geom.specs.declared.rect.Rect.{Rect}
-use Rattle.wl_peer.specs.declared.refusals.Refusal.{Refusal}
-use Rattle.wl_peer.specs.Objects.{Objects, is_of, object_of}
-use Rattle.wl_peer.specs.Peer.{Errs, Peer, Queues, counted}
-use Rattle.wl_peer.specs.Told.{Said}
-use Rattle.wl_state.specs.State.{History}
-use Rattle.wl_xdg_state.specs.declared.error.ShellError.{ShellError}
-use Rattle.wl_xdg_state.specs.declared.error.ShellError.TheVariants as failed
-use Rattle.wl_xdg_state.specs.Kept.{Kept as KeptXdg, changing, is_configured_in, kept_of, kept_repositioning, placed_anew, reposition_answer, reposition_by}
-use Rattle.wl_xdg_state.specs.Popups.{Popped, is_configured, kind_popup, popup_at, popup_in}
-use Rattle.wl_xdg_state.specs.Positioner.{Placed, Positioner, is_complete, place}
-use Rattle.wl_xdg_state.specs.Shell.{Configure, Popup, XdgSurface as Xdg, is_full, xdg_with}
-use Rattle.wl_plain.specs.Changing.{Placing as WhereTo, changed_for, drawing, placement_now, popup_repositioned}
-use Rattle.wl_plain.specs.Demand.{Demand, Reposition}
-use Rattle.wl_plain.specs.Desktop.{Desktop, Resident, unpointed}
-use Rattle.wl_plain.specs.Replies.{own_answers}
-use Rattle.wl_plain.specs.Stacked.{all_windows}
-use Rattle.wl_plain.specs.Step.{with_peer, xdg_changed}
-use Rattle.wl_invariants.proofs.KeptRecords.Toplevels.Buffers.{nothing-after}
-use Rattle.wl_invariants.proofs.KeptRecords.Toplevels.Releases.{still-released}
-use Rattle.wl_ordered.specs.Ordered.{OwnsOrdered}
-use Rattle.wl_owning.specs.Owning.{IsXdg, kept_base, shell_refusal}
-use Rattle.wl_owning.specs.Popups.{IsAtParentOf, anew_told, popup_with}
-use Rattle.wl_owning.specs.RoleNames.{names_of}
-use Rattle.wl_owning.proofs.Keeping.OwningXdg.{toplevel-named}
-use Rattle.wl_owning.proofs.Popups.Grabbing.{popped}
-use Rattle.wl_owning.proofs.Popups.Knowing.{roles-known}
-use Rattle.wl_owning.proofs.Popups.Naming.{roles-named}
-use Rattle.wl_owning.proofs.Popups.Repositioning.{popups-anew}
+use Rattle.spec_desktop.specs.declared.refusals.Refusal.{Refusal}
+use Rattle.spec_desktop.specs.Objects.{Objects, is_of, object_of}
+use Rattle.spec_desktop.specs.Peer.{Errs, Peer, Queues, counted}
+use Rattle.spec_desktop.specs.Told.{Said}
+use Rattle.wl_surface.specs.State.{History}
+use Rattle.wl_shell.specs.declared.error.ShellError.{ShellError}
+use Rattle.wl_shell.specs.declared.error.ShellError.TheVariants as failed
+use Rattle.wl_shell.specs.Kept.{Kept as KeptXdg, changing, is_configured_in, kept_of, kept_repositioning, placed_anew, reposition_answer, reposition_by}
+use Rattle.wl_shell.specs.Popups.{Popped, is_configured, kind_popup, popup_at, popup_in}
+use Rattle.wl_shell.specs.Positioner.{Placed, Positioner, is_complete, place}
+use Rattle.wl_shell.specs.Shell.{Configure, Popup, XdgSurface as Xdg, is_full, xdg_with}
+use Rattle.spec_desktop.specs.Changing.{Placing as WhereTo, changed_for, drawing, placement_now, popup_repositioned}
+use Rattle.spec_desktop.specs.Demand.{Demand, Reposition}
+use Rattle.spec_desktop.specs.Desktop.{Desktop, Resident, unpointed}
+use Rattle.spec_desktop.specs.Replies.{own_answers}
+use Rattle.spec_desktop.specs.Stacked.{all_windows}
+use Rattle.spec_desktop.specs.Step.{with_peer, xdg_changed}
+use Rattle.law_desktop.proofs.KeptRecords.Toplevels.Buffers.{nothing-after}
+use Rattle.law_desktop.proofs.KeptRecords.Toplevels.Releases.{still-released}
+use Rattle.law_desktop.specs.Ordered.{OwnsOrdered}
+use Rattle.law_desktop.specs.Owning.{IsXdg, kept_base, shell_refusal}
+use Rattle.law_desktop.specs.OwnedPopups.{IsAtParentOf, anew_told, popup_with}
+use Rattle.law_desktop.specs.RoleNames.{names_of}
+use Rattle.law_desktop.proofs.Keeping.OwningXdg.{toplevel-named}
+use Rattle.law_desktop.proofs.OwnedPopups.Grabbing.{popped}
+use Rattle.law_desktop.proofs.OwnedPopups.Knowing.{roles-known}
+use Rattle.law_desktop.proofs.OwnedPopups.Naming.{roles-named}
+use Rattle.law_desktop.proofs.OwnedPopups.Repositioning.{popups-anew}
 use Rattle.wl_requests.specs.declared.residents.Placing.{Placing}
 use Rattle.wl_requests.specs.declared.residents.Resident.{Resident as Kept}
 use Rattle.wl_requests.specs.Placing.{IsPlacing}

@@ -2,61 +2,61 @@
 use Rattle.std.proofs.Common.{◌≡◌, ◌≢◌, ℕ, ◌+◌, ◌≤◌, List, [], ◌∷◌, ◌++◌, Bool, true, false, Option, Some, None, Result, arith, map, refl, ap, subst, sym, ◌∙◌, inl, inr}
 use Rattle.std.specs.Prelude.{◌==◌, ◌↔◌, IfSome, IsErr, OnOk, Ok, Err, is_some, min}
 use Rattle.std.specs.Option.{option_map}
-use Rattle.wl_interface.specs.declared.interface.Interface.{Interface}
-use Rattle.wl_interface.specs.declared.interface.Interface.TheVariants.{WlSurface, XdgPopup, XdgToplevel}
+use Rattle.wl_proto.specs.declared.interface.Interface.{Interface}
+use Rattle.wl_proto.specs.declared.interface.Interface.TheVariants.{WlSurface, XdgPopup, XdgToplevel}
 use Rattle.wl_table.specs.Objects.{Held, HoldsAt, entry_of}
 use Rattle.wl_table.specs.declared.entry.Entry.{Entry}
 use Rattle.wl_client.specs.Agreement.{IsCount, IsPeer, most_counted}
 use Rattle.wl_client.specs.View.{ClientView}
 use Rattle.wl_client.proofs.Queueing.{queues-over, queues-then}
-use Rattle.wl_peer.specs.declared.cause.Cause.{Cause}
-use Rattle.wl_peer.specs.declared.refusals.ErrorCode.TheVariants as code
-use Rattle.wl_peer.specs.declared.refusals.Refusal.{Refusal}
-use Rattle.wl_peer.specs.Objects.{Objects, interface_number, is_of, object_of}
-use Rattle.wl_peer.specs.Peer.{Errs, Peer, Queues, WantsOr, counted, made, object_at_version, removed}
-use Rattle.wl_peer.specs.Told.{Said, id_deleted}
-use Rattle.wl_family.specs.Family.{Tied}
-use Rattle.wl_linked.specs.declared.linked.Linked.{Linked}
+use Rattle.spec_desktop.specs.declared.cause.Cause.{Cause}
+use Rattle.spec_desktop.specs.declared.refusals.ErrorCode.TheVariants as code
+use Rattle.spec_desktop.specs.declared.refusals.Refusal.{Refusal}
+use Rattle.spec_desktop.specs.Objects.{Objects, interface_number, is_of, object_of}
+use Rattle.spec_desktop.specs.Peer.{Errs, Peer, Queues, WantsOr, counted, made, object_at_version, removed}
+use Rattle.spec_desktop.specs.Told.{Said, id_deleted}
+use Rattle.wl_links.specs.Family.{Tied}
+use Rattle.wl_surface.specs.declared.linked.Linked.{Linked}
 use Rattle.wl_surface.specs.Slots.{Changes, Numbered, Slots, StandForAll, role_at}
 use Rattle.wl_surface.specs.declared.applied.Applied.{Applied}
 use Rattle.wl_surface.specs.declared.error.SurfaceError.{SurfaceError}
-use Rattle.wl_state.specs.State.{History}
-use Rattle.wl_state.specs.Surface.{with_role}
-use Rattle.wl_state.specs.declared.role.Role.{Role}
-use Rattle.wl_state.specs.declared.role.Role.TheVariants.{Popup as AsPopup}
+use Rattle.wl_surface.specs.State.{History}
+use Rattle.wl_surface.specs.Surface.{with_role}
+use Rattle.wl_surface.specs.declared.role.Role.{Role}
+use Rattle.wl_surface.specs.declared.role.Role.TheVariants.{Popup as AsPopup}
 use Rattle.wl_shell.specs.Descent.{has_popup_at}
 use Rattle.wl_shell.specs.InOrder.{goes_with, undismissed}
-use Rattle.wl_shell.specs.Laws.{orphaned}
-use Rattle.wl_shell.specs.Popups.{parent_id, popup_destruction}
-use Rattle.wl_xdg_state.specs.declared.error.ShellError.{ShellError}
-use Rattle.wl_xdg_state.specs.declared.error.ShellError.TheVariants as failed
-use Rattle.wl_xdg_state.specs.Kept.{Book, Kept as KeptXdg, changing, kept_of, kept_popup, kept_without_role, popup_answer}
-use Rattle.wl_xdg_state.specs.Popups.{dismissing}
-use Rattle.wl_xdg_state.specs.Positioner.{Positioner}
-use Rattle.wl_xdg_state.specs.Shell.{XdgSurface as Xdg, is_role, xdg_at, xdg_with}
-use Rattle.wl_plain.specs.Changing.{changed_for, popup_given_to}
-use Rattle.wl_plain.specs.Demand.{Demand, EndPopup, EndToplevel, GetPopup}
-use Rattle.wl_plain.specs.Desktop.{Desktop, Resident, unpointed}
-use Rattle.wl_plain.specs.LeftOut.{nothing_left_out}
-use Rattle.wl_plain.specs.Replies.{popups_done, releases, replies}
-use Rattle.wl_plain.specs.Stacked.{all_windows}
-use Rattle.wl_plain.specs.Step.{making, with_peer}
-use Rattle.wl_plain.specs.XdgPopup.{is_no_popup}
-use Rattle.wl_plain.specs.XdgShell.{role_of}
-use Rattle.wl_invariants.proofs.KeptRecords.Toplevels.Releases.{role-released, still-released}
-use Rattle.wl_ordered.specs.Ordered.{OwnsOrdered}
-use Rattle.wl_owning.specs.Owning.{IsOwned, IsXdg, Names, asks_by, by_number, kept_base, number_of, shell_refusal, targets_in, with_toplevel}
-use Rattle.wl_owning.specs.Popups.{done_told}
-use Rattle.wl_owning.specs.RoleNames.{is_of_role, names_of}
-use Rattle.wl_owning.specs.Subsurfaces.{AreOfSurfaces}
-use Rattle.wl_owning.proofs.Keeping.OwningReads.{role-read}
-use Rattle.wl_owning.proofs.Keeping.OwningXdg.{toplevel-named}
-use Rattle.wl_owning.proofs.Popups.Coming.{popups-come, role-fits}
-use Rattle.wl_owning.proofs.Popups.Dismissing.{popups-dismissed}
-use Rattle.wl_owning.proofs.Popups.Ending.{toplevels-go}
-use Rattle.wl_owning.proofs.Popups.Going.{popups-go}
-use Rattle.wl_owning.proofs.Popups.Knowing.{roles-known}
-use Rattle.wl_owning.proofs.Popups.Naming.{roles-named}
+use Rattle.wl_shell.specs.ShellLaws.{orphaned}
+use Rattle.wl_shell.specs.PopupsKept.{parent_id, popup_destruction}
+use Rattle.wl_shell.specs.declared.error.ShellError.{ShellError}
+use Rattle.wl_shell.specs.declared.error.ShellError.TheVariants as failed
+use Rattle.wl_shell.specs.Kept.{Book, Kept as KeptXdg, changing, kept_of, kept_popup, kept_without_role, popup_answer}
+use Rattle.wl_shell.specs.Popups.{dismissing}
+use Rattle.wl_shell.specs.Positioner.{Positioner}
+use Rattle.wl_shell.specs.Shell.{XdgSurface as Xdg, is_role, xdg_at, xdg_with}
+use Rattle.spec_desktop.specs.Changing.{changed_for, popup_given_to}
+use Rattle.spec_desktop.specs.Demand.{Demand, EndPopup, EndToplevel, GetPopup}
+use Rattle.spec_desktop.specs.Desktop.{Desktop, Resident, unpointed}
+use Rattle.spec_desktop.specs.LeftOut.{nothing_left_out}
+use Rattle.spec_desktop.specs.Replies.{popups_done, releases, replies}
+use Rattle.spec_desktop.specs.Stacked.{all_windows}
+use Rattle.spec_desktop.specs.Step.{making, with_peer}
+use Rattle.spec_desktop.specs.XdgPopup.{is_no_popup}
+use Rattle.spec_desktop.specs.XdgShell.{role_of}
+use Rattle.law_desktop.proofs.KeptRecords.Toplevels.Releases.{role-released, still-released}
+use Rattle.law_desktop.specs.Ordered.{OwnsOrdered}
+use Rattle.law_desktop.specs.Owning.{IsOwned, IsXdg, Names, asks_by, by_number, kept_base, number_of, shell_refusal, targets_in, with_toplevel}
+use Rattle.law_desktop.specs.OwnedPopups.{done_told}
+use Rattle.law_desktop.specs.RoleNames.{is_of_role, names_of}
+use Rattle.law_desktop.specs.Subsurfaces.{AreOfSurfaces}
+use Rattle.law_desktop.proofs.Keeping.OwningReads.{role-read}
+use Rattle.law_desktop.proofs.Keeping.OwningXdg.{toplevel-named}
+use Rattle.law_desktop.proofs.OwnedPopups.Coming.{popups-come, role-fits}
+use Rattle.law_desktop.proofs.OwnedPopups.Dismissing.{popups-dismissed}
+use Rattle.law_desktop.proofs.OwnedPopups.Ending.{toplevels-go}
+use Rattle.law_desktop.proofs.OwnedPopups.Going.{popups-go}
+use Rattle.law_desktop.proofs.OwnedPopups.Knowing.{roles-known}
+use Rattle.law_desktop.proofs.OwnedPopups.Naming.{roles-named}
 use Rattle.wl_requests.specs.declared.residents.Resident.{Resident as Kept}
 use Rattle.wl_requests.specs.Dismissing.{AreDismissed, DismissesWith, go_with}
 use Rattle.wl_requests.specs.Residents.{AnswersAs, AnswersSo, IsLeft, IsPopup, IsResident, IsToplevel, MeetsAs, MeetsSo}

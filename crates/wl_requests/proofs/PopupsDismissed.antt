@@ -5,25 +5,25 @@ use Rattle.std.specs.Option.{option_map}
 use Rattle.std.proofs.lemmas.List.{length-append}
 use Rattle.wl_client.proofs.Queueing.{queues-over, queues-then}
 use Rattle.wl_client.specs.Agreement.{IsPeer}
-use Rattle.wl_interface.specs.declared.interface.Interface.TheVariants.{XdgPopup}
+use Rattle.wl_proto.specs.declared.interface.Interface.TheVariants.{XdgPopup}
 use Rattle.wl_proto.specs.Messages.{says}
-use Rattle.wl_peer.specs.declared.cause.Cause.{Cause}
-use Rattle.wl_peer.specs.Peer.{Peer, Queues}
-use Rattle.wl_peer.specs.Told.{Said, said}
-use Rattle.wl_linked.specs.declared.linked.Linked.{Linked}
+use Rattle.spec_desktop.specs.declared.cause.Cause.{Cause}
+use Rattle.spec_desktop.specs.Peer.{Peer, Queues}
+use Rattle.spec_desktop.specs.Told.{Said, said}
+use Rattle.wl_surface.specs.declared.linked.Linked.{Linked}
 use Rattle.wl_shell.specs.Found.{AreFound}
 use Rattle.wl_shell.specs.InOrder.{HasOrder, goes_with, newest_first, undismissed, with_dismissed}
-use Rattle.wl_shell.specs.Popups.{IsNewest, dismissible_under}
-use Rattle.wl_stacking.specs.Stacking.{Owned}
-use Rattle.wl_xdg_state.specs.Kept.{Book, Kept as KeptXdg, changing, kept_changed, kept_of}
-use Rattle.wl_xdg_state.specs.Popups.{Popped, by_number, dismiss, dismissed_with, is_among, popped_kind, popped_of, popped_role, popups_of, with_popup_role}
-use Rattle.wl_xdg_state.specs.Shell.{IsPopup, Kind, RoleObject, Shell, Toplevel, XdgSurface}
-use Rattle.wl_plain.specs.Desktop.{Resident}
-use Rattle.wl_ordered.specs.Ordered.{OwnsOrdered}
-use Rattle.wl_owning.specs.Owning.{IsOwned, Names}
-use Rattle.wl_owning.specs.Popups.{NextIs, WereDismissed, done_told}
-use Rattle.wl_owning.proofs.Popups.Dismissing.{popups-dismissed}
-use Rattle.wl_owning.proofs.Popups.Knowing.{roles-known}
+use Rattle.wl_shell.specs.PopupsKept.{IsNewest, dismissible_under}
+use Rattle.spec_desktop.specs.Stacking.{Owned}
+use Rattle.wl_shell.specs.Kept.{Book, Kept as KeptXdg, changing, kept_changed, kept_of}
+use Rattle.wl_shell.specs.Popups.{Popped, by_number, dismiss, dismissed_with, is_among, popped_kind, popped_of, popped_role, popups_of, with_popup_role}
+use Rattle.wl_shell.specs.Shell.{IsPopup, Kind, RoleObject, Shell, Toplevel, XdgSurface}
+use Rattle.spec_desktop.specs.Desktop.{Resident}
+use Rattle.law_desktop.specs.Ordered.{OwnsOrdered}
+use Rattle.law_desktop.specs.Owning.{IsOwned, Names}
+use Rattle.law_desktop.specs.OwnedPopups.{NextIs, WereDismissed, done_told}
+use Rattle.law_desktop.proofs.OwnedPopups.Dismissing.{popups-dismissed}
+use Rattle.law_desktop.proofs.OwnedPopups.Knowing.{roles-known}
 use Rattle.wl_requests.specs.declared.residents.Resident.{Resident as Kept}
 use Rattle.wl_requests.specs.Dismissing.{AreDismissed, go_with, role_id}
 use Rattle.wl_requests.proofs.Letting.{IsToldSo, none-told}

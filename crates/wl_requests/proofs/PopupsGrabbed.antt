@@ -2,42 +2,42 @@
 use Rattle.std.proofs.Common.{◌≡◌, ◌≤◌, ℕ, List, ◌++◌, Bool, true, false, Option, Some, None, Result, map, refl, ap, subst, sym, ◌∙◌, inr}
 use Rattle.std.specs.Prelude.{◌&&◌, ◌||◌, Ok, Err, if◌then◌else◌, not}
 use Rattle.std.specs.Option.{option_and_then, option_map}
-use Rattle.wl_interface.specs.declared.interface.Interface.TheVariants.{XdgPopup}
+use Rattle.wl_proto.specs.declared.interface.Interface.TheVariants.{XdgPopup}
 use Rattle.wl_table.specs.declared.entry.Entry.{Entry}
 use Rattle.wl_client.specs.Agreement.{IsPeer}
-use Rattle.wl_peer.specs.declared.refusals.Refusal.{Refusal}
-use Rattle.wl_peer.specs.Objects.{Objects, is_of, object_of}
-use Rattle.wl_peer.specs.Peer.{Peer, Queues, counted}
-use Rattle.wl_peer.specs.Told.{Said}
-use Rattle.wl_linked.specs.declared.linked.Linked.{Linked}
-use Rattle.wl_state.specs.State.{History}
+use Rattle.spec_desktop.specs.declared.refusals.Refusal.{Refusal}
+use Rattle.spec_desktop.specs.Objects.{Objects, is_of, object_of}
+use Rattle.spec_desktop.specs.Peer.{Peer, Queues, counted}
+use Rattle.spec_desktop.specs.Told.{Said}
+use Rattle.wl_surface.specs.declared.linked.Linked.{Linked}
+use Rattle.wl_surface.specs.State.{History}
 use Rattle.wl_shell.specs.Descent.{has_popup_at}
 use Rattle.wl_shell.specs.Found.{AreFound}
 use Rattle.wl_shell.specs.InOrder.{goes_with, undismissed}
-use Rattle.wl_shell.specs.Popups.{parent_allows}
-use Rattle.wl_xdg_state.specs.declared.error.ShellError.{ShellError}
-use Rattle.wl_xdg_state.specs.declared.error.ShellError.TheVariants as failed
-use Rattle.wl_xdg_state.specs.Kept.{Kept as KeptXdg, changing, grab_answer, grab_by, grab_in, kept_grabbing, kept_of}
-use Rattle.wl_xdg_state.specs.Popups.{Popped, dismissing, first_of, is_mapped_stage, kind_popup, popped_kind, popped_of, popped_role, popup_at}
-use Rattle.wl_xdg_state.specs.Shell.{IsPopup as APopup, Kind as RoleKind, Popup, RoleObject, Toplevel, XdgSurface as Xdg, xdg_with}
-use Rattle.wl_plain.specs.Ask.{Ignore}
-use Rattle.wl_plain.specs.Changing.{changed_for, grab_allowed, grab_holder, grabbed, is_held_elsewhere, is_latest, is_serial}
-use Rattle.wl_plain.specs.Demand.{Demand, Asks, Grab}
-use Rattle.wl_plain.specs.Desktop.{Desktop, Resident, unpointed}
-use Rattle.wl_plain.specs.LeftOut.{nothing_left_out}
-use Rattle.wl_plain.specs.Replies.{popups_done, replies}
-use Rattle.wl_plain.specs.Stacked.{all_windows}
-use Rattle.wl_plain.specs.Step.{with_peer}
-use Rattle.wl_invariants.proofs.KeptRecords.Toplevels.Releases.{still-released}
-use Rattle.wl_ordered.specs.Ordered.{OwnsOrdered}
-use Rattle.wl_owning.specs.Owning.{IsOwned, IsXdg, Names, number_of, shell_refusal}
-use Rattle.wl_owning.specs.Popups.{done_told, grab_demand, grab_done}
-use Rattle.wl_owning.specs.RoleNames.{names_of}
-use Rattle.wl_owning.proofs.Keeping.OwningXdg.{toplevel-named}
-use Rattle.wl_owning.proofs.Popups.Dismissing.{popups-dismissed}
-use Rattle.wl_owning.proofs.Popups.Grabbing.{popups-grab}
-use Rattle.wl_owning.proofs.Popups.Knowing.{roles-known}
-use Rattle.wl_owning.proofs.Popups.Naming.{roles-named}
+use Rattle.wl_shell.specs.PopupsKept.{parent_allows}
+use Rattle.wl_shell.specs.declared.error.ShellError.{ShellError}
+use Rattle.wl_shell.specs.declared.error.ShellError.TheVariants as failed
+use Rattle.wl_shell.specs.Kept.{Kept as KeptXdg, changing, grab_answer, grab_by, grab_in, kept_grabbing, kept_of}
+use Rattle.wl_shell.specs.Popups.{Popped, dismissing, first_of, is_mapped_stage, kind_popup, popped_kind, popped_of, popped_role, popup_at}
+use Rattle.wl_shell.specs.Shell.{IsPopup as APopup, Kind as RoleKind, Popup, RoleObject, Toplevel, XdgSurface as Xdg, xdg_with}
+use Rattle.spec_desktop.specs.Ask.{Ignore}
+use Rattle.spec_desktop.specs.Changing.{changed_for, grab_allowed, grab_holder, grabbed, is_held_elsewhere, is_latest, is_serial}
+use Rattle.spec_desktop.specs.Demand.{Demand, Asks, Grab}
+use Rattle.spec_desktop.specs.Desktop.{Desktop, Resident, unpointed}
+use Rattle.spec_desktop.specs.LeftOut.{nothing_left_out}
+use Rattle.spec_desktop.specs.Replies.{popups_done, replies}
+use Rattle.spec_desktop.specs.Stacked.{all_windows}
+use Rattle.spec_desktop.specs.Step.{with_peer}
+use Rattle.law_desktop.proofs.KeptRecords.Toplevels.Releases.{still-released}
+use Rattle.law_desktop.specs.Ordered.{OwnsOrdered}
+use Rattle.law_desktop.specs.Owning.{IsOwned, IsXdg, Names, number_of, shell_refusal}
+use Rattle.law_desktop.specs.OwnedPopups.{done_told, grab_demand, grab_done}
+use Rattle.law_desktop.specs.RoleNames.{names_of}
+use Rattle.law_desktop.proofs.Keeping.OwningXdg.{toplevel-named}
+use Rattle.law_desktop.proofs.OwnedPopups.Dismissing.{popups-dismissed}
+use Rattle.law_desktop.proofs.OwnedPopups.Grabbing.{popups-grab}
+use Rattle.law_desktop.proofs.OwnedPopups.Knowing.{roles-known}
+use Rattle.law_desktop.proofs.OwnedPopups.Naming.{roles-named}
 use Rattle.wl_requests.specs.declared.residents.Grabbing.{Grabbing}
 use Rattle.wl_requests.specs.declared.residents.Resident.{Resident as Kept}
 use Rattle.wl_requests.specs.Dismissing.{AreDismissed, DismissesWith, go_with}

@@ -6,24 +6,24 @@ use Rattle.wl_client.proofs.Peers.{IsPeer-queued, unqueued-now}
 use Rattle.wl_client.proofs.Telling.{IsPeer-opened, IsPeer-to_end, to_end-for}
 use Rattle.wl_client.specs.Agreement.{IsPeer}
 use Rattle.wl_client.specs.View.{ClientView, opened}
-use Rattle.wl_interface.specs.declared.interface.Interface.TheVariants.{XdgPopup}
+use Rattle.wl_proto.specs.declared.interface.Interface.TheVariants.{XdgPopup}
 use Rattle.wl_proto.specs.Messages.{says}
-use Rattle.wl_peer.specs.declared.cause.Cause.{Cause}
-use Rattle.wl_peer.specs.declared.cause.Cause.TheVariants.{Memory, Slow}
-use Rattle.wl_peer.specs.Peer.{IsUnqueuedFor, Peer, QueuesFirst, QueuesTo, has_room, queued}
-use Rattle.wl_peer.specs.Told.{Said, said, said_bytes}
-use Rattle.wl_linked.specs.declared.linked.Linked.{Linked}
+use Rattle.spec_desktop.specs.declared.cause.Cause.{Cause}
+use Rattle.spec_desktop.specs.declared.cause.Cause.TheVariants.{Memory, Slow}
+use Rattle.spec_desktop.specs.Peer.{IsUnqueuedFor, Peer, QueuesFirst, QueuesTo, has_room, queued}
+use Rattle.spec_desktop.specs.Told.{Said, said, said_bytes}
+use Rattle.wl_surface.specs.declared.linked.Linked.{Linked}
 use Rattle.wl_shell.specs.Found.{AreFound}
 use Rattle.wl_shell.specs.InOrder.{HasOrder, undismissed, with_dismissed}
-use Rattle.wl_shell.specs.Popups.{IsNewest, dismissible_grabbing}
-use Rattle.wl_stacking.specs.Stacking.{Owned}
-use Rattle.wl_xdg_state.specs.Kept.{Book, Kept as KeptXdg, changing, kept_changed, kept_of}
-use Rattle.wl_xdg_state.specs.Popups.{Popped, dismiss}
-use Rattle.wl_xdg_state.specs.Shell.{Shell}
-use Rattle.wl_owning.specs.Owning.{IsOwned, Names}
-use Rattle.wl_owning.specs.Popups.{NextIs, WereDismissed, done_told}
-use Rattle.wl_owning.proofs.Popups.Dismissing.{popups-dismissed}
-use Rattle.wl_owning.proofs.Popups.Finding.{has_grab, next-grabbing}
+use Rattle.wl_shell.specs.PopupsKept.{IsNewest, dismissible_grabbing}
+use Rattle.spec_desktop.specs.Stacking.{Owned}
+use Rattle.wl_shell.specs.Kept.{Book, Kept as KeptXdg, changing, kept_changed, kept_of}
+use Rattle.wl_shell.specs.Popups.{Popped, dismiss}
+use Rattle.wl_shell.specs.Shell.{Shell}
+use Rattle.law_desktop.specs.Owning.{IsOwned, Names}
+use Rattle.law_desktop.specs.OwnedPopups.{NextIs, WereDismissed, done_told}
+use Rattle.law_desktop.proofs.OwnedPopups.Dismissing.{popups-dismissed}
+use Rattle.law_desktop.proofs.OwnedPopups.Finding.{has_grab, next-grabbing}
 use Rattle.wl_requests.specs.declared.residents.Resident.{Resident as Kept}
 use Rattle.wl_requests.specs.Dismissing.{GrabsAreReleased, role_id}
 use Rattle.wl_requests.proofs.PopupsDismissed.{changed-here, few-go, id-stays}

@@ -1,37 +1,37 @@
 -- What is asked of a wl_subsurface is answered: its place is asked of its parent, and its mode is set.
 use Rattle.std.proofs.Common.{◌≡◌, ℕ, Bool, true, false, Option, Some, None, Result, refl, ap, sym, subst, ◌∙◌, inl, inr, [], ◌∷◌, List}
 use Rattle.std.specs.Prelude.{Ok, is_some}
-use Rattle.wl_children.specs.declared.placed.Side.{Side}
-use Rattle.wl_children.specs.declared.placed.Side.TheVariants.{Above, Below}
+use Rattle.wl_links.specs.declared.placed.Side.{Side}
+use Rattle.wl_links.specs.declared.placed.Side.TheVariants.{Above, Below}
 use Rattle.wl_client.specs.Agreement.{IsPeer}
 use Rattle.wl_client.specs.View.{ClientView}
-use Rattle.wl_interface.specs.declared.interface.Interface.TheVariants.{WlSurface}
-use Rattle.wl_linked.specs.Linked.{IsLink, Stand}
-use Rattle.wl_ordered.specs.Ordered.{OwnsOrdered}
-use Rattle.wl_owning.specs.Owning.{IsOwned, targets_in}
-use Rattle.wl_owning.specs.RoleNames.{names_of}
-use Rattle.wl_owning.proofs.Keeping.Letting.{asked-keeps}
-use Rattle.wl_owning.proofs.Keeping.OwningLinks.{owned-synchronised}
-use Rattle.wl_owning.proofs.Keeping.OwningSurfaces.{surface-named, surface-read}
-use Rattle.wl_peer.specs.Peer.{Errs, LacksMemory, Peer, Queues, counted}
-use Rattle.wl_peer.specs.Told.{Said}
-use Rattle.wl_peer.specs.declared.refusals.ErrorCode.TheVariants.{BadSurface}
-use Rattle.wl_peer.specs.declared.refusals.Refusal.{Refusal}
-use Rattle.wl_plain.specs.Ask.{AskSurface, Ignore}
-use Rattle.wl_plain.specs.Demand.{Demand, Asks, SetMode}
-use Rattle.wl_plain.specs.Desktop.{Desktop, Resident}
-use Rattle.wl_plain.specs.Step.{asked_of, changed_by, with_peer, with_surfaces}
-use Rattle.wl_plain.specs.WlSubsurface.{beside, demand_by_link, placed_beside}
-use Rattle.wl_invariants.proofs.KeptRecords.Toplevels.Releases.{none-released, requested-still}
-use Rattle.wl_xdg_state.specs.Kept.{kept_of}
-use Rattle.wl_state.specs.Frames.{frames_of}
-use Rattle.wl_state.specs.Request.{Member, PlaceAbove, PlaceBelow, Request}
-use Rattle.wl_state.specs.State.{Values, asked, is_commit}
-use Rattle.wl_state.specs.Surface.{Surface, asking}
+use Rattle.wl_proto.specs.declared.interface.Interface.TheVariants.{WlSurface}
+use Rattle.wl_surface.specs.Linked.{IsLink, Stand}
+use Rattle.law_desktop.specs.Ordered.{OwnsOrdered}
+use Rattle.law_desktop.specs.Owning.{IsOwned, targets_in}
+use Rattle.law_desktop.specs.RoleNames.{names_of}
+use Rattle.law_desktop.proofs.Keeping.Letting.{asked-keeps}
+use Rattle.law_desktop.proofs.Keeping.OwningLinks.{owned-synchronised}
+use Rattle.law_desktop.proofs.Keeping.OwningSurfaces.{surface-named, surface-read}
+use Rattle.spec_desktop.specs.Peer.{Errs, LacksMemory, Peer, Queues, counted}
+use Rattle.spec_desktop.specs.Told.{Said}
+use Rattle.spec_desktop.specs.declared.refusals.ErrorCode.TheVariants.{BadSurface}
+use Rattle.spec_desktop.specs.declared.refusals.Refusal.{Refusal}
+use Rattle.spec_desktop.specs.Ask.{AskSurface, Ignore}
+use Rattle.spec_desktop.specs.Demand.{Demand, Asks, SetMode}
+use Rattle.spec_desktop.specs.Desktop.{Desktop, Resident}
+use Rattle.spec_desktop.specs.Step.{asked_of, changed_by, with_peer, with_surfaces}
+use Rattle.spec_desktop.specs.WlSubsurface.{beside, demand_by_link, placed_beside}
+use Rattle.law_desktop.proofs.KeptRecords.Toplevels.Releases.{none-released, requested-still}
+use Rattle.wl_shell.specs.Kept.{kept_of}
+use Rattle.wl_surface.specs.FrameRequests.{frames_of}
+use Rattle.wl_surface.specs.Request.{Member, PlaceAbove, PlaceBelow, Request}
+use Rattle.wl_surface.specs.State.{Values, asked, is_commit}
+use Rattle.wl_surface.specs.Surface.{Surface, asking}
 use Rattle.wl_surface.specs.Slots.{StandsAt, kept_at}
 use Rattle.wl_surface.specs.Surfaces.{Link, Surfaces, with_change}
 use Rattle.wl_surface.specs.Trees.{synchronised_in}
-use Rattle.wl_tree_laws.specs.Stacks.{place_request}
+use Rattle.wl_surface.specs.Stacks.{place_request}
 use Rattle.wl_requests.specs.declared.residents.Resident.{Resident as Kept}
 use Rattle.wl_requests.specs.Linking.{place_asked}
 use Rattle.wl_requests.specs.Residents.{AnswersSo, IsLeft, IsResident}

@@ -2,20 +2,20 @@
 use Rattle.std.proofs.Common.{◌≡◌, ℕ, List, [], ◌∷◌, Bool, true, false, Option, Some, None, map, refl, ap, ap₂}
 use Rattle.std.specs.Prelude.{◌||◌, if◌then◌else◌}
 use Rattle.std.specs.Option.{option_map}
-use Rattle.wl_family.specs.Family.{Tied}
+use Rattle.wl_links.specs.Family.{Tied}
 use Rattle.wl_surface.specs.Slots.{Slots}
 use Rattle.wl_shell.specs.InOrder.{undismissed}
 use Rattle.wl_shell.proofs.Ordered.{Each}
-use Rattle.wl_xdg_state.specs.Kept.{Kept}
-use Rattle.wl_xdg_state.specs.Popups.{dismiss, dismissed_among, dismissed_with, is_among, popup_changed, with_popup, with_popup_role}
-use Rattle.wl_xdg_state.specs.Shell.{IsPopup, Kind, Popup, RoleObject, Shell, Toplevel, XdgSurface}
-use Rattle.wl_plain.specs.Desktop.{Resident}
-use Rattle.wl_plain.specs.Replies.{popups_done}
-use Rattle.wl_plain.specs.Settling.{without_grabs}
-use Rattle.wl_owning.specs.Owning.{IsOwned, Names}
-use Rattle.wl_owning.specs.Popups.{done_told}
-use Rattle.wl_owning.proofs.Popups.Done.{done-by}
-use Rattle.wl_owning.proofs.Popups.Finding.{has_grab}
+use Rattle.wl_shell.specs.Kept.{Kept}
+use Rattle.wl_shell.specs.Popups.{dismiss, dismissed_among, dismissed_with, is_among, popup_changed, with_popup, with_popup_role}
+use Rattle.wl_shell.specs.Shell.{IsPopup, Kind, Popup, RoleObject, Shell, Toplevel, XdgSurface}
+use Rattle.spec_desktop.specs.Desktop.{Resident}
+use Rattle.spec_desktop.specs.Replies.{popups_done}
+use Rattle.spec_desktop.specs.Settling.{without_grabs}
+use Rattle.law_desktop.specs.Owning.{IsOwned, Names}
+use Rattle.law_desktop.specs.OwnedPopups.{done_told}
+use Rattle.law_desktop.proofs.OwnedPopups.Done.{done-by}
+use Rattle.law_desktop.proofs.OwnedPopups.Finding.{has_grab}
 
 -- one that goes is dismissed
 abbrev dismissed_if : Bool → Popup → Popup

@@ -2,15 +2,15 @@
 use Rattle.std.proofs.Common.{◌≡◌, ℕ, Bool, true, false, Option, Some, None, refl, ap, ◌∙◌}
 use Rattle.std.specs.Prelude.{◌==◌, if◌then◌else◌}
 use Rattle.std.specs.Option.{option_and_then}
-use Rattle.wl_interface.specs.declared.interface.Interface.{Interface}
-use Rattle.wl_interface.specs.declared.interface.Interface.TheVariants.{WlSurface, XdgPopup, XdgSurface, XdgToplevel}
+use Rattle.wl_proto.specs.declared.interface.Interface.{Interface}
+use Rattle.wl_proto.specs.declared.interface.Interface.TheVariants.{WlSurface, XdgPopup, XdgSurface, XdgToplevel}
 use Rattle.wl_table.specs.Objects.{Held, HoldsAt, entry_of}
 use Rattle.wl_table.specs.declared.entry.Entry.{Entry}
-use Rattle.wl_peer.specs.Objects.{ById, interface_number, with_id}
-use Rattle.wl_owning.specs.Owning.{Names, target_as, targets_in, with_surface, with_toplevel, with_xdg}
-use Rattle.wl_owning.specs.RoleNames.{is_of_role, names_of, role_target, roles_in}
-use Rattle.wl_owning.proofs.Keeping.OwningNames.{targets-with, with_id-same}
-use Rattle.wl_owning.proofs.Popups.Naming.{roles-named}
+use Rattle.spec_desktop.specs.Objects.{ById, interface_number, with_id}
+use Rattle.law_desktop.specs.Owning.{Names, target_as, targets_in, with_surface, with_toplevel, with_xdg}
+use Rattle.law_desktop.specs.RoleNames.{is_of_role, names_of, role_target, roles_in}
+use Rattle.law_desktop.proofs.Keeping.OwningNames.{targets-with, with_id-same}
+use Rattle.law_desktop.proofs.OwnedPopups.Naming.{roles-named}
 
 -- the interfaces whose objects name the number of a surface
 abbrev pub names_object : Interface → Bool

@@ -4,60 +4,60 @@ use Rattle.std.specs.Prelude.{◌&&◌, not, nat_le, IfSome, ◌==◌, ◌≢◌
 use Rattle.std.specs.Option.{option_map, option_and_then}
 use Rattle.std.proofs.Math.Path.{fun_ext}
 use Rattle.std.proofs.lemmas.Bool.{eqb-true}
-use Rattle.wl_interface.specs.declared.interface.Interface.{Interface}
-use Rattle.wl_interface.specs.declared.interface.Interface.TheVariants.{WlSubcompositor, WlSurface, XdgPopup, XdgSurface, XdgToplevel, XdgWmBase}
+use Rattle.wl_proto.specs.declared.interface.Interface.{Interface}
+use Rattle.wl_proto.specs.declared.interface.Interface.TheVariants.{WlSubcompositor, WlSurface, XdgPopup, XdgSurface, XdgToplevel, XdgWmBase}
 use Rattle.wl_proto.specs.Messages.{Message}
 use Rattle.wl_proto.specs.Objects.{new_id_in}
 use Rattle.wl_proto.specs.declared.argument.NewId.{NewId}
-use Rattle.wl_peer.specs.Judgement.{is_free}
+use Rattle.spec_desktop.specs.Judgement.{is_free}
 use Rattle.wl_table.specs.Objects.{Held, HoldsAt, entry_of}
 use Rattle.wl_table.specs.declared.entry.Entry.{Entry}
 use Rattle.wl_client.specs.Agreement.{IsPeer}
-use Rattle.wl_peer.specs.Objects.{ById, interface_number, is_of, object_of, objects_in}
-use Rattle.wl_peer.specs.Peer.{Errs, Peer, Queues, WantsOr, counted, made, object_at_version}
-use Rattle.wl_peer.specs.Told.{Said}
+use Rattle.spec_desktop.specs.Objects.{ById, interface_number, is_of, object_of, objects_in}
+use Rattle.spec_desktop.specs.Peer.{Errs, Peer, Queues, WantsOr, counted, made, object_at_version}
+use Rattle.spec_desktop.specs.Told.{Said}
 use Rattle.wl_client.specs.View.{ClientView}
-use Rattle.wl_peer.specs.declared.refusals.Refusal.{Refusal}
+use Rattle.spec_desktop.specs.declared.refusals.Refusal.{Refusal}
 use Rattle.wl_geom.specs.declared.rect.Rect.{Rect}
-use Rattle.wl_family.specs.Family.{Tied}
+use Rattle.wl_links.specs.Family.{Tied}
 use Rattle.wl_surface.specs.Slots.{Changes, Numbered, Slots, StandForAll, StandsAt, kept_at, role_at}
-use Rattle.wl_state.specs.Request.{Request, SetWindowGeometry}
-use Rattle.wl_state.specs.State.{History, is_commit}
-use Rattle.wl_state.specs.Surface.{Surface, with_role}
-use Rattle.wl_state.specs.declared.role.Role.{Role}
-use Rattle.wl_state.specs.declared.role.Role.TheVariants.{Toplevel as AsToplevel}
+use Rattle.wl_surface.specs.Request.{Request, SetWindowGeometry}
+use Rattle.wl_surface.specs.State.{History, is_commit}
+use Rattle.wl_surface.specs.Surface.{Surface, with_role}
+use Rattle.wl_surface.specs.declared.role.Role.{Role}
+use Rattle.wl_surface.specs.declared.role.Role.TheVariants.{Toplevel as AsToplevel}
 use Rattle.wl_surface.specs.declared.error.SurfaceError.{SurfaceError}
-use Rattle.wl_xdg_state.specs.Kept.{Kept as KeptXdg, changing, kept_of, making_refused}
-use Rattle.wl_xdg_state.specs.Shell.{RoleObject, Shell, XdgSurface as Xdg, is_role, next_serial, xdg_at, xdg_with}
-use Rattle.wl_xdg_state.specs.declared.error.ShellError.{ShellError}
-use Rattle.wl_xdg_state.specs.declared.error.ShellError.TheVariants as failed
-use Rattle.wl_stacking.specs.Stacking.{Owned}
+use Rattle.wl_shell.specs.Kept.{Kept as KeptXdg, changing, kept_of, making_refused}
+use Rattle.wl_shell.specs.Shell.{RoleObject, Shell, XdgSurface as Xdg, is_role, next_serial, xdg_at, xdg_with}
+use Rattle.wl_shell.specs.declared.error.ShellError.{ShellError}
+use Rattle.wl_shell.specs.declared.error.ShellError.TheVariants as failed
+use Rattle.spec_desktop.specs.Stacking.{Owned}
 use Rattle.wl_scene.specs.declared.owned.Owned.{Owned as Lent}
 use Rattle.wl_requests.specs.declared.residents.Resident.{Resident as Kept}
-use Rattle.wl_plain.specs.Ask.{Ask, AskSurface, GetToplevel}
-use Rattle.wl_plain.specs.Demand.{Demand}
-use Rattle.wl_plain.specs.Desktop.{Desktop, Resident}
-use Rattle.wl_owning.specs.Owning.{AreKept, IsOwned, IsXdg, Names, asks_by, by_number, configuring_if, kept_base, shell_refusal, target_as, targets_in}
-use Rattle.wl_owning.specs.RoleNames.{names_of}
-use Rattle.wl_owning.specs.Owning.{with_toplevel, with_xdg}
-use Rattle.wl_owning.specs.Subsurfaces.{AreOfSurfaces}
+use Rattle.spec_desktop.specs.Ask.{Ask, AskSurface, GetToplevel}
+use Rattle.spec_desktop.specs.Demand.{Demand}
+use Rattle.spec_desktop.specs.Desktop.{Desktop, Resident}
+use Rattle.law_desktop.specs.Owning.{AreKept, IsOwned, IsXdg, Names, asks_by, by_number, configuring_if, kept_base, shell_refusal, target_as, targets_in}
+use Rattle.law_desktop.specs.RoleNames.{names_of}
+use Rattle.law_desktop.specs.Owning.{with_toplevel, with_xdg}
+use Rattle.law_desktop.specs.Subsurfaces.{AreOfSurfaces}
 use Rattle.wl_requests.specs.Residents.{ActsFor, AnswersAs, AnswersSo as AnswersWhole, Does, IsFree, NewIsFree, IsResident, IsToplevel, IsXdgSurface, MeetsAs}
-use Rattle.wl_plain.specs.Step.{answers_to, changed_by, configures_told, role_configured, takes_memory, toplevel_configured, toplevel_given, with_peer, xdg_configured}
-use Rattle.wl_plain.specs.Demanding.{xdg_asked, xdg_demand}
-use Rattle.wl_plain.specs.XdgShell.{configured_again, is_no_toplevel, role_of}
+use Rattle.spec_desktop.specs.Step.{answers_to, changed_by, configures_told, role_configured, takes_memory, toplevel_configured, toplevel_given, with_peer, xdg_configured}
+use Rattle.spec_desktop.specs.Demanding.{xdg_asked, xdg_demand}
+use Rattle.spec_desktop.specs.XdgShell.{configured_again, is_no_toplevel, role_of}
 use Rattle.wl_proto.specs.declared.xdg_surface.XdgSurfaceRequest.{XdgSurfaceRequest}
 use Rattle.wl_requests.proofs.Doing.{cut-bounds}
-use Rattle.wl_owning.proofs.Keeping.Letting.{asked-keeps}
+use Rattle.law_desktop.proofs.Keeping.Letting.{asked-keeps}
 use Rattle.wl_requests.proofs.Numbers.{left-from}
 use Rattle.wl_requests.proofs.Meeting.{AnswersSo}
 use Rattle.wl_requests.proofs.Framing.{IsFramed, framed-names, one-more}
-use Rattle.wl_invariants.proofs.KeptRecords.Toplevels.Simply.{told_alone}
-use Rattle.wl_invariants.proofs.KeptRecords.Toplevels.Releases.{requested-still}
-use Rattle.wl_owning.proofs.Keeping.OwningSurfaces.{surface-named, surface-read}
+use Rattle.law_desktop.proofs.KeptRecords.Toplevels.Simply.{told_alone}
+use Rattle.law_desktop.proofs.KeptRecords.Toplevels.Releases.{requested-still}
+use Rattle.law_desktop.proofs.Keeping.OwningSurfaces.{surface-named, surface-read}
 use Rattle.wl_requests.proofs.Roles.{names_object, names-other-gone, names-toplevel-gone, names-xdg-gone}
-use Rattle.wl_owning.proofs.Keeping.OwningReads.{role-fits, role-read}
-use Rattle.wl_owning.proofs.Keeping.OwningXdg.{toplevel-named, xdg-named}
-use Rattle.wl_owning.proofs.Popups.Naming.{roles-named}
+use Rattle.law_desktop.proofs.Keeping.OwningReads.{role-fits, role-read}
+use Rattle.law_desktop.proofs.Keeping.OwningXdg.{toplevel-named, xdg-named}
+use Rattle.law_desktop.proofs.OwnedPopups.Naming.{roles-named}
 
 -- ---- objects that go
 

@@ -14,34 +14,34 @@ use Rattle.wl_proto.specs.declared.xdg_wm_base.XdgWmBaseRequest.{XdgWmBaseReques
 use Rattle.wl_proto.specs.declared.xdg_wm_base.XdgWmBaseRequest.TheVariants as base
 use Rattle.wl_proto.specs.declared.xdg_surface.XdgSurfaceRequest.{XdgSurfaceRequest}
 use Rattle.wl_proto.specs.declared.xdg_surface.XdgSurfaceRequest.TheVariants as requests
-use Rattle.wl_interface.specs.declared.interface.Interface.TheVariants.{XdgToplevel}
-use Rattle.wl_peer.specs.declared.refusals.ErrorCode.TheVariants.{Role as HasAnotherRole}
-use Rattle.wl_peer.specs.declared.refusals.Refusal.{Refusal}
-use Rattle.wl_xdg_state.specs.Kept.{kept_of}
-use Rattle.wl_xdg_state.specs.Popups.{Popped, is_parent, is_popup_mapped, is_toplevel, popup_at, is_configured}
-use Rattle.wl_xdg_state.specs.Positioner.{Positioner, is_complete}
-use Rattle.wl_xdg_state.specs.Shell.{Effect, XdgSurface as Xdg, xdg_at, xdg_of, xdg_with, is_full}
-use Rattle.wl_xdg_state.specs.declared.acts.ShellAct.{ShellAct}
-use Rattle.wl_xdg_state.specs.declared.acts.ShellAct.TheVariants.{Configure, Map, Unmap, Place, Nothing}
-use Rattle.wl_plain.specs.Ask.{Ignore}
-use Rattle.wl_plain.specs.Demand.{Asks, Demand, CommitTree}
-use Rattle.wl_plain.specs.Demanding.{demand_of, demands, effect_of_commit, moved_by_pointer, toplevel_asked, toplevel_demand, toplevel_destroyed, xdg_asked}
-use Rattle.wl_plain.specs.Desktop.{Resident}
-use Rattle.wl_plain.specs.LeftOut.{nothing_left_out}
-use Rattle.wl_owning.specs.Owning.{effect_by}
-use Rattle.wl_owning.specs.RoleNames.{names_of}
-use Rattle.wl_peer.specs.Requests.{toplevel_request, rect}
-use Rattle.wl_peer.specs.ToplevelRequest.{ToplevelRequest}
-use Rattle.wl_peer.specs.ToplevelRequest as toplevel
-use Rattle.wl_state.specs.Request.{Request as Asked, Member, PlaceAbove, PlaceBelow}
+use Rattle.wl_proto.specs.declared.interface.Interface.TheVariants.{XdgToplevel}
+use Rattle.spec_desktop.specs.declared.refusals.ErrorCode.TheVariants.{Role as HasAnotherRole}
+use Rattle.spec_desktop.specs.declared.refusals.Refusal.{Refusal}
+use Rattle.wl_shell.specs.Kept.{kept_of}
+use Rattle.wl_shell.specs.Popups.{Popped, is_parent, is_popup_mapped, is_toplevel, popup_at, is_configured}
+use Rattle.wl_shell.specs.Positioner.{Positioner, is_complete}
+use Rattle.wl_shell.specs.Shell.{Effect, XdgSurface as Xdg, xdg_at, xdg_of, xdg_with, is_full}
+use Rattle.wl_shell.specs.declared.acts.ShellAct.{ShellAct}
+use Rattle.wl_shell.specs.declared.acts.ShellAct.TheVariants.{Configure, Map, Unmap, Place, Nothing}
+use Rattle.spec_desktop.specs.Ask.{Ignore}
+use Rattle.spec_desktop.specs.Demand.{Asks, Demand, CommitTree}
+use Rattle.spec_desktop.specs.Demanding.{demand_of, demands, effect_of_commit, moved_by_pointer, toplevel_asked, toplevel_demand, toplevel_destroyed, xdg_asked}
+use Rattle.spec_desktop.specs.Desktop.{Resident}
+use Rattle.spec_desktop.specs.LeftOut.{nothing_left_out}
+use Rattle.law_desktop.specs.Owning.{effect_by}
+use Rattle.law_desktop.specs.RoleNames.{names_of}
+use Rattle.spec_desktop.specs.Requests.{toplevel_request, rect}
+use Rattle.spec_desktop.specs.ToplevelRequest.{ToplevelRequest}
+use Rattle.spec_desktop.specs.ToplevelRequest as toplevel
+use Rattle.wl_surface.specs.Request.{Request as Asked, Member, PlaceAbove, PlaceBelow}
 use Rattle.wl_surface.specs.Surfaces.{Link}
 use Rattle.wl_surface.specs.Trees.{is_bad_parent, is_too_deep}
-use Rattle.wl_plain.specs.WlPointer.{is_no_cursor}
-use Rattle.wl_plain.specs.WlSubsurface.{beside, demand_by_link, has_subsurface, is_no_subsurface, link_of_subsurface, past_limit, placed_beside, refuses}
-use Rattle.wl_plain.specs.XdgPopup.{grab_of, is_no_popup, may_be_parent, popup_asked, popup_made, positioner_of, repositioned_by}
-use Rattle.wl_plain.specs.XdgShell.{acknowledged_by, geometry_set, role_of, state_asked, toplevel_made, xdg_surface_destroyed}
-use Rattle.wl_owning.proofs.Keeping.OwningXdg.{toplevel-named}
-use Rattle.wl_owning.proofs.Popups.Naming.{roles-named}
+use Rattle.spec_desktop.specs.WlPointer.{is_no_cursor}
+use Rattle.spec_desktop.specs.WlSubsurface.{beside, demand_by_link, has_subsurface, is_no_subsurface, link_of_subsurface, past_limit, placed_beside, refuses}
+use Rattle.spec_desktop.specs.XdgPopup.{grab_of, is_no_popup, may_be_parent, popup_asked, popup_made, positioner_of, repositioned_by}
+use Rattle.spec_desktop.specs.XdgShell.{acknowledged_by, geometry_set, role_of, state_asked, toplevel_made, xdg_surface_destroyed}
+use Rattle.law_desktop.proofs.Keeping.OwningXdg.{toplevel-named}
+use Rattle.law_desktop.proofs.OwnedPopups.Naming.{roles-named}
 use Rattle.wl_requests.specs.declared.residents.Resident.{Resident as Kept}
 use Rattle.wl_requests.specs.declared.residents.Stacking.{Stacking}
 use Rattle.wl_requests.specs.declared.residents.Stacking.TheVariants.{Stays, Out}

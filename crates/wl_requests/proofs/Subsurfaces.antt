@@ -3,13 +3,13 @@ use Rattle.std.proofs.Common.{◌≡◌, ℕ, List, [], ◌∷◌, ◌++◌, Boo
 use Rattle.std.specs.Prelude.{◌==◌, filter, find, not, slice_index_or}
 use Rattle.std.specs.Option.{option_and_then}
 use Rattle.std.proofs.lemmas.Bool.{eqb-false, eqb-true, ne_eqb}
-use Rattle.wl_peer.specs.Objects.{ById, with_id}
-use Rattle.wl_plain.specs.Changing.{without_child}
-use Rattle.wl_plain.specs.Desktop.{Subsurface}
-use Rattle.wl_subsurfaces.specs.Subsurfaces.{IsSetAt}
-use Rattle.wl_laws.proofs.Lists.Keys.{none-some, some-same}
-use Rattle.wl_owning.specs.Subsurfaces.{AreOfSurfaces, child_of}
-use Rattle.wl_owning.proofs.Keeping.OwningNames.{with_id-other}
+use Rattle.spec_desktop.specs.Objects.{ById, with_id}
+use Rattle.spec_desktop.specs.Changing.{without_child}
+use Rattle.spec_desktop.specs.Desktop.{Subsurface}
+use Rattle.wl_links.specs.Subsurfaces.{IsSetAt}
+use Rattle.law_desktop.proofs.Lists.Keys.{none-some, some-same}
+use Rattle.law_desktop.specs.Subsurfaces.{AreOfSurfaces, child_of}
+use Rattle.law_desktop.proofs.Keeping.OwningNames.{with_id-other}
 
 -- ---- a surface comes
 

@@ -8,34 +8,34 @@ use Rattle.std.proofs.lemmas.List.{append-nil}
 use Rattle.wl_client.specs.Agreement.{IsPeer}
 use Rattle.wl_client.specs.View.{ClientView}
 use Rattle.wl_client.proofs.Queueing.{queues-over, queues-then}
-use Rattle.wl_peer.specs.declared.cause.Cause.{Cause}
-use Rattle.wl_peer.specs.Peer.{Peer, Queues, released}
-use Rattle.wl_peer.specs.Told.{Said}
-use Rattle.wl_state.specs.Request.{Buffer}
-use Rattle.wl_state.specs.State.{applied, held, pending}
-use Rattle.wl_state.specs.Surface.{Surface, buffers_of, has, listed, names, shows}
+use Rattle.spec_desktop.specs.declared.cause.Cause.{Cause}
+use Rattle.spec_desktop.specs.Peer.{Peer, Queues, released}
+use Rattle.spec_desktop.specs.Told.{Said}
+use Rattle.wl_surface.specs.Request.{Buffer}
+use Rattle.wl_surface.specs.State.{applied, held, pending}
+use Rattle.wl_surface.specs.Surface.{Surface, buffers_of, has, listed, names, shows}
 use Rattle.std.specs.Option.{option_map}
-use Rattle.wl_state.specs.declared.content.Attached.{Attached}
-use Rattle.wl_state.specs.Kept.{buffer_of}
+use Rattle.wl_surface.specs.declared.content.Attached.{Attached}
+use Rattle.wl_surface.specs.Kept.{buffer_of}
 use Rattle.wl_surface.specs.Slots.{had_at}
 use Rattle.wl_surface.specs.Surfaces.{Surfaces, is_used, surface_at, without_surface}
 use Rattle.wl_store.specs.Stores.{Stock}
-use Rattle.wl_plain.specs.Changing.{after_all}
-use Rattle.wl_plain.specs.Desktop.{Resident}
-use Rattle.wl_plain.specs.Releases.{let_if}
-use Rattle.wl_plain.specs.Step.{each_once, is_over, letting_go, without_buffer}
-use Rattle.wl_laws.specs.Apart.{AreApartBy}
-use Rattle.wl_laws.proofs.Lists.Keys.{differ, none-some, some-same}
-use Rattle.wl_laws.proofs.Lists.Surfaces.{has_id}
-use Rattle.wl_invariants.specs.OneBuffer.{HasOneBuffer, IsAmong, IsAttachedBy, IsAttachedTo}
-use Rattle.wl_invariants.proofs.OneBuffer.Attached.{had-by}
-use Rattle.wl_invariants.specs.TreeBuffersLaws.{AreOne, had_in, has_number}
-use Rattle.wl_invariants.proofs.TreeBuffers.Lists.{any-in, each-in, first-in, in-any, later-in, truth}
-use Rattle.wl_owning.specs.Freed.{AreFreedOf, freed_of}
-use Rattle.wl_owning.proofs.Keeping.Freeing.{flat-in, found-in, freed-has, freed-in, in-flat, left-in, lets-go-freed}
-use Rattle.wl_owning.proofs.Keeping.Ids.{KeepsWaiting, waiting}
-use Rattle.wl_owning.proofs.Keeping.Letting.{had-each, letting-none, used-stays}
-use Rattle.wl_laws.proofs.Marks.Stacks.{Each}
+use Rattle.spec_desktop.specs.Changing.{after_all}
+use Rattle.spec_desktop.specs.Desktop.{Resident}
+use Rattle.spec_desktop.specs.Releases.{let_if}
+use Rattle.spec_desktop.specs.Step.{each_once, is_over, letting_go, without_buffer}
+use Rattle.law_desktop.specs.Apart.{AreApartBy}
+use Rattle.law_desktop.proofs.Lists.Keys.{differ, none-some, some-same}
+use Rattle.law_desktop.proofs.Lists.Surfaces.{has_id}
+use Rattle.law_desktop.specs.OneBuffer.{HasOneBuffer, IsAmong, IsAttachedBy, IsAttachedTo}
+use Rattle.law_desktop.proofs.OneBuffer.Attached.{had-by}
+use Rattle.law_desktop.specs.TreeBuffersLaws.{AreOne, had_in, has_number}
+use Rattle.law_desktop.proofs.TreeBuffers.Lists.{any-in, each-in, first-in, in-any, later-in, truth}
+use Rattle.law_desktop.specs.Freed.{AreFreedOf, freed_of}
+use Rattle.law_desktop.proofs.Keeping.Freeing.{flat-in, found-in, freed-has, freed-in, in-flat, left-in, lets-go-freed}
+use Rattle.law_desktop.proofs.Keeping.Ids.{KeepsWaiting, waiting}
+use Rattle.law_desktop.proofs.Keeping.Letting.{had-each, letting-none, used-stays}
+use Rattle.law_desktop.proofs.Marks.Stacks.{Each}
 use Rattle.wl_requests.proofs.Letting.{going-last}
 
 -- ---- what is told

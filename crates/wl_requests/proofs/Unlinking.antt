@@ -6,12 +6,12 @@ use Rattle.std.specs.Option.{option_and_then, option_map}
 use Rattle.std.proofs.lemmas.Bool.{eqb-true}
 use Rattle.wl_surface.specs.Surfaces.{Link, Surfaces, link_at}
 use Rattle.wl_surface.specs.Trees.{ended_in, unlinked}
-use Rattle.wl_tree_laws.specs.Hanging.{AreNumbered}
-use Rattle.wl_plain.specs.Changing.{link_with_id, unlinked_at}
-use Rattle.wl_plain.specs.Desktop.{Resident, Subsurface}
-use Rattle.wl_plain.specs.WlSubsurface.{link_of_subsurface, living, subsurface_at}
-use Rattle.wl_laws.proofs.Lists.Keys.{found-passes, some-same}
-use Rattle.wl_named.proofs.Linking.{none-living}
+use Rattle.wl_surface.specs.Hanging.{AreNumbered}
+use Rattle.spec_desktop.specs.Changing.{link_with_id, unlinked_at}
+use Rattle.spec_desktop.specs.Desktop.{Resident, Subsurface}
+use Rattle.spec_desktop.specs.WlSubsurface.{link_of_subsurface, living, subsurface_at}
+use Rattle.law_desktop.proofs.Lists.Keys.{found-passes, some-same}
+use Rattle.law_desktop.proofs.ByNames.Linking.{none-living}
 
 -- where none of that number lives, none ends
 pub ends-none : (all : Surfaces) (number : ℕ) → AreNumbered all.links → option_and_then living (link_at number all) ≡ None → unlinked number all ≡ all

@@ -4,15 +4,15 @@ use Rattle.std.specs.Prelude.{ℕ, ◌≡◌, Bool, Option, Some, None, map}
 use Rattle.std.specs.Option.{option_and_then, option_map}
 use Rattle.wl_client.specs.Agreement.{IsPeer}
 use Rattle.wl_client.specs.View.{opened}
-use Rattle.wl_peer.specs.Peer.{Peer, Queues, QueuesTo}
+use Rattle.spec_desktop.specs.Peer.{Peer, Queues, QueuesTo}
 use Rattle.wl_shell.specs.Descent.{has_popup_at}
 use Rattle.wl_shell.specs.InOrder.{HasOrder, goes_with, undismissed}
-use Rattle.wl_stacking.specs.Stacking.{Owned}
-use Rattle.wl_xdg_state.specs.Kept.{Kept as KeptXdg, kept_of}
-use Rattle.wl_xdg_state.specs.Popups.{Popped, dismissing}
-use Rattle.wl_xdg_state.specs.Shell.{Shell}
-use Rattle.wl_owning.specs.Owning.{IsOwned, Names}
-use Rattle.wl_owning.specs.Popups.{done_told}
+use Rattle.spec_desktop.specs.Stacking.{Owned}
+use Rattle.wl_shell.specs.Kept.{Kept as KeptXdg, kept_of}
+use Rattle.wl_shell.specs.Popups.{Popped, dismissing}
+use Rattle.wl_shell.specs.Shell.{Shell}
+use Rattle.law_desktop.specs.Owning.{IsOwned, Names}
+use Rattle.law_desktop.specs.OwnedPopups.{done_told}
 use Rattle.wl_requests.specs.declared.residents.Resident.{Resident as Kept}
 
 -- the id of the role object of what is kept

@@ -1,7 +1,7 @@
 -- What a grab is allowed by (xdg-shell.xml, xdg_popup.grab).
 use Rattle.std.specs.Prelude.{ℕ, ◌≡◌}
-use Rattle.wl_plain.specs.Changing.{grab_holder, is_held_elsewhere}
-use Rattle.wl_plain.specs.Desktop.{Desktop, Resident}
+use Rattle.spec_desktop.specs.Changing.{grab_holder, is_held_elsewhere}
+use Rattle.spec_desktop.specs.Desktop.{Desktop, Resident}
 use Rattle.wl_proto.specs.declared.xdg_popup.XdgPopupRequest.TheVariants as popup
 use Rattle.wl_requests.specs.declared.messages.Asked.{Asked}
 use Rattle.wl_requests.specs.declared.messages.Asked.TheVariants as asked

@@ -1,21 +1,21 @@
 -- What is kept after a message that was done, also where an event that wasn't queued ended its client: by the numbers from before it, it
 -- stands for what the message makes of the client.
 use Rattle.std.specs.Prelude.{ℕ, ◌≡◌, ◌-◌, Bool, true, Result, Ok, Err, take, drop}
-use Rattle.wl_interface.specs.declared.interface.Interface.TheVariants.{WlSurface}
+use Rattle.wl_proto.specs.declared.interface.Interface.TheVariants.{WlSurface}
 use Rattle.wl_wire.specs.Wire.{split_of}
 use Rattle.wl_wire.specs.declared.header.Split.{Split}
 use Rattle.wl_wire.specs.declared.header.Split.TheVariants.{Message as Whole, More, Bad}
-use Rattle.wl_named_popups.specs.Popups.{RenamesOwned, renamed_owned}
-use Rattle.wl_ordered.specs.Ordered.{OwnsOrdered}
-use Rattle.wl_owning.specs.Owning.{number_in, targets_in}
-use Rattle.wl_peer.specs.declared.refusals.Refusal.{Refusal}
-use Rattle.wl_peer.specs.Peer.{counted, with_rest}
-use Rattle.wl_plain.specs.Changing.{changed_for}
-use Rattle.wl_plain.specs.Demand.{Demand}
-use Rattle.wl_plain.specs.Demanding.{judge_all}
-use Rattle.wl_plain.specs.Desktop.{Desktop, Resident, unpointed}
-use Rattle.wl_plain.specs.LeftOut.{nothing_left_out}
-use Rattle.wl_plain.specs.Step.{with_peer}
+use Rattle.law_desktop.specs.NamedPopups.{RenamesOwned, renamed_owned}
+use Rattle.law_desktop.specs.Ordered.{OwnsOrdered}
+use Rattle.law_desktop.specs.Owning.{number_in, targets_in}
+use Rattle.spec_desktop.specs.declared.refusals.Refusal.{Refusal}
+use Rattle.spec_desktop.specs.Peer.{counted, with_rest}
+use Rattle.spec_desktop.specs.Changing.{changed_for}
+use Rattle.spec_desktop.specs.Demand.{Demand}
+use Rattle.spec_desktop.specs.Demanding.{judge_all}
+use Rattle.spec_desktop.specs.Desktop.{Desktop, Resident, unpointed}
+use Rattle.spec_desktop.specs.LeftOut.{nothing_left_out}
+use Rattle.spec_desktop.specs.Step.{with_peer}
 use Rattle.wl_requests.specs.declared.messages.Asked.{Asked}
 use Rattle.wl_requests.specs.declared.residents.Grabbing.{Grabbing}
 use Rattle.wl_requests.specs.declared.residents.Placing.{Placing}
@@ -25,7 +25,7 @@ use Rattle.wl_requests.specs.Placing.{IsPlacingFor, IsPlacingOf}
 use Rattle.wl_requests.specs.declared.messages.Kind.{Kind}
 use Rattle.wl_requests.specs.Residents.{IsResident}
 use Rattle.wl_scene.specs.Roots.{IsHeld}
-use Rattle.wl_stacking.specs.Stacking.{Owned}
+use Rattle.spec_desktop.specs.Stacking.{Owned}
 
 -- the names of the surfaces that were kept: their numbers
 abbrev pub names_before : {A : Type 0} → Kept A → ℕ → ℕ

@@ -3,18 +3,18 @@ use Rattle.std.specs.Prelude.{ℕ, ◌≡◌, ◌==◌, ◌&&◌, List, map}
 use Rattle.std.specs.List.{list_any}
 use Rattle.std.specs.List.Sorted.{IsStrictlyIncreasing}
 use Rattle.wl_client.specs.Agreement.{IsPeer}
-use Rattle.wl_linked.specs.declared.commits.Told.{Told}
-use Rattle.wl_linked.specs.Tree.{AreOnce}
-use Rattle.wl_owning.specs.Freed.{freed_of}
-use Rattle.wl_owning.specs.Owning.{AreKept}
-use Rattle.wl_peer.specs.Objects.{ById}
-use Rattle.wl_plain.specs.Desktop.{Resident}
-use Rattle.wl_plain.specs.Replies.{has_object}
-use Rattle.wl_plain.specs.Step.{letting_go}
+use Rattle.wl_surface.specs.declared.commits.Told.{Told}
+use Rattle.wl_surface.specs.Tree.{AreOnce}
+use Rattle.law_desktop.specs.Freed.{freed_of}
+use Rattle.law_desktop.specs.Owning.{AreKept}
+use Rattle.spec_desktop.specs.Objects.{ById}
+use Rattle.spec_desktop.specs.Desktop.{Resident}
+use Rattle.spec_desktop.specs.Replies.{has_object}
+use Rattle.spec_desktop.specs.Step.{letting_go}
 use Rattle.wl_requests.specs.declared.residents.Resident.{Resident as Kept}
-use Rattle.wl_state.specs.Kept.{buffer_of}
-use Rattle.wl_state.specs.Request.{Buffer}
-use Rattle.wl_xdg_state.specs.Popups.{is_among}
+use Rattle.wl_surface.specs.Kept.{buffer_of}
+use Rattle.wl_surface.specs.Request.{Buffer}
+use Rattle.wl_shell.specs.Popups.{is_among}
 
 -- the buffers that are freed, as they were shown
 abbrev pub freed_in : {A : Type 0} → Told A → List Buffer

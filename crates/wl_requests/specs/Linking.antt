@@ -1,22 +1,22 @@
 -- What is asked of links, by what is kept (wayland.xml, wl_subcompositor and wl_subsurface).
 use Rattle.std.specs.Prelude.{ℕ, ◌≡◌, ◌==◌, List, [], ◌∷◌, ◌++◌, Option, Some, None, Result, Ok, Err, find, is_some, slice_index_or, true}
-use Rattle.wl_children.specs.declared.placed.Side.{Side}
-use Rattle.wl_children.specs.declared.placed.Side.TheVariants.{Above, Below}
-use Rattle.wl_family.specs.Family.{links_in}
-use Rattle.wl_ordered.specs.Ordered.{OwnsOrdered}
-use Rattle.wl_owning.specs.Owning.{IsOwned, Names}
-use Rattle.wl_owning.specs.Subsurfaces.{AreOfSurfaces}
-use Rattle.wl_peer.specs.declared.refusals.ErrorCode.TheVariants.{BadParent, BadSurface, Implementation}
-use Rattle.wl_peer.specs.declared.refusals.Refusal.{Refusal}
-use Rattle.wl_peer.specs.Told.{display_error}
-use Rattle.wl_plain.specs.Demand.{Demand, GetSubsurface}
-use Rattle.wl_peer.specs.Objects.{ById}
-use Rattle.wl_plain.specs.Desktop.{Resident, Subsurface}
-use Rattle.wl_plain.specs.WlSubsurface.{subsurface_made}
+use Rattle.wl_links.specs.declared.placed.Side.{Side}
+use Rattle.wl_links.specs.declared.placed.Side.TheVariants.{Above, Below}
+use Rattle.wl_links.specs.Family.{links_in}
+use Rattle.law_desktop.specs.Ordered.{OwnsOrdered}
+use Rattle.law_desktop.specs.Owning.{IsOwned, Names}
+use Rattle.law_desktop.specs.Subsurfaces.{AreOfSurfaces}
+use Rattle.spec_desktop.specs.declared.refusals.ErrorCode.TheVariants.{BadParent, BadSurface, Implementation}
+use Rattle.spec_desktop.specs.declared.refusals.Refusal.{Refusal}
+use Rattle.spec_desktop.specs.Told.{display_error}
+use Rattle.spec_desktop.specs.Demand.{Demand, GetSubsurface}
+use Rattle.spec_desktop.specs.Objects.{ById}
+use Rattle.spec_desktop.specs.Desktop.{Resident, Subsurface}
+use Rattle.spec_desktop.specs.WlSubsurface.{subsurface_made}
 use Rattle.wl_proto.specs.declared.wl_subsurface.WlSubsurfaceRequest.{WlSubsurfaceRequest}
 use Rattle.wl_proto.specs.declared.wl_subsurface.WlSubsurfaceRequest.TheVariants.{PlaceAbove, PlaceBelow}
 use Rattle.wl_requests.specs.declared.residents.Resident.{Resident as Kept}
-use Rattle.wl_xdg_state.specs.Kept.{kept_of}
+use Rattle.wl_shell.specs.Kept.{kept_of}
 use Rattle.wl_surface.specs.declared.error.SurfaceError.{SurfaceError}
 use Rattle.wl_surface.specs.declared.error.SurfaceError.TheVariants as error
 use Rattle.wl_surface.specs.Surfaces.{link_at}

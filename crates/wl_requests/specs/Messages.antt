@@ -2,7 +2,7 @@
 use Rattle.std.specs.Prelude.{ℕ, ◌≡◌, Bool, true, false}
 use Rattle.wl_wire.specs.Wire.{split_of}
 use Rattle.wl_wire.specs.declared.header.Split.TheVariants.{More}
-use Rattle.wl_interface.specs.declared.interface.Interface.TheVariants.{XdgToplevel}
+use Rattle.wl_proto.specs.declared.interface.Interface.TheVariants.{XdgToplevel}
 use Rattle.wl_proto.specs.Messages.{Message, wl_compositor_request, wl_pointer_request, wl_seat_request, wl_subcompositor_request}
 use Rattle.wl_proto.specs.Messages.{wl_subsurface_request, wl_surface_request}
 use Rattle.wl_proto.specs.Messages.{xdg_popup_request, xdg_surface_request, xdg_wm_base_request}
@@ -21,7 +21,7 @@ use Rattle.wl_requests.specs.declared.residents.Resident.{Resident as Kept}
 use Rattle.wl_requests.specs.Linking.{IsOnlyChild}
 use Rattle.wl_requests.specs.Residents.{asked_by}
 use Rattle.wl_requests.specs.Touching.{Touch, Closes, Commits, Destroys, Parts, Releases}
-use Rattle.wl_peer.specs.Requests.{toplevel_request}
+use Rattle.spec_desktop.specs.Requests.{toplevel_request}
 
 -- the message is this request
 abbrev pub IsKind : Kind → Message → Type 0

@@ -1,12 +1,12 @@
 -- What a popup is placed by: where its surface is committed, and where it is placed anew (wayland.xml, wl_surface.commit; xdg-shell.xml,
 -- xdg_positioner and xdg_popup.reposition).
 use Rattle.std.specs.Prelude.{ℕ, ◌≡◌, Option}
-use Rattle.wl_owning.specs.Popups.{IsAtParentOf, popup_of_surface, popup_with}
-use Rattle.wl_plain.specs.Changing.{output_rect}
-use Rattle.wl_plain.specs.Desktop.{Desktop, Resident}
+use Rattle.law_desktop.specs.OwnedPopups.{IsAtParentOf, popup_of_surface, popup_with}
+use Rattle.spec_desktop.specs.Changing.{output_rect}
+use Rattle.spec_desktop.specs.Desktop.{Desktop, Resident}
 use Rattle.wl_proto.specs.declared.wl_surface.WlSurfaceRequest.TheVariants as surface
 use Rattle.wl_proto.specs.declared.xdg_popup.XdgPopupRequest.TheVariants as popup
-use Rattle.wl_xdg_state.specs.Shell.{Popup}
+use Rattle.wl_shell.specs.Shell.{Popup}
 use Rattle.wl_requests.specs.declared.messages.Asked.{Asked}
 use Rattle.wl_requests.specs.declared.messages.Asked.TheVariants as asked
 use Rattle.wl_requests.specs.declared.messages.Kind.{Kind}

@@ -3,14 +3,14 @@ use Rattle.std.specs.Prelude.{ℕ, ◌≡◌, ◌-◌, Some, Result, Ok, Err, ta
 use Rattle.wl_wire.specs.Wire.{split_of}
 use Rattle.wl_wire.specs.declared.header.Split.{Split}
 use Rattle.wl_wire.specs.declared.header.Split.TheVariants.{Message as Whole, More, Bad}
-use Rattle.wl_interface.specs.declared.interface.Interface.TheVariants.{WlSurface}
-use Rattle.wl_peer.specs.Objects.{ById}
-use Rattle.wl_peer.specs.declared.refusals.Refusal.{Refusal}
-use Rattle.wl_owning.specs.Owning.{targets_in}
-use Rattle.wl_plain.specs.Demand.{Demand, GetPointer, Move}
-use Rattle.wl_plain.specs.Demanding.{judge_all}
-use Rattle.wl_plain.specs.Desktop.{Resident}
-use Rattle.wl_plain.specs.LeftOut.{nothing_left_out}
+use Rattle.wl_proto.specs.declared.interface.Interface.TheVariants.{WlSurface}
+use Rattle.spec_desktop.specs.Objects.{ById}
+use Rattle.spec_desktop.specs.declared.refusals.Refusal.{Refusal}
+use Rattle.law_desktop.specs.Owning.{targets_in}
+use Rattle.spec_desktop.specs.Demand.{Demand, GetPointer, Move}
+use Rattle.spec_desktop.specs.Demanding.{judge_all}
+use Rattle.spec_desktop.specs.Desktop.{Resident}
+use Rattle.spec_desktop.specs.LeftOut.{nothing_left_out}
 use Rattle.wl_requests.specs.declared.messages.Asked.{Asked}
 use Rattle.wl_requests.specs.declared.messages.Asked.TheVariants as asks
 use Rattle.wl_requests.specs.declared.messages.Kind.{Kind}

@@ -1,10 +1,10 @@
 -- What a request made of the surfaces of a client that may change what several of them show, and what is told of that (wayland.xml,
 -- wl_surface.commit and destroy; wl_subsurface.set_desync and destroy; xdg-shell.xml, xdg_popup.destroy).
 use Rattle.std.specs.Prelude.{ℕ, ◌≡◌, Option, Some, None, List, []}
-use Rattle.wl_linked.specs.declared.linked.Linked.{Linked}
-use Rattle.wl_linked.specs.Linked.{IsLink, Stand}
-use Rattle.wl_linked.specs.Tree.{IsCommitTold, IsDesyncTold, IsEndTold, IsTold}
-use Rattle.wl_named.specs.Named.{Makes, MakesBy}
+use Rattle.wl_surface.specs.declared.linked.Linked.{Linked}
+use Rattle.wl_surface.specs.Linked.{IsLink, Stand}
+use Rattle.wl_surface.specs.Tree.{IsCommitTold, IsDesyncTold, IsEndTold, IsTold}
+use Rattle.law_desktop.specs.Named.{Makes, MakesBy}
 use Rattle.wl_surface.specs.declared.applied.Applied.{Applied}
 use Rattle.wl_surface.specs.declared.applied.Change.{Change}
 use Rattle.wl_surface.specs.Surfaces.{Link, Surfaces}

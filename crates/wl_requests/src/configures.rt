@@ -4,15 +4,15 @@ ghost use Rattle.std.specs.Prelude.{◌≡◌, ◌∷◌, ◌++◌, [], None, is
 ghost use Rattle.std.specs.Option.{option_and_then, option_map};
 ghost use Rattle.wl_client.specs.Agreement.{IsPeer};
 ghost use Rattle.wl_client.specs.Said.{said_of};
-ghost use Rattle.wl_interface.specs.declared.interface.Interface.TheVariants.{XdgPopup};
-ghost use Rattle.wl_peer.specs.Peer.{Peer, Queues};
-ghost use Rattle.wl_peer.specs.Told.{said};
+ghost use Rattle.wl_proto.specs.declared.interface.Interface.TheVariants.{XdgPopup};
+ghost use Rattle.spec_desktop.specs.Peer.{Peer, Queues};
+ghost use Rattle.spec_desktop.specs.Told.{said};
 ghost use Rattle.wl_proto.specs.Messages.{says};
 ghost use Rattle.wl_wire.specs.Wire.{Word};
-ghost use Rattle.wl_xdg_state.specs.Kept.{kept_of, toplevel_in};
-ghost use Rattle.wl_owning.specs.Popups.{act_told, anew_told};
-ghost use Rattle.wl_plain.specs.Replies.{popup_configured, popup_told};
-ghost use Rattle.wl_plain.specs.Step.{toplevel_configured, xdg_configured};
+ghost use Rattle.wl_shell.specs.Kept.{kept_of, toplevel_in};
+ghost use Rattle.law_desktop.specs.OwnedPopups.{act_told, anew_told};
+ghost use Rattle.spec_desktop.specs.Replies.{popup_configured, popup_told};
+ghost use Rattle.spec_desktop.specs.Step.{toplevel_configured, xdg_configured};
 ghost use Rattle.wl_requests.specs.Residents.{drawn_by, drawn_if, Leaves};
 
 use crate::residents::Resident;

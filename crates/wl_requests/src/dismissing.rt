@@ -4,11 +4,11 @@ ghost use Rattle.std.specs.Prelude.{ℕ, ◌≡◌, ◌∷◌, [], None, Some, i
 ghost use Rattle.wl_client.specs.Agreement.{IsPeer};
 ghost use Rattle.wl_client.specs.Said.{said_of};
 ghost use Rattle.wl_client.specs.View.{opened};
-ghost use Rattle.wl_interface.specs.declared.interface.Interface.TheVariants.{XdgPopup};
-ghost use Rattle.wl_peer.specs.Peer.{Peer, Queues, QueuesTo};
-ghost use Rattle.wl_peer.specs.Told.{said};
+ghost use Rattle.wl_proto.specs.declared.interface.Interface.TheVariants.{XdgPopup};
+ghost use Rattle.spec_desktop.specs.Peer.{Peer, Queues, QueuesTo};
+ghost use Rattle.spec_desktop.specs.Told.{said};
 ghost use Rattle.wl_proto.specs.Messages.{says};
-ghost use Rattle.wl_xdg_state.specs.Kept.{kept_of};
+ghost use Rattle.wl_shell.specs.Kept.{kept_of};
 ghost use Rattle.wl_requests.specs.Dismissing.{DismissesWith, ReleasesGrabs, role_id};
 ghost use Rattle.wl_requests.specs.Residents.{Leaves};
 

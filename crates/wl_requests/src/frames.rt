@@ -1,12 +1,12 @@
 //! The frame callbacks of a client are answered.
 
 ghost use Rattle.std.specs.Prelude.{◌≡◌, None};
-ghost use Rattle.wl_peer.specs.Peer.{Peer, Queues};
-ghost use Rattle.wl_plain.specs.Happens.{frames_told};
-ghost use Rattle.wl_owning.specs.RoleNames.{names_of};
-ghost use Rattle.wl_ordered.specs.Ordered.{OwnsOrdered};
-ghost use Rattle.wl_plain.specs.Desktop.{Resident as Plain};
-ghost use Rattle.wl_plain.specs.Framing.{done_due};
+ghost use Rattle.spec_desktop.specs.Peer.{Peer, Queues};
+ghost use Rattle.spec_desktop.specs.Happens.{frames_told};
+ghost use Rattle.law_desktop.specs.RoleNames.{names_of};
+ghost use Rattle.law_desktop.specs.Ordered.{OwnsOrdered};
+ghost use Rattle.spec_desktop.specs.Desktop.{Resident as Plain};
+ghost use Rattle.spec_desktop.specs.Framing.{done_due};
 ghost use Rattle.wl_requests.specs.Residents.{IsLeft, IsResident};
 
 use crate::residents::Resident;

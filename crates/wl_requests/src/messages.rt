@@ -2,19 +2,19 @@
 
 ghost use Rattle.std.specs.Prelude.{ℕ, List, ◌≡◌, ◌<◌, IfNone, IfSome, None, Some, is_some, false, length, true};
 ghost use Rattle.wl_table.specs.Objects.{entry_of};
-ghost use Rattle.wl_owning.specs.Subsurfaces.{AreOfSurfaces};
-ghost use Rattle.wl_peer.specs.Objects.{ById};
-ghost use Rattle.wl_plain.specs.Desktop.{Subsurface};
+ghost use Rattle.law_desktop.specs.Subsurfaces.{AreOfSurfaces};
+ghost use Rattle.spec_desktop.specs.Objects.{ById};
+ghost use Rattle.spec_desktop.specs.Desktop.{Subsurface};
 ghost use Rattle.wl_proto.specs.Messages.{Message, request_message};
-ghost use Rattle.wl_peer.specs.Peer.{IsIdleAt};
+ghost use Rattle.spec_desktop.specs.Peer.{IsIdleAt};
 ghost use Rattle.wl_client.specs.Serving.{is_own};
 ghost use Rattle.wl_requests.specs.Holding.{HoldsMessage, HoldsPlaced};
 ghost use Rattle.wl_requests.specs.Messages.{IsAsked, IsKind, IsTouchOf, IsTouchOfAsked};
 ghost use Rattle.wl_requests.specs.PointerAsks.{pointer_asked_by, pointer_in};
 ghost use Rattle.wl_requests.specs.Touching.{IsTouched, Touch};
 ghost use Rattle.wl_requests.specs.Residents.{AnswersGiven, AnswersPlacedAs, Leaves, NewIsFree, ObjectsFit, Stacks, TakesMessage, TakesMessageAs};
-ghost use Rattle.wl_plain.specs.LeftOut.{nothing_left_out};
-ghost use Rattle.wl_plain.specs.Demanding.{demand_of};
+ghost use Rattle.spec_desktop.specs.LeftOut.{nothing_left_out};
+ghost use Rattle.spec_desktop.specs.Demanding.{demand_of};
 
 use crate::pointer_asked::PointerAsked;
 use crate::residents::{Given, Grabbing, Outcome, Placing, Resident, Stacking};

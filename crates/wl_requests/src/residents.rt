@@ -5,8 +5,8 @@ ghost use Rattle.std.specs.Prelude.{◌≡◌, None};
 use std::alloc::Allocator;
 use wl_client::Client;
 use wl_geom::Rect;
+use wl_links::Subsurfaces;
 use wl_scene::Owned;
-use wl_subsurfaces::Subsurfaces;
 use wl_surface::{Applied, SurfaceNo};
 
 /// What a request does to the stack of mapped toplevels, by the number of its toplevel's surface.

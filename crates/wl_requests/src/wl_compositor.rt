@@ -2,13 +2,13 @@
 
 ghost use Rattle.std.specs.Prelude.{ℕ, ◌≡◌, ◌↔◌, IsTrue, Ok};
 ghost use Rattle.wl_proto.specs.Messages.{wl_compositor_request};
-ghost use Rattle.wl_peer.specs.declared.actions.Action.TheVariants.{CreateRegion};
-ghost use Rattle.wl_plain.specs.Ask.{Own};
-ghost use Rattle.wl_plain.specs.Demand.{Asks};
-ghost use Rattle.wl_plain.specs.LeftOut.{nothing_left_out};
-ghost use Rattle.wl_plain.specs.Demanding.{demand_of, demands};
+ghost use Rattle.spec_desktop.specs.declared.actions.Action.TheVariants.{CreateRegion};
+ghost use Rattle.spec_desktop.specs.Ask.{Own};
+ghost use Rattle.spec_desktop.specs.Demand.{Asks};
+ghost use Rattle.spec_desktop.specs.LeftOut.{nothing_left_out};
+ghost use Rattle.spec_desktop.specs.Demanding.{demand_of, demands};
 ghost use Rattle.wl_requests.specs.Residents.{AnswersDemand, IsFree, Leaves, NewIsFree};
-ghost use Rattle.wl_plain.specs.WlSurface.{surface_created};
+ghost use Rattle.spec_desktop.specs.WlSurface.{surface_created};
 
 use crate::residents::Resident;
 use std::alloc::Allocator;

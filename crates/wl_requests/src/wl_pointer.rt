@@ -3,9 +3,9 @@
 ghost use Rattle.std.specs.Prelude.{ℕ};
 ghost use Rattle.wl_proto.specs.Messages.{wl_pointer_request};
 ghost use Rattle.wl_requests.specs.Residents.{AnswersDemand, IsSurface, Leaves, ObjectsFit};
-ghost use Rattle.wl_plain.specs.LeftOut.{nothing_left_out};
-ghost use Rattle.wl_plain.specs.Demanding.{demand_of};
-ghost use Rattle.wl_plain.specs.WlPointer.{cursor_set};
+ghost use Rattle.spec_desktop.specs.LeftOut.{nothing_left_out};
+ghost use Rattle.spec_desktop.specs.Demanding.{demand_of};
+ghost use Rattle.spec_desktop.specs.WlPointer.{cursor_set};
 
 use crate::residents::Resident;
 use std::alloc::Allocator;

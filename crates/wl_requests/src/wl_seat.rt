@@ -3,9 +3,9 @@
 ghost use Rattle.std.specs.Prelude.{ℕ, ◌≡◌, Ok, false, is_some, true};
 ghost use Rattle.wl_proto.specs.Messages.{wl_seat_request};
 ghost use Rattle.wl_requests.specs.Residents.{AnswersDemand, IsFree, Leaves, NewIsFree};
-ghost use Rattle.wl_plain.specs.Demand.{GetPointer};
-ghost use Rattle.wl_plain.specs.LeftOut.{nothing_left_out};
-ghost use Rattle.wl_plain.specs.Demanding.{demand_of};
+ghost use Rattle.spec_desktop.specs.Demand.{GetPointer};
+ghost use Rattle.spec_desktop.specs.LeftOut.{nothing_left_out};
+ghost use Rattle.spec_desktop.specs.Demanding.{demand_of};
 
 use crate::residents::Resident;
 use std::alloc::Allocator;

@@ -3,12 +3,12 @@
 ghost use Rattle.std.specs.Prelude.{ℕ, ◌≡◌, Ok, OnOk};
 ghost use Rattle.wl_proto.specs.Messages.{wl_subcompositor_request};
 ghost use Rattle.wl_proto.specs.declared.wl_subcompositor.WlSubcompositorRequest.TheVariants.{GetSubsurface};
-ghost use Rattle.wl_plain.specs.Ask.{EndObject};
-ghost use Rattle.wl_plain.specs.Demand.{Asks};
-ghost use Rattle.wl_plain.specs.Demanding.{demand_of};
+ghost use Rattle.spec_desktop.specs.Ask.{EndObject};
+ghost use Rattle.spec_desktop.specs.Demand.{Asks};
+ghost use Rattle.spec_desktop.specs.Demanding.{demand_of};
 ghost use Rattle.wl_requests.specs.Linking.{IsLinkMade, LinksAsJudged, link_refused};
 ghost use Rattle.wl_requests.specs.Residents.{AnswersDemand, IsFree, IsSubcompositor, IsSurface, Leaves, NewIsFree, ObjectsFit};
-ghost use Rattle.wl_plain.specs.LeftOut.{nothing_left_out};
+ghost use Rattle.spec_desktop.specs.LeftOut.{nothing_left_out};
 
 use crate::residents::Resident;
 use std::alloc::Allocator;

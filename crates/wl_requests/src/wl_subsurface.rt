@@ -1,29 +1,28 @@
 //! The requests of wl_subsurface. One whose link has ended, or whose surface is gone, is inert: it does nothing but go.
 
 ghost use Rattle.std.specs.Prelude.{ℕ, List, ◌≡◌, ◌==◌, filter, is_some, not, true, None, Some};
-ghost use Rattle.wl_owning.specs.Subsurfaces.{AreOfSurfaces};
-ghost use Rattle.wl_peer.specs.Objects.{ById};
-ghost use Rattle.wl_plain.specs.Desktop.{Subsurface};
+ghost use Rattle.law_desktop.specs.Subsurfaces.{AreOfSurfaces};
+ghost use Rattle.spec_desktop.specs.Objects.{ById};
+ghost use Rattle.spec_desktop.specs.Desktop.{Subsurface};
 ghost use Rattle.wl_client.specs.Agreement.{IsPeer};
-ghost use Rattle.wl_peer.specs.Peer.{Errs, LacksMemory, Peer, counted};
+ghost use Rattle.spec_desktop.specs.Peer.{Errs, LacksMemory, Peer, counted};
 ghost use Rattle.wl_proto.specs.Messages.{wl_subsurface_request};
 ghost use Rattle.wl_proto.specs.declared.wl_subsurface.WlSubsurfaceRequest.TheVariants.{Destroy, SetDesync, SetPosition, SetSync};
-ghost use Rattle.wl_plain.specs.Demanding.{demand_of};
+ghost use Rattle.spec_desktop.specs.Demanding.{demand_of};
 ghost use Rattle.wl_requests.specs.Messages.{IsTouchOf};
 ghost use Rattle.wl_requests.specs.Holding.{HoldsAs};
 ghost use Rattle.wl_requests.specs.Linking.{IsChildOf, IsOnlyChild, place_asked};
 ghost use Rattle.wl_requests.specs.Residents.{AnswersDemand, AnswersDemandAs, IsSubsurface, IsSurface, Leaves, ObjectsFit};
 ghost use Rattle.wl_requests.specs.Touching.{IsTouched, Parts, Releases, Touch};
-ghost use Rattle.wl_plain.specs.LeftOut.{nothing_left_out};
-ghost use Rattle.wl_plain.specs.WlSubsurface.{subsurface_demand};
+ghost use Rattle.spec_desktop.specs.LeftOut.{nothing_left_out};
+ghost use Rattle.spec_desktop.specs.WlSubsurface.{subsurface_demand};
 
 use crate::messages::Kind;
 use crate::residents::{Outcome, Resident, Stacking};
 use std::alloc::Allocator;
 use wl_client::{ErrorCode, Refusal};
-use wl_linked::Side;
 use wl_proto::WlSubsurfaceRequest;
-use wl_surface::{Applied, SurfaceError, SurfaceNo};
+use wl_surface::{Applied, Side, SurfaceError, SurfaceNo};
 
 impl<A: Allocator + Copy> Resident<A> {
     /// The child of a wl_subsurface, while its link lives.

@@ -3,11 +3,11 @@
 ghost use Rattle.std.specs.Prelude.{ℕ, ◌≡◌, ◌&&◌, ◌||◌, IfSome, None, [], is_some, not, true};
 ghost use Rattle.wl_proto.specs.Messages.{xdg_popup_request};
 ghost use Rattle.wl_proto.specs.declared.xdg_popup.XdgPopupRequest.TheVariants.{Destroy, Grab, Reposition};
-ghost use Rattle.wl_xdg_state.specs.Shell.{xdg_with};
-ghost use Rattle.wl_plain.specs.Changing.{is_serial};
-ghost use Rattle.wl_plain.specs.Demanding.{demand_of};
-ghost use Rattle.wl_plain.specs.LeftOut.{nothing_left_out};
-ghost use Rattle.wl_plain.specs.XdgPopup.{popup_asked};
+ghost use Rattle.wl_shell.specs.Shell.{xdg_with};
+ghost use Rattle.spec_desktop.specs.Changing.{is_serial};
+ghost use Rattle.spec_desktop.specs.Demanding.{demand_of};
+ghost use Rattle.spec_desktop.specs.LeftOut.{nothing_left_out};
+ghost use Rattle.spec_desktop.specs.XdgPopup.{popup_asked};
 ghost use Rattle.wl_requests.specs.Holding.{HoldsAs};
 ghost use Rattle.wl_requests.specs.Messages.{IsTouchOf};
 ghost use Rattle.wl_requests.specs.Residents.{AnswersAllowed, AnswersDemandAs, AnswersGiven, AnswersPlaced, IsPopup, Leaves};

@@ -2,17 +2,17 @@
 
 ghost use Rattle.std.specs.Prelude.{ℕ, ◌≡◌, ◌+◌, is_some, min, true};
 ghost use Rattle.wl_client.specs.Agreement.{IsPeer, most_counted};
-ghost use Rattle.wl_interface.specs.declared.interface.Interface.TheVariants.{XdgSurface};
-ghost use Rattle.wl_peer.specs.Peer.{Errs, Peer};
+ghost use Rattle.wl_proto.specs.declared.interface.Interface.TheVariants.{XdgSurface};
+ghost use Rattle.spec_desktop.specs.Peer.{Errs, Peer};
 ghost use Rattle.wl_proto.specs.Messages.{xdg_surface_request};
 ghost use Rattle.wl_proto.specs.declared.xdg_surface.XdgSurfaceRequest.TheVariants.{AckConfigure, Destroy, GetPopup, GetToplevel, SetWindowGeometry};
-ghost use Rattle.wl_xdg_state.specs.Kept.{kept_of};
-ghost use Rattle.wl_owning.specs.Owning.{kept_base, kept_id, shell_refusal, targets_in};
+ghost use Rattle.wl_shell.specs.Kept.{kept_of};
+ghost use Rattle.law_desktop.specs.Owning.{kept_base, kept_id, shell_refusal, targets_in};
 ghost use Rattle.wl_requests.specs.Residents.{AnswersDemand, IsFree, IsXdgSurface, Leaves, NewIsFree, ObjectsFit};
-ghost use Rattle.wl_plain.specs.LeftOut.{nothing_left_out};
-ghost use Rattle.wl_plain.specs.Demanding.{demand_of, xdg_demand};
-ghost use Rattle.wl_plain.specs.XdgPopup.{is_no_popup, positioner_of};
-ghost use Rattle.wl_plain.specs.XdgShell.{is_no_toplevel};
+ghost use Rattle.spec_desktop.specs.LeftOut.{nothing_left_out};
+ghost use Rattle.spec_desktop.specs.Demanding.{demand_of, xdg_demand};
+ghost use Rattle.spec_desktop.specs.XdgPopup.{is_no_popup, positioner_of};
+ghost use Rattle.spec_desktop.specs.XdgShell.{is_no_toplevel};
 
 use crate::residents::Resident;
 use std::alloc::Allocator;

@@ -1,14 +1,14 @@
 //! The requests of xdg_toplevel.
 
 ghost use Rattle.std.specs.Prelude.{◌≡◌, ℕ};
-ghost use Rattle.wl_interface.specs.declared.interface.Interface.TheVariants.{XdgToplevel};
+ghost use Rattle.wl_proto.specs.declared.interface.Interface.TheVariants.{XdgToplevel};
 ghost use Rattle.wl_proto.specs.Messages.{Message, xdg_toplevel_request};
-ghost use Rattle.wl_xdg_state.specs.Shell.{xdg_with};
-ghost use Rattle.wl_plain.specs.Demanding.{demand_of, demands, toplevel_destroyed};
-ghost use Rattle.wl_plain.specs.LeftOut.{nothing_left_out};
+ghost use Rattle.wl_shell.specs.Shell.{xdg_with};
+ghost use Rattle.spec_desktop.specs.Demanding.{demand_of, demands, toplevel_destroyed};
+ghost use Rattle.spec_desktop.specs.LeftOut.{nothing_left_out};
 ghost use Rattle.wl_requests.specs.Residents.{AnswersDemand, asked_by, IsToplevel, Leaves, Stacks};
-ghost use Rattle.wl_peer.specs.Requests.{toplevel_request};
-ghost use Rattle.wl_plain.specs.XdgShell.{state_asked};
+ghost use Rattle.spec_desktop.specs.Requests.{toplevel_request};
+ghost use Rattle.spec_desktop.specs.XdgShell.{state_asked};
 
 use crate::residents::{Resident, Stacking};
 use std::alloc::Allocator;

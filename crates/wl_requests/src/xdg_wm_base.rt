@@ -2,16 +2,16 @@
 
 ghost use Rattle.std.specs.Prelude.{ℕ, ◌≡◌, ◌↔◌, IsTrue, Ok};
 ghost use Rattle.wl_proto.specs.Messages.{xdg_wm_base_request};
-ghost use Rattle.wl_interface.specs.declared.interface.Interface.TheVariants.{WlSurface};
-ghost use Rattle.wl_peer.specs.declared.actions.Action.TheVariants.{CreatePositioner};
-ghost use Rattle.wl_plain.specs.Ask.{EndObject, Ignore, Own};
-ghost use Rattle.wl_plain.specs.Demand.{Asks};
-ghost use Rattle.wl_owning.specs.Owning.{targets_in};
+ghost use Rattle.wl_proto.specs.declared.interface.Interface.TheVariants.{WlSurface};
+ghost use Rattle.spec_desktop.specs.declared.actions.Action.TheVariants.{CreatePositioner};
+ghost use Rattle.spec_desktop.specs.Ask.{EndObject, Ignore, Own};
+ghost use Rattle.spec_desktop.specs.Demand.{Asks};
+ghost use Rattle.law_desktop.specs.Owning.{targets_in};
 ghost use Rattle.wl_requests.specs.Residents.{AnswersDemand, Does, GoesAlone, IsBase, IsFree, IsSurface, Leaves, NewIsFree, ObjectsFit};
-ghost use Rattle.wl_plain.specs.LeftOut.{nothing_left_out};
-ghost use Rattle.wl_plain.specs.Demanding.{demand_of, demands};
-ghost use Rattle.wl_plain.specs.WlSubsurface.{past_limit};
-ghost use Rattle.wl_plain.specs.XdgShell.{base_destroyed, is_foreign, xdg_surface_made};
+ghost use Rattle.spec_desktop.specs.LeftOut.{nothing_left_out};
+ghost use Rattle.spec_desktop.specs.Demanding.{demand_of, demands};
+ghost use Rattle.spec_desktop.specs.WlSubsurface.{past_limit};
+ghost use Rattle.spec_desktop.specs.XdgShell.{base_destroyed, is_foreign, xdg_surface_made};
 
 use crate::residents::Resident;
 use crate::xdg_surface::refusal_of;

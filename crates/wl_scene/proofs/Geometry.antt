@@ -6,18 +6,18 @@ use Rattle.wl_scene.specs.declared.scene.Toplevel.{Toplevel}
 use Rattle.wl_scene.specs.Kept.{standing_of}
 use Rattle.wl_scene.specs.Roots.{corner_or}
 use Rattle.wl_shell.proofs.Ordered.{IsPoppedAs, popped-as}
-use Rattle.wl_shell.proofs.Standing.{IsThere}
-use Rattle.wl_stacking.specs.Popups.{corner_at_parent, corner_by_role, corner_of_xdg, geometry_at, geometry_corner_at, geometry_from, geometry_of_place, origin, placement_of, stacked_popup}
-use Rattle.wl_stacking.specs.Stacking.{Owned, Standing, geometry_since, is_of}
-use Rattle.wl_stacking.specs.Windows.{Place, StackedPopup, corner_at, geometry_corner, popup_place, start_of}
-use Rattle.wl_state.specs.declared.state.Current.{Current}
-use Rattle.wl_state.specs.State.{History, within_bounds}
-use Rattle.wl_state.specs.Surface.{Surface}
+use Rattle.wl_shell.proofs.ShellsStanding.{IsThere}
+use Rattle.spec_desktop.specs.Popups.{corner_at_parent, corner_by_role, corner_of_xdg, geometry_at, geometry_corner_at, geometry_from, geometry_of_place, origin, placement_of, stacked_popup}
+use Rattle.spec_desktop.specs.Stacking.{Owned, Standing, geometry_since, is_of}
+use Rattle.spec_desktop.specs.Windows.{Place, StackedPopup, corner_at, geometry_corner, popup_place, start_of}
+use Rattle.wl_surface.specs.declared.state.Current.{Current}
+use Rattle.wl_surface.specs.State.{History, within_bounds}
+use Rattle.wl_surface.specs.Surface.{Surface}
 use Rattle.wl_surface.specs.Slots.{IsCurrentAt}
 use Rattle.wl_surface.specs.Surfaces.{history_in}
-use Rattle.wl_xdg_state.specs.Kept.{Kept}
-use Rattle.wl_xdg_state.specs.Popups.{Popped, kind_popup, popped_kind, popped_of, popped_role, popup_in}
-use Rattle.wl_xdg_state.specs.Shell.{IsPopup, Kind, Popup, RoleObject, Toplevel as AsToplevel, XdgSurface, xdg_at}
+use Rattle.wl_shell.specs.Kept.{Kept}
+use Rattle.wl_shell.specs.Popups.{Popped, kind_popup, popped_kind, popped_of, popped_role, popup_in}
+use Rattle.wl_shell.specs.Shell.{IsPopup, Kind, Popup, RoleObject, Toplevel as AsToplevel, XdgSurface, xdg_at}
 
 -- ---- toplevels that stand
 

@@ -3,12 +3,12 @@ use Rattle.std.proofs.Common.{◌≡◌, ◌≢◌, ℕ, Option, Some, None, ref
 use Rattle.std.specs.Prelude.{IfSome, IsSomeAnd}
 use Rattle.std.specs.Option.{option_map}
 use Rattle.wl_shell.specs.Agreement.{IsShell}
-use Rattle.wl_shell.specs.Popups.{IsSurfaceAt}
-use Rattle.wl_shell.proofs.Standing.{found-id, found-of, kept-for, there}
-use Rattle.wl_stacking.specs.Popups.{surface_at_xdg}
-use Rattle.wl_state.specs.State.{History}
-use Rattle.wl_xdg_state.specs.Kept.{Kept}
-use Rattle.wl_xdg_state.specs.Shell.{Shell, XdgSurface, xdg_at, xdg_of}
+use Rattle.wl_shell.specs.PopupsKept.{IsSurfaceAt}
+use Rattle.wl_shell.proofs.ShellsStanding.{found-id, found-of, kept-for, there}
+use Rattle.spec_desktop.specs.Popups.{surface_at_xdg}
+use Rattle.wl_surface.specs.State.{History}
+use Rattle.wl_shell.specs.Kept.{Kept}
+use Rattle.wl_shell.specs.Shell.{Shell, XdgSurface, xdg_at, xdg_of}
 
 module _ (kept : ℕ → Option Kept) (histories : ℕ → Option History) (shell : Shell) (is : IsShell kept histories shell) where
   -- the surface of an id

@@ -6,13 +6,13 @@ use Rattle.std.proofs.lemmas.Bool.Decides.{nat_tests}
 use Rattle.wl_scene.specs.Roots.{is_done, is_past}
 use Rattle.wl_shell.specs.Agreement.{IsShell}
 use Rattle.wl_shell.specs.InOrder.{AreRising, IsOnly}
-use Rattle.wl_shell.specs.Popups.{IsOldest, has_popup, number_of}
+use Rattle.wl_shell.specs.PopupsKept.{IsOldest, has_popup, number_of}
 use Rattle.wl_shell.proofs.Ordered.{Each, IsAmong, IsIts, IsKeptAs, above, all-its, each-map, kept-as, kept-by, popped-as, rises}
-use Rattle.wl_shell.proofs.Standing.{there}
-use Rattle.wl_state.specs.State.{History}
-use Rattle.wl_xdg_state.specs.Kept.{Kept}
-use Rattle.wl_xdg_state.specs.Popups.{Popped, popped_of, popup_in, popups_of}
-use Rattle.wl_xdg_state.specs.Shell.{Popup, Shell, XdgSurface}
+use Rattle.wl_shell.proofs.ShellsStanding.{there}
+use Rattle.wl_surface.specs.State.{History}
+use Rattle.wl_shell.specs.Kept.{Kept}
+use Rattle.wl_shell.specs.Popups.{Popped, popped_of, popup_in, popups_of}
+use Rattle.wl_shell.specs.Shell.{Popup, Shell, XdgSurface}
 
 -- ---- numbers
 

@@ -5,7 +5,7 @@ use Rattle.std.specs.Option.{option_and_then, option_map, option_map_or}
 use Rattle.std.proofs.lemmas.Bool.Decides.{nat_tests}
 use Rattle.std.proofs.Math.Seq.{drop-append_seam}
 use Rattle.std.proofs.lemmas.List.{append_assoc, length-append, length-map, map-append}
-use Rattle.wl_family.specs.Family.{Tied}
+use Rattle.wl_links.specs.Family.{Tied}
 use Rattle.wl_geom.specs.declared.rect.Rect.{Rect}
 use Rattle.wl_scene.specs.declared.roots.RootPlace.{RootPlace}
 use Rattle.wl_scene.specs.Roots.{AreAt, Continues, HasRole, IsHeld, IsStackedAs, corner_or, is_done, is_past, is_root_of, kept_geometry, parent_surface, roots_done, shows_popup, standing_at, told_root}
@@ -13,17 +13,17 @@ use Rattle.wl_shell.specs.InOrder.{AreRising, IsOnly}
 use Rattle.wl_scene.proofs.Geometry.{geometry-kept}
 use Rattle.wl_scene.proofs.Popups.{IsNext, done-all, done-first, done-next, none-past, some-next}
 use Rattle.wl_shell.proofs.Ordered.{Each, IsIts, all-its, among-popups, each-filter, popup-of, role-of}
-use Rattle.wl_shell.proofs.Standing.{both, kept-for, none-for, there}
-use Rattle.wl_shell.specs.Popups.{IsOldest, has_popup, number_of}
-use Rattle.wl_stacking.specs.Popups.{geometry_at, placement_of, stacked_popup, stacked_popups}
-use Rattle.wl_stacking.specs.Stacking.{Owned, geometry_in, geometry_since, root_of}
-use Rattle.wl_stacking.specs.Windows.{Place, Root, StackedPopup, corner_in, geometry_corner, has_parent, popup_place, root_on, roots_of, stacked, stacked_on}
-use Rattle.wl_state.specs.State.{History}
+use Rattle.wl_shell.proofs.ShellsStanding.{both, kept-for, none-for, there}
+use Rattle.wl_shell.specs.PopupsKept.{IsOldest, has_popup, number_of}
+use Rattle.spec_desktop.specs.Popups.{geometry_at, placement_of, stacked_popup, stacked_popups}
+use Rattle.spec_desktop.specs.Stacking.{Owned, geometry_in, geometry_since, root_of}
+use Rattle.spec_desktop.specs.Windows.{Place, Root, StackedPopup, corner_in, geometry_corner, has_parent, popup_place, root_on, roots_of, stacked, stacked_on}
+use Rattle.wl_surface.specs.State.{History}
 use Rattle.wl_surface.specs.Slots.{Slots}
 use Rattle.wl_surface.specs.Surfaces.{Surfaces, history_in}
-use Rattle.wl_xdg_state.specs.Kept.{Book, Kept, kept_of}
-use Rattle.wl_xdg_state.specs.Popups.{Popped, is_mapped_stage, is_popup_mapped, popup_in, popups_of}
-use Rattle.wl_xdg_state.specs.Shell.{Popup, RoleObject, XdgSurface}
+use Rattle.wl_shell.specs.Kept.{Book, Kept, kept_of}
+use Rattle.wl_shell.specs.Popups.{Popped, is_mapped_stage, is_popup_mapped, popup_in, popups_of}
+use Rattle.wl_shell.specs.Shell.{Popup, RoleObject, XdgSurface}
 
 -- ---- which popup is stacked on which root
 

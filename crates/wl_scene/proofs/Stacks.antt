@@ -8,9 +8,9 @@ use Rattle.std.proofs.lemmas.Bool.Decides.{nat_tests}
 use Rattle.std.proofs.lemmas.List.Quantifiers.{position-Some}
 use Rattle.std.proofs.lemmas.List.Sums.{fails_before_first}
 use Rattle.wl_scene.specs.declared.scene.Toplevel.{Toplevel}
-use Rattle.wl_stacking.specs.Stacking.{Standing, is_of, moved_to, raised}
+use Rattle.spec_desktop.specs.Stacking.{Standing, is_of, moved_to, raised}
 use Rattle.wl_scene.specs.Kept.{standing_of}
-use Rattle.wl_stacking.specs.Windows.{Place}
+use Rattle.spec_desktop.specs.Windows.{Place}
 
 -- to leave out, and then to see
 pub map-filter : {X Y : Type 0} (f : X → Y) (p : Y → Bool) (xs : List X) → map f (filter (λ x. p (f x)) xs) ≡ filter p (map f xs)

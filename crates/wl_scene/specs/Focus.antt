@@ -5,9 +5,9 @@ use Rattle.wl_scene.specs.declared.actions.Action.{Action}
 use Rattle.wl_scene.specs.declared.actions.Action.TheVariants as does
 use Rattle.wl_scene.specs.declared.focus.Point.{Point}
 use Rattle.wl_scene.specs.declared.actions.Target.{Target as Named}
-use Rattle.wl_stacking.specs.Pointer.{Pointer, Target, hit_by, is_stacked}
-use Rattle.wl_stacking.specs.PointerActions.{PointerAction, Leave, Enter, Motion, Button, Raise, MoveWindow, Dismiss}
-use Rattle.wl_stacking.specs.Windows.{Place, Window}
+use Rattle.spec_desktop.specs.Pointer.{Pointer, Target, hit_by, is_stacked}
+use Rattle.spec_desktop.specs.PointerActions.{PointerAction, Leave, Enter, Motion, Button, Raise, MoveWindow, Dismiss}
+use Rattle.spec_desktop.specs.Windows.{Place, Window}
 
 abbrev pub target_of : Named → Target
 target_of s = record { client = s.client; surface = s.surface }

@@ -1,7 +1,7 @@
 -- What is kept of the toplevels that stand.
 use Rattle.std.specs.Prelude.{ℕ, ◌+◌, ◌%◌, List}
 use Rattle.wl_scene.specs.declared.scene.Toplevel.{Toplevel}
-use Rattle.wl_stacking.specs.Stacking.{Standing, with_mapped}
+use Rattle.spec_desktop.specs.Stacking.{Standing, with_mapped}
 
 -- The same as a program keeps them: the mapped toplevels, and which of the eight places is the next one's.
 pub record Stack : Type 0 where

@@ -1,3 +1,13 @@
-pub mod Kept
+pub mod ByNumbers
 pub mod Focus
+pub mod Hit
+pub mod Kept
+pub mod Marking
+pub mod Moved
+pub mod Repaint
 pub mod Roots
+pub mod Stacked
+pub mod StackedAgreement
+pub mod StackedLaws
+pub mod Told
+pub mod TreeWindows

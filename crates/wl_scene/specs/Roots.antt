@@ -2,21 +2,21 @@
 use Rattle.std.specs.Prelude.{ℕ, ℤ, ◌≡◌, ◌==◌, ◌&&◌, Bool, true, false, not, nat_le, nat_lt, is_some, Option, Some, None, IfSome}
 use Rattle.std.specs.Prelude.{List, [], ◌∷◌, ◌++◌, filter, map}
 use Rattle.std.specs.Option.{option_and_then, option_map_or}
-use Rattle.wl_family.specs.Family.{Tied}
+use Rattle.wl_links.specs.Family.{Tied}
 use Rattle.wl_geom.specs.declared.rect.Rect.{Rect}
-use Rattle.wl_linked.specs.Linked.{Stand}
+use Rattle.wl_surface.specs.Linked.{Stand}
 use Rattle.wl_scene.specs.declared.roots.RootPlace.{RootPlace}
 use Rattle.wl_shell.specs.Agreement.{IsShell}
-use Rattle.wl_shell.specs.Popups.{has_popup}
-use Rattle.wl_stacking.specs.Popups.{placement_of, stacked_popup, surface_at_xdg}
-use Rattle.wl_stacking.specs.Stacking.{Owned, Standing}
-use Rattle.wl_stacking.specs.Windows.{Place, Root, StackedPopup, corner_at, roots_of}
-use Rattle.wl_state.specs.State.{History}
+use Rattle.wl_shell.specs.PopupsKept.{has_popup}
+use Rattle.spec_desktop.specs.Popups.{placement_of, stacked_popup, surface_at_xdg}
+use Rattle.spec_desktop.specs.Stacking.{Owned, Standing}
+use Rattle.spec_desktop.specs.Windows.{Place, Root, StackedPopup, corner_at, roots_of}
+use Rattle.wl_surface.specs.State.{History}
 use Rattle.wl_surface.specs.Slots.{Slots}
 use Rattle.wl_surface.specs.Surfaces.{history_in}
-use Rattle.wl_xdg_state.specs.Kept.{Book, Kept, kept_of, stage_in}
-use Rattle.wl_xdg_state.specs.Popups.{Popped, is_mapped_stage, popups_of}
-use Rattle.wl_xdg_state.specs.Shell.{Popup}
+use Rattle.wl_shell.specs.Kept.{Book, Kept, kept_of, stage_in}
+use Rattle.wl_shell.specs.Popups.{Popped, is_mapped_stage, popups_of}
+use Rattle.wl_shell.specs.Shell.{Popup}
 
 -- What is kept stands for what a client owns.
 pub record IsHeld (slots : Slots) (tied : Tied) (book : Book) (o : Owned) : Type 0 where

@@ -2,9 +2,9 @@
 
 ghost use Rattle.std.specs.Prelude.{◌≡◌, ◌<◌, ◌≤◌, ◌+◌, ◌++◌, Option, map};
 ghost use Rattle.arrayvec.specs.ArrayVec.{array_vec_len};
-ghost use Rattle.wl_stacking.specs.Pointer.{is_same};
-ghost use Rattle.wl_stacking.specs.PointerActions.{button_of, dismiss_of, enter_of, leave_of, motion_of, raise_of};
-ghost use Rattle.wl_stacking.specs.Windows.{Window};
+ghost use Rattle.spec_desktop.specs.Pointer.{is_same};
+ghost use Rattle.spec_desktop.specs.PointerActions.{button_of, dismiss_of, enter_of, leave_of, motion_of, raise_of};
+ghost use Rattle.spec_desktop.specs.Windows.{Window};
 ghost use Rattle.wl_scene.specs.Focus.{action_of, action_or_none, target_or_none, toplevel_of};
 
 use arrayvec::ArrayVec;

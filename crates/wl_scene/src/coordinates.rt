@@ -1,7 +1,7 @@
 //! Coordinates as clients are told them.
 
 ghost use Rattle.std.specs.Prelude.{◌≡◌, ◌*ℤ◌, ◌-ℤ◌, ◌≤ℤ◌, ℤ, pos, negsuc};
-ghost use Rattle.wl_stacking.specs.Pointer.{fixed_from};
+ghost use Rattle.spec_desktop.specs.Pointer.{fixed_from};
 
 /// The pixels that a 24.8 fixed number can say, to either side.
 const MOST: i64 = 8_388_607;

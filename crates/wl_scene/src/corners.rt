@@ -1,25 +1,24 @@
 //! Where the window geometries of popups and of their parents stand (xdg-shell.xml, xdg_popup).
 
 ghost use Rattle.std.specs.Prelude.{ℕ, ◌≡◌, ◌+ℤ◌, ◌-ℤ◌, Some, None};
-ghost use Rattle.wl_linked.specs.Linked.{Stand};
+ghost use Rattle.wl_surface.specs.Linked.{Stand};
 ghost use Rattle.wl_scene.specs.Focus.{place_of};
 ghost use Rattle.wl_scene.specs.Roots.{IsHeld, corner_or, kept_geometry};
-ghost use Rattle.wl_stacking.specs.Popups.{corner_at_parent, corner_of_xdg, geometry_corner_at, origin, parent_corner, placement_of, standing_place};
-ghost use Rattle.wl_stacking.specs.Stacking.{Owned as Owns};
-ghost use Rattle.wl_stacking.specs.Windows.{Place, StackedPopup, geometry_corner, moved, popup_place, start_of};
-ghost use Rattle.wl_state.specs.State.{within_bounds};
+ghost use Rattle.spec_desktop.specs.Popups.{corner_at_parent, corner_of_xdg, geometry_corner_at, origin, parent_corner, placement_of, standing_place};
+ghost use Rattle.spec_desktop.specs.Stacking.{Owned as Owns};
+ghost use Rattle.spec_desktop.specs.Windows.{Place, StackedPopup, geometry_corner, moved, popup_place, start_of};
+ghost use Rattle.wl_surface.specs.State.{within_bounds};
 ghost use Rattle.wl_surface.specs.Surfaces.{Surfaces as Asked, history_in};
-ghost use Rattle.wl_xdg_state.specs.Kept.{kept_of};
-ghost use Rattle.wl_xdg_state.specs.Popups.{popup_in};
-ghost use Rattle.wl_xdg_state.specs.Shell.{XdgSurface as Xdg, xdg_of};
+ghost use Rattle.wl_shell.specs.Kept.{kept_of};
+ghost use Rattle.wl_shell.specs.Popups.{popup_in};
+ghost use Rattle.wl_shell.specs.Shell.{XdgSurface as Xdg, xdg_of};
 
 use crate::focus::Point;
 use crate::{Owned, Scene, Surface};
 use std::alloc::Allocator;
 use wl_geom::Rect;
-use wl_linked::Linked;
 use wl_shell::{Placed, Shell, XdgSurface};
-use wl_surface::SurfaceNo;
+use wl_surface::{Linked, SurfaceNo};
 
 /// The coordinates of a surface are held within -16,777,216 to 16,777,216 pixels.
 const BOUND: i64 = 16_777_216;

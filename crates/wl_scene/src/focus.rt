@@ -2,9 +2,9 @@
 
 ghost use Rattle.std.specs.Prelude.{◌≡◌, ◌++◌, ◌∷◌, ◌-ℤ◌, [], true, false, IsTrue, ◌↔◌, List, None, Some, map};
 ghost use Rattle.std.specs.Option.{option_map};
-ghost use Rattle.wl_stacking.specs.Pointer.{first_pointer, hit_now, is_down, is_press, settled, without_button};
-ghost use Rattle.wl_stacking.specs.PointerActions.{GoTo, Press, Release, Settle, Went, actions, focus_or, move_of};
-ghost use Rattle.wl_stacking.specs.Windows.{Window};
+ghost use Rattle.spec_desktop.specs.Pointer.{first_pointer, hit_now, is_down, is_press, settled, without_button};
+ghost use Rattle.spec_desktop.specs.PointerActions.{GoTo, Press, Release, Settle, Went, actions, focus_or, move_of};
+ghost use Rattle.spec_desktop.specs.Windows.{Window};
 ghost use Rattle.wl_scene.specs.Focus.{IsSeen, action_of, action_or_none, place_of, target_of, target_or_none, toplevel_of, unless_of, with_buttons};
 
 use crate::actions::{self, Action, Actions, Target};
@@ -36,7 +36,7 @@ pub struct Focus {
 
 impl Model for Focus {
     ghost use Rattle.std.specs.Option.{option_map};
-    ghost use Rattle.wl_stacking.specs.Pointer.{Pointer};
+    ghost use Rattle.spec_desktop.specs.Pointer.{Pointer};
     ghost use Rattle.wl_scene.specs.Focus.{place_of, target_or_none};
 
     ghost Value = { Pointer };

@@ -1,19 +1,62 @@
-//! The scene: the mapped toplevels of all clients in stacking order, and what a client owns of it; and the pointer, with the surface that
-//! has its focus.
+//! The scene: the mapped toplevels from bottom to top and where they stand, the windows of the output that their trees of surfaces and those of
+//! their popups make, what a point hits of them, what of the output is marked where they change, and the pointer with its focus.
 #![tactic(auto)]
+
+ghost use Rattle.wl_scene.specs.Stacked.{ReplacesARun, ReplacesNothing};
 
 mod actions;
 mod coordinates;
 mod corners;
 mod focus;
+mod hitting;
+mod marking;
 mod owned;
+mod record;
+mod repaint;
+mod repaint_trees;
 mod roots;
+mod runs;
 mod scene;
+mod span;
+mod stacked;
+mod stacked_trees;
+mod stacked_windows;
+mod stacking;
+mod tree_window;
+mod tree_windows;
 
 pub use actions::{Action, Actions, Target};
 pub use coordinates::fixed;
 pub use corners::parent_corner;
 pub use focus::{Focus, Point};
+pub use hitting::{
+    Surfaced, current_of, hit, hits_by_numbers, is_among, settles_by_numbers, takes_input,
+};
+pub use marking::{mark_damage, mark_window};
 pub use owned::Owned;
+pub use record::WindowRecord;
+pub use repaint::{mark_tree, mark_windows};
+pub use repaint_trees::mark_trees;
 pub use roots::{RootPlace, add_roots};
 pub use scene::{Scene, Surface, Toplevel};
+pub use stacked::Stacked;
+pub use stacked_trees::add_trees;
+pub use stacked_windows::StackedWindows;
+pub use stacking::{
+    both_are_stacked, first_are_stacked, kept_run_is_as_long, moved_trees_are_as_long,
+    run_is_stacked, run_is_there, runs_are_moved, stacked_are_told, stacked_client_gone,
+    stacked_moved, stacked_pushed, stacked_raised, stacked_removed, stacked_renumbered,
+    stacked_replaced, stacked_run_gone, stacked_run_raised, trees_are_moved,
+};
+pub use tree_window::TreeWindow;
+pub use tree_windows::add_windows;
+
+/// Where other windows of a toplevel take the place of those that stand together, what is below and above them stays.
+pub fn replaces_a_run()
+    ensures { ReplacesARun }
+{}
+
+/// Other windows of a toplevel that has none there change nothing.
+pub fn replaces_nothing()
+    ensures { ReplacesNothing }
+{}

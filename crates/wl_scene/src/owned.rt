@@ -1,8 +1,8 @@
 //! What a client owns of the scene.
 
 use std::alloc::Allocator;
-use wl_linked::Linked;
 use wl_shell::Shell;
+use wl_surface::Linked;
 
 /// What a client owns of the scene: its surfaces with the links between them (wayland.xml, wl_surface and wl_subsurface), and its xdg_surfaces
 /// (xdg-shell.xml, xdg_surface).

@@ -3,7 +3,7 @@
 ghost use Rattle.std.specs.Prelude.{◌≡◌, ◌==◌, ◌<◌, ◌++◌, ◌∷◌, [], IsOk, OnOk, OnErr, vec_capacity, Some, find, length, map, position, remove, slice_index_or};
 ghost use Rattle.std.specs.Option.{option_copied, option_map};
 ghost use Rattle.wl_scene.specs.Focus.{place_of};
-ghost use Rattle.wl_stacking.specs.Stacking.{is_of, moved_to, raised, without_client, without_surface_of};
+ghost use Rattle.spec_desktop.specs.Stacking.{is_of, moved_to, raised, without_client, without_surface_of};
 ghost use Rattle.wl_scene.specs.Kept.{mapped_on, standing_of};
 
 use crate::focus::Point;

@@ -1,8 +1,8 @@
 -- A client is read.
 use Rattle.std.proofs.Common.{◌≡◌, ◌<◌, ◌+◌, ℕ, true, false, List, [], ◌∷◌, ◌++◌, map, length, refl, ap, sym, subst, inl, inr, ◌∙◌, append-nil, length-append}
 use Rattle.std.proofs.lemmas.List.{map-append}
-use Rattle.wl_plain.specs.Act.{Act, Feed, Leave}
-use Rattle.wl_plain.specs.declared.answers.Done.{Done}
+use Rattle.spec_desktop.specs.Act.{Act, Feed, Leave}
+use Rattle.spec_desktop.specs.declared.answers.Done.{Done}
 use Rattle.wl_session.specs.Course.{TakesCourse}
 use Rattle.wl_session.specs.View.{SessionView}
 use Rattle.wl_server.specs.Acting.{Stretch, Takes}

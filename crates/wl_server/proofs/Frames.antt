@@ -2,9 +2,9 @@
 use Rattle.std.proofs.Common.{ℕ, Bool, List, [], ◌∷◌, ◌++◌, Option, Result, Ok, Err, refl, subst}
 use Rattle.std.specs.Prelude.{⊤}
 use Rattle.std.specs.Result.{OnOk}
-use Rattle.wl_plain.specs.Act.{Act}
-use Rattle.wl_plain.specs.Desktop.{Desktop}
-use Rattle.wl_plain.specs.LeftOut.{nothing_left_out}
+use Rattle.spec_desktop.specs.Act.{Act}
+use Rattle.spec_desktop.specs.Desktop.{Desktop}
+use Rattle.spec_desktop.specs.LeftOut.{nothing_left_out}
 use Rattle.wl_session.specs.Agreeing.{Agrees}
 use Rattle.wl_session.specs.Course.{moment}
 use Rattle.wl_session.specs.Events.{AreApart, AreEvents, Event, Moment}

@@ -4,13 +4,13 @@ use Rattle.std.proofs.lemmas.List.{set-get_or}
 use Rattle.std.specs.Io.KnownBytes.{Appends}
 use Rattle.std.specs.Prelude.{IfOk, OnErr, OnOk, Result}
 use Rattle.std.proofs.KnownBytes.{Appends-nil}
-use Rattle.wl_hub.specs.Faults.{CountsFault, Rose}
-use Rattle.wl_plain.specs.Act.{Close, Connect, peer_at, status_of, unsent_of}
-use Rattle.wl_plain.specs.Desktop.{Desktop}
-use Rattle.wl_plain.specs.declared.answers.ConnectError.{ConnectError}
-use Rattle.wl_plain.specs.declared.answers.Done.TheVariants as gave
-use Rattle.wl_plain.specs.declared.answers.Fed.{Fed}
-use Rattle.wl_plain.specs.declared.answers.Fed.TheVariants.{Alive, Ended, NoClient}
+use Rattle.wl_server.specs.Faults.{CountsFault, Rose}
+use Rattle.spec_desktop.specs.Act.{Close, Connect, peer_at, status_of, unsent_of}
+use Rattle.spec_desktop.specs.Desktop.{Desktop}
+use Rattle.spec_desktop.specs.declared.answers.ConnectError.{ConnectError}
+use Rattle.spec_desktop.specs.declared.answers.Done.TheVariants as gave
+use Rattle.spec_desktop.specs.declared.answers.Fed.{Fed}
+use Rattle.spec_desktop.specs.declared.answers.Fed.TheVariants.{Alive, Ended, NoClient}
 use Rattle.wl_recording.specs.Text.{client_line}
 use Rattle.wl_session.specs.Agreeing.{Agrees}
 use Rattle.wl_session.specs.Course.{TakesCourse, moment}

@@ -1,10 +1,10 @@
 -- Pieces that are put into a store, and stores one after another.
 use Rattle.std.proofs.Common.{◌≡◌, ◌<◌, ◌+◌, ◌⊎◌, ℕ, Bool, true, false, List, [], ◌∷◌, ◌++◌, length, Option, Some, None, refl, ap, sym, subst, inl, inr, ◌∙◌, arith, append-nil, add-zero, get_or}
-use Rattle.wl_hub.specs.Faults.{Rose}
-use Rattle.wl_plain.specs.Act.{Act, Store, peer_at, store_size_of}
+use Rattle.wl_server.specs.Faults.{Rose}
+use Rattle.spec_desktop.specs.Act.{Act, Store, peer_at, store_size_of}
 use Rattle.wl_session.specs.NextStore.{next_store_of}
-use Rattle.wl_plain.specs.Desktop.{Desktop}
-use Rattle.wl_plain.specs.declared.answers.Done.{Done}
+use Rattle.spec_desktop.specs.Desktop.{Desktop}
+use Rattle.spec_desktop.specs.declared.answers.Done.{Done}
 use Rattle.wl_recording.specs.Side.{Files}
 use Rattle.wl_session.specs.Agreeing.{Agrees}
 use Rattle.wl_session.specs.Course.{TakesCourse, moment}

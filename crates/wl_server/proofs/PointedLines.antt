@@ -2,9 +2,9 @@
 use Rattle.std.proofs.Common.{◌≡◌, ℕ, suc, ℤ, ◌+◌, Bool, true, List, [], ◌∷◌, ◌++◌, refl, ap, sym, ◌∙◌, arith, append-nil, append_assoc, take-append-drop}
 use Rattle.std.specs.Prelude.{if◌then◌else◌, drop, take}
 use Rattle.std.specs.List.{prefix_len}
-use Rattle.wl_plain.specs.Act as act
-use Rattle.wl_plain.specs.Act.{Act}
-use Rattle.wl_plain.specs.declared.answers.Done.TheVariants as gave
+use Rattle.spec_desktop.specs.Act as act
+use Rattle.spec_desktop.specs.Act.{Act}
+use Rattle.spec_desktop.specs.declared.answers.Done.TheVariants as gave
 use Rattle.wl_recording.specs.declared.pointer.PointerLine.{PointerLine}
 use Rattle.wl_recording.specs.declared.pointer.PointerLine.TheVariants.{Motion, Button, Skip, Bad}
 use Rattle.wl_session.specs.Course.{TakesCourse}

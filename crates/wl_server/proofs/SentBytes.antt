@@ -1,8 +1,8 @@
 -- A client is written to.
 use Rattle.std.proofs.Common.{◌≡◌, ◌||◌, ℕ, Bool, true, false, List, [], ◌∷◌, Option, Some, None, refl, ap, subst}
-use Rattle.wl_plain.specs.Act.{Leave, Send, peer_at, unsent_of}
-use Rattle.wl_plain.specs.Desktop.{Desktop}
-use Rattle.wl_plain.specs.declared.answers.Done.{Done}
+use Rattle.spec_desktop.specs.Act.{Leave, Send, peer_at, unsent_of}
+use Rattle.spec_desktop.specs.Desktop.{Desktop}
+use Rattle.spec_desktop.specs.declared.answers.Done.{Done}
 use Rattle.wl_session.specs.Agreeing.{Agrees}
 use Rattle.wl_session.specs.Course.{TakesCourse, moment}
 use Rattle.wl_session.specs.View.{SessionView}
@@ -10,7 +10,7 @@ use Rattle.wl_server.specs.declared.seat.Seat.{Seat}
 use Rattle.wl_server.specs.Acting.{Takes}
 use Rattle.wl_server.specs.Phases.{Gives, Link, WritesClient, WritesSome}
 use Rattle.wl_server.specs.Ways.{Ways}
-use Rattle.wl_hub.specs.Moves.{Delivers}
+use Rattle.wl_server.specs.Moves.{Delivers}
 use Rattle.wl_server.proofs.Taking.{Takes-none, Takes-one, Takes-two, idle}
 
 -- what waits for it, by whatever desktop agrees

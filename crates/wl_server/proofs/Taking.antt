@@ -1,9 +1,9 @@
 -- What a session does, joined of what it does one after another.
 use Rattle.std.proofs.Common.{◌≡◌, ◌+◌, ℕ, suc, List, [], ◌∷◌, ◌++◌, refl, ap, sym, subst, ◌∙◌, add-one, append-nil, append_assoc}
-use Rattle.wl_plain.specs.declared.answers.Done.{Done}
-use Rattle.wl_plain.specs.Act.{Act}
-use Rattle.wl_plain.specs.Desktop.{Desktop}
-use Rattle.wl_plain.specs.LeftOut.{LeftOut, nothing_left_out}
+use Rattle.spec_desktop.specs.declared.answers.Done.{Done}
+use Rattle.spec_desktop.specs.Act.{Act}
+use Rattle.spec_desktop.specs.Desktop.{Desktop}
+use Rattle.spec_desktop.specs.LeftOut.{LeftOut, nothing_left_out}
 use Rattle.wl_session.specs.Agreeing.{Agrees}
 use Rattle.wl_session.specs.Course.{AreParts, Course, Runs, TakesCourse, happenings, moment}
 use Rattle.wl_session.specs.Events.{Event, Moment}

@@ -7,13 +7,13 @@ use Rattle.std.specs.List.{AllPass}
 use Rattle.std.specs.Io.KnownBytes.{Appends}
 use Rattle.std.proofs.KnownBytes.{Appends-nil, Appends-trans}
 use Rattle.std.proofs.lemmas.List.Elements.{All-append, All-cons, All-head, All-map, All-nil, All-tail, All-weaker}
-use Rattle.wl_plain.specs.Act.{Act, Connect, Feed, Store, Leave, Tick, Send, Close, Motion, Button}
-use Rattle.wl_plain.specs.Happenings.{Happening, Message, Receive, Single, Starve}
-use Rattle.wl_plain.specs.LeftOut.{nothing_left_out}
-use Rattle.wl_plain.specs.declared.answers.Done.{Done}
+use Rattle.spec_desktop.specs.Act.{Act, Connect, Feed, Store, Leave, Tick, Send, Close, Motion, Button}
+use Rattle.spec_desktop.specs.Happenings.{Happening, Message, Receive, Single, Starve}
+use Rattle.spec_desktop.specs.LeftOut.{nothing_left_out}
+use Rattle.spec_desktop.specs.declared.answers.Done.{Done}
 use Rattle.wl_session.specs.Course.{AreParts, Runs, TakesCourse, happenings, moment}
 use Rattle.wl_session.specs.Agreeing.{Agrees}
-use Rattle.wl_plain.specs.Desktop.{Desktop}
+use Rattle.spec_desktop.specs.Desktop.{Desktop}
 use Rattle.wl_session.specs.Events.{AreEvents, Event, Moment}
 use Rattle.wl_session.specs.View.{SessionView}
 use Rattle.std.proofs.Common.{None, Some}

@@ -1,11 +1,11 @@
 -- What a session does, as acts of the plain desktop and the events that they are.
 use Rattle.std.specs.Prelude.{ℕ, zero, suc, ◌≡◌, ◌<◌, pos, Bool, true, false, List, [], ◌∷◌, ◌++◌}
 use Rattle.wl_session.specs.Frame.{color_at}
-use Rattle.wl_plain.specs.Act.{Act}
-use Rattle.wl_plain.specs.Desktop.{Desktop}
-use Rattle.wl_plain.specs.LeftOut.{nothing_left_out}
-use Rattle.wl_plain.specs.Scratch.{scratch}
-use Rattle.wl_plain.specs.Stacked.{all_windows}
+use Rattle.spec_desktop.specs.Act.{Act}
+use Rattle.spec_desktop.specs.Desktop.{Desktop}
+use Rattle.spec_desktop.specs.LeftOut.{nothing_left_out}
+use Rattle.spec_desktop.specs.Scratch.{scratch}
+use Rattle.spec_desktop.specs.Stacked.{all_windows}
 use Rattle.wl_session.specs.Agreeing.{Agrees}
 use Rattle.wl_session.specs.Course.{Runs, moment}
 use Rattle.wl_session.specs.Events.{AreApart, Event, Moment, is_frame}

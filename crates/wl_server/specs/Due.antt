@@ -1,8 +1,8 @@
 -- Which lines of a pointer file a turn takes, and what a session does with them.
 use Rattle.std.specs.Prelude.{ℕ, ◌≡◌, nat_le, Bool, true, List, [], ◌∷◌, take, drop, Option, Some, None}
 use Rattle.std.specs.List.{prefix_len}
-use Rattle.wl_plain.specs.Act as act
-use Rattle.wl_plain.specs.Act.{Act}
+use Rattle.spec_desktop.specs.Act as act
+use Rattle.spec_desktop.specs.Act.{Act}
 use Rattle.wl_recording.specs.declared.pointer.PointerLine.{PointerLine}
 use Rattle.wl_recording.specs.declared.pointer.PointerLine.TheVariants.{Motion, Button, Skip, Bad}
 

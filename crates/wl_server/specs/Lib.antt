@@ -1,7 +1,11 @@
 pub mod Acting
 pub mod Due
+pub mod Faults
+pub mod Moves
+pub mod Outcome
 pub mod Phases
 pub mod Seats
+pub mod Sockets
 pub mod Telling
 pub mod Ways
 pub use Rattle.wl_session.specs.Agreeing

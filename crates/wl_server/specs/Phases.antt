@@ -1,15 +1,15 @@
 -- The phases of a turn: what each does to what the server works on, and which acts that is.
 use Rattle.std.specs.Prelude.{ℕ, ◌≡◌, ◌<◌, ◌≤◌, ◌+◌, ◌-◌, ◌^◌, ◌⊎◌, ◌||◌, ◌&&◌, Bool, true, false, List, [], ◌∷◌, ◌++◌, length, map}
 use Rattle.std.specs.Prelude.{Option, Some, None, Result, Ok, Err, decimal, codes}
-use Rattle.wl_hub.specs.Faults.{Rose}
-use Rattle.wl_hub.specs.Moves.{Delivers}
-use Rattle.wl_plain.specs.Act.{Act, Connect, Feed, Store, Leave, Tick, Send, Close, peer_at, status_of, store_size_of, unsent_of}
-use Rattle.wl_plain.specs.Happenings.{Single}
-use Rattle.wl_plain.specs.LeftOut.{nothing_left_out}
-use Rattle.wl_plain.specs.declared.answers.ConnectError.{ConnectError}
-use Rattle.wl_plain.specs.declared.answers.Done.TheVariants as gave
-use Rattle.wl_plain.specs.declared.answers.Fed.{Fed}
-use Rattle.wl_plain.specs.declared.answers.Fed.TheVariants.{Alive, Ended, NoClient}
+use Rattle.wl_server.specs.Faults.{Rose}
+use Rattle.wl_server.specs.Moves.{Delivers}
+use Rattle.spec_desktop.specs.Act.{Act, Connect, Feed, Store, Leave, Tick, Send, Close, peer_at, status_of, store_size_of, unsent_of}
+use Rattle.spec_desktop.specs.Happenings.{Single}
+use Rattle.spec_desktop.specs.LeftOut.{nothing_left_out}
+use Rattle.spec_desktop.specs.declared.answers.ConnectError.{ConnectError}
+use Rattle.spec_desktop.specs.declared.answers.Done.TheVariants as gave
+use Rattle.spec_desktop.specs.declared.answers.Fed.{Fed}
+use Rattle.spec_desktop.specs.declared.answers.Fed.TheVariants.{Alive, Ended, NoClient}
 use Rattle.wl_recording.specs.Side.{Files}
 use Rattle.wl_recording.specs.declared.pointer.PointerLine.{PointerLine}
 use Rattle.wl_session.specs.Course.{Runs, happenings}

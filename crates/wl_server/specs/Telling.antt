@@ -2,14 +2,14 @@
 use Rattle.std.specs.Prelude.{ℕ, zero, suc, Option, Result, Ok, Err, List, [], ◌∷◌, ◌++◌}
 use Rattle.std.specs.Io.KnownBytes.{Appends}
 use Rattle.std.specs.Option.{option_and_then}
-use Rattle.wl_plain.specs.Act.{Act, Connect, Feed, Store, Leave, Tick, Send, Close, Motion, Button, peer_at, status_of}
-use Rattle.wl_plain.specs.Desktop.{Desktop}
-use Rattle.wl_plain.specs.Happenings.{Happening, Message, Receive, Single, Starve}
-use Rattle.wl_plain.specs.declared.answers.ConnectError.{ConnectError}
-use Rattle.wl_plain.specs.declared.answers.Done.{Done}
-use Rattle.wl_plain.specs.declared.answers.Done.TheVariants as gave
-use Rattle.wl_plain.specs.declared.answers.Fed.{Fed}
-use Rattle.wl_plain.specs.declared.answers.Fed.TheVariants.{Alive, Ended, NoClient}
+use Rattle.spec_desktop.specs.Act.{Act, Connect, Feed, Store, Leave, Tick, Send, Close, Motion, Button, peer_at, status_of}
+use Rattle.spec_desktop.specs.Desktop.{Desktop}
+use Rattle.spec_desktop.specs.Happenings.{Happening, Message, Receive, Single, Starve}
+use Rattle.spec_desktop.specs.declared.answers.ConnectError.{ConnectError}
+use Rattle.spec_desktop.specs.declared.answers.Done.{Done}
+use Rattle.spec_desktop.specs.declared.answers.Done.TheVariants as gave
+use Rattle.spec_desktop.specs.declared.answers.Fed.{Fed}
+use Rattle.spec_desktop.specs.declared.answers.Fed.TheVariants.{Alive, Ended, NoClient}
 use Rattle.wl_recording.specs.Text.{client_line, end_line, frame_line}
 use Rattle.wl_session.specs.Agreeing.{Agrees}
 use Rattle.wl_session.specs.Course.{moment}

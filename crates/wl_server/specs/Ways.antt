@@ -1,6 +1,6 @@
 -- What a server works on beside its session, and what its hub may do.
 use Rattle.std.specs.Prelude.{ℕ, List, Option}
-use Rattle.wl_hub.specs.Moves.{Moves}
+use Rattle.wl_server.specs.Moves.{Moves}
 use Rattle.wl_recording.specs.declared.pointer.PointerLine.{PointerLine}
 use Rattle.wl_server.specs.declared.seat.Seat.{Seat}
 use Rattle.wl_server.specs.Seats.{Seated}

@@ -8,10 +8,10 @@ ghost use Rattle.wl_server.specs.Seats.{with_seat};
 ghost use Rattle.wl_server.specs.Ways.{ways};
 
 use crate::error::{TurnError, write_failed};
+use crate::hub::{Hub, HubFault};
 use crate::seat::Seat;
 use std::alloc::Allocator;
 use std::io::Write;
-use wl_hub::{Hub, HubFault};
 use wl_recording::write_client;
 use wl_session::{ClientNo, ConnectError, Session};
 

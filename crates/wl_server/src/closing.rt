@@ -1,8 +1,8 @@
 //! Clients that ended are closed.
 
 ghost use Rattle.std.specs.Prelude.{◌≡◌, ◌≤◌, ℕ, length, OnOk, OnErr};
-ghost use Rattle.wl_plain.specs.Act.{unsent_of, peer_at};
-ghost use Rattle.wl_plain.specs.Desktop.{Desktop};
+ghost use Rattle.spec_desktop.specs.Act.{unsent_of, peer_at};
+ghost use Rattle.spec_desktop.specs.Desktop.{Desktop};
 ghost use Rattle.wl_session.specs.Agreeing.{Agrees};
 ghost use Rattle.wl_server.specs.Acting.{InTurn, Takes};
 ghost use Rattle.wl_server.specs.Telling.{Reports};
@@ -10,10 +10,10 @@ ghost use Rattle.wl_server.specs.Phases.{AtSeat, Closes, Hangs, is_finished};
 ghost use Rattle.wl_server.specs.Ways.{ways};
 
 use crate::error::{TurnError, write_failed};
+use crate::hub::Hub;
 use crate::seat::Seat;
 use std::alloc::Allocator;
 use std::io::Write;
-use wl_hub::Hub;
 use wl_recording::write_end;
 use wl_session::{ClientNo, Fed, Session};
 

@@ -5,9 +5,10 @@ ghost use Rattle.wl_server.specs.Acting.{InTurn, Takes};
 ghost use Rattle.wl_server.specs.Phases.{AtSeat, Reads, ReadsClient, ReadsOnce};
 ghost use Rattle.wl_server.specs.Ways.{ways};
 
+use crate::hub::Hub;
+use crate::receiving::{Received, receive};
 use crate::seat::Seat;
 use std::alloc::Allocator;
-use wl_hub::{Hub, Received, receive};
 use wl_session::{ClientNo, Session};
 
 /// The most reads of a client in a turn.

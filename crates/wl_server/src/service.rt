@@ -12,6 +12,7 @@ use crate::accepting::accept_all;
 use crate::closing::close_all;
 use crate::error::TurnError;
 use crate::filling::fill_all;
+use crate::hub::Hub;
 use crate::pointing::point_all;
 use crate::reading::read_all;
 use crate::seat::Connections;
@@ -20,7 +21,6 @@ use crate::waiting::Waiting;
 use crate::writing::write_all;
 use std::alloc::Allocator;
 use std::io::Write;
-use wl_hub::Hub;
 use wl_recording::{PointerLine, SideFiles};
 use wl_session::Session;
 

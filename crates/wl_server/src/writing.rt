@@ -5,9 +5,10 @@ ghost use Rattle.wl_server.specs.Acting.{InTurn, Takes};
 ghost use Rattle.wl_server.specs.Phases.{AtSeat, Writes, WritesClient};
 ghost use Rattle.wl_server.specs.Ways.{ways};
 
+use crate::delivery::deliver;
+use crate::hub::Hub;
 use crate::seat::Seat;
 use std::alloc::Allocator;
-use wl_hub::{Hub, deliver};
 use wl_session::{ClientNo, Session};
 
 /// Writes to each client until it would block.

@@ -1,21 +1,21 @@
 -- A piece of a client's stream, message by message.
 use Rattle.std.proofs.Common.{◌≡◌, ℕ, zero, suc, List, ◌++◌, Option, Some, None, refl, ap, sym, subst, ◌∙◌, inl, inr}
-use Rattle.wl_peer.specs.declared.cause.Cause.{Cause}
-use Rattle.wl_peer.specs.declared.cause.Cause.TheVariants.{Memory}
-use Rattle.wl_peer.specs.Peer.{Peer, ended, with_rest}
-use Rattle.wl_stacking.specs.Stacking.{without_client}
-use Rattle.wl_plain.specs.Act.{fed_of, peer_at, peer_of, status_of}
-use Rattle.wl_plain.specs.declared.answers.Done.TheVariants as gave
-use Rattle.wl_plain.specs.declared.answers.Fed.{Fed}
-use Rattle.wl_plain.specs.Desktop.{Desktop, Resident, become_by, client_at, resident_of, with_client, status_in, status_of as ended_in}
-use Rattle.wl_plain.specs.Happenings.{StarvesAt}
-use Rattle.wl_plain.specs.Happens.{FeedsAt, IsFedAt, Reaches, StopsAt}
-use Rattle.wl_plain.specs.LeftOut.{nothing_left_out}
-use Rattle.wl_plain.specs.Settling.{EndsAndSettles, after_status, becomes, pointer_without, unstruck}
-use Rattle.wl_plain.specs.Step.{with_peer}
-use Rattle.wl_laws.proofs.Runs.Forms.{ServesAt}
-use Rattle.wl_laws.proofs.Runs.Places.{number-same, number-twice}
-use Rattle.wl_laws.proofs.Runs.Through.{settling-without}
+use Rattle.spec_desktop.specs.declared.cause.Cause.{Cause}
+use Rattle.spec_desktop.specs.declared.cause.Cause.TheVariants.{Memory}
+use Rattle.spec_desktop.specs.Peer.{Peer, ended, with_rest}
+use Rattle.spec_desktop.specs.Stacking.{without_client}
+use Rattle.spec_desktop.specs.Act.{fed_of, peer_at, peer_of, status_of}
+use Rattle.spec_desktop.specs.declared.answers.Done.TheVariants as gave
+use Rattle.spec_desktop.specs.declared.answers.Fed.{Fed}
+use Rattle.spec_desktop.specs.Desktop.{Desktop, Resident, become_by, client_at, resident_of, with_client, status_in, status_of as ended_in}
+use Rattle.spec_desktop.specs.Happenings.{StarvesAt}
+use Rattle.spec_desktop.specs.Happens.{FeedsAt, IsFedAt, Reaches, StopsAt}
+use Rattle.spec_desktop.specs.LeftOut.{nothing_left_out}
+use Rattle.spec_desktop.specs.Settling.{EndsAndSettles, after_status, becomes, pointer_without, unstruck}
+use Rattle.spec_desktop.specs.Step.{with_peer}
+use Rattle.law_desktop.proofs.Runs.Forms.{ServesAt}
+use Rattle.law_desktop.proofs.Runs.Places.{number-same, number-twice}
+use Rattle.law_desktop.proofs.Runs.Through.{settling-without}
 use Rattle.wl_desk.specs.Feeding.{IsIdleIn, IsIdleOf, kept_at, kept_by, kept_of}
 use Rattle.wl_session.proofs.There.{IsThere, becomes-there, reaches-there, settles-there}
 

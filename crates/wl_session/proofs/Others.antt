@@ -4,39 +4,39 @@ use Rattle.std.specs.Prelude.{Ok, Err, ◌-◌}
 use Rattle.wl_wire.specs.Wire.{split_of}
 use Rattle.wl_wire.specs.declared.header.Split.{Split}
 use Rattle.wl_wire.specs.declared.header.Split.TheVariants.{Message, More, Bad}
-use Rattle.wl_peer.specs.declared.cause.Cause.{Cause}
-use Rattle.wl_peer.specs.declared.cause.Cause.TheVariants.{Gone, Memory}
-use Rattle.wl_peer.specs.declared.refusals.ErrorCode.TheVariants.{InvalidMethod}
-use Rattle.wl_peer.specs.declared.refusals.Refusal.{Refusal}
-use Rattle.wl_peer.specs.Peer.{Errs, LacksMemory, Peer, counted, ended, with_rest}
-use Rattle.wl_peer.specs.Told.{Said, display_error}
-use Rattle.wl_xdg_state.specs.Popups.{is_toplevel}
-use Rattle.wl_xdg_state.specs.Shell.{Effect, Stays, Unconfigured, Configures, Maps, Unmaps, xdg_of}
-use Rattle.wl_stacking.specs.Pointer.{Pointer, first_pointer}
-use Rattle.wl_stacking.specs.Windows.{Window}
-use Rattle.wl_plain.specs.declared.answers.Done.{Done}
-use Rattle.wl_plain.specs.Act.{Act, IsClosed, IsSent, IsStored, Connect, Feed, Store, Leave, Tick, Send, Close, Motion, Button, is_tick, lowest}
-use Rattle.wl_plain.specs.Changing.{changed_for, moving_from, stacked_by, stacked_for}
-use Rattle.wl_plain.specs.Demand.{Demand, CommitTree, EndToplevel, Move}
-use Rattle.wl_plain.specs.Demanding.{effect_of_commit, judge_all}
-use Rattle.wl_plain.specs.Desktop.{Desktop, Resident, arrival, become, client_at, client_in, with_client}
-use Rattle.wl_plain.specs.Happens.{FeedsAt, Happens, IsFedAt, Reaches, Serves, StopsAt, wants_memory}
-use Rattle.wl_plain.specs.LeftOut.{LeftOut}
-use Rattle.wl_plain.specs.Replies.{replies}
-use Rattle.wl_plain.specs.Settling.{EndsAndSettles, becomes, unstruck}
-use Rattle.wl_plain.specs.Stacked.{all_windows}
-use Rattle.wl_plain.specs.Step.{with_peer}
-use Rattle.wl_laws.specs.Others.{client_of}
-use Rattle.wl_laws.proofs.Isolation.Messages.{with-left}
-use Rattle.wl_laws.proofs.Isolation.Others.{IsLeft, become-left, left-then, same-left}
-use Rattle.wl_laws.proofs.Lists.Keys.{differ}
-use Rattle.wl_laws.proofs.Runs.Forms.{after_why, Answers, Becomes, ChangesAt, ConnectsAt, Does, LeavesAt, ServesAt, Takes, WantsOr}
-use Rattle.wl_laws.proofs.Runs.Serves.{done-clients_stay}
-use Rattle.wl_laws.proofs.Soundness.RunSteady.{changed-steady}
-use Rattle.wl_invariants.specs.Acts.{LeavesPointer}
-use Rattle.wl_invariants.proofs.EachClient.Steps.{done-still, stacked-others}
-use Rattle.wl_invariants.proofs.KeptRecords.Toplevels.Back.{settled-back}
-use Rattle.wl_invariants.proofs.KeptRecords.Toplevels.Serves.{IsDone, after-same, becomes-same, by-pointer, ended_why}
+use Rattle.spec_desktop.specs.declared.cause.Cause.{Cause}
+use Rattle.spec_desktop.specs.declared.cause.Cause.TheVariants.{Gone, Memory}
+use Rattle.spec_desktop.specs.declared.refusals.ErrorCode.TheVariants.{InvalidMethod}
+use Rattle.spec_desktop.specs.declared.refusals.Refusal.{Refusal}
+use Rattle.spec_desktop.specs.Peer.{Errs, LacksMemory, Peer, counted, ended, with_rest}
+use Rattle.spec_desktop.specs.Told.{Said, display_error}
+use Rattle.wl_shell.specs.Popups.{is_toplevel}
+use Rattle.wl_shell.specs.Shell.{Effect, Stays, Unconfigured, Configures, Maps, Unmaps, xdg_of}
+use Rattle.spec_desktop.specs.Pointer.{Pointer, first_pointer}
+use Rattle.spec_desktop.specs.Windows.{Window}
+use Rattle.spec_desktop.specs.declared.answers.Done.{Done}
+use Rattle.spec_desktop.specs.Act.{Act, IsClosed, IsSent, IsStored, Connect, Feed, Store, Leave, Tick, Send, Close, Motion, Button, is_tick, lowest}
+use Rattle.spec_desktop.specs.Changing.{changed_for, moving_from, stacked_by, stacked_for}
+use Rattle.spec_desktop.specs.Demand.{Demand, CommitTree, EndToplevel, Move}
+use Rattle.spec_desktop.specs.Demanding.{effect_of_commit, judge_all}
+use Rattle.spec_desktop.specs.Desktop.{Desktop, Resident, arrival, become, client_at, client_in, with_client}
+use Rattle.spec_desktop.specs.Happens.{FeedsAt, Happens, IsFedAt, Reaches, Serves, StopsAt, wants_memory}
+use Rattle.spec_desktop.specs.LeftOut.{LeftOut}
+use Rattle.spec_desktop.specs.Replies.{replies}
+use Rattle.spec_desktop.specs.Settling.{EndsAndSettles, becomes, unstruck}
+use Rattle.spec_desktop.specs.Stacked.{all_windows}
+use Rattle.spec_desktop.specs.Step.{with_peer}
+use Rattle.law_desktop.specs.Others.{client_of}
+use Rattle.law_desktop.proofs.Isolation.Messages.{with-left}
+use Rattle.law_desktop.proofs.Isolation.Others.{IsLeft, become-left, left-then, same-left}
+use Rattle.law_desktop.proofs.Lists.Keys.{differ}
+use Rattle.law_desktop.proofs.Runs.Forms.{after_why, Answers, Becomes, ChangesAt, ConnectsAt, Does, LeavesAt, ServesAt, Takes, WantsOr}
+use Rattle.law_desktop.proofs.Runs.Serves.{done-clients_stay}
+use Rattle.law_desktop.proofs.Soundness.RunSteady.{changed-steady}
+use Rattle.law_desktop.specs.Acts.{LeavesPointer}
+use Rattle.law_desktop.proofs.EachClient.Steps.{done-still, stacked-others}
+use Rattle.law_desktop.proofs.KeptRecords.Toplevels.Back.{settled-back}
+use Rattle.law_desktop.proofs.KeptRecords.Toplevels.Serves.{IsDone, after-same, becomes-same, by-pointer, ended_why}
 
 -- ---- nobody points
 

@@ -2,27 +2,27 @@
 use Rattle.std.proofs.Common.{◌≡◌, ◌≢◌, ◌++◌, ℕ, Bool, true, false, List, [], ◌∷◌, Option, Some, None, refl, ap, sym, subst, ◌∙◌, inl, inr}
 use Rattle.std.specs.Prelude.{◌==◌, ◌&&◌, ◌⊎◌, nat_lt, not}
 use Rattle.wl_store.specs.declared.color.Argb.{Argb}
-use Rattle.wl_peer.specs.declared.cause.Cause.{Cause}
-use Rattle.wl_peer.specs.Peer.{with_rest}
-use Rattle.wl_state.specs.Request.{Buffer}
-use Rattle.wl_plain.specs.declared.answers.Done.{Done}
-use Rattle.wl_plain.specs.Desktop.{Desktop, Resident, client_at, owned_of, with_client, toplevels_of}
-use Rattle.wl_plain.specs.Happenings.{Message, Receive, ReceivesAt, Single, Starve}
-use Rattle.wl_plain.specs.LeftOut.{LeftOut}
-use Rattle.wl_plain.specs.Scratch.{pixel_at}
-use Rattle.wl_plain.specs.Stacked.{all_windows}
-use Rattle.wl_plain.specs.Step.{with_peer}
-use Rattle.wl_plain.specs.Act.{Act, Connect, Feed, Leave, Send, Close, Store, Tick, Motion, Button}
-use Rattle.wl_plain.specs.Happens.{Happens}
-use Rattle.wl_laws.specs.Others.{client_of}
-use Rattle.wl_laws.specs.Own.{KeepsItsOwn, KeepsItsOwnBy, KeepsItsOwnSo, LivesOrEnds}
-use Rattle.wl_laws.proofs.Lists.Keys.{none-some}
-use Rattle.wl_laws.proofs.Marks.Stacks.{Each, and-both, same-number}
-use Rattle.wl_laws.proofs.Runs.Places.{number-other, number-same}
-use Rattle.wl_laws.proofs.Marks.ShownWindows.{all-shown}
-use Rattle.wl_laws.proofs.Runs.Through.{happens_leads_through}
-use Rattle.wl_laws.proofs.Runs.Fates.{same-or}
-use Rattle.wl_laws.proofs.Isolation.Own.{own_stays}
+use Rattle.spec_desktop.specs.declared.cause.Cause.{Cause}
+use Rattle.spec_desktop.specs.Peer.{with_rest}
+use Rattle.wl_surface.specs.Request.{Buffer}
+use Rattle.spec_desktop.specs.declared.answers.Done.{Done}
+use Rattle.spec_desktop.specs.Desktop.{Desktop, Resident, client_at, owned_of, with_client, toplevels_of}
+use Rattle.spec_desktop.specs.Happenings.{Message, Receive, ReceivesAt, Single, Starve}
+use Rattle.spec_desktop.specs.LeftOut.{LeftOut}
+use Rattle.spec_desktop.specs.Scratch.{pixel_at}
+use Rattle.spec_desktop.specs.Stacked.{all_windows}
+use Rattle.spec_desktop.specs.Step.{with_peer}
+use Rattle.spec_desktop.specs.Act.{Act, Connect, Feed, Leave, Send, Close, Store, Tick, Motion, Button}
+use Rattle.spec_desktop.specs.Happens.{Happens}
+use Rattle.law_desktop.specs.Others.{client_of}
+use Rattle.law_desktop.specs.Own.{KeepsItsOwn, KeepsItsOwnBy, KeepsItsOwnSo, LivesOrEnds}
+use Rattle.law_desktop.proofs.Lists.Keys.{none-some}
+use Rattle.law_desktop.proofs.Marks.Stacks.{Each, and-both, same-number}
+use Rattle.law_desktop.proofs.Runs.Places.{number-other, number-same}
+use Rattle.law_desktop.proofs.Marks.ShownWindows.{all-shown}
+use Rattle.law_desktop.proofs.Runs.Through.{happens_leads_through}
+use Rattle.law_desktop.proofs.Runs.Fates.{same-or}
+use Rattle.law_desktop.proofs.Isolation.Own.{own_stays}
 use Rattle.wl_session.specs.Promises.{KeepBut, KeepsBuffers, KeepsDamage, busy_in, bytes_by, bytes_in, is_rewritten_at, is_same_color}
 use Rattle.wl_session.specs.StoreWrites.{PromisesAreEnough}
 use Rattle.wl_session.specs.Unmarked.{AllDamageBut}

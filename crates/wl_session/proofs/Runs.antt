@@ -5,19 +5,19 @@ use Rattle.std.specs.Prelude.{IsTrue, pos, ◌||◌, cond, replicate}
 use Rattle.std.proofs.lemmas.List.{map-append, take_more, append-nil}
 use Rattle.std.proofs.lemmas.Option.{slice_get-get_or}
 use Rattle.wl_paint.specs.Damage.{has}
-use Rattle.wl_plain.specs.declared.answers.Done.{Done}
-use Rattle.wl_plain.specs.declared.answers.Done.TheVariants as gave
-use Rattle.wl_plain.specs.Act.{Act, Connect, Feed, Store, Leave, Tick, Send, Close, Motion, Button}
-use Rattle.wl_plain.specs.Desktop.{Desktop}
-use Rattle.wl_plain.specs.Happenings.{Happening, Message, Single}
-use Rattle.wl_plain.specs.Happens.{Happens}
-use Rattle.wl_plain.specs.LeftOut.{LeftOut, nothing_left_out}
+use Rattle.spec_desktop.specs.declared.answers.Done.{Done}
+use Rattle.spec_desktop.specs.declared.answers.Done.TheVariants as gave
+use Rattle.spec_desktop.specs.Act.{Act, Connect, Feed, Store, Leave, Tick, Send, Close, Motion, Button}
+use Rattle.spec_desktop.specs.Desktop.{Desktop}
+use Rattle.spec_desktop.specs.Happenings.{Happening, Message, Single}
+use Rattle.spec_desktop.specs.Happens.{Happens}
+use Rattle.spec_desktop.specs.LeftOut.{LeftOut, nothing_left_out}
 use Rattle.wl_desk.specs.Agreeing.{Agrees}
 use Rattle.wl_session.specs.Course.{AreParts, IsSeen, LeadsTo, Ran, Runs, TakesCourse, TakesSteps, happenings, moment}
 use Rattle.wl_session.specs.Events.{AreApart, AreEvents, Event, Moment, frames_of, is_frame, is_tick}
 use Rattle.wl_paint.specs.Frame.{color_at}
-use Rattle.wl_plain.specs.Scratch.{scratch}
-use Rattle.wl_plain.specs.Stacked.{all_windows}
+use Rattle.spec_desktop.specs.Scratch.{scratch}
+use Rattle.spec_desktop.specs.Stacked.{all_windows}
 use Rattle.wl_session.specs.Liars.{AreLiars, IsRightBut}
 use Rattle.wl_session.specs.Unmarked.{is_covered}
 use Rattle.wl_session.specs.Run.{AreRuns, Film, MayStopAt, takes_memory}

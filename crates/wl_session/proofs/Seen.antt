@@ -4,18 +4,18 @@ use Rattle.std.specs.Prelude.{pos, ◌+◌, ◌*◌, ◌||◌, cond, fold}
 use Rattle.wl_blend.specs.Blend.{color_of}
 use Rattle.wl_blend.specs.declared.color.Rgb.{Rgb}
 use Rattle.wl_paint.specs.Frame.{Image, color_at}
-use Rattle.wl_plain.specs.Happenings.{Happening, Message, Receive, Single, Starve}
-use Rattle.wl_plain.specs.Act.{Connect, Feed, Store, Leave, Tick, Send, Close, Motion, Button}
-use Rattle.wl_plain.specs.LeftOut.{LeftOut}
-use Rattle.wl_plain.specs.Marks.{AreDistinct}
-use Rattle.wl_plain.specs.Scratch.{scratch}
-use Rattle.wl_plain.specs.Stacked.{all_windows}
-use Rattle.wl_laws.proofs.Soundness.Within.{leads-orderly}
-use Rattle.wl_laws.proofs.Soundness.Orderly.{AreOrderly}
-use Rattle.wl_laws.proofs.Soundness.Run.{empty-orderly}
-use Rattle.wl_laws.proofs.Soundness.RunIsSound.{orderly-is-sound}
-use Rattle.wl_laws.proofs.Soundness.Windows.{sound_is_distinct}
-use Rattle.wl_laws.proofs.Marks.Stacks.{differ}
+use Rattle.spec_desktop.specs.Happenings.{Happening, Message, Receive, Single, Starve}
+use Rattle.spec_desktop.specs.Act.{Connect, Feed, Store, Leave, Tick, Send, Close, Motion, Button}
+use Rattle.spec_desktop.specs.LeftOut.{LeftOut}
+use Rattle.spec_desktop.specs.Marks.{AreDistinct}
+use Rattle.spec_desktop.specs.Scratch.{scratch}
+use Rattle.spec_desktop.specs.Stacked.{all_windows}
+use Rattle.law_desktop.proofs.Soundness.Within.{leads-orderly}
+use Rattle.law_desktop.proofs.Soundness.Orderly.{AreOrderly}
+use Rattle.law_desktop.proofs.Soundness.Run.{empty-orderly}
+use Rattle.law_desktop.proofs.Soundness.RunIsSound.{orderly-is-sound}
+use Rattle.law_desktop.proofs.Soundness.Windows.{sound_is_distinct}
+use Rattle.law_desktop.proofs.Marks.Stacks.{differ}
 use Rattle.wl_session.specs.Events.{AreApart, AreEvents, Event, IsEvent, IsMarked, IsShown, Moment, PaintsIf, frames_of, is_frame}
 use Rattle.wl_session.specs.Liars.{AreLiars, HoldsLiars, IsRightBut, gives_back}
 use Rattle.wl_session.specs.Run.{Film, in_runs}

@@ -5,32 +5,32 @@ use Rattle.std.specs.List.{list_any}
 use Rattle.std.proofs.lemmas.Bool.{eqb-true}
 use Rattle.std.proofs.lemmas.Option.{slice_get-get_or}
 use Rattle.wl_blend.specs.declared.color.Rgb.{Rgb}
-use Rattle.wl_peer.specs.declared.cause.Cause.{Cause}
-use Rattle.wl_peer.specs.Told.{Output}
+use Rattle.spec_desktop.specs.declared.cause.Cause.{Cause}
+use Rattle.spec_desktop.specs.Told.{Output}
 use Rattle.wl_geom.specs.Region.{holds}
 use Rattle.wl_paint.specs.Damage.{has}
 use Rattle.wl_paint.specs.Frame.{Image, color_at}
-use Rattle.wl_stacking.specs.Windows.{Window, contains}
-use Rattle.wl_state.specs.State.{History}
+use Rattle.spec_desktop.specs.Windows.{Window, contains}
+use Rattle.wl_surface.specs.State.{History}
 use Rattle.wl_surface.specs.Surfaces.{history_in}
-use Rattle.wl_lending.specs.Painting.{IsOpaqueAsSaid}
-use Rattle.wl_plain.specs.Act.{Act, Connect, Feed, Store, Leave, Tick, Send, Close, Motion, Button, IsClosed, closed_by}
-use Rattle.wl_plain.specs.declared.answers.Done.{Done}
-use Rattle.wl_plain.specs.declared.answers.Done.TheVariants as gave
-use Rattle.wl_plain.specs.Desktop.{Desktop, Resident, client_at, owned_in, owned_of}
-use Rattle.wl_plain.specs.Happenings.{Happening, Leads, Message, Receive, Single, Starve}
-use Rattle.wl_plain.specs.Happens.{ChangesThen}
-use Rattle.wl_plain.specs.LeftOut.{LeftOut}
-use Rattle.wl_plain.specs.Marks.{AreDistinct, in_output}
-use Rattle.wl_plain.specs.Moments.{marks_at_least}
-use Rattle.wl_plain.specs.Scratch.{color_in, scratch}
-use Rattle.wl_plain.specs.Stacked.{all_windows}
-use Rattle.wl_plain.specs.Through.{ending_through}
-use Rattle.wl_laws.proofs.Marks.Through.{leads-output}
-use Rattle.wl_laws.proofs.Lists.Keys.{none-some}
-use Rattle.wl_laws.proofs.Runs.Places.{number-same}
-use Rattle.wl_laws.proofs.Marks.ShownWindows.{IsShown as ShowsBuffer, all-shown}
-use Rattle.wl_laws.proofs.Marks.Stacks.{and-left, and-right, differ, each-map, or-left, or-right, same-number, unless}
+use Rattle.wl_clients.specs.Painting.{IsOpaqueAsSaid}
+use Rattle.spec_desktop.specs.Act.{Act, Connect, Feed, Store, Leave, Tick, Send, Close, Motion, Button, IsClosed, closed_by}
+use Rattle.spec_desktop.specs.declared.answers.Done.{Done}
+use Rattle.spec_desktop.specs.declared.answers.Done.TheVariants as gave
+use Rattle.spec_desktop.specs.Desktop.{Desktop, Resident, client_at, owned_in, owned_of}
+use Rattle.spec_desktop.specs.Happenings.{Happening, Leads, Message, Receive, Single, Starve}
+use Rattle.spec_desktop.specs.Happens.{ChangesThen}
+use Rattle.spec_desktop.specs.LeftOut.{LeftOut}
+use Rattle.spec_desktop.specs.Marks.{AreDistinct, in_output}
+use Rattle.spec_desktop.specs.Moments.{marks_at_least}
+use Rattle.spec_desktop.specs.Scratch.{color_in, scratch}
+use Rattle.spec_desktop.specs.Stacked.{all_windows}
+use Rattle.spec_desktop.specs.Through.{ending_through}
+use Rattle.law_desktop.proofs.Marks.Through.{leads-output}
+use Rattle.law_desktop.proofs.Lists.Keys.{none-some}
+use Rattle.law_desktop.proofs.Runs.Places.{number-same}
+use Rattle.law_desktop.proofs.Marks.ShownWindows.{IsShown as ShowsBuffer, all-shown}
+use Rattle.law_desktop.proofs.Marks.Stacks.{and-left, and-right, differ, each-map, or-left, or-right, same-number, unless}
 use Rattle.wl_clients.proofs.Away.{within-output}
 use Rattle.wl_session.specs.Events.{Event, IsEvent, IsMarked, IsShown, Moment, PaintsIf, is_frame}
 use Rattle.wl_session.specs.Liars.{HoldsLiars, IsRightBut, closes, gives_back, was_closed}

@@ -11,31 +11,31 @@ use Rattle.wl_store.specs.Transform.{buffer_point, is_turned, scaled, transform_
 use Rattle.wl_store.specs.declared.transform.Transform.{Transform}
 use Rattle.wl_store.proofs.Points.{scaled-below}
 use Rattle.wl_store.specs.declared.transform.Transform.TheVariants.{Normal, Rotated90, Rotated180, Rotated270, Flipped, Flipped90, Flipped180, Flipped270}
-use Rattle.wl_state.specs.Request.{Buffer}
-use Rattle.wl_state.specs.State.{History, applied}
-use Rattle.wl_state.specs.Surface.{Surface, listed}
+use Rattle.wl_surface.specs.Request.{Buffer}
+use Rattle.wl_surface.specs.State.{History, applied}
+use Rattle.wl_surface.specs.Surface.{Surface, listed}
 use Rattle.wl_surface.specs.Surfaces.{Surfaces, history_in}
-use Rattle.wl_stacking.specs.Stacking.{Owned, nothing_owned}
-use Rattle.wl_stacking.specs.Windows.{Window, contains}
+use Rattle.spec_desktop.specs.Stacking.{Owned, nothing_owned}
+use Rattle.spec_desktop.specs.Windows.{Window, contains}
 use Rattle.std.proofs.lemmas.Bool.{eqb-false, eqb-true}
-use Rattle.wl_peer.specs.Peer.{Peer, stored_at}
-use Rattle.wl_plain.specs.Desktop.{Desktop, Resident, Showing, client_at, owned_in, owned_of, with_client}
-use Rattle.wl_plain.specs.Stacked.{all_windows}
-use Rattle.wl_plain.specs.Step.{with_peer}
-use Rattle.wl_laws.proofs.Runs.Forms.{ChangesAt}
-use Rattle.wl_plain.specs.Scratch.{bytes_now, color_in, pixel_at}
-use Rattle.wl_laws.proofs.Runs.Places.{number-other, number-same}
-use Rattle.wl_laws.proofs.Marks.Stacks.{Each, Fields, and-left, and-right, differ, each-map, fields, or-left, or-right, unless}
-use Rattle.wl_laws.proofs.Marks.Painted.{each-kept}
-use Rattle.wl_laws.proofs.Runs.Following.{Owns}
-use Rattle.wl_laws.proofs.Marks.ShownWindows.{IsShown, all-shown}
-use Rattle.wl_plain.specs.Marks.{has_same_record}
-use Rattle.wl_plain.specs.declared.answers.Done.{Done}
-use Rattle.wl_plain.specs.declared.answers.Done.TheVariants as gave
-use Rattle.wl_plain.specs.declared.answers.Stored.TheVariants as stored
+use Rattle.spec_desktop.specs.Peer.{Peer, stored_at}
+use Rattle.spec_desktop.specs.Desktop.{Desktop, Resident, Showing, client_at, owned_in, owned_of, with_client}
+use Rattle.spec_desktop.specs.Stacked.{all_windows}
+use Rattle.spec_desktop.specs.Step.{with_peer}
+use Rattle.law_desktop.proofs.Runs.Forms.{ChangesAt}
+use Rattle.spec_desktop.specs.Scratch.{bytes_now, color_in, pixel_at}
+use Rattle.law_desktop.proofs.Runs.Places.{number-other, number-same}
+use Rattle.law_desktop.proofs.Marks.Stacks.{Each, Fields, and-left, and-right, differ, each-map, fields, or-left, or-right, unless}
+use Rattle.law_desktop.proofs.Marks.Painted.{each-kept}
+use Rattle.law_desktop.proofs.Runs.Following.{Owns}
+use Rattle.law_desktop.proofs.Marks.ShownWindows.{IsShown, all-shown}
+use Rattle.spec_desktop.specs.Marks.{has_same_record}
+use Rattle.spec_desktop.specs.declared.answers.Done.{Done}
+use Rattle.spec_desktop.specs.declared.answers.Done.TheVariants as gave
+use Rattle.spec_desktop.specs.declared.answers.Stored.TheVariants as stored
 use Rattle.wl_session.specs.Promises.{KeepsBuffers, KeepsDamage, busy_of, bytes_by, bytes_in, is_hidden_in, is_rewritten_at, is_same_color, windows_by}
 use Rattle.wl_session.specs.StoreWrites.{WriteHidesNothing}
-use Rattle.wl_plain.specs.Act.{IsStored}
+use Rattle.spec_desktop.specs.Act.{IsStored}
 
 -- ---- a point of a window is one of its buffer
 

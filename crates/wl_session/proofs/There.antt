@@ -4,21 +4,21 @@ use Rattle.std.specs.Prelude.{Ok, Err}
 use Rattle.wl_wire.specs.Wire.{split_of}
 use Rattle.wl_wire.specs.declared.header.Split.{Split}
 use Rattle.wl_wire.specs.declared.header.Split.TheVariants.{Message, More, Bad}
-use Rattle.wl_peer.specs.declared.cause.Cause.{Cause}
-use Rattle.wl_peer.specs.declared.refusals.Refusal.{Refusal}
-use Rattle.wl_peer.specs.Peer.{LacksMemory, Peer, counted}
-use Rattle.wl_stacking.specs.Stacking.{Standing}
-use Rattle.wl_plain.specs.Changing.{changed_for}
-use Rattle.wl_plain.specs.Demand.{Demand}
-use Rattle.wl_plain.specs.Desktop.{Desktop, Resident, become_by, client_at, client_in, resident_of, toplevels_of}
-use Rattle.wl_plain.specs.Happens.{AnswersThen, BecomesThen, DoesThen, Reaches, ServesThen, TakesThen, WantsOrThen, changed_so, done_for, settling, wants_memory}
-use Rattle.wl_plain.specs.LeftOut.{LeftOut}
-use Rattle.wl_plain.specs.Settling.{EndsAndSettles, Midstep, Strike, after_status, becomes, unstruck}
-use Rattle.wl_plain.specs.Step.{with_peer}
-use Rattle.wl_laws.proofs.Isolation.Settling.{AreIn, IsIn, PAt, Stays, settling-in}
-use Rattle.wl_laws.proofs.Isolation.Told.{TellsFocus}
-use Rattle.wl_laws.proofs.Runs.Places.{number-same}
-use Rattle.wl_laws.proofs.Runs.Serves.{done-clients_stay}
+use Rattle.spec_desktop.specs.declared.cause.Cause.{Cause}
+use Rattle.spec_desktop.specs.declared.refusals.Refusal.{Refusal}
+use Rattle.spec_desktop.specs.Peer.{LacksMemory, Peer, counted}
+use Rattle.spec_desktop.specs.Stacking.{Standing}
+use Rattle.spec_desktop.specs.Changing.{changed_for}
+use Rattle.spec_desktop.specs.Demand.{Demand}
+use Rattle.spec_desktop.specs.Desktop.{Desktop, Resident, become_by, client_at, client_in, resident_of, toplevels_of}
+use Rattle.spec_desktop.specs.Happens.{AnswersThen, BecomesThen, DoesThen, Reaches, ServesThen, TakesThen, WantsOrThen, changed_so, done_for, settling, wants_memory}
+use Rattle.spec_desktop.specs.LeftOut.{LeftOut}
+use Rattle.spec_desktop.specs.Settling.{EndsAndSettles, Midstep, Strike, after_status, becomes, unstruck}
+use Rattle.spec_desktop.specs.Step.{with_peer}
+use Rattle.law_desktop.proofs.Isolation.Settling.{AreIn, IsIn, PAt, Stays, settling-in}
+use Rattle.law_desktop.proofs.Isolation.Told.{TellsFocus}
+use Rattle.law_desktop.proofs.Runs.Places.{number-same}
+use Rattle.law_desktop.proofs.Runs.Serves.{done-clients_stay}
 
 -- some client has this number
 abbrev pub IsThere : ℕ → Desktop → Type 0

@@ -4,14 +4,14 @@ use Rattle.std.specs.Prelude.{ℤ, ◌-ℤ◌, ◌==◌, ◌&&◌, ◌||◌, not
 use Rattle.std.specs.List.{list_any}
 use Rattle.std.proofs.lemmas.Bool.{eqb-true}
 use Rattle.wl_store.specs.declared.color.Argb.{Argb}
-use Rattle.wl_stacking.specs.Windows.{contains}
-use Rattle.wl_plain.specs.Desktop.{Desktop, Showing}
-use Rattle.wl_laws.specs.Laws.{ColorsStay}
-use Rattle.wl_plain.specs.Marks.{has_same_record, is_changed_at, is_kept_in}
-use Rattle.wl_plain.specs.Moments.{applied_between, marks_at_least_of}
-use Rattle.wl_plain.specs.Scratch.{color_in}
-use Rattle.wl_laws.proofs.Marks.Painted.{contains-same, marked-none, scratch_stays}
-use Rattle.wl_laws.proofs.Marks.Stacks.{and-both, and-left, and-right, any-each, any-more, differ, each-false, equal-numbers, fields, or-left, or-right, same-number, unless}
+use Rattle.spec_desktop.specs.Windows.{contains}
+use Rattle.spec_desktop.specs.Desktop.{Desktop, Showing}
+use Rattle.law_desktop.specs.Laws.{ColorsStay}
+use Rattle.spec_desktop.specs.Marks.{has_same_record, is_changed_at, is_kept_in}
+use Rattle.spec_desktop.specs.Moments.{applied_between, marks_at_least_of}
+use Rattle.spec_desktop.specs.Scratch.{color_in}
+use Rattle.law_desktop.proofs.Marks.Painted.{contains-same, marked-none, scratch_stays}
+use Rattle.law_desktop.proofs.Marks.Stacks.{and-both, and-left, and-right, any-each, any-more, differ, each-false, equal-numbers, fields, or-left, or-right, same-number, unless}
 use Rattle.wl_session.specs.Promises.{is_hidden_in, is_same_color, windows_by}
 use Rattle.wl_session.specs.Unmarked.{AllDamageBut, UnmarkedStays, covers_at, in_output_of, is_covered}
 

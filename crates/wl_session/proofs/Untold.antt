@@ -3,40 +3,40 @@
 use Rattle.std.proofs.Common.{◌≡◌, ◌≢◌, ℕ, ◌+◌, List, [], ◌∷◌, Bool, true, false, Option, Some, None, map, refl, ap, subst, sym, ◌∙◌, inl, inr}
 use Rattle.std.specs.Prelude.{ℤ, ◌&&◌, ◌||◌, fold, if◌then◌else◌, is_some}
 use Rattle.std.specs.List.{list_any}
-use Rattle.wl_peer.specs.declared.cause.Cause.{Cause}
-use Rattle.wl_peer.specs.Peer.{Peer}
-use Rattle.wl_peer.specs.Told.{Said}
+use Rattle.spec_desktop.specs.declared.cause.Cause.{Cause}
+use Rattle.spec_desktop.specs.Peer.{Peer}
+use Rattle.spec_desktop.specs.Told.{Said}
 use Rattle.wl_surface.specs.Surfaces.{history_in}
-use Rattle.wl_xdg_state.specs.Popups.{Popped, dismissed_after, dismissed_among, dismissing, is_among, popups_of}
-use Rattle.wl_xdg_state.specs.Shell.{Shell}
-use Rattle.wl_stacking.specs.Pointer.{Pointer, first_pointer, hit_now, is_down, is_press}
-use Rattle.wl_stacking.specs.PointerActions.{move_of, raise_of}
-use Rattle.wl_stacking.specs.Stacking.{Standing}
-use Rattle.wl_stacking.specs.Windows.{Place}
-use Rattle.wl_plain.specs.declared.answers.Done.{Done}
-use Rattle.wl_plain.specs.Act.{Act, Connect, Feed, Store, Leave, Tick, Send, Close, Motion, Button, is_tick, lowest}
-use Rattle.wl_plain.specs.Changing.{drawing, grab_holder, holds_grab}
-use Rattle.wl_plain.specs.Demand.{Move}
-use Rattle.wl_plain.specs.Desktop.{Desktop, Resident, client_at, toplevels_of}
-use Rattle.wl_plain.specs.Happens.{Happens, point_in}
-use Rattle.wl_plain.specs.LeftOut.{LeftOut}
-use Rattle.wl_plain.specs.Pointing.{button_told, entered_surface, has_pointers, left_surface, motion_told}
-use Rattle.wl_plain.specs.Replies.{popups_done}
-use Rattle.wl_plain.specs.Settling.{QueuesTo, leave_drawn, noted_if, number_of, told_drawn, without_grabs}
-use Rattle.wl_plain.specs.Stacked.{all_windows}
-use Rattle.wl_plain.specs.Step.{with_shell}
-use Rattle.wl_laws.specs.Others.{HasEndedUntold, IsLeftAlone, IsLeftBy, IsLeftLiving, IsLeftSo, client_of}
-use Rattle.wl_laws.proofs.Isolation.Kept.{TellsPointer}
-use Rattle.wl_laws.proofs.Isolation.LeftAlone.{Is, Never, others_are_left_alone}
-use Rattle.wl_laws.proofs.Isolation.Others.{IsLeft, same-left}
-use Rattle.wl_laws.proofs.Isolation.Own.{AllShift, moves, pressed-so, released-so}
-use Rattle.wl_laws.proofs.Isolation.Settling.{Stays}
-use Rattle.wl_laws.proofs.Isolation.Told.{TellsBy, told-nothing}
-use Rattle.wl_laws.proofs.Lists.Keys.{differ, none-some}
-use Rattle.wl_laws.proofs.Marks.Stacks.{or-left, or-right}
-use Rattle.wl_laws.proofs.Runs.Forms.{Buttons, ConnectsAt, MovesTo, PressesIf, ReleasesIf}
-use Rattle.wl_invariants.proofs.InOrder.Dismissed.{others_dismiss_none}
-use Rattle.wl_invariants.proofs.NobodyPoints.Grabs.{holds-nobody}
+use Rattle.wl_shell.specs.Popups.{Popped, dismissed_after, dismissed_among, dismissing, is_among, popups_of}
+use Rattle.wl_shell.specs.Shell.{Shell}
+use Rattle.spec_desktop.specs.Pointer.{Pointer, first_pointer, hit_now, is_down, is_press}
+use Rattle.spec_desktop.specs.PointerActions.{move_of, raise_of}
+use Rattle.spec_desktop.specs.Stacking.{Standing}
+use Rattle.spec_desktop.specs.Windows.{Place}
+use Rattle.spec_desktop.specs.declared.answers.Done.{Done}
+use Rattle.spec_desktop.specs.Act.{Act, Connect, Feed, Store, Leave, Tick, Send, Close, Motion, Button, is_tick, lowest}
+use Rattle.spec_desktop.specs.Changing.{drawing, grab_holder, holds_grab}
+use Rattle.spec_desktop.specs.Demand.{Move}
+use Rattle.spec_desktop.specs.Desktop.{Desktop, Resident, client_at, toplevels_of}
+use Rattle.spec_desktop.specs.Happens.{Happens, point_in}
+use Rattle.spec_desktop.specs.LeftOut.{LeftOut}
+use Rattle.spec_desktop.specs.Pointing.{button_told, entered_surface, has_pointers, left_surface, motion_told}
+use Rattle.spec_desktop.specs.Replies.{popups_done}
+use Rattle.spec_desktop.specs.Settling.{QueuesTo, leave_drawn, noted_if, number_of, told_drawn, without_grabs}
+use Rattle.spec_desktop.specs.Stacked.{all_windows}
+use Rattle.spec_desktop.specs.Step.{with_shell}
+use Rattle.law_desktop.specs.Others.{HasEndedUntold, IsLeftAlone, IsLeftBy, IsLeftLiving, IsLeftSo, client_of}
+use Rattle.law_desktop.proofs.Isolation.Kept.{TellsPointer}
+use Rattle.law_desktop.proofs.Isolation.LeftAlone.{Is, Never, others_are_left_alone}
+use Rattle.law_desktop.proofs.Isolation.Others.{IsLeft, same-left}
+use Rattle.law_desktop.proofs.Isolation.Own.{AllShift, moves, pressed-so, released-so}
+use Rattle.law_desktop.proofs.Isolation.Settling.{Stays}
+use Rattle.law_desktop.proofs.Isolation.Told.{TellsBy, told-nothing}
+use Rattle.law_desktop.proofs.Lists.Keys.{differ, none-some}
+use Rattle.law_desktop.proofs.Marks.Stacks.{or-left, or-right}
+use Rattle.law_desktop.proofs.Runs.Forms.{Buttons, ConnectsAt, MovesTo, PressesIf, ReleasesIf}
+use Rattle.law_desktop.proofs.InOrder.Dismissed.{others_dismiss_none}
+use Rattle.law_desktop.proofs.NobodyPoints.Grabs.{holds-nobody}
 use Rattle.wl_session.specs.Laws.{HasNoPointers, OthersStay}
 use Rattle.wl_session.proofs.Others.{unpointed-stay}
 

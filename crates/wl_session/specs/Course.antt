@@ -1,12 +1,12 @@
 -- The course of a session: the events that its steps are, whatever desktop it agrees with.
 use Rattle.std.specs.Prelude.{ℕ, ◌≡◌, ◌⊎◌, Bool, List, [], ◌∷◌, ◌++◌, map, replicate}
 use Rattle.wl_desk.specs.Agreeing.{Agrees}
-use Rattle.wl_plain.specs.Act.{Act, Connect, Feed, Store, Leave, Tick, Send, Close, Motion, Button}
-use Rattle.wl_plain.specs.Desktop.{Desktop}
-use Rattle.wl_plain.specs.Happenings.{Happening, Message, Single, Starve, bytes_then_messages}
-use Rattle.wl_plain.specs.Happens.{Happens, Reaches}
-use Rattle.wl_plain.specs.LeftOut.{LeftOut, nothing_left_out}
-use Rattle.wl_plain.specs.declared.answers.Done.{Done}
+use Rattle.spec_desktop.specs.Act.{Act, Connect, Feed, Store, Leave, Tick, Send, Close, Motion, Button}
+use Rattle.spec_desktop.specs.Desktop.{Desktop}
+use Rattle.spec_desktop.specs.Happenings.{Happening, Message, Single, Starve, bytes_then_messages}
+use Rattle.spec_desktop.specs.Happens.{Happens, Reaches}
+use Rattle.spec_desktop.specs.LeftOut.{LeftOut, nothing_left_out}
+use Rattle.spec_desktop.specs.declared.answers.Done.{Done}
 use Rattle.wl_session.specs.Events.{AreApart, AreEvents, Event, Moment, frames_of}
 use Rattle.wl_session.specs.Liars.{AreLiars, IsRightBut}
 use Rattle.wl_session.specs.Run.{Film}

@@ -2,15 +2,15 @@
 use Rattle.std.specs.Prelude.{ℕ, ◌≡◌, ◌<◌, ◌||◌, None, Option, pos, Bool, true, false, List, [], ◌∷◌, filter}
 use Rattle.wl_paint.specs.Damage.{Damaged, has}
 use Rattle.wl_paint.specs.Frame.{Image}
-use Rattle.wl_plain.specs.Act.{Act, Connect, Feed, Store, Leave, Tick, Send, Close, Motion, Button}
-pub use Rattle.wl_plain.specs.Act.{is_tick}
-use Rattle.wl_plain.specs.Desktop.{Desktop, status_in}
-use Rattle.wl_plain.specs.Happenings.{Happening, Leads, Message, Receive, Single, Starve}
-use Rattle.wl_plain.specs.LeftOut.{LeftOut}
-use Rattle.wl_plain.specs.Marks.{AreDistinct}
-use Rattle.wl_plain.specs.Moments.{marks_at_least, marks_at_least_through, marks_at_most_through}
-use Rattle.wl_plain.specs.Stacked.{all_windows}
-use Rattle.wl_marking.specs.Marking.{IsAsLarge as HasItsSides}
+use Rattle.spec_desktop.specs.Act.{Act, Connect, Feed, Store, Leave, Tick, Send, Close, Motion, Button}
+pub use Rattle.spec_desktop.specs.Act.{is_tick}
+use Rattle.spec_desktop.specs.Desktop.{Desktop, status_in}
+use Rattle.spec_desktop.specs.Happenings.{Happening, Leads, Message, Receive, Single, Starve}
+use Rattle.spec_desktop.specs.LeftOut.{LeftOut}
+use Rattle.spec_desktop.specs.Marks.{AreDistinct}
+use Rattle.spec_desktop.specs.Moments.{marks_at_least, marks_at_least_through, marks_at_most_through}
+use Rattle.spec_desktop.specs.Stacked.{all_windows}
+use Rattle.wl_scene.specs.Marking.{IsAsLarge as HasItsSides}
 use Rattle.wl_desk.specs.Leading.{raised_by}
 use Rattle.wl_desk.specs.Marking.{MarksAtLeast}
 use Rattle.wl_session.specs.Run.{IsNextFrame}

@@ -1,14 +1,14 @@
 -- Laws of the plain desktop: a step of one client leaves every other as it was, and the output stays.
 use Rattle.std.specs.Prelude.{ℕ, ◌≡◌, ◌≢◌, ◌⊎◌, false, [], Option, Some, None}
-use Rattle.wl_stacking.specs.Pointer.{first_pointer}
-use Rattle.wl_plain.specs.Changing.{grab_holder}
-use Rattle.wl_plain.specs.Desktop.{Desktop, Resident, client_at, toplevels_of}
-use Rattle.wl_plain.specs.LeftOut.{LeftOut}
-use Rattle.wl_plain.specs.declared.answers.Done.{Done}
-use Rattle.wl_plain.specs.Act.{Act, is_tick}
-use Rattle.wl_plain.specs.Happens.{Happens}
-use Rattle.wl_laws.specs.Others.{client_of}
-use Rattle.wl_invariants.specs.Acts.{LeavesPointer}
+use Rattle.spec_desktop.specs.Pointer.{first_pointer}
+use Rattle.spec_desktop.specs.Changing.{grab_holder}
+use Rattle.spec_desktop.specs.Desktop.{Desktop, Resident, client_at, toplevels_of}
+use Rattle.spec_desktop.specs.LeftOut.{LeftOut}
+use Rattle.spec_desktop.specs.declared.answers.Done.{Done}
+use Rattle.spec_desktop.specs.Act.{Act, is_tick}
+use Rattle.spec_desktop.specs.Happens.{Happens}
+use Rattle.law_desktop.specs.Others.{client_of}
+use Rattle.law_desktop.specs.Acts.{LeavesPointer}
 
 -- a client that has no wl_pointers, or isn't there
 abbrev pub HasNoPointers : Option Resident → Type 0

@@ -7,16 +7,16 @@ use Rattle.std.specs.Option.{option_map_or}
 use Rattle.wl_geom.specs.Region.{holds}
 use Rattle.wl_store.specs.Stores.{bytes_of}
 use Rattle.wl_store.specs.declared.color.Argb.{Argb}
-use Rattle.wl_state.specs.Request.{Buffer}
-use Rattle.wl_state.specs.State.{applied, held}
-use Rattle.wl_state.specs.Surface.{Surface, listed}
-use Rattle.wl_stacking.specs.Windows.{Window, contains}
-use Rattle.wl_plain.specs.Desktop.{Desktop, Resident, Showing, client_at, owned_in}
-use Rattle.wl_plain.specs.Happenings.{Happening, Message, Receive, Single, Starve}
-use Rattle.wl_plain.specs.Marks.{has_same_record}
-use Rattle.wl_plain.specs.Moments.{applied_between}
-use Rattle.wl_plain.specs.Scratch.{color_in, pixel_at}
-use Rattle.wl_plain.specs.Act.{Act, Store, Tick, Motion, Button}
+use Rattle.wl_surface.specs.Request.{Buffer}
+use Rattle.wl_surface.specs.State.{applied, held}
+use Rattle.wl_surface.specs.Surface.{Surface, listed}
+use Rattle.spec_desktop.specs.Windows.{Window, contains}
+use Rattle.spec_desktop.specs.Desktop.{Desktop, Resident, Showing, client_at, owned_in}
+use Rattle.spec_desktop.specs.Happenings.{Happening, Message, Receive, Single, Starve}
+use Rattle.spec_desktop.specs.Marks.{has_same_record}
+use Rattle.spec_desktop.specs.Moments.{applied_between}
+use Rattle.spec_desktop.specs.Scratch.{color_in, pixel_at}
+use Rattle.spec_desktop.specs.Act.{Act, Store, Tick, Motion, Button}
 
 abbrev pub is_same_color : Argb → Argb → Bool
 is_same_color c d = ((c.a == d.a) && (c.r == d.r)) && ((c.g == d.g) && (c.b == d.b))

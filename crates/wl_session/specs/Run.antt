@@ -3,10 +3,10 @@ use Rattle.std.specs.List.{list_any}
 use Rattle.std.specs.Prelude.{ℕ, ◌≡◌, ◌+◌, ◌<◌, ◌≤◌, ◌⊎◌, pos, List, [], ◌∷◌, slice_get, Bool, true, false, ◌&&◌, ◌==◌, nat_le, nat_lt}
 use Rattle.std.specs.Prelude.{IsTrue, IsSomeAnd}
 use Rattle.wl_paint.specs.Frame.{Image, color_at}
-use Rattle.wl_plain.specs.Desktop.{Desktop}
-use Rattle.wl_lending.specs.Painting.{IsOpaqueAsSaid}
-use Rattle.wl_plain.specs.Scratch.{scratch}
-use Rattle.wl_plain.specs.Act.{Act, Connect, Feed, Store, Leave, Tick, Send, Close, Motion, Button}
+use Rattle.spec_desktop.specs.Desktop.{Desktop}
+use Rattle.wl_clients.specs.Painting.{IsOpaqueAsSaid}
+use Rattle.spec_desktop.specs.Scratch.{scratch}
+use Rattle.spec_desktop.specs.Act.{Act, Connect, Feed, Store, Leave, Tick, Send, Close, Motion, Button}
 use Rattle.wl_session.specs.Step.{act_of}
 use Rattle.wl_session.specs.declared.steps.Step.{Step}
 use Rattle.wl_session.specs.declared.steps.RunError.{RunError}

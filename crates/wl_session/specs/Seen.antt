@@ -1,15 +1,15 @@
 -- Incremental equals from scratch: what a viewer holds that copies only what each frame reports as damaged.
 use Rattle.std.specs.Prelude.{ℕ, ◌≡◌, ◌<◌, pos, Bool, true, false, fold, length, take, List, [], ◌∷◌, ◌++◌}
-use Rattle.wl_peer.specs.Told.{Output}
+use Rattle.spec_desktop.specs.Told.{Output}
 use Rattle.wl_paint.specs.Damage.{has}
 use Rattle.wl_paint.specs.Frame.{Image, color_at}
-use Rattle.wl_plain.specs.Act.{Tick}
-use Rattle.wl_plain.specs.Desktop.{empty}
-use Rattle.wl_plain.specs.Happenings.{Single}
-use Rattle.wl_plain.specs.LeftOut.{LeftOut}
-use Rattle.wl_plain.specs.Scratch.{scratch}
-use Rattle.wl_plain.specs.Stacked.{all_windows}
-use Rattle.wl_plain.specs.declared.answers.Done.TheVariants as gave
+use Rattle.spec_desktop.specs.Act.{Tick}
+use Rattle.spec_desktop.specs.Desktop.{empty}
+use Rattle.spec_desktop.specs.Happenings.{Single}
+use Rattle.spec_desktop.specs.LeftOut.{LeftOut}
+use Rattle.spec_desktop.specs.Scratch.{scratch}
+use Rattle.spec_desktop.specs.Stacked.{all_windows}
+use Rattle.spec_desktop.specs.declared.answers.Done.TheVariants as gave
 use Rattle.wl_session.specs.Events.{AreApart, AreEvents, Event, Moment, frames_of, is_frame}
 use Rattle.wl_session.specs.Liars.{AreLiars, IsRightBut}
 use Rattle.wl_session.specs.Run.{AreRuns, Film}

@@ -1,12 +1,12 @@
 -- What the promises of a step are worth, whatever is left out.
 use Rattle.std.specs.Prelude.{ℕ, Bool, List}
-use Rattle.wl_plain.specs.Desktop.{Desktop}
-use Rattle.wl_plain.specs.Happenings.{Happening, Leads}
-use Rattle.wl_plain.specs.LeftOut.{LeftOut}
-use Rattle.wl_plain.specs.Stacked.{all_windows}
-use Rattle.wl_plain.specs.Act.{Store}
-use Rattle.wl_plain.specs.Happens.{Happens}
-use Rattle.wl_plain.specs.declared.answers.Done.{Done}
+use Rattle.spec_desktop.specs.Desktop.{Desktop}
+use Rattle.spec_desktop.specs.Happenings.{Happening, Leads}
+use Rattle.spec_desktop.specs.LeftOut.{LeftOut}
+use Rattle.spec_desktop.specs.Stacked.{all_windows}
+use Rattle.spec_desktop.specs.Act.{Store}
+use Rattle.spec_desktop.specs.Happens.{Happens}
+use Rattle.spec_desktop.specs.declared.answers.Done.{Done}
 use Rattle.wl_session.specs.Promises.{KeepBut, KeepsBuffers, KeepsDamage}
 use Rattle.wl_session.specs.Unmarked.{AllDamageBut}
 

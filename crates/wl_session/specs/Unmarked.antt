@@ -3,11 +3,11 @@
 use Rattle.std.specs.Prelude.{ℕ, ℤ, ◌≡◌, ◌&&◌, Bool, true, false}
 use Rattle.std.specs.List.{list_any}
 use Rattle.wl_blend.specs.declared.color.Rgb.{Rgb}
-use Rattle.wl_stacking.specs.Windows.{Window, contains}
-use Rattle.wl_plain.specs.Desktop.{Desktop, Showing}
-use Rattle.wl_plain.specs.Marks.{AreDistinct, in_output}
-use Rattle.wl_plain.specs.Moments.{marks_at_least_of}
-use Rattle.wl_plain.specs.Scratch.{scratch_of}
+use Rattle.spec_desktop.specs.Windows.{Window, contains}
+use Rattle.spec_desktop.specs.Desktop.{Desktop, Showing}
+use Rattle.spec_desktop.specs.Marks.{AreDistinct, in_output}
+use Rattle.spec_desktop.specs.Moments.{marks_at_least_of}
+use Rattle.spec_desktop.specs.Scratch.{scratch_of}
 use Rattle.wl_session.specs.Promises.{KeepsDamage}
 
 -- a window of one of these clients covers the point

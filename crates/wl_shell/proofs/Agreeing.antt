@@ -6,7 +6,7 @@ use Rattle.std.proofs.lemmas.Bool.{eqb-true}
 use Rattle.std.proofs.lemmas.Bool.Decides.{nat_tests}
 use Rattle.std.proofs.lemmas.List.Folds.{find-append}
 use Rattle.wl_shell.specs.Agreement.{AreApart}
-use Rattle.wl_xdg_state.specs.Shell.{Shell, XdgSurface, with_change, with_new, without_xdg, xdg_at, xdg_of}
+use Rattle.wl_shell.specs.Shell.{Shell, XdgSurface, with_change, with_new, without_xdg, xdg_at, xdg_of}
 
 pub differ : (a b : ℕ) → (a == b) ≡ false → a ≢ b
 differ a b e = λ same. grind (arith, nat_tests)

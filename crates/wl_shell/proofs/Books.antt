@@ -10,10 +10,10 @@ use Rattle.std.proofs.Math.Path.{fun_ext}
 use Rattle.std.proofs.lemmas.Bool.{eqb-true}
 use Rattle.std.proofs.lemmas.Bool.Decides.{nat_tests}
 use Rattle.std.proofs.lemmas.Map.Made.{lookup-map_values}
-use Rattle.wl_xdg_state.specs.Kept.{Book, Kept, changing, is_of_base, kept_changed, kept_of, with_kept}
-use Rattle.wl_xdg_state.specs.Popups.{orphan}
-use Rattle.wl_shell.specs.Laws.{each_changed, orphaned}
-use Rattle.wl_shell.specs.Popups.{IsSurfaceAt, is_of_id}
+use Rattle.wl_shell.specs.Kept.{Book, Kept, changing, is_of_base, kept_changed, kept_of, with_kept}
+use Rattle.wl_shell.specs.Popups.{orphan}
+use Rattle.wl_shell.specs.ShellLaws.{each_changed, orphaned}
+use Rattle.wl_shell.specs.PopupsKept.{IsSurfaceAt, is_of_id}
 
 another : (surface other : ℕ) → (other == surface) ≡ false → is_eq (nat_cmp surface other) ≡ false
 another surface other apart = grind (arith, nat_tests)

@@ -4,9 +4,9 @@ use Rattle.std.specs.Prelude.{IfSome, if◌then◌else◌, fold, flat_map, nat_l
 use Rattle.std.specs.List.{list_any}
 use Rattle.std.specs.Option.{option_map, option_map_or}
 use Rattle.std.proofs.lemmas.Bool.{eqb-true}
-use Rattle.wl_xdg_state.specs.Popups.{Popped, by_number, dismiss, dismissed_after, dismissed_among, dismissed_with, is_among, is_parent_of, kind_popup, popped_kind, popped_of, popped_role}
-use Rattle.wl_xdg_state.specs.Popups.{popup_changed, popup_in, popups_of, with_popup, with_popup_role}
-use Rattle.wl_xdg_state.specs.Shell.{IsPopup, Kind, Popup, RoleObject, Shell, Toplevel, XdgSurface}
+use Rattle.wl_shell.specs.Popups.{Popped, by_number, dismiss, dismissed_after, dismissed_among, dismissed_with, is_among, is_parent_of, kind_popup, popped_kind, popped_of, popped_role}
+use Rattle.wl_shell.specs.Popups.{popup_changed, popup_in, popups_of, with_popup, with_popup_role}
+use Rattle.wl_shell.specs.Shell.{IsPopup, Kind, Popup, RoleObject, Shell, Toplevel, XdgSurface}
 use Rattle.wl_shell.specs.Dismissing.{AllDismissed, AreDone, DismissalsEnd, GoesByFamily, OneDismissed}
 
 -- ---- popups of one family

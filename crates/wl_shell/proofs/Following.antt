@@ -10,20 +10,20 @@ use Rattle.wl_shell.specs.Descent.{AreYounger, has_popup_at, is_of_xdg}
 use Rattle.wl_shell.specs.Dismissing.{AreDone, GoesByFamily}
 use Rattle.wl_shell.specs.Found.{AreFound}
 use Rattle.wl_shell.specs.InOrder.{AfterFound, AreReleased, AreRising, FirstFound, GoesNext, HasOrder, IsNextToGo, IsOnly, NextFound, NextStands, first_surface, goes_with, newest_first, undismissed, with_dismissed}
-use Rattle.wl_shell.specs.Popups.{IsFound, IsNewest, IsOldest, dismissible, dismissible_under, has_popup, number_of, reaches}
+use Rattle.wl_shell.specs.PopupsKept.{IsFound, IsNewest, IsOldest, dismissible, dismissible_under, has_popup, number_of, reaches}
 use Rattle.wl_shell.proofs.Descending.{descents_found, or-first, or-second, same-id}
 use Rattle.wl_shell.proofs.Dismissing.{EachAlike, alike-popups, dismissals_end, gone_at, same-after}
 use Rattle.wl_shell.proofs.Agreeing.{found-at, found-surface}
 use Rattle.wl_shell.proofs.Ordered.{Each, IsAmong, IsIts, IsKeptAs, all-its, among-popups, at-among, each-map, kept-as, popped-as, popup-of}
 use Rattle.wl_shell.proofs.Reading.{any-in-order}
 use Rattle.wl_shell.proofs.Shells.{changed-still}
-use Rattle.wl_shell.proofs.Standing.{both, kept-for, there}
-use Rattle.wl_state.specs.State.{History}
-use Rattle.wl_xdg_state.proofs.Standing.{changes_stand}
-use Rattle.wl_xdg_state.specs.Kept.{Book, Kept, kept_changed, kept_of}
-use Rattle.wl_xdg_state.specs.Popups.{Popped, by_number, dismiss, dismissed_with, dismissing, is_among, is_parent_of, kind_popup, popped_kind, popped_of, popped_role, popup_changed}
-use Rattle.wl_xdg_state.specs.Popups.{popup_in, popups_of, with_popup, with_popup_role}
-use Rattle.wl_xdg_state.specs.Shell.{IsPopup, Kind, Popup, RoleObject, Shell, Toplevel, XdgSurface, xdg_at, xdg_of}
+use Rattle.wl_shell.proofs.ShellsStanding.{both, kept-for, there}
+use Rattle.wl_surface.specs.State.{History}
+use Rattle.wl_shell.proofs.Standing.{changes_stand}
+use Rattle.wl_shell.specs.Kept.{Book, Kept, kept_changed, kept_of}
+use Rattle.wl_shell.specs.Popups.{Popped, by_number, dismiss, dismissed_with, dismissing, is_among, is_parent_of, kind_popup, popped_kind, popped_of, popped_role, popup_changed}
+use Rattle.wl_shell.specs.Popups.{popup_in, popups_of, with_popup, with_popup_role}
+use Rattle.wl_shell.specs.Shell.{IsPopup, Kind, Popup, RoleObject, Shell, Toplevel, XdgSurface, xdg_at, xdg_of}
 
 -- ---- lists
 

@@ -7,7 +7,7 @@ use Rattle.std.proofs.lemmas.Bool.{eqb-true}
 use Rattle.wl_shell.specs.Agreement.{IsShell}
 use Rattle.wl_shell.specs.Descent.{AreYounger}
 use Rattle.wl_shell.specs.InOrder.{AreReleased, GrabbingFound, HasOrder, IsOnly, newest_first, with_dismissed}
-use Rattle.wl_shell.specs.Popups.{reaches_grab}
+use Rattle.wl_shell.specs.PopupsKept.{reaches_grab}
 use Rattle.wl_shell.proofs.Descending.{IsClosed, all-closed, grabs-reached, has_grab, no-parent-among, or-first, or-second, parent-among, same-id}
 use Rattle.wl_shell.proofs.Dismissing.{absorbed, xdg-done}
 use Rattle.wl_shell.proofs.Following.{AreSorted, IsNewestLeft, LeavesOthers, Rises, and-left, any-none, done-role, each-newest, few-popups, gone-kept, gone_popped, is_left, next-by}
@@ -15,11 +15,11 @@ use Rattle.wl_shell.proofs.Following.{only-one, order-stays, popups-gone, rising
 use Rattle.wl_shell.proofs.Ordered.{Each, IsAmong, IsIts, all-its, among-popups, at-among, each-map}
 use Rattle.wl_shell.proofs.Parents.{Each as EachPopup}
 use Rattle.wl_shell.proofs.Reading.{any-in-order}
-use Rattle.wl_state.specs.State.{History}
-use Rattle.wl_xdg_state.specs.Kept.{Kept, kept_of}
-use Rattle.wl_xdg_state.specs.Popups.{Popped, dismiss, dismissed_after, dismissed_among, dismissed_with, is_among, is_parent_of, popped_of, popup_changed, popup_in, popups_of}
-use Rattle.wl_xdg_state.specs.Popups.{with_popup_role}
-use Rattle.wl_xdg_state.specs.Shell.{Shell, XdgSurface}
+use Rattle.wl_surface.specs.State.{History}
+use Rattle.wl_shell.specs.Kept.{Kept, kept_of}
+use Rattle.wl_shell.specs.Popups.{Popped, dismiss, dismissed_after, dismissed_among, dismissed_with, is_among, is_parent_of, popped_of, popup_changed, popup_in, popups_of}
+use Rattle.wl_shell.specs.Popups.{with_popup_role}
+use Rattle.wl_shell.specs.Shell.{Shell, XdgSurface}
 
 -- ---- lists
 

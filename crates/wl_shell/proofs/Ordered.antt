@@ -7,12 +7,12 @@ use Rattle.std.proofs.lemmas.Bool.{eqb-true}
 use Rattle.std.proofs.lemmas.Bool.Decides.{nat_tests}
 use Rattle.wl_shell.specs.Agreement.{AreApart, IsShell}
 use Rattle.wl_shell.specs.InOrder.{AreRising, IsOnly}
-use Rattle.wl_shell.specs.Popups.{has_popup, number_of}
-use Rattle.wl_shell.proofs.Standing.{kept-for}
-use Rattle.wl_state.specs.State.{History}
-use Rattle.wl_xdg_state.specs.Kept.{Kept}
-use Rattle.wl_xdg_state.specs.Popups.{Popped, by_number, kind_popup, popped_kind, popped_of, popped_role, popup_in, popups_of}
-use Rattle.wl_xdg_state.specs.Shell.{IsPopup, Kind, Popup, RoleObject, Shell, Toplevel, XdgSurface, xdg_of}
+use Rattle.wl_shell.specs.PopupsKept.{has_popup, number_of}
+use Rattle.wl_shell.proofs.ShellsStanding.{kept-for}
+use Rattle.wl_surface.specs.State.{History}
+use Rattle.wl_shell.specs.Kept.{Kept}
+use Rattle.wl_shell.specs.Popups.{Popped, by_number, kind_popup, popped_kind, popped_of, popped_role, popup_in, popups_of}
+use Rattle.wl_shell.specs.Shell.{IsPopup, Kind, Popup, RoleObject, Shell, Toplevel, XdgSurface, xdg_of}
 
 -- ---- lists
 

@@ -4,11 +4,11 @@ use Rattle.std.specs.Prelude.{All, IfSome, IsSomeAnd, MatchOption, nat_lt, cond,
 use Rattle.std.specs.Option.{option_map}
 use Rattle.std.specs.Ordering.{nat_cmp, is_eq}
 use Rattle.std.proofs.lemmas.Bool.Decides.{nat_tests}
-use Rattle.wl_xdg_state.specs.Kept.{Book, Kept, kept_of}
+use Rattle.wl_shell.specs.Kept.{Book, Kept, kept_of}
 use Rattle.wl_shell.specs.declared.popups.Wanted.{Wanted}
 use Rattle.wl_shell.specs.declared.popups.Wanted.TheVariants.{After, First, Grabbing, Under}
 use Rattle.wl_shell.specs.Picking.{better_of, is_better, next_found, passes, picked}
-use Rattle.wl_shell.specs.Popups.{IsFound, IsNewest, number_of}
+use Rattle.wl_shell.specs.PopupsKept.{IsFound, IsNewest, number_of}
 
 -- none is better than itself, and what is better than one that isn't beaten isn't beaten
 unbeaten-itself : (wanted : Wanted) (n : ℕ) → is_better wanted n n ≡ false

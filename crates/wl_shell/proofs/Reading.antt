@@ -6,14 +6,14 @@ use Rattle.std.specs.Option.{option_and_then, option_map_or}
 use Rattle.std.specs.Ordering.{nat_cmp, is_eq}
 use Rattle.std.proofs.lemmas.Bool.{eqb-true}
 use Rattle.std.proofs.lemmas.Bool.Decides.{nat_tests}
-use Rattle.wl_state.specs.State.{History}
-use Rattle.wl_xdg_state.specs.Kept.{Book, Kept, kept_of}
-use Rattle.wl_xdg_state.specs.Popups.{Popped, by_number, first_of, is_parent, is_parent_of, kind_popup, popped_kind, popped_of, popped_role, popup_in, popups_of}
-use Rattle.wl_xdg_state.specs.Popups.{allows_grab as has_allowed, parent_allows as is_grab_allowed, parent_of as parent_at_popup}
-use Rattle.wl_xdg_state.specs.Shell.{IsPopup, Kind, Popup, RoleObject, Shell, Toplevel, XdgSurface, xdg_at, xdg_of}
+use Rattle.wl_surface.specs.State.{History}
+use Rattle.wl_shell.specs.Kept.{Book, Kept, kept_of}
+use Rattle.wl_shell.specs.Popups.{Popped, by_number, first_of, is_parent, is_parent_of, kind_popup, popped_kind, popped_of, popped_role, popup_in, popups_of}
+use Rattle.wl_shell.specs.Popups.{allows_grab as has_allowed, parent_allows as is_grab_allowed, parent_of as parent_at_popup}
+use Rattle.wl_shell.specs.Shell.{IsPopup, Kind, Popup, RoleObject, Shell, Toplevel, XdgSurface, xdg_at, xdg_of}
 use Rattle.wl_shell.specs.Agreement.{AreApart, IsKept, IsShell}
 use Rattle.wl_shell.specs.Found.{AreFound, ChildrenFound, GrabbersFound, GrabsFound, ParentsFound, ShellsFind, parent_in, xdg_with_role}
-use Rattle.wl_shell.specs.Popups.{allows_grab, any_allows, has_child, parent_allows}
+use Rattle.wl_shell.specs.PopupsKept.{allows_grab, any_allows, has_child, parent_allows}
 use Rattle.wl_shell.proofs.Agreeing.{found-at}
 
 or-false : (b : Bool) → (b || false) ≡ b

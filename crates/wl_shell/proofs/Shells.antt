@@ -6,18 +6,18 @@ use Rattle.std.specs.Option.{option_map}
 use Rattle.std.proofs.Math.Path.{fun_ext}
 use Rattle.std.proofs.lemmas.Bool.{eqb-true}
 use Rattle.std.proofs.lemmas.Bool.Decides.{nat_tests}
-use Rattle.wl_state.specs.State.{History}
+use Rattle.wl_surface.specs.State.{History}
 use Rattle.wl_shell.specs.Agreement.{AreApart, IsKept, IsShell}
-use Rattle.wl_xdg_state.specs.Kept.{Kept, Stands, changing, first_kept, kept_changed, kept_repositioning, reposition_answer}
-use Rattle.wl_xdg_state.specs.Popups.{dismiss, dismissed_among, is_among, is_configured, orphan, popup_changed, repositioning}
-use Rattle.wl_xdg_state.specs.Positioner.{place}
-use Rattle.wl_shell.proofs.Standing.{IsThere, kept-for}
-use Rattle.wl_xdg_state.proofs.Standing.{changes_stand}
-use Rattle.wl_shell.specs.Laws.{BaseRead, ChangedShell, DismissalStands, GoneShell, ManyChanged, NewShell, OrphaningStands, OtherHistory, RepositionAnswered, RepositionedShell, ShellsStand}
-use Rattle.wl_shell.specs.Laws.{kept_dismissed}
-use Rattle.wl_xdg_state.specs.Shell.{Shell, XdgSurface, with_change, with_new, without_xdg, xdg_at, xdg_of}
+use Rattle.wl_shell.specs.Kept.{Kept, Stands, changing, first_kept, kept_changed, kept_repositioning, reposition_answer}
+use Rattle.wl_shell.specs.Popups.{dismiss, dismissed_among, is_among, is_configured, orphan, popup_changed, repositioning}
+use Rattle.wl_shell.specs.Positioner.{place}
+use Rattle.wl_shell.proofs.ShellsStanding.{IsThere, kept-for}
+use Rattle.wl_shell.proofs.Standing.{changes_stand}
+use Rattle.wl_shell.specs.ShellLaws.{BaseRead, ChangedShell, DismissalStands, GoneShell, ManyChanged, NewShell, OrphaningStands, OtherHistory, RepositionAnswered, RepositionedShell, ShellsStand}
+use Rattle.wl_shell.specs.ShellLaws.{kept_dismissed}
+use Rattle.wl_shell.specs.Shell.{Shell, XdgSurface, with_change, with_new, without_xdg, xdg_at, xdg_of}
 use Rattle.wl_shell.proofs.Agreeing.{changed-apart, changed-elsewhere, changed-here, differ, found-map, new-apart, new-elsewhere, new-here, newest, removed-apart, removed-elsewhere, removed-here}
-use Rattle.wl_xdg_state.proofs.Standing.{new_stands}
+use Rattle.wl_shell.proofs.Standing.{new_stands}
 
 pub absent : (o : Option XdgSurface) (h : Option History) → IsKept None o h → o ≡ None
 absent None h is = refl

@@ -1,8 +1,8 @@
 -- What is kept of all xdg_surfaces of a client stands for them.
 use Rattle.std.specs.Prelude.{◌≡◌, ℕ, ◌==◌, if◌then◌else◌, [], ◌∷◌, Option, Some, None}
-use Rattle.wl_state.specs.State.{History}
-use Rattle.wl_xdg_state.specs.Kept.{Kept, Stands}
-use Rattle.wl_xdg_state.specs.Shell.{Shell, XdgSurface, xdg_at, xdg_of}
+use Rattle.wl_surface.specs.State.{History}
+use Rattle.wl_shell.specs.Kept.{Kept, Stands}
+use Rattle.wl_shell.specs.Shell.{Shell, XdgSurface, xdg_at, xdg_of}
 
 -- an id names one xdg_surface at most, and a surface has one at most
 abbrev pub AreApart : Shell → Type 0

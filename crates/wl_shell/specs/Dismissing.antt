@@ -1,7 +1,7 @@
 -- Popups that are dismissed one by one come to what the definition says that they come to at once (xdg-shell.xml, xdg_popup.popup_done).
 use Rattle.std.specs.Prelude.{ℕ, ◌≡◌, Bool, true, false, IfSome, List, [], ◌∷◌}
-use Rattle.wl_xdg_state.specs.Popups.{Popped, dismiss, dismissed_with, dismissing, is_among, popup_changed, popup_in}
-use Rattle.wl_xdg_state.specs.Shell.{Shell, XdgSurface, with_change}
+use Rattle.wl_shell.specs.Popups.{Popped, dismiss, dismissed_with, dismissing, is_among, popup_changed, popup_in}
+use Rattle.wl_shell.specs.Shell.{Shell, XdgSurface, with_change}
 
 -- which popups are meant goes by the xdg_surface and by the parent of each
 abbrev pub GoesByFamily : (Popped → Bool) → Type 0

@@ -2,12 +2,12 @@
 use Rattle.std.specs.Prelude.{ℕ, ◌≡◌, false, if◌then◌else◌, is_some, All, Option, Some, None}
 use Rattle.std.specs.List.{list_any}
 use Rattle.std.specs.Option.{option_and_then, option_map_or}
-use Rattle.wl_state.specs.State.{History}
-use Rattle.wl_xdg_state.specs.Kept.{Book, Kept, kept_of}
-use Rattle.wl_xdg_state.specs.Popups.{is_parent, parent_allows as is_grab_allowed, parent_of, popup_at, popups_of}
-use Rattle.wl_xdg_state.specs.Shell.{Shell, XdgSurface, xdg_of}
+use Rattle.wl_surface.specs.State.{History}
+use Rattle.wl_shell.specs.Kept.{Book, Kept, kept_of}
+use Rattle.wl_shell.specs.Popups.{is_parent, parent_allows as is_grab_allowed, parent_of, popup_at, popups_of}
+use Rattle.wl_shell.specs.Shell.{Shell, XdgSurface, xdg_of}
 use Rattle.wl_shell.specs.Agreement.{IsShell}
-use Rattle.wl_shell.specs.Popups.{has_child, is_grabbing, parent_allows, parent_id}
+use Rattle.wl_shell.specs.PopupsKept.{has_child, is_grabbing, parent_allows, parent_id}
 
 -- each is found by the number of its surface
 abbrev pub AreFound : Book → Type 0

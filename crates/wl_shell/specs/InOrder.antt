@@ -2,15 +2,15 @@
 use Rattle.std.specs.Prelude.{ℕ, ◌≡◌, ◌≤◌, ◌<◌, ◌==◌, ◌&&◌, nat_lt, not, Bool, true, false, if◌then◌else◌, IfSome, Option, Some, None}
 use Rattle.std.specs.Prelude.{List, [], ◌∷◌, filter, fold, length}
 use Rattle.std.specs.List.{list_any}
-use Rattle.wl_state.specs.State.{History}
+use Rattle.wl_surface.specs.State.{History}
 use Rattle.wl_shell.specs.Agreement.{IsShell}
 use Rattle.wl_shell.specs.Descent.{AreYounger, has_popup_at}
 use Rattle.wl_shell.specs.Found.{AreFound}
-use Rattle.wl_shell.specs.Popups.{IsNewest, IsOldest, dismissible_grabbing, dismissible_under, has_popup}
-use Rattle.wl_xdg_state.specs.Kept.{Book, Kept, changing, kept_changed, kept_of}
-use Rattle.wl_xdg_state.specs.Popups.{Popped, dismiss, dismissed_with, dismissing, is_among, is_parent_of, popped_of, popup_changed}
-use Rattle.wl_xdg_state.specs.Popups.{popup_in, popups_of}
-use Rattle.wl_xdg_state.specs.Shell.{Shell, XdgSurface, with_change, xdg_of}
+use Rattle.wl_shell.specs.PopupsKept.{IsNewest, IsOldest, dismissible_grabbing, dismissible_under, has_popup}
+use Rattle.wl_shell.specs.Kept.{Book, Kept, changing, kept_changed, kept_of}
+use Rattle.wl_shell.specs.Popups.{Popped, dismiss, dismissed_with, dismissing, is_among, is_parent_of, popped_of, popup_changed}
+use Rattle.wl_shell.specs.Popups.{popup_in, popups_of}
+use Rattle.wl_shell.specs.Shell.{Shell, XdgSurface, with_change, xdg_of}
 
 -- the popup is that of the xdg_surface of this surface
 pub record IsOnly (shell : Shell) (surface : ℕ) (p : Popped) : Type 0 where

@@ -1,134 +1,132 @@
--- Laws of the xdg_surfaces of a client: what is kept of all of them stands for them, after each change too.
-use Rattle.std.specs.Prelude.{ℕ, ℤ, ◌≡◌, ◌≤◌, ◌==◌, ◌≢◌, List, length, map, true, false, if◌then◌else◌, is_some, None, Some, Option, Ok}
-use Rattle.std.specs.Option.{option_map}
-use Rattle.std.specs.Prelude.{IfSome, IsSomeAnd}
-use Rattle.std.specs.List.{list_any}
+-- Laws of an xdg_surface, and of where popups are placed.
+use Rattle.std.specs.Prelude.{ℕ, ℤ, ◌≡◌, ◌<◌, ◌≤◌, Bool, List, [], ◌∷◌, ◌++◌, length, true, None, Some, Option, Ok, IfSome, is_some}
 use Rattle.wl_geom.specs.declared.rect.Rect.{Rect}
-use Rattle.wl_state.specs.State.{History}
-use Rattle.wl_shell.specs.Agreement.{IsShell, with_history}
-use Rattle.wl_xdg_state.specs.Kept.{Kept, Stands, changing, first_kept, kept_changed, kept_repositioning, reposition_answer, reposition_by}
-use Rattle.wl_xdg_state.specs.Kept.{with_kept}
-use Rattle.wl_xdg_state.specs.Popups.{Popped, dismiss, dismissed_among, first_of, is_among, is_configured, orphan, orphaning, popped_of}
-use Rattle.wl_xdg_state.specs.Popups.{repositioning}
-use Rattle.wl_xdg_state.specs.Positioner.{Placed, Positioner, place}
-use Rattle.wl_xdg_state.specs.Shell.{Shell, XdgSurface}
-use Rattle.wl_xdg_state.specs.Shell.{with_change, with_new, without_xdg, xdg_at, xdg_of}
+use Rattle.wl_shell.specs.Moves.{moved_to}
+use Rattle.wl_shell.specs.Positioner.{Axis, Placed, Positioner, place, placed_on}
+use Rattle.wl_surface.specs.Request.{Request, Commit, SetWindowGeometry}
+use Rattle.wl_surface.specs.State.{History, apply, geometry_asked}
+use Rattle.wl_shell.specs.declared.acts.ShellAct.{ShellAct}
+use Rattle.wl_shell.specs.Kept.{Kept, Stands, commit_answer, first_kept, kept_acknowledging, kept_after, kept_asking}
+use Rattle.wl_shell.specs.Kept.{kept_changed, kept_configuring, kept_popup, kept_repositioning, kept_toplevel, kept_without_role}
+use Rattle.wl_shell.specs.Kept.{reposition_answer, reposition_by}
+use Rattle.wl_shell.specs.Popups.{Popped, copying, effect_in, first_of, is_configured, new_popup, popped_of, popup_changed, popup_in}
+use Rattle.wl_shell.specs.Popups.{repositioning, with_effect}
+use Rattle.wl_shell.specs.Shell.{Configure, Popup, XdgSurface, acknowledging, configuring, is_waiting, later_than, new_toplevel}
+use Rattle.wl_shell.specs.Shell.{without_role}
 
--- a new xdg_surface of a surface that has none
-abbrev pub NewShell : Type 0
-NewShell =
-    (id base surface : ℕ) (h : History) (kept : ℕ → Option Kept) (histories : ℕ → Option History) (shell : Shell)
-    → IsShell kept histories shell
-    → kept surface ≡ None
-    → xdg_at id shell ≡ None
-    → histories surface ≡ Some h
+-- An acknowledgement of a serial that waits leaves fewer.
+abbrev pub AcknowledgementForgets : Type 0
+AcknowledgementForgets = (serial : ℕ) (configures : List Configure) → is_waiting serial configures ≡ true
+    → length (later_than serial configures) < length configures
+
+-- Flipping, sliding and resizing, told one after the other, end at the definition's place, whichever side gravity slides to first.
+abbrev pub MovesAgree : Type 0
+MovesAgree =
+    (may_flip may_slide may_resize : Bool) (first end : ℤ) (a : Axis)
+    → moved_to may_flip may_slide may_resize first end a ≡ placed_on may_flip may_slide may_resize first end a
+
+-- ---- what is kept stands for what the definition says, after each change too
+
+-- one request more of the surface
+abbrev pub one_more : Request → History → History
+one_more request h = record h { requests = h.requests ++ request ∷ [] }
+
+-- a new xdg_surface
+abbrev pub NewStands : Type 0
+NewStands =
+    (id base surface : ℕ) (h : History)
     → h.cut ≤ length h.requests
-    → IsShell (with_kept surface (Some (first_kept id base)) kept) histories (with_new id base surface shell)
+    → Stands (first_kept id base) (record { id = id; base = base; surface = surface; role = None; configures = []; since = 0 }) h
 
--- One changes, and maybe its surface's history, and what is kept of it stands for it then.
-abbrev pub ChangedShell : Type 0
-ChangedShell =
-    (surface : ℕ) (change : Kept → Kept) (step : XdgSurface → XdgSurface) (k : Kept) (x : XdgSurface) (h : History) (kept : ℕ → Option Kept)
-    (histories : ℕ → Option History) (shell : Shell)
-    → ((y : XdgSurface) → (step y).id ≡ y.id)
-    → ((y : XdgSurface) → (step y).surface ≡ y.surface)
-    → IsShell kept histories shell
-    → kept surface ≡ Some k
-    → xdg_of surface shell ≡ Some x
-    → Stands (change k) (step x) h
-    → IsShell (changing surface change kept) (with_history surface (Some h) histories) (with_change x.id step shell)
+-- a new toplevel: no window geometry counts that was asked before
+abbrev pub ToplevelStands : Type 0
+ToplevelStands = (id : ℕ) (k : Kept) (x : XdgSurface) (h : History) → Stands k x h
+    → Stands (kept_toplevel id k) (new_toplevel id (length h.requests) x) h
 
--- one goes
-abbrev pub GoneShell : Type 0
-GoneShell =
-    (surface : ℕ) (x : XdgSurface) (kept : ℕ → Option Kept) (histories : ℕ → Option History) (shell : Shell)
-    → IsShell kept histories shell
-    → xdg_of surface shell ≡ Some x
-    → IsShell (with_kept surface None kept) histories (without_xdg x.id shell)
+-- a new popup
+abbrev pub PopupStands : Type 0
+PopupStands =
+    (id parent : ℕ) (positioner : Positioner) (number : ℕ) (k : Kept) (x : XdgSurface) (h : History)
+    → Stands k x h
+    → Stands (kept_popup id parent positioner number k) (new_popup id parent positioner number (length h.requests) x) h
 
--- a surface without an xdg_surface is made, goes, or has another history
-abbrev pub OtherHistory : Type 0
-OtherHistory =
-    (surface : ℕ) (h : Option History) (kept : ℕ → Option Kept) (histories : ℕ → Option History) (shell : Shell)
-    → IsShell kept histories shell
-    → xdg_of surface shell ≡ None
-    → IsShell kept (with_history surface h histories) shell
+-- its popup changes, as by a grab, as it is dismissed, or as its parent goes
+abbrev pub PopupChangeStands : Type 0
+PopupChangeStands = (change : Popup → Popup) (k : Kept) (x : XdgSurface) (h : History) → Stands k x h
+    → Stands (kept_changed change k) (popup_changed change x) h
 
--- whether an xdg_wm_base made one can be read from what is kept
-abbrev pub BaseRead : Type 0
-BaseRead =
-    (base : ℕ) (kept : ℕ → Option Kept) (histories : ℕ → Option History) (shell : Shell)
-    → IsShell kept histories shell
-    → ((surface : ℕ) → IsSomeAnd (kept surface) (λ k. k.base ≡ base) → list_any (λ x. x.base == base) shell ≡ true)
-    × (((surface : ℕ) → IfSome (kept surface) (λ k. k.base ≢ base)) → list_any (λ x. x.base == base) shell ≡ false)
+-- a window geometry is asked
+abbrev pub GeometryStands : Type 0
+GeometryStands = (rect : Rect) (k : Kept) (x : XdgSurface) (h : History) → Stands k x h
+    → Stands (kept_asking rect k) x (one_more (SetWindowGeometry rect) h)
 
--- Many change at once, as popups that are dismissed or whose parent goes, and what is kept of each stands for it then.
-abbrev pub each_changed : (Kept → Kept) → (ℕ → Option Kept) → ℕ → Option Kept
-each_changed change kept = λ surface. option_map change (kept surface)
+-- a configure is acknowledged
+abbrev pub AcknowledgementStands : Type 0
+AcknowledgementStands = (serial : ℕ) (k : Kept) (x : XdgSurface) (h : History) → Stands k x h
+    → Stands (kept_acknowledging serial k) (acknowledging serial x) h
 
-abbrev pub ManyChanged : Type 0
-ManyChanged =
-    (change : Kept → Kept) (step : XdgSurface → XdgSurface) (kept : ℕ → Option Kept) (histories : ℕ → Option History) (shell : Shell)
-    → ((y : XdgSurface) → (step y).id ≡ y.id)
-    → ((y : XdgSurface) → (step y).surface ≡ y.surface)
-    → ((k : Kept) (x : XdgSurface) (h : History) → Stands k x h → Stands (change k) (step x) h)
-    → IsShell kept histories shell
-    → IsShell (each_changed change kept) histories (map step shell)
+-- A commit that isn't refused. It is asked and applied, and the answer says what it comes to. A popup is placed within the bounds, its
+-- parent's window geometry standing at `parent_at`.
+abbrev pub CommitStands : Type 0
+CommitStands =
+    (has_buffer : Bool) (bounds : Rect) (parent_at : ℤ × ℤ) (serial : ℕ) (where_to : Popup → Option Placed) (act : ShellAct) (k : Kept)
+    (x : XdgSurface) (h : History)
+    → commit_answer has_buffer bounds parent_at (Some k) ≡ Ok act
+    → IfSome (popup_in x.role) (λ popup. where_to popup ≡ place popup.positioner bounds parent_at)
+    → Stands k x h
+    → Stands (kept_after serial act k) (with_effect serial (length (one_more Commit h).requests) where_to (effect_in has_buffer x.role) x)
+    (apply (one_more Commit h))
 
--- of popups whose parent was this, if it was there
-abbrev pub orphaned : Option Kept → (ℕ → Option Kept) → ℕ → Option Kept
-orphaned None kept = kept
-orphaned (Some k) kept = each_changed (kept_changed (orphan k.id)) kept
+-- a configure is sent
+abbrev pub ConfigureStands : Type 0
+ConfigureStands = (serial : ℕ) (k : Kept) (x : XdgSurface) (h : History) → Stands k x h
+    → Stands (kept_configuring serial k) (configuring serial x) h
 
--- popups are dismissed
-abbrev pub kept_dismissed : List ℕ → Kept → Kept
-kept_dismissed ids k = if is_among k.id ids then kept_changed dismiss k else k
-
-abbrev pub DismissalStands : Type 0
-DismissalStands =
-    (ids : List ℕ) (kept : ℕ → Option Kept) (histories : ℕ → Option History) (shell : Shell)
-    → IsShell kept histories shell
-    → IsShell (each_changed (kept_dismissed ids) kept) histories (map (dismissed_among ids) shell)
-
--- xdg_popup.reposition: what is answered is by the popup that this surface has
-abbrev pub RepositionAnswered : Type 0
-RepositionAnswered =
-    (surface : ℕ) (positioner : Positioner) (bounds : Rect) (parent_at : ℤ × ℤ) (x : XdgSurface) (p : Popped) (kept : ℕ → Option Kept)
-    (histories : ℕ → Option History) (shell : Shell)
-    → IsShell kept histories shell
-    → xdg_of surface shell ≡ Some x
+-- xdg_popup.reposition: what is answered is by the definition's popup
+abbrev pub RepositionAnswers : Type 0
+RepositionAnswers =
+    (positioner : Positioner) (bounds : Rect) (parent_at : ℤ × ℤ) (k : Kept) (x : XdgSurface) (h : History) (p : Popped)
     → first_of (popped_of x) ≡ Some p
-    → reposition_answer positioner bounds parent_at (kept surface)
+    → Stands k x h
+    → reposition_answer positioner bounds parent_at (Some k)
     ≡ reposition_by (is_configured p) positioner (place positioner bounds parent_at) x.configures
 
--- It is placed anew, if that isn't refused. A place is answered exactly where it is configured anew.
-abbrev pub RepositionedShell : Type 0
-RepositionedShell =
-    (surface : ℕ) (positioner : Positioner) (bounds : Rect) (parent_at : ℤ × ℤ) (serial : ℕ) (placed : Option Placed) (x : XdgSurface)
-    (p : Popped) (kept : ℕ → Option Kept) (histories : ℕ → Option History) (shell : Shell)
-    → IsShell kept histories shell
-    → xdg_of surface shell ≡ Some x
+-- One that isn't refused. A place is answered exactly where the popup is configured anew.
+abbrev pub RepositionStands : Type 0
+RepositionStands =
+    (positioner : Positioner) (bounds : Rect) (parent_at : ℤ × ℤ) (serial : ℕ) (where_to : Popup → Option Placed) (placed : Option Placed)
+    (k : Kept) (x : XdgSurface) (h : History) (p : Popped)
+    → reposition_answer positioner bounds parent_at (Some k) ≡ Ok placed
     → first_of (popped_of x) ≡ Some p
-    → reposition_answer positioner bounds parent_at (kept surface) ≡ Ok placed
+    → where_to (copying positioner p.popup) ≡ place positioner bounds parent_at
+    → Stands k x h
     → (is_some placed ≡ is_configured p)
-    × IsShell (changing surface (kept_repositioning placed serial positioner) kept) histories
-    (with_change x.id (repositioning (is_configured p) serial (place positioner bounds parent_at) positioner) shell)
+    × Stands (kept_repositioning placed serial positioner k)
+    (repositioning (is_configured p) serial (where_to (copying positioner p.popup)) positioner x) h
 
--- a toplevel goes: its popups have no parent any more
-abbrev pub OrphaningStands : Type 0
-OrphaningStands =
-    (xdg : ℕ) (kept : ℕ → Option Kept) (histories : ℕ → Option History) (shell : Shell)
-    → IsShell kept histories shell
-    → IsShell (each_changed (kept_changed (orphan xdg)) kept) histories (orphaning xdg shell)
+-- the role object goes
+abbrev pub DestructionStands : Type 0
+DestructionStands = (k : Kept) (x : XdgSurface) (h : History) → Stands k x h → Stands (kept_without_role k) (without_role x) h
 
-pub record ShellsStand : Type 0 where
-  pub made : NewShell
-  pub changed : ChangedShell
-  pub gone : GoneShell
-  pub other : OtherHistory
-  pub base : BaseRead
-  pub many : ManyChanged
-  pub dismissal : DismissalStands
-  pub orphaning : OrphaningStands
-  pub answered : RepositionAnswered
-  pub repositioned : RepositionedShell
+-- a request of another kind, which isn't applied
+abbrev pub OtherStands : Type 0
+OtherStands =
+    (request : Request) (k : Kept) (x : XdgSurface) (h : History)
+    → ((asked : Option Rect) → geometry_asked asked request ≡ asked)
+    → Stands k x h
+    → Stands k x (one_more request h)
+
+-- each of these changes
+pub record ChangesStand : Type 0 where
+  pub made : NewStands
+  pub toplevel : ToplevelStands
+  pub popup : PopupStands
+  pub changed : PopupChangeStands
+  pub geometry : GeometryStands
+  pub acknowledgement : AcknowledgementStands
+  pub commit : CommitStands
+  pub configure : ConfigureStands
+  pub answered : RepositionAnswers
+  pub reposition : RepositionStands
+  pub destruction : DestructionStands
+  pub other : OtherStands

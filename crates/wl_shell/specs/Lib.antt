@@ -3,6 +3,15 @@ pub mod Descent
 pub mod Dismissing
 pub mod Found
 pub mod InOrder
+pub mod Kept
 pub mod Laws
+pub mod Moves
 pub mod Picking
+pub mod Placing
 pub mod Popups
+pub mod PopupsKept
+pub mod Positioner
+pub mod Settings
+pub mod Shell
+pub mod ShellLaws
+pub mod Waits

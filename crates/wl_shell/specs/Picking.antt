@@ -1,9 +1,9 @@
 -- How a popup is found among what is kept.
 use Rattle.std.specs.Prelude.{ℕ, nat_lt, Bool, true, if◌then◌else◌, Option, Some, None, [], ◌∷◌}
-use Rattle.wl_xdg_state.specs.Kept.{Book, Kept}
+use Rattle.wl_shell.specs.Kept.{Book, Kept}
 use Rattle.wl_shell.specs.declared.popups.Wanted.{Wanted}
 use Rattle.wl_shell.specs.declared.popups.Wanted.TheVariants.{After, First, Grabbing, Under}
-use Rattle.wl_shell.specs.Popups.{dismissible, dismissible_grabbing, has_popup, number_of}
+use Rattle.wl_shell.specs.PopupsKept.{dismissible, dismissible_grabbing, has_popup, number_of}
 
 abbrev pub passes : Book → Wanted → Kept → Bool
 passes book (After number) k = has_popup (λ popup. nat_lt number popup.number) k

@@ -1,19 +1,50 @@
-//! The xdg_surfaces of a client, by the numbers of their surfaces (xdg-shell.xml).
+//! The xdg_surfaces of a client, by the numbers of their surfaces, with their toplevels and popups; positioners, and where popups are placed by them
+//! (xdg-shell.xml).
 #![tactic(auto)]
 
+ghost use Rattle.wl_shell.specs.Laws.{AcknowledgementForgets, ChangesStand, MovesAgree};
 ghost use Rattle.wl_shell.specs.Descent.{DescentsFound};
 ghost use Rattle.wl_shell.specs.Dismissing.{DismissalsEnd};
 ghost use Rattle.wl_shell.specs.Found.{ShellsFind};
 ghost use Rattle.wl_shell.specs.InOrder.{PopupsFollow};
-ghost use Rattle.wl_shell.specs.Laws.{ShellsStand};
+ghost use Rattle.wl_shell.specs.ShellLaws.{ShellsStand};
 
+mod acts;
+mod error;
+mod placing;
+mod popup;
 mod popups;
+mod positioner;
+mod role_object;
+mod settings;
 mod shell;
+mod stage;
+mod xdg_surface;
 
+pub use acts::{Configure, Placed, ShellAct};
+pub use error::ShellError;
+pub use popup::Popup;
+pub use positioner::Positioner;
+pub use settings::Setting;
 pub use shell::{NewPopup, Shell};
-pub use wl_xdg_state::{
-    Placed, Popup, Positioner, ShellAct, ShellError, Stage, Toplevel, XdgSurface,
-};
+pub use stage::Stage;
+pub use xdg_surface::{Toplevel, XdgSurface};
+
+/// An acknowledgement of a serial that waits leaves fewer.
+pub fn acknowledgement_forgets()
+    ensures { AcknowledgementForgets }
+{}
+
+/// A popup that is flipped, slid and resized, one after the other, ends at the place that the definition gives it (xdg-shell.xml,
+/// xdg_positioner.set_constraint_adjustment).
+pub fn moves_agree()
+    ensures { MovesAgree }
+{}
+
+/// What is kept of an xdg_surface stands for what the definition says of it, and does so after each call too.
+pub fn changes_stand()
+    ensures { ChangesStand }
+{}
 
 /// What is kept of all xdg_surfaces of a client stands for them, and does so after each change of one.
 pub fn shells_stand()

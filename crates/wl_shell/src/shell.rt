@@ -3,19 +3,22 @@
 ghost use Rattle.std.specs.Prelude.{◌≡◌, ◌≢◌, ◌&&◌, [], ℕ, All, MatchOption, None, Some, OnOk, OnErr, IfErr, IfOk, IfNone, IfSome, IsOkUnless, IsSomeAnd, Err, is_some, nat_lt, true};
 ghost use Rattle.std.specs.List.{list_any};
 ghost use Rattle.std.specs.Option.{option_and_then, option_copied};
-ghost use Rattle.wl_xdg_state.specs.Kept.{acknowledgement_answer, changing, commit_answer, configure_answer, destruction_answer, first_kept, geometry_answer, grab_answer, is_of_base, kept_acknowledging, kept_after, kept_asking, kept_changed, kept_configured, kept_grabbing, kept_of, kept_popup, kept_repositioning, kept_toplevel, kept_without_role, making_refused, popup_answer, reposition_answer, toplevel_answer, with_kept};
-ghost use Rattle.wl_xdg_state.specs.Popups.{dismiss};
+ghost use Rattle.wl_shell.specs.Kept.{acknowledgement_answer, changing, commit_answer, configure_answer, destruction_answer, first_kept, geometry_answer, grab_answer, is_of_base, kept_acknowledging, kept_after, kept_asking, kept_changed, kept_configured, kept_grabbing, kept_of, kept_popup, kept_repositioning, kept_toplevel, kept_without_role, making_refused, popup_answer, reposition_answer, toplevel_answer, with_kept};
+ghost use Rattle.wl_shell.specs.Popups.{dismiss};
 ghost use Rattle.wl_shell.specs.Found.{AreFound};
-ghost use Rattle.wl_shell.specs.Laws.{orphaned};
-ghost use Rattle.wl_shell.specs.Popups.{IsNewest, IsOldest, IsSurfaceAt, dismissible_grabbing, dismissible_under, has_child, has_popup, is_grabbing, parent_allows, parent_id, parent_of, popup_destruction};
+ghost use Rattle.wl_shell.specs.ShellLaws.{orphaned};
+ghost use Rattle.wl_shell.specs.PopupsKept.{IsNewest, IsOldest, IsSurfaceAt, dismissible_grabbing, dismissible_under, has_child, has_popup, is_grabbing, parent_allows, parent_id, parent_of, popup_destruction};
 
+use crate::acts::{Placed, ShellAct};
+use crate::error::ShellError;
 use crate::popups::{self, Wanted};
+use crate::positioner::Positioner;
+use crate::xdg_surface::XdgSurface;
 use std::alloc::Allocator;
 use std::collections::BTreeMap;
 use std::marker::Model;
 use wl_geom::Rect;
 use wl_surface::SurfaceNo;
-use wl_xdg_state::{Placed, Positioner, ShellAct, ShellError, XdgSurface};
 
 /// A popup that is asked for.
 #[derive(Clone, Copy, Debug, PartialEq, Eq)]
@@ -35,7 +38,7 @@ pub struct Shell<A: Allocator> {
 }
 
 impl<A: Allocator> Model for Shell<A> {
-    ghost use Rattle.wl_xdg_state.specs.Kept.{Book};
+    ghost use Rattle.wl_shell.specs.Kept.{Book};
 
     ghost Value = { Book };
 

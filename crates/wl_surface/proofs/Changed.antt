@@ -2,9 +2,9 @@
 use Rattle.std.proofs.Common.{ℕ, Option, Some, None, refl}
 use Rattle.wl_surface.specs.declared.applied.Change.{Change}
 use Rattle.wl_surface.specs.Applied.{AreApplied, IsApplied}
-use Rattle.wl_state.specs.Kept.{Kept, StandsFor}
+use Rattle.wl_surface.specs.Kept.{Kept, StandsFor}
 use Rattle.wl_surface.specs.Slots.{StandsAt}
-use Rattle.wl_state.specs.Surface.{Surface}
+use Rattle.wl_surface.specs.Surface.{Surface}
 
 -- a surface that stands for one tells of it, and none tells of none
 pub applied-some : {A : Type 0} (number : ℕ) (k : Kept) (at : Option Surface) (c : Change A) → StandsAt (Some k) at → ((s : Surface) → StandsFor k s → IsApplied number s.history c)

@@ -6,17 +6,17 @@ use Rattle.std.proofs.lemmas.Bool.{eqb-true}
 use Rattle.std.proofs.lemmas.Grind.{flat_map-append}
 use Rattle.std.proofs.lemmas.List.{append-nil}
 use Rattle.wl_surface.specs.declared.frames.Waiting.{Waiting}
-use Rattle.wl_state.specs.Frames.{frames_of}
-use Rattle.wl_state.specs.Kept.{Kept}
+use Rattle.wl_surface.specs.FrameRequests.{frames_of}
+use Rattle.wl_surface.specs.Kept.{Kept}
 use Rattle.wl_surface.specs.Slots.{Numbered, StandsAt, changed_at, with_at}
-use Rattle.wl_state.specs.declared.role.Role.{Role}
-use Rattle.wl_state.specs.Request.{Commit, Request}
-use Rattle.wl_state.specs.Surface.{Surface, applying, asking, new_surface, with_role}
+use Rattle.wl_surface.specs.declared.role.Role.{Role}
+use Rattle.wl_surface.specs.Request.{Commit, Request}
+use Rattle.wl_surface.specs.Surface.{Surface, applying, asking, new_surface, with_role}
 use Rattle.wl_surface.specs.Waiting.{AreUndue, AreWaiting, Callback, IsNextDue, IsUndue, IsWaiting, applied_at, applied_by}
 use Rattle.wl_surface.specs.Waiting.{counted_at, frames_at, held_at, held_by, is_in, next_of, without_next}
 use Rattle.wl_surface.proofs.Framed.{uncounted}
-use Rattle.wl_state.proofs.Records.{applied-kept, held-committed, held-kept}
-use Rattle.wl_state.specs.State.{is_commit}
+use Rattle.wl_surface.proofs.Records.{applied-kept, held-committed, held-kept}
+use Rattle.wl_surface.specs.State.{is_commit}
 
 same-number : (n : ℕ) → (n == n) ≡ true
 same-number n = grind (arith)

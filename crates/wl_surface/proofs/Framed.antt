@@ -7,14 +7,14 @@ use Rattle.std.proofs.lemmas.Bool.{eqb-true}
 use Rattle.std.proofs.lemmas.Grind.{flat_map-append}
 use Rattle.std.proofs.lemmas.List.Folds.{list_any-append}
 use Rattle.wl_surface.specs.declared.frames.Waiting.{Waiting}
-use Rattle.wl_state.specs.Frames.{frames_of}
-use Rattle.wl_state.specs.Kept.{Kept}
+use Rattle.wl_surface.specs.FrameRequests.{frames_of}
+use Rattle.wl_surface.specs.Kept.{Kept}
 use Rattle.wl_surface.specs.Slots.{Numbered, StandForAll, StandsAt, changed_at, place_at}
-use Rattle.wl_state.specs.Request.{Frame, Request}
-use Rattle.wl_state.specs.Surface.{Surface, asking}
+use Rattle.wl_surface.specs.Request.{Frame, Request}
+use Rattle.wl_surface.specs.Surface.{Surface, asking}
 use Rattle.wl_surface.specs.Waiting.{AreWaiting, Callback, IsNewNumber, IsWaiting, applied_at, frames_at, held_at, is_in}
-use Rattle.wl_state.proofs.Records.{applied-kept, held-kept}
-use Rattle.wl_state.specs.State.{committed}
+use Rattle.wl_surface.proofs.Records.{applied-kept, held-kept}
+use Rattle.wl_surface.specs.State.{committed}
 
 frames-last : (rs : List Request) (n : ℕ) → frames_of (rs ++ Frame n ∷ []) ≡ frames_of rs ++ n ∷ []
 frames-last rs n = flat_map-append _ rs (Frame n ∷ [])

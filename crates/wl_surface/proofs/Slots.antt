@@ -7,8 +7,8 @@ use Rattle.std.proofs.lemmas.Bool.{eqb-true, eqb-false}
 use Rattle.std.proofs.lemmas.List.{get_or-set_other, get_or-set_same}
 use Rattle.std.proofs.lemmas.List.Sums.{sum_by-set}
 use Rattle.std.specs.Option.{option_map}
-use Rattle.wl_state.specs.Surface.{Surface}
-use Rattle.wl_state.specs.Kept.{kept_has, kept_shows, Kept, StandsFor}
+use Rattle.wl_surface.specs.Surface.{Surface}
+use Rattle.wl_surface.specs.Kept.{kept_has, kept_shows, Kept, StandsFor}
 use Rattle.wl_surface.specs.Slots.{Changes, one_if_kept, IsAny, has_at, shows_at, with_at, Numbered, StandsAt, place_at}
 use Rattle.wl_surface.specs.declared.frames.Waiting.{Waiting}
 

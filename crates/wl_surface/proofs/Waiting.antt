@@ -7,12 +7,12 @@ use Rattle.std.specs.Option.{option_map}
 use Rattle.std.proofs.Math.Seq.{take-append_seam}
 use Rattle.std.proofs.lemmas.List.{length-map}
 use Rattle.wl_surface.specs.declared.frames.Waiting.{Waiting}
-use Rattle.wl_state.specs.Kept.{Kept}
+use Rattle.wl_surface.specs.Kept.{Kept}
 use Rattle.wl_surface.specs.Slots.{Changes, Numbered, StandsAt}
-use Rattle.wl_state.specs.Request.{Frame}
-use Rattle.wl_state.specs.Surface.{Surface, asking}
+use Rattle.wl_surface.specs.Request.{Frame}
+use Rattle.wl_surface.specs.Surface.{Surface, asking}
 use Rattle.wl_surface.specs.Waiting.{next_of, without_next}
-use Rattle.wl_state.proofs.Records.{For-unseen}
+use Rattle.wl_surface.proofs.Records.{For-unseen}
 
 -- ---- a frame request: nothing of it is kept of the surface
 

@@ -3,8 +3,8 @@ use Rattle.std.specs.Prelude.{ℕ, ◌≡◌, ◌==◌, ◌&&◌, Bool, true, fa
 use Rattle.std.specs.Prelude.{[], ◌∷◌, count_by}
 use Rattle.wl_surface.specs.declared.applied.Change.{Change}
 use Rattle.wl_surface.specs.Slots.{IsAny, Numbered, shows_at}
-use Rattle.wl_state.specs.State.{History, SaysDamage, applied, between, committed, held}
-use Rattle.wl_state.specs.Surface.{Surface, is_there}
+use Rattle.wl_surface.specs.State.{History, SaysDamage, applied, between, committed, held}
+use Rattle.wl_surface.specs.Surface.{Surface, is_there}
 
 -- What is told of a surface that is applied: its damage is what was asked for since it was applied before, seen with what it shows now.
 pub record IsApplied {A : Type 0} (number : ℕ) (h : History) (c : Change A) : Type 0 where

@@ -1,7 +1,7 @@
 -- The frame requests of surfaces, by the numbers that they carry (wayland.xml, wl_surface.frame).
 use Rattle.std.specs.Prelude.{ℕ, List, flat_map}
-use Rattle.wl_state.specs.Frames.{frames_of}
-use Rattle.wl_state.specs.State.{counting}
+use Rattle.wl_surface.specs.FrameRequests.{frames_of}
+use Rattle.wl_surface.specs.State.{counting}
 use Rattle.wl_surface.specs.Surfaces.{Surfaces}
 
 -- those of a client's surfaces that count

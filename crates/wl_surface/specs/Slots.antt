@@ -4,12 +4,12 @@ use Rattle.std.specs.Prelude.{◌∷◌, count_by, is_some, slice_index_or}
 use Rattle.std.specs.Option.{option_map}
 use Rattle.wl_geom.specs.Region.{Area, Change, Stands as Covers}
 use Rattle.wl_surface.specs.declared.frames.Waiting.{Waiting}
-use Rattle.wl_state.specs.Kept.{IsCurrent, Kept, StandsFor}
-use Rattle.wl_state.specs.Request.{Buffer}
-use Rattle.wl_state.specs.declared.role.Role.{Role}
-use Rattle.wl_state.specs.declared.state.Current.{Current}
-use Rattle.wl_state.specs.Surface.{Surface, has, has_content, shows}
-use Rattle.wl_state.specs.State.{applied, held, is_whole, pending}
+use Rattle.wl_surface.specs.Kept.{IsCurrent, Kept, StandsFor}
+use Rattle.wl_surface.specs.Request.{Buffer}
+use Rattle.wl_surface.specs.declared.role.Role.{Role}
+use Rattle.wl_surface.specs.declared.state.Current.{Current}
+use Rattle.wl_surface.specs.Surface.{Surface, has, has_content, shows}
+use Rattle.wl_surface.specs.State.{applied, held, is_whole, pending}
 
 -- Surfaces by numbers: there is one, or there is none.
 abbrev pub Numbered : Type 0

@@ -2,8 +2,8 @@
 use Rattle.std.specs.Prelude.{ℕ, ◌==◌, Bool, not, cond, Option, List, [], ◌∷◌, ◌++◌, find, map, filter}
 use Rattle.std.specs.List.{list_any}
 use Rattle.std.specs.Option.{option_map}
-use Rattle.wl_state.specs.Surface.{Surface, has, new_surface, shows}
-use Rattle.wl_state.specs.State.{History}
+use Rattle.wl_surface.specs.Surface.{Surface, has, new_surface, shows}
+use Rattle.wl_surface.specs.State.{History}
 
 -- A wl_subsurface that lives or lived, by its number among the client's: its surface, its parent, whether it is
 -- synchronised, and whether it has ended (wayland.xml, wl_subcompositor.get_subsurface and wl_subsurface).

@@ -4,11 +4,11 @@ use Rattle.std.specs.Prelude.{Option, Some, None, List, [], ◌∷◌, ◌++◌,
 use Rattle.std.specs.List.{list_any}
 use Rattle.std.specs.Option.{option_map}
 use Rattle.wl_surface.specs.declared.frames.Waiting.{Waiting}
-use Rattle.wl_state.specs.Frames.{frames_of}
-use Rattle.wl_state.specs.Kept.{held_list}
+use Rattle.wl_surface.specs.FrameRequests.{frames_of}
+use Rattle.wl_surface.specs.Kept.{held_list}
 use Rattle.wl_surface.specs.Slots.{Numbered}
-use Rattle.wl_state.specs.State.{counting}
-use Rattle.wl_state.specs.Surface.{Surface}
+use Rattle.wl_surface.specs.State.{counting}
+use Rattle.wl_surface.specs.Surface.{Surface}
 
 -- a callback that a frame request asked for, by that request's number among the client's
 pub record Callback : Type 0 where

@@ -1,13 +1,14 @@
 //! What a call changes of what surfaces show.
 
-ghost use Rattle.wl_state.specs.Kept.{StandsFor};
-ghost use Rattle.wl_state.specs.Surface.{Surface as Asked, applying};
+ghost use Rattle.wl_surface.specs.Kept.{StandsFor};
+ghost use Rattle.wl_surface.specs.Surface.{Surface as Asked, applying};
 ghost use Rattle.wl_surface.specs.Applied.{IsApplied};
 
+use crate::content::BufferNo;
+use crate::state::SurfaceState;
 use crate::surfaces::SurfaceNo;
 use std::alloc::Allocator;
 use wl_geom::Rect;
-use wl_state::{BufferNo, SurfaceState};
 
 /// What a call changed: the surfaces that it applied or took away, the buffers that aren't busy any more (wayland.xml,
 /// wl_buffer.release), and the callbacks that go with a surface.

@@ -1,12 +1,35 @@
-//! The surfaces of a client: the state of each, and what a commit changes.
+//! The surfaces of a client with the links between them (wayland.xml, wl_surface, wl_subcompositor and wl_subsurface): what was asked of each, what
+//! of it is pending, held and applied, and what a commit, a mode or the end of a link applies over whole trees.
 #![tactic(auto)]
 
+ghost use Rattle.wl_surface.specs.StateLaws.{CommitTakesAll};
+
 mod applied;
+mod commits;
+mod content;
+mod damage;
 mod error;
 mod frames;
+mod held_damage;
+mod linked;
+mod role;
+mod shape;
+mod state;
 mod surfaces;
+mod tree;
+pub mod tree_laws;
 
 pub use applied::{Applied, Change};
+pub use commits::Told;
+pub use content::{Attached, BufferNo, Offset, bounded_sum, held};
 pub use error::SurfaceError;
+pub use linked::Linked;
+pub use role::Role;
+pub use state::{Current, SurfaceState};
 pub use surfaces::{MAX_SURFACES, SurfaceNo, Surfaces};
-pub use wl_state::{Attached, BufferNo, Current, Offset, Role, bounded_sum};
+pub use wl_links::Side;
+
+/// After a commit what is held is what was pending, and once the surface is applied that is what counts.
+pub fn commit_takes_all()
+    ensures { CommitTakesAll }
+{}

@@ -6,20 +6,22 @@ ghost use Rattle.std.specs.Option.{option_map};
 ghost use Rattle.slab.specs.Slab.{entries};
 ghost use Rattle.wl_geom.specs.Region.{Change as RegionChange, Stands as Covers};
 ghost use Rattle.wl_surface.specs.Applied.{AreApplied};
-ghost use Rattle.wl_state.specs.Kept.{buffer_of, counting_in, counting_of, kept_has, kept_shows};
+ghost use Rattle.wl_surface.specs.Kept.{buffer_of, counting_in, counting_of, kept_has, kept_shows};
 ghost use Rattle.wl_surface.specs.Slots.{Changes, IsAny, changed_at, IsCopied, IsCurrentAt, kept_at, one_if_kept, Numbered, StandForAll, content_at, count, had_at, has_at, is_scale, is_transform, is_whole_at, nobody, pending_at, role_at, shows_at, with_at};
-ghost use Rattle.wl_state.specs.Request.{Attach, Commit, Damage, DamageBuffer, Frame, SetBufferScale, SetBufferTransform, SetInputRegion, SetOpaqueRegion};
-ghost use Rattle.wl_state.specs.Surface.{applying, asking, new_surface, with_role};
+ghost use Rattle.wl_surface.specs.Request.{Attach, Commit, Damage, DamageBuffer, Frame, SetBufferScale, SetBufferTransform, SetInputRegion, SetOpaqueRegion};
+ghost use Rattle.wl_surface.specs.Surface.{applying, asking, new_surface, with_role};
 ghost use Rattle.wl_surface.specs.Waiting.{AreUndue, AreWaiting, Callback, IsNewNumber, IsNextDue, applied_by, frames_at, held_by, is_in, callbacks_of as those_of, next_of, without_next, without_those_of};
 
 use crate::applied::{Change, apply_change};
+use crate::content::{Attached, BufferNo};
 use crate::error::SurfaceError;
 use crate::frames::{Waiting, apply_all, callbacks_of, hold_all, next_place};
+use crate::role::Role;
+use crate::state::{Current, SurfaceState};
 use slab::Slab;
 use std::alloc::Allocator;
 use std::marker::Model;
 use wl_geom::{Rect, Region};
-use wl_state::{Attached, BufferNo, Current, Role, SurfaceState};
 use wl_store::{Scale, Transform};
 
 /// A surface's number among its client's.

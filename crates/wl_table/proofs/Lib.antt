@@ -1,3 +1,4 @@
 pub mod Finding
 pub mod Ids
 pub mod Places
+pub mod RisingPlaces

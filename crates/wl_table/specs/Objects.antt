@@ -2,7 +2,7 @@
 use Rattle.std.specs.Prelude.{◌≡◌, ◌≢◌, ◌<◌, ℕ, Bool, ◌&&◌, not, nat_le, if◌then◌else◌, is_some, Option, Some, None, List, length}
 use Rattle.std.specs.Ordering.{nat_cmp, is_eq}
 use Rattle.std.specs.Map.{lookup}
-use Rattle.wl_interface.specs.declared.interface.Interface.{Interface}
+use Rattle.wl_proto.specs.declared.interface.Interface.{Interface}
 use Rattle.wl_table.specs.declared.entry.Entry.{Entry}
 use Rattle.wl_table.specs.declared.entry.TableError.{TableError}
 use Rattle.wl_table.specs.declared.entry.TableError.TheVariants.{BadId, InUse, TooMany}

@@ -2,7 +2,7 @@
 
 use std::alloc::{AllocError, AllocFailed};
 use thiserror::Error;
-use wl_interface::Interface;
+use wl_proto::Interface;
 
 /// What is held under an id.
 #[derive(Clone, Copy, Debug, PartialEq, Eq)]

@@ -1,4 +1,4 @@
-//! The objects of a client, by their ids.
+//! The objects of a client, by their ids; and ids in rising order, each once.
 //!
 //! A client numbers the objects that it makes from 1 to 0xfeffffff, in any order, and may give an id again
 //! once its object is gone (Wayland protocol, "Wire Format" and "Object IDs").
@@ -6,6 +6,8 @@
 
 mod entry;
 mod objects;
+mod rising;
 
 pub use entry::{Entry, TableError};
 pub use objects::Objects;
+pub use rising::put_rising;

@@ -9,7 +9,7 @@ use std::alloc::{AllocError, Allocator};
 use std::collections::BTreeMap;
 use std::marker::Model;
 use std::ops::Bound;
-use wl_interface::Interface;
+use wl_proto::Interface;
 
 const LAST_ID: u32 = 0xfeffffff;
 

@@ -1,7 +1,7 @@
 use Rattle.std.proofs.Common.{◌≡◌, ◌<◌, length, ap, sym, ◌∙◌}
 use Rattle.std.proofs.lemmas.List.{length-map}
 use Rattle.std.specs.Option.{option_map}
-use Rattle.wl_peer.specs.Objects.{is_bound}
+use Rattle.spec_desktop.specs.Objects.{is_bound}
 use Rattle.wl_client.specs.Said.{global_of}
 use Rattle.wl_client.proofs.Finds.{find-here, find-on}
 use Rattle.wl_client.proofs.globals.interface_bound.Goals as goal

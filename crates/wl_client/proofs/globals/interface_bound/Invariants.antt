@@ -1,6 +1,6 @@
 use Rattle.std.proofs.Common.{◌≡◌, None, map, take}
 use Rattle.std.specs.Prelude.{find}
-use Rattle.wl_peer.specs.Objects.{is_bound}
+use Rattle.spec_desktop.specs.Objects.{is_bound}
 use Rattle.wl_client.specs.Said.{global_of}
 use Rattle.wl_client.proofs.globals.interface_bound.Given as goal
 

@@ -2,7 +2,7 @@ use Rattle.std.proofs.Common.{ap, ◌∙◌, rules, w32}
 use Rattle.std.specs.Prelude.{FitsSigned}
 use Rattle.std.proofs.lemmas.Int.{to_z-of_z}
 use Rattle.wl_proto.specs.declared.wl_shm_pool.WlShmPoolRequest.TheVariants.{CreateBuffer}
-use Rattle.wl_peer.specs.Judgement.{pool_action}
+use Rattle.spec_desktop.specs.Judgement.{pool_action}
 use Rattle.wl_client.proofs.wl_shm_pool.action.Goals as goal
 
 pub returns-in-CreateBuffer : goal.returns-in-CreateBuffer

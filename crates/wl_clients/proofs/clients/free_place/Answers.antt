@@ -1,6 +1,6 @@
 use Rattle.std.proofs.Common.{ap, sym, ◌∙◌}
 use Rattle.std.proofs.lemmas.List.{take_all}
-use Rattle.wl_plain.specs.Act.{lowest}
+use Rattle.spec_desktop.specs.Act.{lowest}
 use Rattle.wl_clients.proofs.Desktops.{lowest-here, lowest-on}
 use Rattle.wl_clients.proofs.clients.free_place.Goals as goal
 

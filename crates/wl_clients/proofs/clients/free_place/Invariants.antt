@@ -1,5 +1,5 @@
 use Rattle.std.proofs.Common.{◌≡◌, take, None}
-use Rattle.wl_plain.specs.Act.{lowest}
+use Rattle.spec_desktop.specs.Act.{lowest}
 use Rattle.wl_clients.proofs.clients.free_place.Given as goal
 
 abbrev pub invariant-loop-k : goal.invariant-loop-k

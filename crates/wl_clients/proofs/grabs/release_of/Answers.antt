@@ -1,6 +1,6 @@
 use Rattle.std.proofs.Common.{ap, refl, sym, ◌∙◌}
 use Rattle.std.specs.Prelude.{is_some}
-use Rattle.wl_resident.specs.View.{pile_of}
+use Rattle.wl_clients.specs.View.{pile_of}
 use Rattle.wl_clients.proofs.Calls.{lives-of}
 use Rattle.wl_clients.proofs.Released.{ended-stays, lives-marks, lives-released, refused-stays}
 use Rattle.wl_clients.proofs.grabs.release_of.Goals as goal

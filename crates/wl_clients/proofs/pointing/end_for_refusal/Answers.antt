@@ -1,5 +1,5 @@
 use Rattle.std.proofs.Common.{refl, ◌∙◌}
-use Rattle.wl_laws.proofs.Lists.Keys.{none-some, some-same}
+use Rattle.law_desktop.proofs.Lists.Keys.{none-some, some-same}
 use Rattle.wl_clients.proofs.pointing.end_for_refusal.Goals as goal
 
 pub returns-in_default-clause-ends : goal.returns-in_default-clause-ends

@@ -1,5 +1,5 @@
 use Rattle.std.proofs.Common.{arith}
-use Rattle.wl_interface.specs.declared.interface.Interface.TheVariants.{WlRegistry}
+use Rattle.wl_proto.specs.declared.interface.Interface.TheVariants.{WlRegistry}
 use Rattle.wl_proto.proofs.Past.{past}
 use Rattle.wl_proto.proofs.wl_registry.decode.Goals as goal
 

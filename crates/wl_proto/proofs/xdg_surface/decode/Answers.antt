@@ -1,5 +1,5 @@
 use Rattle.std.proofs.Common.{arith}
-use Rattle.wl_interface.specs.declared.interface.Interface.TheVariants.{XdgSurface}
+use Rattle.wl_proto.specs.declared.interface.Interface.TheVariants.{XdgSurface}
 use Rattle.wl_proto.proofs.Past.{past}
 use Rattle.wl_proto.proofs.xdg_surface.decode.Goals as goal
 

@@ -1,5 +1,5 @@
 use Rattle.std.proofs.Common.{arith, rules}
-use Rattle.wl_interface.specs.declared.interface.Interface.TheVariants.{XdgToplevel}
+use Rattle.wl_proto.specs.declared.interface.Interface.TheVariants.{XdgToplevel}
 use Rattle.wl_proto.proofs.Past.{past}
 use Rattle.wl_proto.proofs.xdg_toplevel.decode.Goals as goal
 

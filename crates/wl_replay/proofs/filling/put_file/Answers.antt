@@ -1,7 +1,7 @@
 use Rattle.std.proofs.Common.{◌≡◌, [], Result, Ok, Err, ℕ, refl, ap, sym, subst, ◌∙◌}
 use Rattle.std.proofs.KnownBytes.{Appends-nil}
 use Rattle.std.proofs.lemmas.Result.{on_ok_weaker}
-use Rattle.wl_plain.specs.declared.answers.Stored.{Stored}
+use Rattle.spec_desktop.specs.declared.answers.Stored.{Stored}
 use Rattle.wl_recording.specs.Side.{files_of}
 use Rattle.wl_replay.specs.Storing.{TellsFileAs, room_in, stored_text}
 use Rattle.wl_replay.specs.Told.{words}

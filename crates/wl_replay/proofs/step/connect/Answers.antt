@@ -1,7 +1,7 @@
 use Rattle.std.proofs.Common.{[], Ok, Err, refl, ap}
-use Rattle.wl_plain.specs.Act.{Connect}
-use Rattle.wl_plain.specs.declared.answers.ConnectError.{ConnectError}
-use Rattle.wl_plain.specs.declared.answers.Done.TheVariants as gave
+use Rattle.spec_desktop.specs.Act.{Connect}
+use Rattle.spec_desktop.specs.declared.answers.ConnectError.{ConnectError}
+use Rattle.spec_desktop.specs.declared.answers.Done.TheVariants as gave
 use Rattle.wl_replay.specs.Report.{connect_told}
 use Rattle.wl_replay.specs.Told.{words}
 use Rattle.wl_recording.specs.Text.{client_line, full_line}

@@ -1,7 +1,7 @@
 use Rattle.std.proofs.Common.{◌≡◌, refl, ap}
 use Rattle.std.proofs.lemmas.Result.{on_ok_weaker}
-use Rattle.wl_plain.specs.Act.{Leave, peer_at, status_of}
-use Rattle.wl_plain.specs.declared.answers.Done.TheVariants as gave
+use Rattle.spec_desktop.specs.Act.{Leave, peer_at, status_of}
+use Rattle.spec_desktop.specs.declared.answers.Done.TheVariants as gave
 use Rattle.wl_replay.specs.Report.{absent_text}
 use Rattle.wl_replay.specs.Told.{words}
 use Rattle.wl_replay.proofs.Stages.{after, stands-on, steps-on}

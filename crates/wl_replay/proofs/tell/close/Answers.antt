@@ -1,8 +1,8 @@
 use Rattle.std.proofs.Common.{◌≡◌, ◌∙◌, refl, subst, sym}
-use Rattle.wl_plain.specs.Act.{Close, peer_at, status_of}
-use Rattle.wl_plain.specs.declared.answers.Done.TheVariants as gave
-use Rattle.wl_plain.specs.declared.answers.Fed.{Fed}
-use Rattle.wl_plain.specs.declared.answers.Fed.TheVariants as fed
+use Rattle.spec_desktop.specs.Act.{Close, peer_at, status_of}
+use Rattle.spec_desktop.specs.declared.answers.Done.TheVariants as gave
+use Rattle.spec_desktop.specs.declared.answers.Fed.{Fed}
+use Rattle.spec_desktop.specs.declared.answers.Fed.TheVariants as fed
 use Rattle.wl_recording.specs.Text.{end_line}
 use Rattle.wl_replay.specs.Clients.{Closes}
 use Rattle.wl_replay.proofs.Stages.{after, stands-on, steps-on}

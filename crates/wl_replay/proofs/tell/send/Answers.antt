@@ -1,5 +1,5 @@
-use Rattle.wl_plain.specs.Act.{Send, peer_at, unsent_of}
-use Rattle.wl_plain.specs.declared.answers.Done.TheVariants as gave
+use Rattle.spec_desktop.specs.Act.{Send, peer_at, unsent_of}
+use Rattle.spec_desktop.specs.declared.answers.Done.TheVariants as gave
 use Rattle.std.proofs.Common.{length}
 use Rattle.wl_recording.specs.Text.{to_line}
 use Rattle.wl_replay.proofs.Stages.{after, stands-on, steps-on}

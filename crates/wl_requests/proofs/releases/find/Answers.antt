@@ -2,8 +2,8 @@ use Rattle.std.proofs.Common.{List, ap, arith, eq-eqb, length, map, sym, ◌∙�
 use Rattle.std.specs.Prelude.{find}
 use Rattle.std.proofs.lemmas.Bool.{ne_eqb}
 use Rattle.std.proofs.lemmas.List.{length-map, take_all}
-use Rattle.wl_state.specs.Kept.{buffer_of}
-use Rattle.wl_state.specs.Request.{Buffer}
+use Rattle.wl_surface.specs.Kept.{buffer_of}
+use Rattle.wl_surface.specs.Request.{Buffer}
 use Rattle.wl_requests.proofs.Letting.{find-here, find-past, has}
 use Rattle.wl_requests.proofs.releases.find.Goals as goal
 

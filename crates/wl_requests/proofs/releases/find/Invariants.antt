@@ -1,6 +1,6 @@
 use Rattle.std.proofs.Common.{◌≡◌, None, map, take}
 use Rattle.std.specs.Prelude.{find}
-use Rattle.wl_state.specs.Kept.{buffer_of}
+use Rattle.wl_surface.specs.Kept.{buffer_of}
 use Rattle.wl_requests.proofs.Letting.{has}
 use Rattle.wl_requests.proofs.releases.find.Given as goal
 

@@ -3,13 +3,13 @@ use Rattle.wl_scene.specs.Focus.{place_of}
 use Rattle.wl_scene.specs.Roots.{corner_or}
 use Rattle.wl_scene.proofs.Geometry.{corner-none, corner-popup, corner-step}
 use Rattle.wl_scene.proofs.Held.{at-none, at-surface, surface-at}
-use Rattle.wl_shell.proofs.Standing.{both, kept-for}
+use Rattle.wl_shell.proofs.ShellsStanding.{both, kept-for}
 use Rattle.wl_scene.proofs.corners.+chain.Goals as goal
 use Rattle.wl_geom.specs.declared.rect.Rect.{Rect}
-use Rattle.wl_stacking.specs.Popups.{corner_at_parent, corner_of_xdg, geometry_corner_at, placement_of, standing_place}
-use Rattle.wl_stacking.specs.Windows.{Place, geometry_corner}
+use Rattle.spec_desktop.specs.Popups.{corner_at_parent, corner_of_xdg, geometry_corner_at, placement_of, standing_place}
+use Rattle.spec_desktop.specs.Windows.{Place, geometry_corner}
 use Rattle.wl_surface.specs.Surfaces.{history_in}
-use Rattle.wl_xdg_state.specs.Kept.{kept_of}
+use Rattle.wl_shell.specs.Kept.{kept_of}
 
 pub surface_corner-returns-in_default : goal.surface_corner-returns-in_default
 surface_corner-returns-in_default g t c = λ o x held there.

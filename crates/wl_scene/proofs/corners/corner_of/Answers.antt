@@ -1,9 +1,9 @@
 use Rattle.std.proofs.Common.{◌≡◌, ap₂, ◌∙◌, rules, to_z, of_z, w32}
-use Rattle.wl_linked.specs.Linked.{numbered}
+use Rattle.wl_surface.specs.Linked.{numbered}
 use Rattle.wl_scene.specs.Focus.{place_of}
 use Rattle.wl_scene.proofs.Geometry.{corner-told}
 use Rattle.wl_scene.proofs.corners.corner_of.Goals as goal
-use Rattle.wl_stacking.specs.Windows.{moved}
+use Rattle.spec_desktop.specs.Windows.{moved}
 use Rattle.wl_surface.specs.Surfaces.{surface_at}
 
 pub returns-in-Some : goal.returns-in-Some

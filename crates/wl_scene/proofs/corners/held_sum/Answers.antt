@@ -1,6 +1,6 @@
 use Rattle.std.proofs.Common.{arith, ap, ◌∙◌, ◌≡◌, ◌+ℤ◌, to_z, of_z, w32, w64}
 use Rattle.std.proofs.lemmas.Int.{ints}
-use Rattle.wl_state.specs.State.{within_bounds}
+use Rattle.wl_surface.specs.State.{within_bounds}
 use Rattle.wl_scene.proofs.corners.held_sum.Goals as goal
 
 pub returns : goal.returns

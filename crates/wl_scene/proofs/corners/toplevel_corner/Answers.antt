@@ -1,12 +1,12 @@
 use Rattle.std.proofs.Common.{ap₂, sym, ◌∙◌}
 use Rattle.wl_scene.specs.Roots.{corner_or}
 use Rattle.wl_scene.proofs.Geometry.{corner-roleless, corner-toplevel}
-use Rattle.wl_shell.proofs.Standing.{both}
+use Rattle.wl_shell.proofs.ShellsStanding.{both}
 use Rattle.wl_scene.proofs.corners.toplevel_corner.Goals as goal
-use Rattle.wl_stacking.specs.Popups.{standing_place}
-use Rattle.wl_stacking.specs.Windows.{geometry_corner}
+use Rattle.spec_desktop.specs.Popups.{standing_place}
+use Rattle.spec_desktop.specs.Windows.{geometry_corner}
 use Rattle.wl_surface.specs.Surfaces.{history_in}
-use Rattle.wl_xdg_state.specs.Kept.{kept_of}
+use Rattle.wl_shell.specs.Kept.{kept_of}
 
 pub returns-then-has_role : goal.returns-then-has_role
 returns-then-has_role g c = λ o x next held here popup there.

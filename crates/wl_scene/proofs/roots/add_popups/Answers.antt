@@ -4,8 +4,8 @@ use Rattle.wl_scene.specs.Roots.{is_past, roots_done, told_root}
 use Rattle.wl_scene.proofs.Popups.{past-number}
 use Rattle.wl_scene.proofs.Rooted.{continues, done-none, left-less, stacked-all, stacked-next}
 use Rattle.wl_scene.proofs.roots.add_popups.Goals as goal
-use Rattle.wl_stacking.specs.Windows.{Root}
-use Rattle.wl_xdg_state.specs.Kept.{kept_of}
+use Rattle.spec_desktop.specs.Windows.{Root}
+use Rattle.wl_shell.specs.Kept.{kept_of}
 
 pub loop-surface-init : goal.loop-surface-init
 loop-surface-init g c = record {

@@ -5,9 +5,9 @@ use Rattle.wl_scene.specs.Roots.{AreAt, Continues, IsHeld, roots_done, told_root
 use Rattle.wl_shell.specs.InOrder.{AreRising}
 use Rattle.wl_scene.proofs.Rooted.{left}
 use Rattle.wl_scene.proofs.roots.add_popups.Given as goal
-use Rattle.wl_stacking.specs.Stacking.{Owned}
-use Rattle.wl_stacking.specs.Windows.{Root}
-use Rattle.wl_xdg_state.specs.Popups.{popups_of}
+use Rattle.spec_desktop.specs.Stacking.{Owned}
+use Rattle.spec_desktop.specs.Windows.{Root}
+use Rattle.wl_shell.specs.Popups.{popups_of}
 
 abbrev pub invariant-loop-surface : goal.invariant-loop-surface
 invariant-loop-surface g l = record {

@@ -2,8 +2,8 @@ use Rattle.std.proofs.Common.{ap, ◌∙◌}
 use Rattle.std.specs.Option.{option_and_then}
 use Rattle.wl_scene.proofs.Held.{surface-at}
 use Rattle.wl_scene.proofs.roots.parent_surface.Goals as goal
-use Rattle.wl_stacking.specs.Popups.{surface_at_xdg}
-use Rattle.wl_xdg_state.specs.Kept.{kept_of}
+use Rattle.spec_desktop.specs.Popups.{surface_at_xdg}
+use Rattle.wl_shell.specs.Kept.{kept_of}
 
 pub returns-in_default : goal.returns-in_default
 returns-in_default g c = λ o histories is. ap (option_and_then (λ xdg. surface_at_xdg xdg o.shell)) c.in_default.ensures

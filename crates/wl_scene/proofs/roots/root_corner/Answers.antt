@@ -3,7 +3,7 @@ use Rattle.wl_scene.proofs.Rooted.{root-at}
 use Rattle.wl_scene.proofs.roots.root_corner.Goals as goal
 use Rattle.wl_scene.specs.Focus.{place_of}
 use Rattle.wl_scene.specs.Roots.{corner_or}
-use Rattle.wl_stacking.specs.Windows.{geometry_corner}
+use Rattle.spec_desktop.specs.Windows.{geometry_corner}
 use Rattle.wl_surface.specs.Surfaces.{history_in}
 
 pub returns : goal.returns

@@ -2,7 +2,7 @@ use Rattle.std.proofs.Common.{◌≡◌, ap, ap₂, sym, ◌∙◌, rules, to_z,
 use Rattle.wl_scene.proofs.Rooted.{root-told}
 use Rattle.wl_scene.proofs.roots.root_on.Goals as goal
 use Rattle.wl_scene.specs.Focus.{place_of}
-use Rattle.wl_stacking.specs.Popups.{placement_of}
+use Rattle.spec_desktop.specs.Popups.{placement_of}
 
 pub returns : goal.returns
 returns g c = λ o p r held surface placement geometry told at.

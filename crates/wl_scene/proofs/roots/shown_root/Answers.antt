@@ -2,7 +2,7 @@ use Rattle.std.proofs.Common.{◌≡◌, Some, None, ap, map, sym, ◌∙◌}
 use Rattle.wl_scene.specs.Roots.{told_root}
 use Rattle.wl_scene.proofs.Rooted.{mapped-kept, popup-kept, stacked-as, stacked-unmapped}
 use Rattle.wl_scene.proofs.roots.shown_root.Goals as goal
-use Rattle.wl_stacking.specs.Popups.{stacked_popup}
+use Rattle.spec_desktop.specs.Popups.{stacked_popup}
 
 pub returns-in_default : goal.returns-in_default
 returns-in_default g c = λ o p rs held only here at same.

@@ -1,8 +1,8 @@
 use Rattle.std.proofs.Common.{◌≡◌, Some, None, sym, ◌∙◌}
-use Rattle.wl_shell.proofs.Standing.{kept-for}
+use Rattle.wl_shell.proofs.ShellsStanding.{kept-for}
 use Rattle.wl_scene.proofs.roots.stacked_root.Goals as goal
 use Rattle.wl_surface.specs.Surfaces.{history_in}
-use Rattle.wl_xdg_state.specs.Kept.{kept_of}
+use Rattle.wl_shell.specs.Kept.{kept_of}
 
 pub returns-in-None : goal.returns-in-None
 returns-in-None g c = λ o p rs held only at same.

@@ -1,8 +1,8 @@
 use Rattle.std.proofs.Common.{◌≡◌, ◌∙◌, subst, sym}
 use Rattle.std.specs.Io.KnownBytes.{Appends}
-use Rattle.wl_plain.specs.Act.{peer_at, status_of}
-use Rattle.wl_plain.specs.declared.answers.Fed.{Fed}
-use Rattle.wl_plain.specs.declared.answers.Fed.TheVariants as fed
+use Rattle.spec_desktop.specs.Act.{peer_at, status_of}
+use Rattle.spec_desktop.specs.declared.answers.Fed.{Fed}
+use Rattle.spec_desktop.specs.declared.answers.Fed.TheVariants as fed
 use Rattle.wl_server.specs.Telling.{ended_line}
 use Rattle.wl_server.specs.Ways.{ways}
 use Rattle.wl_server.proofs.Joining.{close-none, close-taken, is-over, not-ended, not-finished}

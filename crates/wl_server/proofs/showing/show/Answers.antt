@@ -2,8 +2,8 @@ use Rattle.std.proofs.Common.{◌<◌, ℕ, refl, ap, sym, subst, ◌∙◌, ari
 use Rattle.std.proofs.lemmas.Result.{on_ok_weaker}
 use Rattle.std.specs.Io.KnownBytes.{Appends}
 use Rattle.std.proofs.KnownBytes.{Appends-nil}
-use Rattle.wl_plain.specs.Act.{Tick}
-use Rattle.wl_plain.specs.declared.answers.Done.TheVariants as gave
+use Rattle.spec_desktop.specs.Act.{Tick}
+use Rattle.spec_desktop.specs.declared.answers.Done.TheVariants as gave
 use Rattle.wl_recording.specs.Text.{frame_line}
 use Rattle.wl_session.specs.Damage.{Damaged, count_points, has}
 use Rattle.wl_session.specs.Frame.{Image}

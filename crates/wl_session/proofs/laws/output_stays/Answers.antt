@@ -1,4 +1,4 @@
-use Rattle.wl_laws.proofs.Runs.Output.{happens-output}
+use Rattle.law_desktop.proofs.Runs.Output.{happens-output}
 use Rattle.wl_session.proofs.laws.output_stays.Goals as goal
 
 pub returns : goal.returns

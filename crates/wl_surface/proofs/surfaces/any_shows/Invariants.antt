@@ -1,7 +1,7 @@
 use Rattle.std.proofs.Common.{◌≡◌}
 use Rattle.std.specs.List.{list_any}
 use Rattle.slab.specs.Slab.{entries}
-use Rattle.wl_state.specs.Kept.{kept_shows}
+use Rattle.wl_surface.specs.Kept.{kept_shows}
 use Rattle.wl_surface.proofs.surfaces.any_shows.Given as goal
 
 -- what is left tells as much as all entries

@@ -1,7 +1,7 @@
 use Rattle.std.proofs.Common.{rules, w32}
 use Rattle.std.specs.Prelude.{FitsSigned}
 use Rattle.std.proofs.lemmas.Int.{to_z-of_z}
-use Rattle.wl_peer.specs.Peer.{counted}
+use Rattle.spec_desktop.specs.Peer.{counted}
 use Rattle.wl_client.proofs.clients.Client.act.Goals as goal
 
 pub returns-in-Sync-clause-acts : goal.returns-in-Sync-clause-acts

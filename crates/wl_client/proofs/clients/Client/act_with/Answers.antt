@@ -1,4 +1,4 @@
-use Rattle.wl_peer.specs.Peer.{counted}
+use Rattle.spec_desktop.specs.Peer.{counted}
 use Rattle.wl_client.proofs.Taking.{ActsWith-other}
 use Rattle.wl_client.proofs.clients.Client.act_with.Goals as goal
 

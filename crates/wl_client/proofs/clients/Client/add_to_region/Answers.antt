@@ -1,7 +1,7 @@
 use Rattle.std.proofs.Common.{ap, sym, refl, inl, inr}
 use Rattle.std.specs.Prelude.{is_some}
 use Rattle.wl_geom.specs.Region.{Add}
-use Rattle.wl_peer.specs.Peer.{changed_region}
+use Rattle.spec_desktop.specs.Peer.{changed_region}
 use Rattle.wl_client.proofs.Peers.{region-absent, region-grown, region-kept}
 use Rattle.wl_client.proofs.clients.Client.add_to_region.Goals as goal
 

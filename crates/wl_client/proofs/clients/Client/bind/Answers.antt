@@ -1,7 +1,7 @@
 use Rattle.std.proofs.Common.{ap, sym, ◌∙◌}
-use Rattle.wl_interface.specs.declared.interface.Interface.TheVariants.{WlOutput}
+use Rattle.wl_proto.specs.declared.interface.Interface.TheVariants.{WlOutput}
 use Rattle.wl_client.specs.Agreement.{output_of}
-use Rattle.wl_peer.specs.Told.{bind_told}
+use Rattle.spec_desktop.specs.Told.{bind_told}
 use Rattle.wl_client.proofs.Peers.{WantsOr-told, bind_told-nothing}
 use Rattle.wl_client.proofs.clients.Client.bind.Goals as goal
 

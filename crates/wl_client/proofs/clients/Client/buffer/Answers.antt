@@ -1,6 +1,6 @@
 use Rattle.std.proofs.Common.{ap, ◌∙◌}
 use Rattle.wl_client.specs.View.{ClientView}
-use Rattle.wl_peer.specs.Objects.{held_at}
+use Rattle.spec_desktop.specs.Objects.{held_at}
 use Rattle.wl_client.proofs.clients.Client.buffer.Goals as goal
 
 pub returns : goal.returns

@@ -2,7 +2,7 @@ use Rattle.std.proofs.Common.{◌≡◌, ℕ, Some, refl, ◌∙◌, ap, inl, su
 use Rattle.std.specs.BTreeMap.{UpdatesBy}
 use Rattle.std.specs.Ordering.{nat_cmp}
 use Rattle.wl_store.specs.Stores.{used}
-use Rattle.wl_peer.specs.Buffers.{Buffer, numbered}
+use Rattle.spec_desktop.specs.Buffers.{Buffer, numbered}
 use Rattle.wl_client.proofs.Peers.{IsPeer-buffers, IsPeer-stores, counted-below}
 use Rattle.wl_client.proofs.clients.Client.create_buffer.Goals as goal
 

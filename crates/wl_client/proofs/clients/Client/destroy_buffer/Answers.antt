@@ -1,5 +1,5 @@
 use Rattle.std.proofs.Common.{None, refl}
-use Rattle.wl_peer.specs.Peer.{released}
+use Rattle.spec_desktop.specs.Peer.{released}
 use Rattle.wl_client.proofs.Peers.{IsPeer-buffers, IsPeer-stores}
 use Rattle.wl_client.proofs.clients.Client.destroy_buffer.Goals as goal
 

@@ -1,7 +1,7 @@
 use Rattle.std.proofs.Common.{None, ap, refl, sym, ◌∙◌}
-use Rattle.wl_peer.specs.Buffers.{Buffer}
-use Rattle.wl_peer.specs.Objects.{ById}
-use Rattle.wl_peer.specs.Used.{has_used}
+use Rattle.spec_desktop.specs.Buffers.{Buffer}
+use Rattle.spec_desktop.specs.Objects.{ById}
+use Rattle.spec_desktop.specs.Used.{has_used}
 use Rattle.wl_client.proofs.Peers.{IsPeer-buffers}
 use Rattle.wl_client.proofs.Taking.{ActsWith-used, ActsWith-unused}
 use Rattle.wl_client.proofs.clients.Client.destroy_buffer_with.Goals as goal

@@ -1,7 +1,7 @@
 use Rattle.std.proofs.Common.{ap, ◌∙◌}
-use Rattle.wl_peer.specs.Used.{has_used}
+use Rattle.spec_desktop.specs.Used.{has_used}
 use Rattle.wl_client.specs.View.{ClientView}
-use Rattle.wl_peer.specs.Objects.{held_at}
+use Rattle.spec_desktop.specs.Objects.{held_at}
 use Rattle.wl_client.proofs.Taking.{used-same}
 use Rattle.wl_client.proofs.clients.Client.is_buffer_used.Goals as goal
 

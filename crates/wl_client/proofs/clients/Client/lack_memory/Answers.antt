@@ -1,5 +1,5 @@
 use Rattle.std.proofs.Common.{ap, ◌∙◌}
-use Rattle.wl_peer.specs.Told.{error_told}
+use Rattle.spec_desktop.specs.Told.{error_told}
 use Rattle.wl_client.proofs.Peers.{LacksMemory-told}
 use Rattle.wl_client.proofs.clients.Client.lack_memory.Goals as goal
 

@@ -2,7 +2,7 @@ use Rattle.std.proofs.Common.{get_or, [], ap, ◌∙◌}
 use Rattle.wl_proto.specs.declared.event.Event.{Event}
 use Rattle.wl_proto.specs.declared.event.EventBody.TheVariants.{WlDisplay}
 use Rattle.wl_proto.specs.declared.wl_display.WlDisplayEvent.TheVariants.{Error}
-use Rattle.wl_peer.specs.Peer.{queued, ended}
+use Rattle.spec_desktop.specs.Peer.{queued, ended}
 use Rattle.wl_client.specs.Said.{said_of}
 use Rattle.wl_client.specs.View.{ClientView}
 use Rattle.wl_client.proofs.Peers.{IsPeer-queued, IsPeer-unqueued, Queues-refused, Queues-queued, Queues-none}

@@ -1,5 +1,5 @@
 use Rattle.std.proofs.Common.{◌≡◌, drop, length, map, ◌≤◌}
-use Rattle.wl_peer.specs.Peer.{Peer, Queues}
+use Rattle.spec_desktop.specs.Peer.{Peer, Queues}
 use Rattle.wl_client.specs.Agreement.{IsPeer}
 use Rattle.wl_client.specs.Said.{said_of}
 use Rattle.wl_client.proofs.clients.Client.queue_all.Given as goal

@@ -1,7 +1,7 @@
 use Rattle.std.proofs.Common.{ap, ◌∙◌}
-use Rattle.wl_peer.specs.Peer.{ended, queued}
+use Rattle.spec_desktop.specs.Peer.{ended, queued}
 use Rattle.wl_client.specs.Said.{said_of}
-use Rattle.wl_peer.specs.Told.{id_deleted}
+use Rattle.spec_desktop.specs.Told.{id_deleted}
 use Rattle.wl_client.specs.View.{ClientView}
 use Rattle.wl_client.proofs.Peers.{IsPeer-queued, IsPeer-unqueued}
 use Rattle.wl_client.proofs.Queueing.{then-queued, then-refused, then-none}

@@ -1,7 +1,7 @@
 use Rattle.std.proofs.Common.{◌≡◌, ◌++◌, List, drop, length, map, ◌≤◌}
 use Rattle.wl_client.specs.Agreement.{IsPeer}
-use Rattle.wl_peer.specs.Peer.{Peer, Queues}
-use Rattle.wl_peer.specs.Told.{Said, id_deleted}
+use Rattle.spec_desktop.specs.Peer.{Peer, Queues}
+use Rattle.spec_desktop.specs.Told.{Said, id_deleted}
 use Rattle.wl_client.proofs.clients.Client.queue_deletions.Given as goal
 
 -- what is left to queue leads where all events lead

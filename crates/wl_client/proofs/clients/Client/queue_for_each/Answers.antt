@@ -1,6 +1,6 @@
 use Rattle.std.proofs.Common.{◌≡◌, ℕ, ◌∙◌, ap, None, Some}
-use Rattle.wl_peer.specs.Peer.{queued}
-use Rattle.wl_peer.specs.Told.{Said, said}
+use Rattle.spec_desktop.specs.Peer.{queued}
+use Rattle.spec_desktop.specs.Told.{Said, said}
 use Rattle.wl_client.specs.Pointers.{pointer_message}
 use Rattle.wl_client.specs.Said.{said_of}
 use Rattle.wl_client.specs.View.{ClientView}

@@ -1,5 +1,5 @@
 use Rattle.std.proofs.Common.{◌++◌, [], ◌∷◌, ap, ◌∙◌, map, refl, sym}
-use Rattle.wl_peer.specs.Told.{id_deleted, released_told}
+use Rattle.spec_desktop.specs.Told.{id_deleted, released_told}
 use Rattle.wl_client.proofs.Peers.{Queues-told}
 use Rattle.wl_client.proofs.Queueing.{held_without-then, without-kept, over-now}
 use Rattle.wl_client.proofs.clients.Client.remove_with.Goals as goal

@@ -2,8 +2,8 @@ use Rattle.std.proofs.Common.{refl, inl, inr, w32}
 use Rattle.std.specs.Prelude.{unsigned_abs}
 use Rattle.std.proofs.lemmas.Int.{to_z-of_z}
 use Rattle.wl_store.specs.Stores.{resized}
-use Rattle.wl_peer.specs.declared.actions.Action.TheVariants.{ResizePool}
-use Rattle.wl_peer.specs.Peer.{changed}
+use Rattle.spec_desktop.specs.declared.actions.Action.TheVariants.{ResizePool}
+use Rattle.spec_desktop.specs.Peer.{changed}
 use Rattle.wl_client.proofs.Peers.{IsPeer-stores}
 use Rattle.wl_client.proofs.clients.Client.resize_pool.Goals as goal
 

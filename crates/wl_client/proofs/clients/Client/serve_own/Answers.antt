@@ -1,5 +1,5 @@
 use Rattle.std.proofs.Common.{drop}
-use Rattle.wl_peer.specs.Peer.{with_rest}
+use Rattle.spec_desktop.specs.Peer.{with_rest}
 use Rattle.wl_client.proofs.Peers.{IsPeer-with_rest}
 use Rattle.wl_client.proofs.Taking.{keeps-own, serves-own}
 use Rattle.wl_client.proofs.clients.Client.serve_own.Goals as goal

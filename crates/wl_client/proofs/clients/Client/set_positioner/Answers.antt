@@ -1,6 +1,6 @@
 use Rattle.std.proofs.Common.{ap, sym, refl}
 use Rattle.std.specs.Prelude.{is_some}
-use Rattle.wl_peer.specs.Peer.{set_positioner}
+use Rattle.spec_desktop.specs.Peer.{set_positioner}
 use Rattle.wl_client.proofs.Peers.{positioner-absent, positioner-set}
 use Rattle.wl_client.proofs.clients.Client.set_positioner.Goals as goal
 

@@ -1,7 +1,7 @@
 use Rattle.std.proofs.Common.{◌≡◌, get_or, ap, ◌∙◌, sym, subst}
 use Rattle.std.proofs.lemmas.List.{drop_all}
 use Rattle.wl_client.specs.Agreement.{IsPeer}
-use Rattle.wl_peer.specs.Peer.{Peer, all_removed, removed}
+use Rattle.spec_desktop.specs.Peer.{Peer, all_removed, removed}
 use Rattle.wl_client.proofs.Queueing.{all_removed-next, held_without-next}
 use Rattle.wl_client.proofs.clients.Client.take_out.Goals as goal
 

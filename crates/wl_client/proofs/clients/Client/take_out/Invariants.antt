@@ -3,7 +3,7 @@ use Rattle.std.specs.List.{list_any}
 use Rattle.std.specs.Prelude.{◌==◌, if◌then◌else◌}
 use Rattle.wl_table.specs.Objects.{entry_of}
 use Rattle.wl_client.specs.Agreement.{IsPeer}
-use Rattle.wl_peer.specs.Peer.{Peer, all_removed}
+use Rattle.spec_desktop.specs.Peer.{Peer, all_removed}
 use Rattle.wl_client.proofs.clients.Client.take_out.Given as goal
 
 -- what goes yet leads where all of it leads

@@ -1,7 +1,7 @@
 use Rattle.std.proofs.Common.{◌≡◌, ℕ, ◌∙◌, ap, subst, Option, Some}
 use Rattle.std.specs.Prelude.{MatchResult}
-use Rattle.wl_peer.specs.declared.cause.Cause.{Cause}
-use Rattle.wl_peer.specs.Peer.{QueuesTo}
+use Rattle.spec_desktop.specs.declared.cause.Cause.{Cause}
+use Rattle.spec_desktop.specs.Peer.{QueuesTo}
 use Rattle.wl_client.specs.Pointers.{pointers_told, serial_after}
 use Rattle.wl_client.specs.View.{ClientView}
 use Rattle.wl_client.proofs.Telling.{IsPeer-drawn, only-drawn}

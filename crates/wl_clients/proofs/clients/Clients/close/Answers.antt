@@ -1,8 +1,8 @@
 use Rattle.std.proofs.Common.{false, ap, refl, sym, ◌∙◌}
 use Rattle.std.proofs.lemmas.List.{length-set}
-use Rattle.wl_plain.specs.Act.{Close, IsClosed}
-use Rattle.wl_plain.specs.declared.answers.Done.TheVariants as gave
-use Rattle.wl_resident.specs.View.{MarkedDesk, Pile, pile_of}
+use Rattle.spec_desktop.specs.Act.{Close, IsClosed}
+use Rattle.spec_desktop.specs.declared.answers.Done.TheVariants as gave
+use Rattle.wl_clients.specs.View.{MarkedDesk, Pile, pile_of}
 use Rattle.wl_clients.proofs.Calls.{Changes-none, closed, unclosed}
 use Rattle.wl_clients.proofs.Leading.{still-led}
 use Rattle.wl_clients.proofs.Marks.{steps-still}

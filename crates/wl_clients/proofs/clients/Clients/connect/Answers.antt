@@ -1,7 +1,7 @@
 use Rattle.std.proofs.Common.{ap, refl, ◌∙◌}
 use Rattle.std.proofs.lemmas.List.{length-set}
-use Rattle.wl_plain.specs.Act.{Connect, lowest}
-use Rattle.wl_resident.specs.View.{MarkedDesk, pile_of}
+use Rattle.spec_desktop.specs.Act.{Connect, lowest}
+use Rattle.wl_clients.specs.View.{MarkedDesk, pile_of}
 use Rattle.wl_clients.proofs.Calls.{Connects-full, Connects-new, Connects-refused}
 use Rattle.wl_clients.proofs.Leading.{still-led}
 use Rattle.wl_clients.proofs.Marks.{steps-still}

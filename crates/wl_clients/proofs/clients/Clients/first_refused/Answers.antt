@@ -1,7 +1,7 @@
 use Rattle.std.proofs.Common.{ap, sym, ◌∙◌}
 use Rattle.std.proofs.lemmas.List.{length-map}
 use Rattle.std.specs.Prelude.{position}
-use Rattle.wl_resident.specs.View.{pile_of}
+use Rattle.wl_clients.specs.View.{pile_of}
 use Rattle.wl_clients.specs.Midway.{is_refused}
 use Rattle.wl_clients.proofs.Looks.{mid-first, mid-no-first}
 use Rattle.wl_clients.proofs.clients.Clients.first_refused.Goals as goal

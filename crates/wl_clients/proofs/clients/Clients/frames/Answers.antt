@@ -1,5 +1,5 @@
 use Rattle.std.proofs.Common.{◌≡◌, refl, subst, ℕ, ◌∙◌, arith}
-use Rattle.wl_invariants.proofs.KeptRecords.Marks.Framing.{shows-told}
+use Rattle.law_desktop.proofs.KeptRecords.Marks.Framing.{shows-told}
 use Rattle.wl_clients.proofs.Framing.{HasTold, more-told, none-told, told-most}
 use Rattle.wl_clients.proofs.Leading.{frames-led}
 use Rattle.wl_clients.proofs.clients.Clients.frames.Goals as goal

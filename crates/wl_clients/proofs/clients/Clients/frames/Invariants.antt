@@ -1,6 +1,6 @@
 use Rattle.std.proofs.Common.{◌≡◌}
-use Rattle.wl_plain.specs.Desktop.{Desktop}
-use Rattle.wl_marking.specs.Marking.{IsAsLarge}
+use Rattle.spec_desktop.specs.Desktop.{Desktop}
+use Rattle.wl_scene.specs.Marking.{IsAsLarge}
 use Rattle.wl_clients.specs.Agreeing.{Agrees}
 use Rattle.wl_clients.proofs.Framing.{HasTold}
 use Rattle.wl_clients.proofs.clients.Clients.frames.Given as goal

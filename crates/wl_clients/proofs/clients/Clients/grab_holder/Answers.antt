@@ -1,4 +1,4 @@
-use Rattle.wl_resident.specs.View.{pile_of}
+use Rattle.wl_clients.specs.View.{pile_of}
 use Rattle.wl_clients.proofs.Holders.{mid-holds, mid-none-holds}
 use Rattle.wl_clients.proofs.clients.Clients.grab_holder.Goals as goal
 

@@ -1,4 +1,4 @@
-use Rattle.wl_plain.specs.Settling.{unstruck}
+use Rattle.spec_desktop.specs.Settling.{unstruck}
 use Rattle.wl_clients.proofs.Grabbing.{grabbing-of}
 use Rattle.wl_clients.proofs.Midway.{mid_begins_and_ends}
 use Rattle.wl_clients.proofs.clients.Clients.grabbing.Goals as goal

@@ -1,5 +1,5 @@
 use Rattle.std.proofs.Common.{◌∙◌}
-use Rattle.wl_resident.specs.View.{pile_of}
+use Rattle.wl_clients.specs.View.{pile_of}
 use Rattle.wl_clients.proofs.Looks.{mid-tree}
 use Rattle.wl_clients.proofs.Seats.{view_of}
 use Rattle.wl_clients.proofs.clients.Clients.is_in_tree.Goals as goal

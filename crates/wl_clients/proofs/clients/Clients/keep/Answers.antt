@@ -1,6 +1,6 @@
 use Rattle.std.proofs.Common.{ap, refl, ◌∙◌}
 use Rattle.std.proofs.lemmas.List.{length-set}
-use Rattle.wl_resident.specs.View.{MarkedDesk, pile_of}
+use Rattle.wl_clients.specs.View.{MarkedDesk, pile_of}
 use Rattle.wl_clients.proofs.Kept.{err-then, keeps, lives-there, ok-then, stays}
 use Rattle.wl_clients.proofs.Steps.{keeps-nobody, keeps-whole, stays-whole}
 use Rattle.wl_clients.proofs.Seats.{empty-slot, found, missing, still}

@@ -1,8 +1,8 @@
 use Rattle.std.proofs.Common.{◌∙◌, ap, refl, rules, w64}
 use Rattle.std.proofs.lemmas.Int.{to_z-of_z}
 use Rattle.std.specs.Prelude.{FitsSigned}
-use Rattle.wl_resident.specs.Agreement.{numbers_in}
-use Rattle.wl_resident.specs.View.{MarkedDesk, pile_of}
+use Rattle.wl_clients.specs.Agreement.{numbers_in}
+use Rattle.wl_clients.specs.View.{MarkedDesk, pile_of}
 use Rattle.wl_clients.specs.Residents.{client_views}
 use Rattle.wl_clients.proofs.Opened.{open_all}
 use Rattle.wl_clients.proofs.Restacked.{here-moved, mid-sized, nobody-named, of-here}

@@ -1,8 +1,8 @@
 use Rattle.std.proofs.Common.{ap, sym, ◌∙◌}
 use Rattle.wl_store.specs.Stores.{next_after}
-use Rattle.wl_plain.specs.Act.{peer_of}
+use Rattle.spec_desktop.specs.Act.{peer_of}
 use Rattle.wl_clients.specs.NextStore.{next_store_of}
-use Rattle.wl_resident.specs.View.{pile_of}
+use Rattle.wl_clients.specs.View.{pile_of}
 use Rattle.wl_clients.proofs.Calls.{peer-read}
 use Rattle.wl_clients.proofs.Seats.{missing}
 use Rattle.wl_clients.proofs.clients.Clients.next_store.Goals as goal

@@ -1,7 +1,7 @@
 use Rattle.std.proofs.Common.{ap, sym, ◌∙◌, pos}
 use Rattle.wl_paint.specs.Damage.{has}
-use Rattle.wl_resident.specs.View.{pile_of}
-use Rattle.wl_lending.specs.Painting.{IsColor}
+use Rattle.wl_clients.specs.View.{pile_of}
+use Rattle.wl_clients.specs.Painting.{IsColor}
 use Rattle.wl_clients.proofs.PaintedDesks.{desk-painted, desk-said}
 use Rattle.wl_clients.proofs.clients.Clients.paint.Goals as goal
 

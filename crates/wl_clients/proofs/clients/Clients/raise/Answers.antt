@@ -1,6 +1,6 @@
 use Rattle.std.proofs.Common.{◌∙◌, ap}
-use Rattle.wl_resident.specs.Agreement.{numbers_in}
-use Rattle.wl_resident.specs.View.{MarkedDesk, pile_of}
+use Rattle.wl_clients.specs.Agreement.{numbers_in}
+use Rattle.wl_clients.specs.View.{MarkedDesk, pile_of}
 use Rattle.wl_clients.specs.Residents.{client_views}
 use Rattle.wl_clients.proofs.Opened.{open_all}
 use Rattle.wl_clients.proofs.Restacked.{mid-raised, mid-sized, of-named}

@@ -1,8 +1,8 @@
 use Rattle.std.proofs.Common.{ap, refl, ◌∙◌}
 use Rattle.std.proofs.lemmas.List.{length-set}
 use Rattle.wl_client.specs.View.{ClientView}
-use Rattle.wl_resident.specs.Agreement.{numbers_in}
-use Rattle.wl_resident.specs.View.{MarkedDesk, pile_of}
+use Rattle.wl_clients.specs.Agreement.{numbers_in}
+use Rattle.wl_clients.specs.View.{MarkedDesk, pile_of}
 use Rattle.wl_clients.proofs.Midway.{told-numbers}
 use Rattle.wl_clients.proofs.Released.{here-released, nobody-released, rest-released, unput-released}
 use Rattle.wl_clients.proofs.Rests.{rest-no-more, rest-unput}

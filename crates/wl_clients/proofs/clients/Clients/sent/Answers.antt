@@ -1,8 +1,8 @@
-use Rattle.wl_plain.specs.Act.{Send, IsSent}
+use Rattle.spec_desktop.specs.Act.{Send, IsSent}
 use Rattle.std.proofs.Common.{ap, refl, false, ◌∙◌}
 use Rattle.std.proofs.lemmas.List.{length-set}
-use Rattle.wl_plain.specs.declared.answers.Done.TheVariants as gave
-use Rattle.wl_resident.specs.View.{MarkedDesk, pile_of}
+use Rattle.spec_desktop.specs.declared.answers.Done.TheVariants as gave
+use Rattle.wl_clients.specs.View.{MarkedDesk, pile_of}
 use Rattle.wl_clients.proofs.Calls.{Changes-none, changes}
 use Rattle.wl_clients.proofs.Leading.{still-led}
 use Rattle.wl_clients.proofs.Marks.{steps-still}

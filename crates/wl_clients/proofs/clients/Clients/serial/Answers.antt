@@ -1,6 +1,6 @@
 use Rattle.std.proofs.Common.{ap, sym, ◌∙◌}
 use Rattle.std.specs.Prelude.{Some}
-use Rattle.wl_resident.specs.View.{pile_of}
+use Rattle.wl_clients.specs.View.{pile_of}
 use Rattle.wl_clients.proofs.Looks.{no-serial, serial-read}
 use Rattle.wl_clients.proofs.clients.Clients.serial.Goals as goal
 

@@ -1,5 +1,5 @@
 use Rattle.std.proofs.Common.{◌∙◌}
-use Rattle.wl_resident.specs.View.{pile_of}
+use Rattle.wl_clients.specs.View.{pile_of}
 use Rattle.wl_clients.proofs.Looks.{mid-stands}
 use Rattle.wl_clients.proofs.Seats.{view_of}
 use Rattle.wl_clients.proofs.clients.Clients.stands.Goals as goal

@@ -1,6 +1,6 @@
 use Rattle.std.proofs.Common.{ap, sym, ◌∙◌}
-use Rattle.wl_plain.specs.Act.{fed_of, peer_of, status_of}
-use Rattle.wl_resident.specs.View.{pile_of}
+use Rattle.spec_desktop.specs.Act.{fed_of, peer_of, status_of}
+use Rattle.wl_clients.specs.View.{pile_of}
 use Rattle.wl_clients.proofs.Calls.{peer-read}
 use Rattle.wl_clients.proofs.Seats.{missing}
 use Rattle.wl_clients.proofs.clients.Clients.status.Goals as goal

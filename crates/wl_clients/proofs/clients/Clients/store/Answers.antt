@@ -1,9 +1,9 @@
-use Rattle.wl_plain.specs.Act.{Store, IsStored}
-use Rattle.wl_plain.specs.declared.answers.Stored.TheVariants as stored
+use Rattle.spec_desktop.specs.Act.{Store, IsStored}
+use Rattle.spec_desktop.specs.declared.answers.Stored.TheVariants as stored
 use Rattle.std.proofs.Common.{ap, refl, ◌∙◌}
 use Rattle.std.proofs.lemmas.List.{length-set}
-use Rattle.wl_plain.specs.declared.answers.Done.TheVariants as gave
-use Rattle.wl_resident.specs.View.{MarkedDesk, pile_of}
+use Rattle.spec_desktop.specs.declared.answers.Done.TheVariants as gave
+use Rattle.wl_clients.specs.View.{MarkedDesk, pile_of}
 use Rattle.wl_clients.proofs.Calls.{Changes-none, changes}
 use Rattle.wl_clients.proofs.Leading.{still-led}
 use Rattle.wl_clients.proofs.Marks.{steps-still}

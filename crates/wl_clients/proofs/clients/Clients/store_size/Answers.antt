@@ -1,8 +1,8 @@
 use Rattle.std.proofs.Common.{ap, length, sym, ◌∙◌}
 use Rattle.std.specs.Option.{option_map}
 use Rattle.wl_store.specs.Stores.{store_at}
-use Rattle.wl_plain.specs.Act.{peer_of, store_size_of}
-use Rattle.wl_resident.specs.View.{pile_of}
+use Rattle.spec_desktop.specs.Act.{peer_of, store_size_of}
+use Rattle.wl_clients.specs.View.{pile_of}
 use Rattle.wl_clients.proofs.Calls.{peer-read}
 use Rattle.wl_clients.proofs.Seats.{missing}
 use Rattle.wl_clients.proofs.clients.Clients.store_size.Goals as goal

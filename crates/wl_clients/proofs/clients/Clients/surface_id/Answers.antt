@@ -1,6 +1,6 @@
 use Rattle.std.proofs.Common.{◌≡◌, ℕ, Some, ap, subst, sym, ◌∙◌}
 use Rattle.std.specs.Prelude.{IfNone, IfSome, ◌≢◌}
-use Rattle.wl_peer.specs.Objects.{ById}
+use Rattle.spec_desktop.specs.Objects.{ById}
 use Rattle.wl_clients.specs.Residents.{resident_at}
 use Rattle.wl_clients.proofs.Numbers.{found-named, named-none, numbers-here, unfound-or}
 use Rattle.wl_clients.proofs.Seats.{here-of}

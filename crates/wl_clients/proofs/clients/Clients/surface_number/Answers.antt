@@ -1,5 +1,5 @@
 use Rattle.std.proofs.Common.{ℕ, ap, sym, ◌∙◌}
-use Rattle.wl_peer.specs.Objects.{ById}
+use Rattle.spec_desktop.specs.Objects.{ById}
 use Rattle.wl_clients.specs.Residents.{resident_at}
 use Rattle.wl_clients.proofs.Numbers.{nameless, numbers-here}
 use Rattle.wl_clients.proofs.Seats.{here-of}

@@ -1,8 +1,8 @@
 use Rattle.std.proofs.Common.{None, ap, refl, subst, sym, ◌∙◌}
 use Rattle.std.proofs.lemmas.List.{length-set}
-use Rattle.wl_resident.specs.Agreement.{numbers_in}
-use Rattle.wl_resident.specs.Screens.{IsTouchedBy}
-use Rattle.wl_resident.specs.View.{MarkedDesk, pile_of}
+use Rattle.wl_clients.specs.Agreement.{numbers_in}
+use Rattle.wl_clients.specs.Screens.{IsTouchedBy}
+use Rattle.wl_clients.specs.View.{MarkedDesk, pile_of}
 use Rattle.wl_clients.specs.Residents.{client_views, resident_at}
 use Rattle.wl_requests.specs.Messages.{IsAsked}
 use Rattle.wl_clients.proofs.Asks.{message-asks, over-there}

@@ -1,6 +1,6 @@
 use Rattle.std.proofs.Common.{ap, sym, ◌∙◌}
 use Rattle.wl_paint.specs.Damage.{Damaged, has}
-use Rattle.wl_resident.specs.View.{MarkedDesk}
+use Rattle.wl_clients.specs.View.{MarkedDesk}
 use Rattle.wl_clients.proofs.clients.Clients.take_damage.Goals as goal
 
 pub returns-clause-none : goal.returns-clause-none

@@ -1,7 +1,7 @@
 use Rattle.std.proofs.Common.{ap, refl, ◌∙◌}
 use Rattle.std.proofs.lemmas.List.{length-set}
-use Rattle.wl_resident.specs.Agreement.{numbers_in}
-use Rattle.wl_resident.specs.View.{MarkedDesk, pile_of}
+use Rattle.wl_clients.specs.Agreement.{numbers_in}
+use Rattle.wl_clients.specs.View.{MarkedDesk, pile_of}
 use Rattle.wl_clients.proofs.Midway.{mid-missing, mid-still, tells-kept, told-numbers}
 use Rattle.wl_clients.proofs.Rests.{rest-no-more, rest-unput, told-no-more}
 use Rattle.wl_clients.proofs.Seats.{empty-slot, found, still}

@@ -1,7 +1,7 @@
 use Rattle.std.proofs.Common.{ap, refl, ◌∙◌}
 use Rattle.std.proofs.lemmas.List.{length-set}
-use Rattle.wl_resident.specs.Agreement.{numbers_in}
-use Rattle.wl_resident.specs.View.{MarkedDesk, pile_of}
+use Rattle.wl_clients.specs.Agreement.{numbers_in}
+use Rattle.wl_clients.specs.View.{MarkedDesk, pile_of}
 use Rattle.wl_clients.specs.Residents.{client_views}
 use Rattle.wl_clients.proofs.Framing.{here-told, tells-nobody}
 use Rattle.wl_clients.proofs.Seats.{as-large, empty-slot, found, missing, still}

@@ -1,4 +1,4 @@
-use Rattle.wl_resident.specs.View.{pile_of}
+use Rattle.wl_clients.specs.View.{pile_of}
 use Rattle.wl_clients.proofs.Looks.{mid-numbered, mid-window}
 use Rattle.wl_clients.proofs.Seats.{view_of}
 use Rattle.wl_clients.proofs.clients.Clients.window.Goals as goal

@@ -2,7 +2,7 @@ use Rattle.wl_clients.proofs.Lends.{lent-at}
 use Rattle.wl_clients.proofs.windows.LentWindows.window.Goals as goal
 use Rattle.wl_clients.specs.Lent.{client_lent, slots_lent}
 use Rattle.wl_clients.specs.Residents.{client_views, owned_views}
-use Rattle.wl_lending.specs.Lent.{window_lent}
+use Rattle.wl_clients.specs.LentPictures.{window_lent}
 
 pub returns : goal.returns
 returns g c =

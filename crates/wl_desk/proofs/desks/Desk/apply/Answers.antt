@@ -1,6 +1,6 @@
 use Rattle.std.proofs.Common.{refl}
 use Rattle.wl_scene.specs.Focus.{target_of}
-use Rattle.wl_stacking.specs.PointerActions.{Button, Enter, Leave, Motion}
+use Rattle.spec_desktop.specs.PointerActions.{Button, Enter, Leave, Motion}
 use Rattle.wl_desk.proofs.Applying.{one-applied}
 use Rattle.wl_desk.proofs.Telling.{entered-applied, left-applied}
 use Rattle.wl_desk.proofs.desks.Desk.apply.Goals as goal

@@ -1,8 +1,8 @@
 use Rattle.std.proofs.Common.{ℕ, List, ap, map, subst, sym, ◌∙◌}
 use Rattle.std.proofs.lemmas.Result.{err_from_is_err_and}
 use Rattle.wl_paint.specs.Damage.{Damaged, has}
-use Rattle.wl_marking.specs.Marking.{IsAsLarge}
-use Rattle.wl_plain.specs.Desktop.{unpointed}
+use Rattle.wl_scene.specs.Marking.{IsAsLarge}
+use Rattle.spec_desktop.specs.Desktop.{unpointed}
 use Rattle.wl_clients.specs.View.{DeskView}
 use Rattle.wl_clients.specs.declared.grabs.Latest.{Latest}
 use Rattle.wl_desk.specs.View.{latest_of, seat_of}

@@ -2,10 +2,10 @@ use mir.Val.{SFits}
 use Rattle.std.proofs.Common.{List, None, Some, rules, subst, sym, w32, ◌≡◌}
 use Rattle.std.proofs.lemmas.Int.{to_z-of_z}
 use Rattle.wl_scene.specs.Focus.{target_of}
-use Rattle.wl_stacking.specs.Windows.{Window}
-use Rattle.wl_plain.specs.Replies.{focus_window}
-use Rattle.wl_plain.specs.Pointing.{entered_surface}
-use Rattle.wl_plain.specs.Settling.{told_drawn}
+use Rattle.spec_desktop.specs.Windows.{Window}
+use Rattle.spec_desktop.specs.Replies.{focus_window}
+use Rattle.spec_desktop.specs.Pointing.{entered_surface}
+use Rattle.spec_desktop.specs.Settling.{told_drawn}
 use Rattle.wl_desk.specs.Points.{point_told}
 use Rattle.wl_desk.proofs.Noting.{drawing-keeps}
 use Rattle.wl_desk.proofs.Points.{point-there}

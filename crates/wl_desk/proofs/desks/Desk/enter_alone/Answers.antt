@@ -3,9 +3,9 @@ use Rattle.std.proofs.Common.{Some, [], refl, rules, true, w32, ◌∷◌}
 use Rattle.std.proofs.lemmas.Int.{to_z-of_z}
 use Rattle.wl_client.specs.declared.pointers.PointerEvent.TheVariants.{Enter}
 use Rattle.wl_scene.specs.Focus.{target_of}
-use Rattle.wl_plain.specs.Changing.{drawing}
-use Rattle.wl_plain.specs.Replies.{entered_at, focus_window}
-use Rattle.wl_plain.specs.Stacked.{all_windows}
+use Rattle.spec_desktop.specs.Changing.{drawing}
+use Rattle.spec_desktop.specs.Replies.{entered_at, focus_window}
+use Rattle.spec_desktop.specs.Stacked.{all_windows}
 use Rattle.wl_desk.proofs.LatestStay.{keeps-noted}
 use Rattle.wl_desk.proofs.Noting.{drawing-keeps}
 use Rattle.wl_desk.proofs.Points.{point-there}

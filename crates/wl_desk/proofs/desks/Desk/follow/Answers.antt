@@ -1,5 +1,5 @@
 use Rattle.std.proofs.Common.{map, ap, subst, sym, refl, ◌∙◌}
-use Rattle.wl_marking.specs.Marking.{IsAsLarge}
+use Rattle.wl_scene.specs.Marking.{IsAsLarge}
 use Rattle.wl_paint.specs.Damage.{Damaged}
 use Rattle.wl_scene.specs.Focus.{target_or_none}
 use Rattle.wl_clients.specs.View.{DeskView}

@@ -1,6 +1,6 @@
 use Rattle.std.proofs.Common.{ap, map, subst, ◌∙◌}
 use Rattle.wl_paint.specs.Damage.{Damaged}
-use Rattle.wl_marking.specs.Marking.{IsAsLarge}
+use Rattle.wl_scene.specs.Marking.{IsAsLarge}
 use Rattle.wl_clients.specs.View.{DeskView}
 use Rattle.wl_desk.proofs.Calls.{frames, large-on}
 use Rattle.wl_desk.proofs.desks.Desk.frames.Goals as goal

@@ -1,7 +1,7 @@
 use Rattle.std.proofs.Common.{◌≡◌, ℕ, Bool, true, false, refl, map, subst, ◌∙◌}
-use Rattle.wl_plain.specs.declared.answers.Done.TheVariants as gave
-use Rattle.wl_plain.specs.Act.{Connect, Leave}
-use Rattle.wl_plain.specs.Happenings.{Single}
+use Rattle.spec_desktop.specs.declared.answers.Done.TheVariants as gave
+use Rattle.spec_desktop.specs.Act.{Connect, Leave}
+use Rattle.spec_desktop.specs.Happenings.{Single}
 use Rattle.wl_clients.specs.Leading.{LeadsBy}
 use Rattle.wl_clients.specs.View.{MarkedDesk as KeptDesk}
 use Rattle.wl_desk.proofs.Calls.{goes, large-on, quiet-step}

@@ -1,5 +1,5 @@
 use Rattle.std.proofs.Common.{map, refl}
-use Rattle.wl_plain.specs.Desktop.{unpointed}
+use Rattle.spec_desktop.specs.Desktop.{unpointed}
 use Rattle.wl_clients.proofs.Kept.{err-then, ok-then}
 use Rattle.wl_desk.proofs.Calls.{desk_with}
 use Rattle.wl_desk.proofs.Keeping.{agrees-still, keeps}

@@ -1,7 +1,7 @@
 use Rattle.std.proofs.Common.{ap, false, refl, sym, true, ◌∙◌}
 use Rattle.std.specs.Prelude.{is_some}
-use Rattle.wl_plain.specs.Pointing.{left_surface}
-use Rattle.wl_plain.specs.Settling.{leave_drawn}
+use Rattle.spec_desktop.specs.Pointing.{left_surface}
+use Rattle.spec_desktop.specs.Settling.{leave_drawn}
 use Rattle.wl_desk.proofs.Noting.{drawing-keeps}
 use Rattle.wl_desk.proofs.Telling.{not-left, told-left}
 use Rattle.wl_desk.proofs.desks.Desk.leave.Goals as goal

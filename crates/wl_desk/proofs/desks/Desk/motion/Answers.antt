@@ -1,9 +1,9 @@
 use Rattle.std.proofs.Common.{◌≡◌, [], Some, ap, ap₂, arith, map, of_z, subst, to_z, w32, ◌∙◌}
 use Rattle.std.proofs.lemmas.Int.{ints}
-use Rattle.wl_plain.specs.Happens.{within}
-use Rattle.wl_stacking.specs.PointerActions.{move_of}
+use Rattle.spec_desktop.specs.Happens.{within}
+use Rattle.spec_desktop.specs.PointerActions.{move_of}
 use Rattle.wl_paint.specs.Damage.{Damaged}
-use Rattle.wl_marking.specs.Marking.{IsAsLarge}
+use Rattle.wl_scene.specs.Marking.{IsAsLarge}
 use Rattle.wl_scene.specs.Focus.{action_of, target_or_none}
 use Rattle.wl_desk.proofs.Calls.{desk_with, large-on}
 use Rattle.wl_desk.proofs.Moving.{moves, place_at, point-held}

@@ -1,6 +1,6 @@
 use Rattle.std.proofs.Common.{◌≡◌, ◌==◌, false, ap, refl, rules, sym, tests, ◌∙◌}
 use Rattle.wl_scene.specs.Focus.{target_of, target_or_none}
-use Rattle.wl_plain.specs.Settling.{unstruck}
+use Rattle.spec_desktop.specs.Settling.{unstruck}
 use Rattle.wl_desk.proofs.Movables.{one-whole, other-whole, rootless-whole, telling-at, unfocused-whole, unheld-whole, windowless-whole}
 use Rattle.wl_desk.proofs.desks.Desk.movable.Goals as goal
 

@@ -2,9 +2,9 @@ use mir.Val.{SFits}
 use Rattle.std.proofs.Common.{List, None, Some, rules, subst, sym, w32, ◌≡◌}
 use Rattle.std.proofs.lemmas.Int.{to_z-of_z}
 use Rattle.wl_scene.specs.Focus.{target_of}
-use Rattle.wl_stacking.specs.Windows.{Window}
-use Rattle.wl_plain.specs.Replies.{focus_window}
-use Rattle.wl_plain.specs.Pointing.{motion_told}
+use Rattle.spec_desktop.specs.Windows.{Window}
+use Rattle.spec_desktop.specs.Replies.{focus_window}
+use Rattle.spec_desktop.specs.Pointing.{motion_told}
 use Rattle.wl_desk.specs.Points.{point_told}
 use Rattle.wl_desk.proofs.Noting.{nothing-keeps}
 use Rattle.wl_desk.proofs.Points.{point-there}

@@ -1,4 +1,4 @@
-use Rattle.wl_plain.specs.Desktop.{unpointed}
+use Rattle.spec_desktop.specs.Desktop.{unpointed}
 use Rattle.wl_desk.proofs.desks.Desk.next_store.Goals as goal
 
 pub returns-clause-next : goal.returns-clause-next

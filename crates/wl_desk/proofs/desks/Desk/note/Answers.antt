@@ -1,6 +1,6 @@
 use Rattle.std.proofs.Common.{List, ap, sym, ◌∙◌}
 use Rattle.wl_client.specs.Pointers.{has_any}
-use Rattle.wl_laws.proofs.Lists.Keys.{differ, none-some}
+use Rattle.law_desktop.proofs.Lists.Keys.{differ, none-some}
 use Rattle.wl_clients.specs.declared.grabs.Latest.{Latest}
 use Rattle.wl_desk.specs.Serials.{changed_of, noted_by}
 use Rattle.wl_desk.specs.View.{latest_of}

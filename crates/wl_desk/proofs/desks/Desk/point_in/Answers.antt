@@ -3,7 +3,7 @@ use Rattle.std.proofs.Common.{ap, ap₂, rules, sym, w32, ◌∙◌}
 use Rattle.std.proofs.lemmas.Int.{to_z-of_z}
 use Rattle.std.specs.Option.{option_map}
 use Rattle.wl_scene.specs.Focus.{place_of}
-use Rattle.wl_stacking.specs.Pointer.{fixed_from}
+use Rattle.spec_desktop.specs.Pointer.{fixed_from}
 use Rattle.wl_desk.proofs.Windows.{point-so}
 use Rattle.wl_desk.proofs.desks.Desk.point_in.Goals as goal
 

@@ -1,7 +1,7 @@
 use Rattle.std.proofs.Common.{◌≡◌, map, subst, sym, true, ◌∙◌}
 use Rattle.wl_paint.specs.Damage.{Damaged}
-use Rattle.wl_marking.specs.Marking.{IsAsLarge}
-use Rattle.wl_stacking.specs.Pointer.{is_press}
+use Rattle.wl_scene.specs.Marking.{IsAsLarge}
+use Rattle.spec_desktop.specs.Pointer.{is_press}
 use Rattle.wl_scene.specs.Focus.{action_of, target_or_none}
 use Rattle.wl_desk.proofs.Calls.{large-on}
 use Rattle.wl_desk.proofs.Presses.{presses, presses-not}

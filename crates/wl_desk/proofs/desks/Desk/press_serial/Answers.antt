@@ -1,8 +1,8 @@
 use Rattle.std.proofs.Common.{ap, sym, ◌∙◌}
 use Rattle.std.specs.Option.{option_map}
 use Rattle.wl_scene.specs.Focus.{target_of}
-use Rattle.wl_plain.specs.Desktop.{unpointed}
-use Rattle.wl_plain.specs.Settling.{unstruck}
+use Rattle.spec_desktop.specs.Desktop.{unpointed}
+use Rattle.spec_desktop.specs.Settling.{unstruck}
 use Rattle.wl_clients.proofs.Midway.{mid_begins_and_ends}
 use Rattle.wl_desk.proofs.Holding.{not-empty, serial-none, serial-some}
 use Rattle.wl_desk.proofs.Telling.{seen}

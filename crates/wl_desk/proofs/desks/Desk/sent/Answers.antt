@@ -1,6 +1,6 @@
 use Rattle.std.proofs.Common.{◌≡◌, ℕ, map, refl}
-use Rattle.wl_plain.specs.declared.answers.Done.TheVariants as gave
-use Rattle.wl_plain.specs.Act.{Connect, Send}
+use Rattle.spec_desktop.specs.declared.answers.Done.TheVariants as gave
+use Rattle.spec_desktop.specs.Act.{Connect, Send}
 use Rattle.wl_desk.proofs.Calls.{marks-nothing, quiet-step}
 use Rattle.wl_desk.proofs.desks.Desk.sent.Goals as goal
 

@@ -1,5 +1,5 @@
 use Rattle.std.proofs.Common.{List, ap, subst, sym, ◌∙◌}
-use Rattle.wl_plain.specs.Desktop.{client_at, unpointed}
+use Rattle.spec_desktop.specs.Desktop.{client_at, unpointed}
 use Rattle.wl_clients.specs.Pointing.{IsLatest}
 use Rattle.wl_clients.specs.declared.grabs.Latest.{Latest}
 use Rattle.wl_desk.specs.View.{latest_of}

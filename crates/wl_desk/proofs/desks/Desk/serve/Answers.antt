@@ -1,6 +1,6 @@
 use Rattle.std.proofs.Common.{ap, ◌∙◌}
 use Rattle.wl_scene.specs.Focus.{target_or_none}
-use Rattle.wl_plain.specs.Desktop.{unpointed}
+use Rattle.spec_desktop.specs.Desktop.{unpointed}
 use Rattle.wl_clients.specs.Feeding.{served_of}
 use Rattle.wl_desk.proofs.Followed.{served-whole, status-at}
 use Rattle.wl_desk.proofs.desks.Desk.serve.Goals as goal

@@ -1,5 +1,5 @@
 use Rattle.std.proofs.Common.{sym}
-use Rattle.wl_plain.specs.Settling.{unstruck}
+use Rattle.spec_desktop.specs.Settling.{unstruck}
 use Rattle.wl_clients.proofs.Midway.{mid_begins_and_ends}
 use Rattle.wl_desk.proofs.LetGo.{unnumbered-stands}
 use Rattle.wl_desk.proofs.desks.Desk.stands.Goals as goal

@@ -1,4 +1,4 @@
-use Rattle.wl_plain.specs.Desktop.{unpointed}
+use Rattle.spec_desktop.specs.Desktop.{unpointed}
 use Rattle.wl_desk.proofs.desks.Desk.store_size.Goals as goal
 
 pub returns : goal.returns

@@ -3,7 +3,7 @@ use Rattle.std.proofs.Common.{ap, rules, sym, w32, ◌∙◌}
 use Rattle.std.proofs.lemmas.Int.{to_z-of_z}
 use Rattle.std.specs.Option.{option_map}
 use Rattle.wl_scene.specs.Focus.{place_of}
-use Rattle.wl_plain.specs.Stacked.{all_windows}
+use Rattle.spec_desktop.specs.Stacked.{all_windows}
 use Rattle.wl_clients.specs.Agreement.{numbers_in}
 use Rattle.wl_desk.specs.Midway.{unpointed_mid}
 use Rattle.wl_desk.proofs.Restacking.{no-toplevel, toplevel-has, toplevel-named}

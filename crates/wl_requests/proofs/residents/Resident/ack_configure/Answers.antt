@@ -1,14 +1,14 @@
 use Rattle.wl_proto.specs.declared.xdg_surface.XdgSurfaceRequest.TheVariants as xdg
 use Rattle.std.proofs.Common.{ap, inr, refl, subst, sym}
-use Rattle.wl_peer.specs.Peer.{counted}
-use Rattle.wl_xdg_state.specs.Kept.{acknowledgement_answer, kept_of}
-use Rattle.wl_plain.specs.Ask.{Acknowledge}
-use Rattle.wl_owning.specs.Owning.{IsOwned, Names, shell_refusal}
-use Rattle.wl_owning.specs.RoleNames.{names_of}
-use Rattle.wl_plain.specs.Step.{changed_by, with_peer}
-use Rattle.wl_plain.specs.XdgShell.{acknowledged_by}
-use Rattle.wl_owning.proofs.Keeping.OwningAsks.{owned-acknowledged}
-use Rattle.wl_owning.proofs.Keeping.OwningReads.{acknowledged-by}
+use Rattle.spec_desktop.specs.Peer.{counted}
+use Rattle.wl_shell.specs.Kept.{acknowledgement_answer, kept_of}
+use Rattle.spec_desktop.specs.Ask.{Acknowledge}
+use Rattle.law_desktop.specs.Owning.{IsOwned, Names, shell_refusal}
+use Rattle.law_desktop.specs.RoleNames.{names_of}
+use Rattle.spec_desktop.specs.Step.{changed_by, with_peer}
+use Rattle.spec_desktop.specs.XdgShell.{acknowledged_by}
+use Rattle.law_desktop.proofs.Keeping.OwningAsks.{owned-acknowledged}
+use Rattle.law_desktop.proofs.Keeping.OwningReads.{acknowledged-by}
 use Rattle.wl_requests.proofs.Shelling.{accepted, names-counted, told-err, told-ok, xdg-answered, xdg-refused}
 use Rattle.wl_requests.proofs.Numbers.{keeps-names}
 use Rattle.wl_requests.proofs.Naming.{subsurfaces-names}

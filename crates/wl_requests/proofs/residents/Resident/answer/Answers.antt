@@ -1,6 +1,6 @@
 use Rattle.std.proofs.Common.{◌≡◌, ℕ, Bool, ap, refl, subst, sym, ◌∙◌}
 use Rattle.std.specs.Prelude.{is_some}
-use Rattle.wl_interface.specs.declared.interface.Interface.TheVariants.{WlSubcompositor, WlSubsurface, XdgPopup as AnXdgPopup, XdgSurface as AnXdgSurface, XdgToplevel, XdgWmBase}
+use Rattle.wl_proto.specs.declared.interface.Interface.TheVariants.{WlSubcompositor, WlSubsurface, XdgPopup as AnXdgPopup, XdgSurface as AnXdgSurface, XdgToplevel, XdgWmBase}
 use Rattle.wl_proto.specs.Messages.{Message, wl_compositor_request, wl_pointer_request, wl_seat_request, wl_subcompositor_request, wl_subsurface_request, wl_surface_request, xdg_surface_request}
 use Rattle.wl_proto.specs.Messages.{xdg_popup_request, xdg_wm_base_request}
 use Rattle.wl_proto.specs.declared.wl_surface.WlSurfaceRequest.{WlSurfaceRequest}
@@ -9,11 +9,11 @@ use Rattle.wl_proto.specs.declared.wl_compositor.WlCompositorRequest.TheVariants
 use Rattle.wl_proto.specs.declared.wl_seat.WlSeatRequest.{WlSeatRequest}
 use Rattle.wl_proto.specs.declared.wl_seat.WlSeatRequest.TheVariants as seat
 use Rattle.wl_proto.specs.declared.xdg_popup.XdgPopupRequest.{XdgPopupRequest}
-use Rattle.wl_plain.specs.Demanding.{demand_of}
-use Rattle.wl_plain.specs.Desktop.{Resident}
-use Rattle.wl_plain.specs.WlSurface.{surface_created}
-use Rattle.wl_plain.specs.LeftOut.{nothing_left_out}
-use Rattle.wl_owning.proofs.Keeping.OwningNames.{targets-at}
+use Rattle.spec_desktop.specs.Demanding.{demand_of}
+use Rattle.spec_desktop.specs.Desktop.{Resident}
+use Rattle.spec_desktop.specs.WlSurface.{surface_created}
+use Rattle.spec_desktop.specs.LeftOut.{nothing_left_out}
+use Rattle.law_desktop.proofs.Keeping.OwningNames.{targets-at}
 use Rattle.wl_requests.specs.Messages.{IsKind}
 use Rattle.wl_requests.specs.Grabbing.{IsGrabbingFor}
 use Rattle.wl_requests.specs.Placing.{IsPlacingFor}

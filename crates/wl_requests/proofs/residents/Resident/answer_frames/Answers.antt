@@ -1,6 +1,6 @@
 use Rattle.std.proofs.Common.{◌≡◌, false, Option, None, Some, ◌∙◌, refl, sym}
 use Rattle.std.specs.Prelude.{is_some}
-use Rattle.wl_peer.specs.declared.cause.Cause.{Cause}
+use Rattle.spec_desktop.specs.declared.cause.Cause.{Cause}
 use Rattle.wl_requests.specs.declared.residents.Resident.{Resident as Kept}
 use Rattle.wl_requests.proofs.Answered.{last-answered, last-over, next-answered}
 use Rattle.wl_requests.proofs.Answering.{none-answered}

@@ -1,7 +1,7 @@
 use Rattle.std.proofs.Common.{◌≡◌, None, length}
-use Rattle.wl_plain.specs.Desktop.{Resident}
-use Rattle.wl_ordered.specs.Ordered.{OwnsOrdered}
-use Rattle.wl_owning.specs.RoleNames.{names_of}
+use Rattle.spec_desktop.specs.Desktop.{Resident}
+use Rattle.law_desktop.specs.Ordered.{OwnsOrdered}
+use Rattle.law_desktop.specs.RoleNames.{names_of}
 use Rattle.wl_requests.specs.Residents.{IsResident}
 use Rattle.wl_requests.proofs.Answering.{IsAnswered}
 use Rattle.wl_requests.proofs.residents.Resident.answer_frames.Given as goal

@@ -4,33 +4,33 @@ use Rattle.std.specs.List.{list_any}
 use Rattle.std.specs.Option.{option_map}
 use Rattle.wl_client.specs.Agreement.{IsPeer}
 use Rattle.wl_client.specs.View.{ClientView}
-use Rattle.wl_peer.specs.Buffers.{Buffer as Made}
-use Rattle.wl_peer.specs.Objects.{ById}
-use Rattle.wl_peer.specs.Peer.{Peer, Queues}
-use Rattle.wl_peer.specs.Told.{Said, said}
+use Rattle.spec_desktop.specs.Buffers.{Buffer as Made}
+use Rattle.spec_desktop.specs.Objects.{ById}
+use Rattle.spec_desktop.specs.Peer.{Peer, Queues}
+use Rattle.spec_desktop.specs.Told.{Said, said}
 use Rattle.wl_proto.specs.Messages.{says}
-use Rattle.wl_interface.specs.declared.interface.Interface.TheVariants.{WlBuffer}
-use Rattle.wl_xdg_state.specs.Kept.{Kept, changing, kept_after, kept_of}
-use Rattle.wl_xdg_state.specs.Shell.{Effect, xdg_of}
+use Rattle.wl_proto.specs.declared.interface.Interface.TheVariants.{WlBuffer}
+use Rattle.wl_shell.specs.Kept.{Kept, changing, kept_after, kept_of}
+use Rattle.wl_shell.specs.Shell.{Effect, xdg_of}
 use Rattle.wl_scene.specs.declared.owned.Owned.{Owned as Lent}
-use Rattle.wl_state.specs.Kept.{buffer_of}
+use Rattle.wl_surface.specs.Kept.{buffer_of}
 use Rattle.wl_surface.specs.Surfaces.{Surfaces}
 use Rattle.wl_surface.specs.Trees.{committed_in}
-use Rattle.wl_plain.specs.Changing.{effect_placing, placement_now, tree_committed}
-use Rattle.wl_plain.specs.Demand.{CommitTree}
-use Rattle.wl_plain.specs.Desktop.{Resident, unpointed}
-use Rattle.wl_plain.specs.Replies.{is_same_buffer, own_answers, releases}
-use Rattle.wl_plain.specs.Stacked.{all_windows}
-use Rattle.wl_plain.specs.Step.{with_surfaces}
-use Rattle.wl_plain.specs.WlSurface.{will_show}
-use Rattle.wl_owning.specs.Freed.{AreFreedOf, freed_of}
-use Rattle.wl_owning.specs.Owning.{IsOwned, Names, effect_by}
-use Rattle.wl_owning.specs.Popups.{act_told}
-use Rattle.wl_owning.specs.RoleNames.{names_of}
-use Rattle.wl_owning.proofs.Keeping.Freeing.{releases-freed}
-use Rattle.wl_owning.proofs.Keeping.Ids.{waits-committed}
-use Rattle.wl_owning.proofs.Popups.Committing.{popups-commit}
-use Rattle.wl_owning.proofs.Keeping.Trees.{once-freed}
+use Rattle.spec_desktop.specs.Changing.{effect_placing, placement_now, tree_committed}
+use Rattle.spec_desktop.specs.Demand.{CommitTree}
+use Rattle.spec_desktop.specs.Desktop.{Resident, unpointed}
+use Rattle.spec_desktop.specs.Replies.{is_same_buffer, own_answers, releases}
+use Rattle.spec_desktop.specs.Stacked.{all_windows}
+use Rattle.spec_desktop.specs.Step.{with_surfaces}
+use Rattle.spec_desktop.specs.WlSurface.{will_show}
+use Rattle.law_desktop.specs.Freed.{AreFreedOf, freed_of}
+use Rattle.law_desktop.specs.Owning.{IsOwned, Names, effect_by}
+use Rattle.law_desktop.specs.OwnedPopups.{act_told}
+use Rattle.law_desktop.specs.RoleNames.{names_of}
+use Rattle.law_desktop.proofs.Keeping.Freeing.{releases-freed}
+use Rattle.law_desktop.proofs.Keeping.Ids.{waits-committed}
+use Rattle.law_desktop.proofs.OwnedPopups.Committing.{popups-commit}
+use Rattle.law_desktop.proofs.Keeping.Trees.{once-freed}
 use Rattle.wl_requests.specs.Residents.{IsLeft, drawn_by}
 use Rattle.wl_requests.specs.Touching.{Commits, IsMade}
 use Rattle.wl_requests.proofs.Calls.{commit-called}

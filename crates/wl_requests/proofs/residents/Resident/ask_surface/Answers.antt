@@ -2,13 +2,13 @@ use Rattle.std.proofs.Common.{refl, rules, w32}
 use Rattle.std.specs.Prelude.{FitsSigned, Ok}
 use Rattle.std.proofs.lemmas.Int.{to_z-of_z}
 use Rattle.wl_geom.specs.declared.rect.Rect.{Rect}
-use Rattle.wl_peer.specs.Peer.{counted}
-use Rattle.wl_state.specs.Request.{Attach, Damage, DamageBuffer, SetInputRegion, SetOpaqueRegion}
-use Rattle.wl_plain.specs.Ask.{AskSurface}
-use Rattle.wl_plain.specs.Desktop.{Resident}
-use Rattle.wl_owning.specs.RoleNames.{names_of}
-use Rattle.wl_plain.specs.Step.{with_peer}
-use Rattle.wl_plain.specs.WlSurface.{buffer_named, region_named}
+use Rattle.spec_desktop.specs.Peer.{counted}
+use Rattle.wl_surface.specs.Request.{Attach, Damage, DamageBuffer, SetInputRegion, SetOpaqueRegion}
+use Rattle.spec_desktop.specs.Ask.{AskSurface}
+use Rattle.spec_desktop.specs.Desktop.{Resident}
+use Rattle.law_desktop.specs.RoleNames.{names_of}
+use Rattle.spec_desktop.specs.Step.{with_peer}
+use Rattle.spec_desktop.specs.WlSurface.{buffer_named, region_named}
 use Rattle.wl_requests.proofs.Shelling.{asked-releases, counted-does, surface-counted}
 use Rattle.wl_requests.proofs.Meeting.{as-asked}
 use Rattle.wl_requests.proofs.residents.Resident.ask_surface.Goals as goal

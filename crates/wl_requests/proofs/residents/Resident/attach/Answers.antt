@@ -1,14 +1,14 @@
 use Rattle.std.proofs.Common.{refl, inr, w32, List, subst, sym}
 use Rattle.std.proofs.lemmas.Int.{to_z-of_z}
-use Rattle.wl_xdg_state.specs.Kept.{kept_of}
-use Rattle.wl_state.specs.Request.{Attach}
+use Rattle.wl_shell.specs.Kept.{kept_of}
+use Rattle.wl_surface.specs.Request.{Attach}
 use Rattle.wl_surface.specs.Surfaces.{surface_at}
 use Rattle.wl_surface.specs.declared.frames.Waiting.{Waiting}
-use Rattle.wl_owning.specs.RoleNames.{names_of}
-use Rattle.wl_plain.specs.Step.{after_surface, asked_of}
-use Rattle.wl_plain.specs.WlSurface.{buffer_named}
+use Rattle.law_desktop.specs.RoleNames.{names_of}
+use Rattle.spec_desktop.specs.Step.{after_surface, asked_of}
+use Rattle.spec_desktop.specs.WlSurface.{buffer_named}
 use Rattle.wl_requests.proofs.Doing.{had-by, let-go-so}
-use Rattle.wl_owning.proofs.Keeping.OwningAsks.{owned-asked}
+use Rattle.law_desktop.proofs.Keeping.OwningAsks.{owned-asked}
 use Rattle.wl_requests.proofs.residents.Resident.attach.Goals as goal
 use Rattle.wl_requests.proofs.Framing.{IsFramed, framed-asked, no-more}
 

@@ -1,6 +1,6 @@
 use Rattle.std.proofs.Common.{ap, sym, ◌∙◌}
-use Rattle.wl_family.specs.Family.{links_in}
-use Rattle.wl_laws.proofs.Lists.Keys.{some-same}
+use Rattle.wl_links.specs.Family.{links_in}
+use Rattle.law_desktop.proofs.Lists.Keys.{some-same}
 use Rattle.wl_requests.proofs.residents.Resident.child_of.Goals as goal
 
 pub returns-in-None : goal.returns-in-None

@@ -1,17 +1,17 @@
 use Rattle.std.proofs.Common.{arith, ◌≡◌, ℕ, Bool, Result, refl, ap, subst, sym, ◌∙◌}
 use Rattle.std.specs.Prelude.{Ok, Err, is_some}
-use Rattle.wl_peer.specs.Peer.{counted}
-use Rattle.wl_xdg_state.specs.Kept.{changing, commit_answer, kept_after, kept_of}
-use Rattle.wl_xdg_state.specs.declared.acts.ShellAct.{ShellAct}
-use Rattle.wl_peer.specs.declared.refusals.Refusal.{Refusal}
-use Rattle.wl_owning.specs.Owning.{asks_by, kept_base, kept_id, shell_refusal}
-use Rattle.wl_owning.specs.RoleNames.{names_of}
-use Rattle.wl_plain.specs.Step.{with_peer}
-use Rattle.wl_plain.specs.WlSurface.{will_be_whole, will_show}
-use Rattle.wl_owning.proofs.Keeping.OwningAsks.{answered-effect}
-use Rattle.wl_owning.proofs.Keeping.OwningReads.{committed-by, pending-read, whole-read}
-use Rattle.wl_plain.specs.Demand.{Demand, CommitTree}
-use Rattle.wl_plain.specs.Demanding.{commit_demand}
+use Rattle.spec_desktop.specs.Peer.{counted}
+use Rattle.wl_shell.specs.Kept.{changing, commit_answer, kept_after, kept_of}
+use Rattle.wl_shell.specs.declared.acts.ShellAct.{ShellAct}
+use Rattle.spec_desktop.specs.declared.refusals.Refusal.{Refusal}
+use Rattle.law_desktop.specs.Owning.{asks_by, kept_base, kept_id, shell_refusal}
+use Rattle.law_desktop.specs.RoleNames.{names_of}
+use Rattle.spec_desktop.specs.Step.{with_peer}
+use Rattle.spec_desktop.specs.WlSurface.{will_be_whole, will_show}
+use Rattle.law_desktop.proofs.Keeping.OwningAsks.{answered-effect}
+use Rattle.law_desktop.proofs.Keeping.OwningReads.{committed-by, pending-read, whole-read}
+use Rattle.spec_desktop.specs.Demand.{Demand, CommitTree}
+use Rattle.spec_desktop.specs.Demanding.{commit_demand}
 use Rattle.wl_requests.specs.Residents.{AnswersAs, StacksSo}
 use Rattle.wl_requests.proofs.Meeting.{counted-ordered}
 use Rattle.wl_requests.proofs.Committing.{shell-judged, toplevel-read, unwhole-judged, whole-judged}

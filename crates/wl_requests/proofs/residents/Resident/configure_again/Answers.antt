@@ -1,30 +1,30 @@
-use Rattle.wl_plain.specs.XdgShell.{state_asked}
+use Rattle.spec_desktop.specs.XdgShell.{state_asked}
 use Rattle.std.proofs.Common.{◌≡◌, List, ap, inr, refl, subst, sym, ◌∙◌}
 use Rattle.std.specs.Prelude.{Some, true, false, ℕ, Option, Result}
-use Rattle.wl_peer.specs.Peer.{Queues, counted}
-use Rattle.wl_peer.specs.Told.{Said}
+use Rattle.spec_desktop.specs.Peer.{Queues, counted}
+use Rattle.spec_desktop.specs.Told.{Said}
 use Rattle.wl_client.specs.View.{ClientView}
-use Rattle.wl_xdg_state.specs.Kept.{Kept as KeptXdg, changing, configure_answer, kept_configured, kept_configuring, kept_of}
-use Rattle.wl_xdg_state.specs.Shell.{XdgSurface as Xdg, is_role, next_serial, xdg_with}
-use Rattle.wl_interface.specs.declared.interface.Interface.TheVariants.{WlSurface}
-use Rattle.wl_owning.specs.Owning.{IsOwned, IsXdg, Names, kept_id, shell_refusal, targets_in}
-use Rattle.wl_owning.specs.RoleNames.{names_of}
-use Rattle.wl_owning.specs.Subsurfaces.{AreOfSurfaces}
-use Rattle.wl_peer.specs.declared.refusals.Refusal.{Refusal}
-use Rattle.wl_plain.specs.Ask.{Ask, ConfigureAgain, Ignore}
-use Rattle.wl_plain.specs.Desktop.{Resident}
-use Rattle.wl_plain.specs.Step.{changed_by, with_peer}
-use Rattle.wl_owning.proofs.Keeping.OwningAsks.{owned-configured}
-use Rattle.wl_owning.proofs.Keeping.OwningReads.{configured-by}
-use Rattle.wl_owning.proofs.Keeping.OwningXdg.{toplevel-named}
+use Rattle.wl_shell.specs.Kept.{Kept as KeptXdg, changing, configure_answer, kept_configured, kept_configuring, kept_of}
+use Rattle.wl_shell.specs.Shell.{XdgSurface as Xdg, is_role, next_serial, xdg_with}
+use Rattle.wl_proto.specs.declared.interface.Interface.TheVariants.{WlSurface}
+use Rattle.law_desktop.specs.Owning.{IsOwned, IsXdg, Names, kept_id, shell_refusal, targets_in}
+use Rattle.law_desktop.specs.RoleNames.{names_of}
+use Rattle.law_desktop.specs.Subsurfaces.{AreOfSurfaces}
+use Rattle.spec_desktop.specs.declared.refusals.Refusal.{Refusal}
+use Rattle.spec_desktop.specs.Ask.{Ask, ConfigureAgain, Ignore}
+use Rattle.spec_desktop.specs.Desktop.{Resident}
+use Rattle.spec_desktop.specs.Step.{changed_by, with_peer}
+use Rattle.law_desktop.proofs.Keeping.OwningAsks.{owned-configured}
+use Rattle.law_desktop.proofs.Keeping.OwningReads.{configured-by}
+use Rattle.law_desktop.proofs.Keeping.OwningXdg.{toplevel-named}
 use Rattle.wl_requests.specs.declared.residents.Resident.{Resident as Kept}
 use Rattle.wl_requests.specs.Residents.{IsResident, IsToplevel}
-use Rattle.wl_state.specs.State.{History}
+use Rattle.wl_surface.specs.State.{History}
 use Rattle.wl_requests.proofs.Shelling.{accepted, changing-same, drawn, events-told, names-counted, owns-told, refused-again, told-again, xdg-refused}
 use Rattle.wl_requests.proofs.Numbers.{keeps-names}
 use Rattle.wl_requests.proofs.Naming.{subsurfaces-names}
 use Rattle.wl_requests.proofs.Meeting.{AnswersSo, as-asked}
-use Rattle.wl_owning.proofs.Popups.Naming.{roles-named}
+use Rattle.law_desktop.proofs.OwnedPopups.Naming.{roles-named}
 use Rattle.wl_requests.proofs.residents.Resident.configure_again.Goals as goal
 use Rattle.wl_requests.proofs.Framing.{IsFramed, framed-names, one-more}
 use Rattle.wl_scene.specs.declared.owned.Owned.{Owned as Lent}

@@ -1,14 +1,14 @@
 use Rattle.std.specs.Prelude.{Ok}
-use Rattle.wl_peer.specs.declared.actions.Action.TheVariants.{CreateRegion}
-use Rattle.wl_plain.specs.Ask.{Own}
+use Rattle.spec_desktop.specs.declared.actions.Action.TheVariants.{CreateRegion}
+use Rattle.spec_desktop.specs.Ask.{Own}
 use Rattle.std.proofs.Common.{◌≡◌, Some, None, refl, subst, sym}
-use Rattle.wl_peer.specs.Objects.{entry_at_version}
+use Rattle.spec_desktop.specs.Objects.{entry_at_version}
 use Rattle.wl_requests.proofs.Roles.{names-other-made}
-use Rattle.wl_interface.specs.declared.interface.Interface.TheVariants.{WlRegion}
-use Rattle.wl_peer.specs.Peer.{counted}
-use Rattle.wl_xdg_state.specs.Kept.{kept_of}
-use Rattle.wl_owning.specs.Owning.{IsOwned, Names}
-use Rattle.wl_plain.specs.Step.{changed_by, with_peer}
+use Rattle.wl_proto.specs.declared.interface.Interface.TheVariants.{WlRegion}
+use Rattle.spec_desktop.specs.Peer.{counted}
+use Rattle.wl_shell.specs.Kept.{kept_of}
+use Rattle.law_desktop.specs.Owning.{IsOwned, Names}
+use Rattle.spec_desktop.specs.Step.{changed_by, with_peer}
 use Rattle.wl_requests.proofs.Numbers.{keeps-names}
 use Rattle.wl_requests.proofs.Naming.{subsurfaces-names}
 use Rattle.wl_requests.proofs.Shelling.{holds-counted}

@@ -1,25 +1,25 @@
 use Rattle.std.proofs.Common.{ℕ, Some, refl, inl, subst, sym, List, ap}
-use Rattle.wl_interface.specs.declared.interface.Interface.TheVariants.{WlSurface}
-use Rattle.wl_peer.specs.Peer.{counted}
-use Rattle.wl_peer.specs.Objects.{ById}
-use Rattle.wl_xdg_state.specs.Kept.{kept_of}
+use Rattle.wl_proto.specs.declared.interface.Interface.TheVariants.{WlSurface}
+use Rattle.spec_desktop.specs.Peer.{counted}
+use Rattle.spec_desktop.specs.Objects.{ById}
+use Rattle.wl_shell.specs.Kept.{kept_of}
 use Rattle.std.specs.Prelude.{Result}
-use Rattle.wl_peer.specs.declared.refusals.Refusal.{Refusal}
-use Rattle.wl_plain.specs.Ask.{Ask, CreateSurface}
-use Rattle.wl_plain.specs.Demanding.{demands}
+use Rattle.spec_desktop.specs.declared.refusals.Refusal.{Refusal}
+use Rattle.spec_desktop.specs.Ask.{Ask, CreateSurface}
+use Rattle.spec_desktop.specs.Demanding.{demands}
 use Rattle.wl_requests.specs.Residents.{AnswersSo}
-use Rattle.wl_owning.specs.Owning.{Names}
-use Rattle.wl_owning.specs.RoleNames.{names_of}
-use Rattle.wl_owning.specs.Subsurfaces.{AreOfSurfaces}
-use Rattle.wl_plain.specs.Step.{changed_by, with_peer}
-use Rattle.wl_plain.specs.WlSurface.{surface_created}
+use Rattle.law_desktop.specs.Owning.{Names}
+use Rattle.law_desktop.specs.RoleNames.{names_of}
+use Rattle.law_desktop.specs.Subsurfaces.{AreOfSurfaces}
+use Rattle.spec_desktop.specs.Step.{changed_by, with_peer}
+use Rattle.spec_desktop.specs.WlSurface.{surface_created}
 use Rattle.wl_requests.proofs.Doing.{lacked}
 use Rattle.wl_requests.proofs.Numbers.{keeps-made}
 use Rattle.wl_requests.proofs.Subsurfaces.{made-subsurfaces}
-use Rattle.wl_owning.proofs.Keeping.OwningAsks.{owned-created}
-use Rattle.wl_owning.proofs.Keeping.OwningNames.{targets-free}
+use Rattle.law_desktop.proofs.Keeping.OwningAsks.{owned-created}
+use Rattle.law_desktop.proofs.Keeping.OwningNames.{targets-free}
 use Rattle.wl_requests.proofs.Roles.{names-surface-made}
-use Rattle.wl_owning.proofs.Keeping.Creating.{created-past, created-short, created-within}
+use Rattle.law_desktop.proofs.Keeping.Creating.{created-past, created-short, created-within}
 use Rattle.wl_requests.proofs.Shelling.{accepted, holds-counted}
 use Rattle.wl_requests.proofs.Meeting.{as-asked}
 use Rattle.wl_requests.proofs.residents.Resident.create_surface.Goals as goal

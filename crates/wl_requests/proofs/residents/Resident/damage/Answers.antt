@@ -1,5 +1,5 @@
 use Rattle.std.proofs.Common.{refl, inl, inr, sym}
-use Rattle.wl_state.specs.Request.{Damage}
+use Rattle.wl_surface.specs.Request.{Damage}
 use Rattle.wl_requests.proofs.Doing.{asked-so, lacked}
 use Rattle.wl_requests.proofs.residents.Resident.damage.Goals as goal
 

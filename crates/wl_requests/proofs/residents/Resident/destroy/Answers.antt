@@ -1,19 +1,19 @@
 use Rattle.std.proofs.Common.{arith, Bool, Result, ap, subst, sym, refl, ◌∙◌}
 use Rattle.std.specs.Prelude.{Ok, Err, if◌then◌else◌, is_some}
-use Rattle.wl_xdg_state.specs.Kept.{kept_of}
-use Rattle.wl_peer.specs.declared.refusals.ErrorCode.TheVariants.{SurfaceHasRoleObject}
-use Rattle.wl_peer.specs.declared.refusals.Refusal.{Refusal}
-use Rattle.wl_plain.specs.Demand.{Demand, EndSurface}
-use Rattle.wl_plain.specs.Demanding.{surface_destroyed}
+use Rattle.wl_shell.specs.Kept.{kept_of}
+use Rattle.spec_desktop.specs.declared.refusals.ErrorCode.TheVariants.{SurfaceHasRoleObject}
+use Rattle.spec_desktop.specs.declared.refusals.Refusal.{Refusal}
+use Rattle.spec_desktop.specs.Demand.{Demand, EndSurface}
+use Rattle.spec_desktop.specs.Demanding.{surface_destroyed}
 use Rattle.wl_requests.specs.Residents.{AnswersAs}
-use Rattle.wl_plain.specs.Desktop.{Resident}
-use Rattle.wl_owning.specs.RoleNames.{names_of}
-use Rattle.wl_plain.specs.WlSubsurface.{refuses}
-use Rattle.wl_owning.proofs.Keeping.OwningReads.{destroyed-by}
+use Rattle.spec_desktop.specs.Desktop.{Resident}
+use Rattle.law_desktop.specs.RoleNames.{names_of}
+use Rattle.spec_desktop.specs.WlSubsurface.{refuses}
+use Rattle.law_desktop.proofs.Keeping.OwningReads.{destroyed-by}
 use Rattle.wl_requests.proofs.Counting.{counted-told}
 use Rattle.wl_requests.proofs.Shelling.{absent-kept, counted-on, objects-counted, refused-as, surface-counted}
-use Rattle.wl_peer.specs.Peer.{counted}
-use Rattle.wl_plain.specs.Step.{with_peer}
+use Rattle.spec_desktop.specs.Peer.{counted}
+use Rattle.spec_desktop.specs.Step.{with_peer}
 use Rattle.wl_requests.specs.Holding.{HoldsSo}
 use Rattle.wl_requests.proofs.Holding.{held-so}
 use Rattle.wl_requests.proofs.Meeting.{counted-ordered}

@@ -1,12 +1,12 @@
 use Rattle.std.proofs.Common.{inl, refl}
-use Rattle.wl_interface.specs.declared.interface.Interface.TheVariants.{XdgWmBase}
-use Rattle.wl_peer.specs.declared.refusals.ErrorCode.TheVariants.{DefunctSurfaces}
-use Rattle.wl_xdg_state.specs.Kept.{kept_of}
-use Rattle.wl_plain.specs.Ask.{EndObject}
-use Rattle.wl_plain.specs.Desktop.{Resident}
-use Rattle.wl_owning.specs.RoleNames.{names_of}
-use Rattle.wl_plain.specs.XdgShell.{base_destroyed}
-use Rattle.wl_owning.proofs.Keeping.OwningReads.{base-unused, base-used}
+use Rattle.wl_proto.specs.declared.interface.Interface.TheVariants.{XdgWmBase}
+use Rattle.spec_desktop.specs.declared.refusals.ErrorCode.TheVariants.{DefunctSurfaces}
+use Rattle.wl_shell.specs.Kept.{kept_of}
+use Rattle.spec_desktop.specs.Ask.{EndObject}
+use Rattle.spec_desktop.specs.Desktop.{Resident}
+use Rattle.law_desktop.specs.RoleNames.{names_of}
+use Rattle.spec_desktop.specs.XdgShell.{base_destroyed}
+use Rattle.law_desktop.proofs.Keeping.OwningReads.{base-unused, base-used}
 use Rattle.wl_requests.proofs.Shelling.{accepted, counted-does, object-held, refused-so}
 use Rattle.wl_requests.proofs.Meeting.{as-asked}
 use Rattle.wl_requests.proofs.residents.Resident.destroy_base.Goals as goal

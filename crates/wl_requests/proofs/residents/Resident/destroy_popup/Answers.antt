@@ -1,17 +1,17 @@
 use Rattle.wl_proto.specs.declared.xdg_popup.XdgPopupRequest.TheVariants as popup
 use Rattle.std.proofs.Common.{◌≡◌, true, false, refl, ap, ◌∙◌}
 use Rattle.std.specs.Prelude.{Err}
-use Rattle.wl_peer.specs.declared.refusals.Refusal.{Refusal}
-use Rattle.wl_peer.specs.Peer.{counted}
-use Rattle.wl_xdg_state.specs.Kept.{Book, kept_of}
-use Rattle.wl_plain.specs.Changing.{changed_for}
-use Rattle.wl_plain.specs.Demand.{EndPopup}
-use Rattle.wl_plain.specs.Desktop.{unpointed}
-use Rattle.wl_plain.specs.Step.{with_peer}
-use Rattle.wl_plain.specs.XdgPopup.{popup_asked, popup_destroyed}
-use Rattle.wl_owning.specs.Owning.{kept_base, shell_refusal}
-use Rattle.wl_owning.specs.RoleNames.{names_of}
-use Rattle.wl_owning.proofs.Popups.Going.{popups-go}
+use Rattle.spec_desktop.specs.declared.refusals.Refusal.{Refusal}
+use Rattle.spec_desktop.specs.Peer.{counted}
+use Rattle.wl_shell.specs.Kept.{Book, kept_of}
+use Rattle.spec_desktop.specs.Changing.{changed_for}
+use Rattle.spec_desktop.specs.Demand.{EndPopup}
+use Rattle.spec_desktop.specs.Desktop.{unpointed}
+use Rattle.spec_desktop.specs.Step.{with_peer}
+use Rattle.spec_desktop.specs.XdgPopup.{popup_asked, popup_destroyed}
+use Rattle.law_desktop.specs.Owning.{kept_base, shell_refusal}
+use Rattle.law_desktop.specs.RoleNames.{names_of}
+use Rattle.law_desktop.proofs.OwnedPopups.Going.{popups-go}
 use Rattle.wl_requests.proofs.Doing.{lacked}
 use Rattle.wl_requests.proofs.PopupsAnswered.{answered-ok, as-judged, popup-answered, popup-ends, popup-gone, topmost, topmost-told}
 use Rattle.wl_requests.proofs.Shelling.{refused-as, told-err}

@@ -1,8 +1,8 @@
 use Rattle.std.proofs.Common.{inr, refl}
 use Rattle.std.specs.Prelude.{Ok}
-use Rattle.wl_interface.specs.declared.interface.Interface.TheVariants.{WlSubcompositor}
-use Rattle.wl_plain.specs.Ask.{EndObject}
-use Rattle.wl_plain.specs.Desktop.{Resident}
+use Rattle.wl_proto.specs.declared.interface.Interface.TheVariants.{WlSubcompositor}
+use Rattle.spec_desktop.specs.Ask.{EndObject}
+use Rattle.spec_desktop.specs.Desktop.{Resident}
 use Rattle.wl_requests.proofs.Shelling.{counted-does, object-held}
 use Rattle.wl_requests.proofs.Meeting.{as-asked}
 use Rattle.wl_requests.proofs.residents.Resident.destroy_subcompositor.Goals as goal

@@ -3,32 +3,32 @@ use Rattle.std.specs.Prelude.{◌==◌, filter, not, Ok}
 use Rattle.std.specs.Option.{option_map}
 use Rattle.wl_client.specs.Agreement.{IsPeer}
 use Rattle.wl_client.specs.View.{ClientView}
-use Rattle.wl_interface.specs.declared.interface.Interface.{Interface}
-use Rattle.wl_interface.specs.declared.interface.Interface.TheVariants.{WlBuffer, WlSubsurface, WlSurface, XdgPopup, XdgSurface, XdgToplevel}
-use Rattle.wl_peer.specs.Objects.{interface_number, is_of, object_of, objects_in}
-use Rattle.wl_peer.specs.Peer.{Peer, Queues, counted}
-use Rattle.wl_peer.specs.Told.{Said, id_deleted, said}
+use Rattle.wl_proto.specs.declared.interface.Interface.{Interface}
+use Rattle.wl_proto.specs.declared.interface.Interface.TheVariants.{WlBuffer, WlSubsurface, WlSurface, XdgPopup, XdgSurface, XdgToplevel}
+use Rattle.spec_desktop.specs.Objects.{interface_number, is_of, object_of, objects_in}
+use Rattle.spec_desktop.specs.Peer.{Peer, Queues, counted}
+use Rattle.spec_desktop.specs.Told.{Said, id_deleted, said}
 use Rattle.wl_proto.specs.Messages.{says}
 use Rattle.wl_scene.specs.declared.owned.Owned.{Owned as Lent}
-use Rattle.wl_xdg_state.specs.Kept.{kept_of}
-use Rattle.wl_state.specs.Kept.{buffer_of}
+use Rattle.wl_shell.specs.Kept.{kept_of}
+use Rattle.wl_surface.specs.Kept.{buffer_of}
 use Rattle.wl_surface.specs.Surfaces.{Surfaces}
 use Rattle.wl_surface.specs.Trees.{unlinked}
 use Rattle.wl_table.specs.Objects.{Held, HoldsAt, entry_of}
 use Rattle.wl_table.specs.declared.entry.Entry.{Entry}
-use Rattle.wl_plain.specs.Changing.{after_all, link_with_id, unlinked_at}
-use Rattle.wl_plain.specs.Demand.{EndSubsurface}
-use Rattle.wl_plain.specs.Desktop.{Resident, Subsurface}
-use Rattle.wl_plain.specs.Replies.{releases}
-use Rattle.wl_plain.specs.Step.{removing, with_peer, with_surfaces}
-use Rattle.wl_owning.specs.Owning.{Names}
-use Rattle.wl_owning.specs.RoleNames.{names_of}
-use Rattle.wl_owning.proofs.Keeping.Freeing.{releases-freed}
-use Rattle.wl_owning.proofs.Keeping.Ids.{waits-unlinked}
-use Rattle.wl_owning.proofs.Keeping.OwningLinks.{owned-parted}
+use Rattle.spec_desktop.specs.Changing.{after_all, link_with_id, unlinked_at}
+use Rattle.spec_desktop.specs.Demand.{EndSubsurface}
+use Rattle.spec_desktop.specs.Desktop.{Resident, Subsurface}
+use Rattle.spec_desktop.specs.Replies.{releases}
+use Rattle.spec_desktop.specs.Step.{removing, with_peer, with_surfaces}
+use Rattle.law_desktop.specs.Owning.{Names}
+use Rattle.law_desktop.specs.RoleNames.{names_of}
+use Rattle.law_desktop.proofs.Keeping.Freeing.{releases-freed}
+use Rattle.law_desktop.proofs.Keeping.Ids.{waits-unlinked}
+use Rattle.law_desktop.proofs.Keeping.OwningLinks.{owned-parted}
 use Rattle.wl_requests.proofs.Roles.{names_object, names-other-gone}
-use Rattle.wl_owning.proofs.Keeping.Trees.{once-freed}
-use Rattle.wl_invariants.proofs.KeptRecords.Toplevels.Releases.{still-released}
+use Rattle.law_desktop.proofs.Keeping.Trees.{once-freed}
+use Rattle.law_desktop.proofs.KeptRecords.Toplevels.Releases.{still-released}
 use Rattle.wl_requests.specs.declared.residents.Resident.{Resident as Kept}
 use Rattle.wl_requests.specs.Residents.{IsLeft}
 use Rattle.wl_requests.specs.Touching.{IsMade, IsTouched, Parts}

@@ -5,18 +5,18 @@ use Rattle.std.specs.Option.{option_map}
 use Rattle.wl_client.specs.Agreement.{IsPeer}
 use Rattle.wl_client.specs.Serving.{HoldsWithout}
 use Rattle.wl_client.specs.View.{ClientView}
-use Rattle.wl_interface.specs.declared.interface.Interface.TheVariants.{WlBuffer}
-use Rattle.wl_peer.specs.Buffers.{Buffer as Made}
-use Rattle.wl_peer.specs.Objects.{ById, with_id}
-use Rattle.wl_peer.specs.Peer.{Peer, Queues, all_removed, removed}
-use Rattle.wl_peer.specs.Told.{Said, id_deleted, said}
+use Rattle.wl_proto.specs.declared.interface.Interface.TheVariants.{WlBuffer}
+use Rattle.spec_desktop.specs.Buffers.{Buffer as Made}
+use Rattle.spec_desktop.specs.Objects.{ById, with_id}
+use Rattle.spec_desktop.specs.Peer.{Peer, Queues, all_removed, removed}
+use Rattle.spec_desktop.specs.Told.{Said, id_deleted, said}
 use Rattle.wl_proto.specs.Messages.{says}
 use Rattle.wl_scene.specs.declared.owned.Owned.{Owned as Lent}
-use Rattle.wl_xdg_state.specs.Kept.{kept_of}
-use Rattle.wl_state.specs.Frames.{frames_asked}
-use Rattle.wl_state.specs.Kept.{buffer_of}
-use Rattle.wl_state.specs.Request.{Buffer}
-use Rattle.wl_state.specs.State.{pending}
+use Rattle.wl_shell.specs.Kept.{kept_of}
+use Rattle.wl_surface.specs.FrameRequests.{frames_asked}
+use Rattle.wl_surface.specs.Kept.{buffer_of}
+use Rattle.wl_surface.specs.Request.{Buffer}
+use Rattle.wl_surface.specs.State.{pending}
 use Rattle.wl_store.specs.Stores.{Stock}
 use Rattle.wl_surface.specs.Surfaces.{history_in}
 use Rattle.wl_surface.specs.Trees.{destroyed_in, ended_in, links_with}
@@ -24,22 +24,22 @@ use Rattle.wl_surface.specs.Waiting.{Callback, is_in}
 use Rattle.std.specs.Prelude.{fold}
 use Rattle.wl_surface.specs.Slots.{had_at}
 use Rattle.wl_table.specs.Objects.{Held}
-use Rattle.wl_plain.specs.Changing.{after_all, callbacks_of, surface_ended, without_child}
-use Rattle.wl_plain.specs.Demand.{EndSurface}
-use Rattle.wl_plain.specs.Framing.{AreFramed}
-use Rattle.wl_plain.specs.Desktop.{Resident}
-use Rattle.wl_plain.specs.Releases.{let_if}
-use Rattle.wl_plain.specs.Replies.{is_same_buffer}
-use Rattle.wl_plain.specs.Step.{is_over, letting_go, with_surfaces}
-use Rattle.wl_owning.specs.Freed.{freed_of}
-use Rattle.wl_owning.specs.Owning.{Names, by_number}
-use Rattle.wl_owning.specs.RoleNames.{names_of}
-use Rattle.wl_owning.proofs.Keeping.Freeing.{releases-freed}
-use Rattle.wl_owning.proofs.Keeping.Ids.{waits-without-links}
-use Rattle.wl_owning.proofs.Keeping.OwningAsks.{owned-destroyed}
-use Rattle.wl_owning.proofs.Keeping.OwningSurfaces.{surface-named}
-use Rattle.wl_owning.proofs.Keeping.OwningXdg.{xdg-of-none}
-use Rattle.wl_owning.proofs.Keeping.Trees.{once-freed}
+use Rattle.spec_desktop.specs.Changing.{after_all, callbacks_of, surface_ended, without_child}
+use Rattle.spec_desktop.specs.Demand.{EndSurface}
+use Rattle.spec_desktop.specs.Framing.{AreFramed}
+use Rattle.spec_desktop.specs.Desktop.{Resident}
+use Rattle.spec_desktop.specs.Releases.{let_if}
+use Rattle.spec_desktop.specs.Replies.{is_same_buffer}
+use Rattle.spec_desktop.specs.Step.{is_over, letting_go, with_surfaces}
+use Rattle.law_desktop.specs.Freed.{freed_of}
+use Rattle.law_desktop.specs.Owning.{Names, by_number}
+use Rattle.law_desktop.specs.RoleNames.{names_of}
+use Rattle.law_desktop.proofs.Keeping.Freeing.{releases-freed}
+use Rattle.law_desktop.proofs.Keeping.Ids.{waits-without-links}
+use Rattle.law_desktop.proofs.Keeping.OwningAsks.{owned-destroyed}
+use Rattle.law_desktop.proofs.Keeping.OwningSurfaces.{surface-named}
+use Rattle.law_desktop.proofs.Keeping.OwningXdg.{xdg-of-none}
+use Rattle.law_desktop.proofs.Keeping.Trees.{once-freed}
 use Rattle.wl_requests.specs.Freed.{is_freed_in}
 use Rattle.wl_requests.specs.Touching.{Destroys, IsMade}
 use Rattle.wl_requests.proofs.Calls.{calls-here, destroy-called}

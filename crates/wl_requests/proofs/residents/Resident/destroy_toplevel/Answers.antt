@@ -1,8 +1,8 @@
 use Rattle.std.proofs.Common.{◌≡◌, ℕ, Option, None, ap, ◌∙◌}
-use Rattle.wl_xdg_state.specs.Kept.{Kept as KeptXdg, changing, kept_without_role}
-use Rattle.wl_peer.specs.Peer.{counted}
-use Rattle.wl_owning.specs.RoleNames.{names_of}
-use Rattle.wl_plain.specs.Demanding.{toplevel_destroyed}
+use Rattle.wl_shell.specs.Kept.{Kept as KeptXdg, changing, kept_without_role}
+use Rattle.spec_desktop.specs.Peer.{counted}
+use Rattle.law_desktop.specs.RoleNames.{names_of}
+use Rattle.spec_desktop.specs.Demanding.{toplevel_destroyed}
 use Rattle.wl_requests.proofs.PopupsAnswered.{alive-before, toplevel-ends, toplevel-there}
 use Rattle.wl_requests.proofs.Shelling.{toplevel-gone}
 use Rattle.wl_requests.proofs.residents.Resident.destroy_toplevel.Goals as goal

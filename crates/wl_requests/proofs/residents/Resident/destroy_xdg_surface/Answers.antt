@@ -1,15 +1,15 @@
 use Rattle.wl_proto.specs.declared.xdg_surface.XdgSurfaceRequest.TheVariants as xdg
 use Rattle.std.proofs.Common.{◌≡◌, ap, inr, subst, sym, ◌∙◌, refl}
 use Rattle.std.specs.Prelude.{Ok, None}
-use Rattle.wl_peer.specs.Peer.{counted}
-use Rattle.wl_xdg_state.specs.Kept.{destruction_answer, kept_of}
-use Rattle.wl_plain.specs.Ask.{DestroyXdgSurface}
-use Rattle.wl_owning.specs.Owning.{IsOwned, shell_refusal, with_xdg, Names}
-use Rattle.wl_owning.specs.RoleNames.{names_of}
-use Rattle.wl_plain.specs.Step.{changed_by, with_peer}
-use Rattle.wl_plain.specs.XdgShell.{xdg_surface_destroyed}
-use Rattle.wl_owning.proofs.Keeping.OwningAsks.{owned-xdg-gone}
-use Rattle.wl_owning.proofs.Keeping.OwningReads.{bare-destroyed, xdg-destroyed-by}
+use Rattle.spec_desktop.specs.Peer.{counted}
+use Rattle.wl_shell.specs.Kept.{destruction_answer, kept_of}
+use Rattle.spec_desktop.specs.Ask.{DestroyXdgSurface}
+use Rattle.law_desktop.specs.Owning.{IsOwned, shell_refusal, with_xdg, Names}
+use Rattle.law_desktop.specs.RoleNames.{names_of}
+use Rattle.spec_desktop.specs.Step.{changed_by, with_peer}
+use Rattle.spec_desktop.specs.XdgShell.{xdg_surface_destroyed}
+use Rattle.law_desktop.proofs.Keeping.OwningAsks.{owned-xdg-gone}
+use Rattle.law_desktop.proofs.Keeping.OwningReads.{bare-destroyed, xdg-destroyed-by}
 use Rattle.wl_requests.proofs.Shelling.{accepted, told-err, told-ok, xdg-answered, xdg-gone, xdg-refused}
 use Rattle.wl_requests.proofs.Numbers.{keeps-xdg}
 use Rattle.wl_requests.proofs.Naming.{subsurfaces-named}

@@ -2,7 +2,7 @@ use Rattle.std.proofs.Common.{refl, ap, sym, ◌∙◌, arith}
 use Rattle.std.specs.Prelude.{is_some}
 use Rattle.wl_client.specs.View.{ClientView}
 use Rattle.wl_scene.specs.declared.owned.Owned.{Owned as Lent}
-use Rattle.wl_xdg_state.specs.Kept.{kept_of}
+use Rattle.wl_shell.specs.Kept.{kept_of}
 use Rattle.wl_requests.proofs.Doing.{gone}
 use Rattle.wl_requests.proofs.Letting.{lives-of}
 use Rattle.wl_requests.proofs.PopupsDismissed.{all-dismissed, dismissed-on, dismissed-over, no-more-go, none-dismissed}

@@ -1,7 +1,7 @@
 use Rattle.std.proofs.Common.{inr, sym, subst, refl}
-use Rattle.wl_xdg_state.specs.Kept.{kept_of}
-use Rattle.wl_owning.specs.Owning.{IsOwned, Names}
-use Rattle.wl_plain.specs.Step.{removing}
+use Rattle.wl_shell.specs.Kept.{kept_of}
+use Rattle.law_desktop.specs.Owning.{IsOwned, Names}
+use Rattle.spec_desktop.specs.Step.{removing}
 use Rattle.wl_requests.proofs.Shelling.{alone-gone}
 use Rattle.wl_requests.proofs.Numbers.{keeps-names}
 use Rattle.wl_requests.proofs.Naming.{subsurfaces-names}

@@ -1,17 +1,17 @@
 use Rattle.std.proofs.Common.{refl, inl, ◌≡◌, None, true}
 use Rattle.std.specs.Prelude.{Some}
-use Rattle.wl_interface.specs.declared.interface.Interface.TheVariants.{WlCallback}
-use Rattle.wl_peer.specs.Peer.{counted}
+use Rattle.wl_proto.specs.declared.interface.Interface.TheVariants.{WlCallback}
+use Rattle.spec_desktop.specs.Peer.{counted}
 use Rattle.wl_table.specs.declared.entry.Entry.{Entry}
-use Rattle.wl_xdg_state.specs.Kept.{kept_of}
-use Rattle.wl_state.specs.Request.{Frame}
-use Rattle.wl_plain.specs.Demand.{AskFrame}
-use Rattle.wl_owning.specs.RoleNames.{names_of}
-use Rattle.wl_plain.specs.Step.{with_peer}
-use Rattle.wl_owning.proofs.Keeping.OwningAsks.{owned-asked}
+use Rattle.wl_shell.specs.Kept.{kept_of}
+use Rattle.wl_surface.specs.Request.{Frame}
+use Rattle.spec_desktop.specs.Demand.{AskFrame}
+use Rattle.law_desktop.specs.RoleNames.{names_of}
+use Rattle.spec_desktop.specs.Step.{with_peer}
+use Rattle.law_desktop.proofs.Keeping.OwningAsks.{owned-asked}
 use Rattle.wl_requests.proofs.Roles.{names-other-made}
-use Rattle.wl_plain.specs.Changing.{changed_for}
-use Rattle.wl_plain.specs.Desktop.{unpointed}
+use Rattle.spec_desktop.specs.Changing.{changed_for}
+use Rattle.spec_desktop.specs.Desktop.{unpointed}
 use Rattle.wl_requests.proofs.Doing.{lacked}
 use Rattle.wl_requests.proofs.Framing.{framed-frame}
 use Rattle.wl_requests.proofs.Numbers.{keeps-names}

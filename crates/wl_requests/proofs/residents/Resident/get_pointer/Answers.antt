@@ -1,15 +1,15 @@
 use Rattle.std.proofs.Common.{None, Some, inl, refl, subst, sym, true, ◌≡◌}
-use Rattle.wl_interface.specs.declared.interface.Interface.TheVariants.{WlPointer}
-use Rattle.wl_invariants.proofs.KeptRecords.Toplevels.Releases.{still-released}
-use Rattle.wl_plain.specs.Changing.{changed_for}
-use Rattle.wl_plain.specs.Desktop.{unpointed}
+use Rattle.wl_proto.specs.declared.interface.Interface.TheVariants.{WlPointer}
+use Rattle.law_desktop.proofs.KeptRecords.Toplevels.Releases.{still-released}
+use Rattle.spec_desktop.specs.Changing.{changed_for}
+use Rattle.spec_desktop.specs.Desktop.{unpointed}
 use Rattle.wl_requests.proofs.Roles.{names-other-made}
-use Rattle.wl_owning.specs.Owning.{IsOwned, Names}
-use Rattle.wl_peer.specs.Peer.{counted}
-use Rattle.wl_plain.specs.Demand.{GetPointer}
-use Rattle.wl_plain.specs.Step.{with_peer}
+use Rattle.law_desktop.specs.Owning.{IsOwned, Names}
+use Rattle.spec_desktop.specs.Peer.{counted}
+use Rattle.spec_desktop.specs.Demand.{GetPointer}
+use Rattle.spec_desktop.specs.Step.{with_peer}
 use Rattle.wl_table.specs.declared.entry.Entry.{Entry}
-use Rattle.wl_xdg_state.specs.Kept.{kept_of}
+use Rattle.wl_shell.specs.Kept.{kept_of}
 use Rattle.wl_requests.proofs.Doing.{lacked}
 use Rattle.wl_requests.proofs.Framing.{framed-names, one-more}
 use Rattle.wl_requests.proofs.Naming.{subsurfaces-names}

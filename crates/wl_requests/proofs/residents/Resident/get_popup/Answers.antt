@@ -1,22 +1,22 @@
 use Rattle.wl_proto.specs.declared.xdg_surface.XdgSurfaceRequest.TheVariants as xdg
 use Rattle.std.proofs.Common.{◌≡◌, ℕ, Some, refl, ap, sym, ◌∙◌, inl}
-use Rattle.wl_interface.specs.declared.interface.Interface.TheVariants.{XdgPopup}
+use Rattle.wl_proto.specs.declared.interface.Interface.TheVariants.{XdgPopup}
 use Rattle.wl_table.specs.declared.entry.Entry.{Entry}
-use Rattle.wl_peer.specs.Peer.{counted}
-use Rattle.wl_shell.specs.Popups.{parent_id}
-use Rattle.wl_xdg_state.specs.Kept.{changing, kept_of, kept_popup}
-use Rattle.wl_xdg_state.specs.Positioner.{Positioner}
-use Rattle.wl_plain.specs.Changing.{changed_for}
-use Rattle.wl_plain.specs.Demand.{GetPopup}
-use Rattle.wl_plain.specs.Desktop.{unpointed}
-use Rattle.wl_plain.specs.Step.{with_peer}
-use Rattle.wl_plain.specs.XdgPopup.{is_no_popup, popup_made, positioner_of}
-use Rattle.wl_plain.specs.XdgShell.{role_of}
-use Rattle.wl_owning.specs.Owning.{shell_refusal}
-use Rattle.wl_owning.specs.RoleNames.{names_of}
-use Rattle.wl_owning.proofs.Keeping.OwningReads.{role-read}
-use Rattle.wl_owning.proofs.Popups.Coming.{popups-come}
-use Rattle.wl_owning.proofs.Popups.Naming.{roles-named}
+use Rattle.spec_desktop.specs.Peer.{counted}
+use Rattle.wl_shell.specs.PopupsKept.{parent_id}
+use Rattle.wl_shell.specs.Kept.{changing, kept_of, kept_popup}
+use Rattle.wl_shell.specs.Positioner.{Positioner}
+use Rattle.spec_desktop.specs.Changing.{changed_for}
+use Rattle.spec_desktop.specs.Demand.{GetPopup}
+use Rattle.spec_desktop.specs.Desktop.{unpointed}
+use Rattle.spec_desktop.specs.Step.{with_peer}
+use Rattle.spec_desktop.specs.XdgPopup.{is_no_popup, popup_made, positioner_of}
+use Rattle.spec_desktop.specs.XdgShell.{role_of}
+use Rattle.law_desktop.specs.Owning.{shell_refusal}
+use Rattle.law_desktop.specs.RoleNames.{names_of}
+use Rattle.law_desktop.proofs.Keeping.OwningReads.{role-read}
+use Rattle.law_desktop.proofs.OwnedPopups.Coming.{popups-come}
+use Rattle.law_desktop.proofs.OwnedPopups.Naming.{roles-named}
 use Rattle.wl_requests.proofs.Doing.{lacked}
 use Rattle.wl_requests.proofs.PopupsAnswered.{answered-ok, made-with, popup-comes, popup-read, popup-role, refused-with, request-number, so-judged}
 use Rattle.wl_requests.proofs.Shelling.{holds-counted, told-err, xdg-answered}

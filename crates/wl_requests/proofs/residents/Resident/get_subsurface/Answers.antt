@@ -3,23 +3,23 @@ use Rattle.std.specs.Prelude.{Result}
 use Rattle.std.specs.Option.{option_map}
 use Rattle.wl_client.specs.Agreement.{IsPeer}
 use Rattle.wl_client.specs.View.{ClientView}
-use Rattle.wl_interface.specs.declared.interface.Interface.TheVariants.{WlSubsurface}
-use Rattle.wl_owning.specs.Owning.{IsOwned, Names, by_number}
-use Rattle.wl_owning.specs.RoleNames.{names_of}
+use Rattle.wl_proto.specs.declared.interface.Interface.TheVariants.{WlSubsurface}
+use Rattle.law_desktop.specs.Owning.{IsOwned, Names, by_number}
+use Rattle.law_desktop.specs.RoleNames.{names_of}
 use Rattle.wl_requests.proofs.Roles.{names-other-made}
-use Rattle.wl_peer.specs.Objects.{Objects, object_of}
-use Rattle.wl_peer.specs.Peer.{counted}
-use Rattle.wl_peer.specs.declared.refusals.Refusal.{Refusal}
-use Rattle.wl_plain.specs.Demand.{Demand, GetSubsurface}
-use Rattle.wl_plain.specs.Step.{with_peer}
-use Rattle.wl_plain.specs.WlSubsurface.{subsurface_made}
-use Rattle.wl_xdg_state.specs.Kept.{kept_of}
+use Rattle.spec_desktop.specs.Objects.{Objects, object_of}
+use Rattle.spec_desktop.specs.Peer.{counted}
+use Rattle.spec_desktop.specs.declared.refusals.Refusal.{Refusal}
+use Rattle.spec_desktop.specs.Demand.{Demand, GetSubsurface}
+use Rattle.spec_desktop.specs.Step.{with_peer}
+use Rattle.spec_desktop.specs.WlSubsurface.{subsurface_made}
+use Rattle.wl_shell.specs.Kept.{kept_of}
 use Rattle.wl_surface.specs.Slots.{Numbered}
 use Rattle.wl_surface.specs.Waiting.{counted_at, frames_at}
 use Rattle.wl_surface.specs.declared.frames.Waiting.{Waiting}
 use Rattle.wl_table.specs.declared.entry.Entry.{Entry}
-use Rattle.wl_plain.specs.Changing.{changed_for}
-use Rattle.wl_plain.specs.Desktop.{unpointed}
+use Rattle.spec_desktop.specs.Changing.{changed_for}
+use Rattle.spec_desktop.specs.Desktop.{unpointed}
 use Rattle.wl_requests.specs.declared.residents.Resident.{Resident as Kept}
 use Rattle.wl_requests.specs.Linking.{IsJudged}
 use Rattle.wl_requests.specs.Residents.{AnswersSo}

@@ -1,19 +1,19 @@
 use Rattle.wl_proto.specs.declared.xdg_surface.XdgSurfaceRequest.TheVariants as xdg
 use Rattle.std.proofs.Common.{◌≡◌, ap, refl, sym, ◌∙◌, List, subst}
 use Rattle.std.specs.Prelude.{Some}
-use Rattle.wl_interface.specs.declared.interface.Interface.TheVariants.{WlSurface, XdgToplevel}
-use Rattle.wl_peer.specs.Peer.{counted}
-use Rattle.wl_xdg_state.specs.Kept.{kept_of, toplevel_answer}
-use Rattle.wl_plain.specs.Ask.{GetToplevel}
-use Rattle.wl_owning.specs.Owning.{shell_refusal, Names, targets_in}
-use Rattle.wl_owning.specs.RoleNames.{names_of}
-use Rattle.wl_owning.specs.Subsurfaces.{AreOfSurfaces}
-use Rattle.wl_plain.specs.Step.{with_peer, making, toplevel_given}
-use Rattle.wl_plain.specs.XdgShell.{is_no_toplevel, role_of, toplevel_made}
-use Rattle.wl_owning.proofs.Keeping.OwningAsks.{owned-toplevel-made}
-use Rattle.wl_owning.proofs.Popups.Naming.{roles-named}
+use Rattle.wl_proto.specs.declared.interface.Interface.TheVariants.{WlSurface, XdgToplevel}
+use Rattle.spec_desktop.specs.Peer.{counted}
+use Rattle.wl_shell.specs.Kept.{kept_of, toplevel_answer}
+use Rattle.spec_desktop.specs.Ask.{GetToplevel}
+use Rattle.law_desktop.specs.Owning.{shell_refusal, Names, targets_in}
+use Rattle.law_desktop.specs.RoleNames.{names_of}
+use Rattle.law_desktop.specs.Subsurfaces.{AreOfSurfaces}
+use Rattle.spec_desktop.specs.Step.{with_peer, making, toplevel_given}
+use Rattle.spec_desktop.specs.XdgShell.{is_no_toplevel, role_of, toplevel_made}
+use Rattle.law_desktop.proofs.Keeping.OwningAsks.{owned-toplevel-made}
+use Rattle.law_desktop.proofs.OwnedPopups.Naming.{roles-named}
 use Rattle.wl_requests.proofs.Roles.{names-toplevel-made}
-use Rattle.wl_owning.proofs.Keeping.OwningReads.{bare-toplevel, role-read, toplevel-made-by}
+use Rattle.law_desktop.proofs.Keeping.OwningReads.{bare-toplevel, role-read, toplevel-made-by}
 use Rattle.wl_requests.proofs.Shelling.{accepted, acts-given, holds-counted, role-given, told-err, told-ok, xdg-answered, xdg-refused}
 use Rattle.wl_requests.proofs.Numbers.{keeps-toplevel}
 use Rattle.wl_requests.proofs.Naming.{subsurfaces-named}
@@ -21,7 +21,7 @@ use Rattle.wl_requests.proofs.Meeting.{as-asked}
 use Rattle.wl_requests.proofs.residents.Resident.get_toplevel.Goals as goal
 use Rattle.wl_requests.proofs.Framing.{IsFramed, framed-role, one-more}
 use Rattle.wl_surface.specs.declared.frames.Waiting.{Waiting}
-use Rattle.wl_state.specs.declared.role.Role.TheVariants.{Toplevel as AsToplevel}
+use Rattle.wl_surface.specs.declared.role.Role.TheVariants.{Toplevel as AsToplevel}
 
 pub returns-in-Ok-clause-answers : goal.returns-in-Ok-clause-answers
 returns-in-Ok-clause-answers g c = λ named free client r on is only.

@@ -1,19 +1,19 @@
 use Rattle.std.proofs.Common.{ap, inl, refl, ◌∙◌}
 use Rattle.std.specs.Prelude.{Some, Err}
-use Rattle.wl_interface.specs.declared.interface.Interface.TheVariants.{XdgSurface}
-use Rattle.wl_peer.specs.Peer.{counted}
-use Rattle.wl_xdg_state.specs.Kept.{kept_of, making_refused}
-use Rattle.wl_xdg_state.specs.declared.error.ShellError.{ShellError}
-use Rattle.wl_plain.specs.Ask.{GetXdgSurface}
-use Rattle.wl_owning.specs.Owning.{asks_unless, shell_refusal, Names}
-use Rattle.wl_owning.specs.RoleNames.{names_of}
-use Rattle.wl_plain.specs.Step.{changed_by, with_peer}
-use Rattle.wl_plain.specs.XdgShell.{has_any, is_foreign, role_of, xdg_surface_made}
+use Rattle.wl_proto.specs.declared.interface.Interface.TheVariants.{XdgSurface}
+use Rattle.spec_desktop.specs.Peer.{counted}
+use Rattle.wl_shell.specs.Kept.{kept_of, making_refused}
+use Rattle.wl_shell.specs.declared.error.ShellError.{ShellError}
+use Rattle.spec_desktop.specs.Ask.{GetXdgSurface}
+use Rattle.law_desktop.specs.Owning.{asks_unless, shell_refusal, Names}
+use Rattle.law_desktop.specs.RoleNames.{names_of}
+use Rattle.spec_desktop.specs.Step.{changed_by, with_peer}
+use Rattle.spec_desktop.specs.XdgShell.{has_any, is_foreign, role_of, xdg_surface_made}
 use Rattle.wl_requests.proofs.Doing.{lacked}
-use Rattle.wl_owning.proofs.Keeping.OwningAsks.{owned-xdg-made}
-use Rattle.wl_owning.proofs.Keeping.OwningNames.{targets-free}
+use Rattle.law_desktop.proofs.Keeping.OwningAsks.{owned-xdg-made}
+use Rattle.law_desktop.proofs.Keeping.OwningNames.{targets-free}
 use Rattle.wl_requests.proofs.Roles.{names-xdg-made}
-use Rattle.wl_owning.proofs.Keeping.OwningReads.{content-read, free-made, made-by, role-read}
+use Rattle.law_desktop.proofs.Keeping.OwningReads.{content-read, free-made, made-by, role-read}
 use Rattle.wl_requests.proofs.Shelling.{accepted, making-err, making-memory, making-ok, making-read, holds-counted, refused-so}
 use Rattle.wl_requests.proofs.Numbers.{keeps-xdg}
 use Rattle.wl_requests.proofs.Naming.{subsurfaces-named}

@@ -1,18 +1,18 @@
 use Rattle.std.proofs.Common.{◌≡◌, Bool, true, false, ap, refl, ◌∙◌}
 use Rattle.std.specs.Prelude.{Ok, Err}
-use Rattle.wl_peer.specs.declared.refusals.Refusal.{Refusal}
-use Rattle.wl_peer.specs.Peer.{counted}
-use Rattle.wl_xdg_state.specs.Kept.{changing, kept_grabbing, kept_of}
+use Rattle.spec_desktop.specs.declared.refusals.Refusal.{Refusal}
+use Rattle.spec_desktop.specs.Peer.{counted}
+use Rattle.wl_shell.specs.Kept.{changing, kept_grabbing, kept_of}
 use Rattle.wl_proto.specs.declared.xdg_popup.XdgPopupRequest.TheVariants as popup
-use Rattle.wl_plain.specs.Changing.{grab_allowed}
-use Rattle.wl_plain.specs.Desktop.{unpointed}
-use Rattle.wl_plain.specs.Step.{with_peer}
-use Rattle.wl_plain.specs.XdgPopup.{grab_of, popup_asked}
-use Rattle.wl_xdg_state.specs.Popups.{popup_at}
-use Rattle.wl_owning.specs.Owning.{kept_base, shell_refusal}
-use Rattle.wl_owning.specs.Popups.{grab_demand}
-use Rattle.wl_owning.specs.RoleNames.{names_of}
-use Rattle.wl_owning.proofs.Popups.Grabbing.{popups-grab}
+use Rattle.spec_desktop.specs.Changing.{grab_allowed}
+use Rattle.spec_desktop.specs.Desktop.{unpointed}
+use Rattle.spec_desktop.specs.Step.{with_peer}
+use Rattle.spec_desktop.specs.XdgPopup.{grab_of, popup_asked}
+use Rattle.wl_shell.specs.Popups.{popup_at}
+use Rattle.law_desktop.specs.Owning.{kept_base, shell_refusal}
+use Rattle.law_desktop.specs.OwnedPopups.{grab_demand}
+use Rattle.law_desktop.specs.RoleNames.{names_of}
+use Rattle.law_desktop.proofs.OwnedPopups.Grabbing.{popups-grab}
 use Rattle.wl_requests.proofs.PopupsAnswered.{answered-ok, so-judged}
 use Rattle.wl_requests.proofs.PopupsGrabbed.{grab-refused, grab-taken, grab-told, mapped-told, only-mapped, popup-there}
 use Rattle.wl_requests.proofs.Shelling.{names-counted, refused-whole, told-err}

@@ -1,10 +1,10 @@
 use Rattle.std.specs.Prelude.{Ok}
-use Rattle.wl_plain.specs.Ask.{Ignore}
+use Rattle.spec_desktop.specs.Ask.{Ignore}
 use Rattle.std.proofs.Common.{refl, subst, sym}
-use Rattle.wl_peer.specs.Peer.{counted}
-use Rattle.wl_xdg_state.specs.Kept.{kept_of}
-use Rattle.wl_owning.specs.Owning.{IsOwned, Names}
-use Rattle.wl_plain.specs.Step.{with_peer}
+use Rattle.spec_desktop.specs.Peer.{counted}
+use Rattle.wl_shell.specs.Kept.{kept_of}
+use Rattle.law_desktop.specs.Owning.{IsOwned, Names}
+use Rattle.spec_desktop.specs.Step.{with_peer}
 use Rattle.wl_requests.proofs.Shelling.{names-counted}
 use Rattle.wl_requests.proofs.Numbers.{keeps-names}
 use Rattle.wl_requests.proofs.Naming.{subsurfaces-names}

@@ -1,7 +1,7 @@
 use Rattle.std.proofs.Common.{ap, ◌∙◌, ◌==◌, ℕ, Option}
 use Rattle.std.specs.Option.{option_map}
-use Rattle.wl_peer.specs.Buffers.{Buffer as Made}
-use Rattle.wl_plain.specs.Step.{is_number}
+use Rattle.spec_desktop.specs.Buffers.{Buffer as Made}
+use Rattle.spec_desktop.specs.Step.{is_number}
 use Rattle.wl_requests.proofs.residents.Resident.is_named.Goals as goal
 
 pub returns-in-Some : goal.returns-in-Some

@@ -1,8 +1,8 @@
 use Rattle.std.proofs.Common.{ap, sym, ◌∙◌}
 use Rattle.std.specs.Prelude.{not, ◌&&◌}
 use Rattle.wl_surface.specs.Surfaces.{is_used}
-use Rattle.wl_owning.specs.Owning.{by_number}
-use Rattle.wl_owning.proofs.Keeping.OwningSurfaces.{used-read}
+use Rattle.law_desktop.specs.Owning.{by_number}
+use Rattle.law_desktop.proofs.Keeping.OwningSurfaces.{used-read}
 use Rattle.wl_requests.proofs.residents.Resident.is_over.Goals as goal
 
 pub returns-then-not-is_named : goal.returns-then-not-is_named

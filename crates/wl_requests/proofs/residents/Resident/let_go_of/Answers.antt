@@ -1,9 +1,9 @@
 use Rattle.std.proofs.Common.{ℕ, List, Option, ap, slice_index_or, subst}
 use Rattle.wl_client.specs.Agreement.{IsPeer}
-use Rattle.wl_state.specs.Request.{Buffer}
-use Rattle.wl_state.specs.declared.content.Attached.{Attached}
-use Rattle.wl_plain.specs.Step.{letting_go}
-use Rattle.wl_owning.proofs.Keeping.Releases.{three-had}
+use Rattle.wl_surface.specs.Request.{Buffer}
+use Rattle.wl_surface.specs.declared.content.Attached.{Attached}
+use Rattle.spec_desktop.specs.Step.{letting_go}
+use Rattle.law_desktop.proofs.Keeping.Releases.{three-had}
 use Rattle.wl_requests.proofs.residents.Resident.let_go_of.Goals as goal
 
 pub returns-clause-stores : goal.returns-clause-stores

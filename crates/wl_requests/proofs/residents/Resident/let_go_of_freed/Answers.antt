@@ -2,11 +2,11 @@ use Rattle.std.proofs.Common.{List, ℕ, ap, map, subst, take, ◌∙◌}
 use Rattle.std.proofs.lemmas.List.{take_all}
 use Rattle.wl_client.specs.Agreement.{IsPeer}
 use Rattle.wl_client.specs.View.{ClientView}
-use Rattle.wl_owning.specs.Freed.{freed_of}
-use Rattle.wl_plain.specs.Desktop.{Resident}
-use Rattle.wl_plain.specs.Releases.{let_if}
-use Rattle.wl_plain.specs.Step.{is_over}
-use Rattle.wl_state.specs.Kept.{buffer_of}
+use Rattle.law_desktop.specs.Freed.{freed_of}
+use Rattle.spec_desktop.specs.Desktop.{Resident}
+use Rattle.spec_desktop.specs.Releases.{let_if}
+use Rattle.spec_desktop.specs.Step.{is_over}
+use Rattle.wl_surface.specs.Kept.{buffer_of}
 use Rattle.wl_store.specs.Stores.{Stock}
 use Rattle.std.specs.Option.{option_map}
 use Rattle.std.specs.Prelude.{false}

@@ -1,10 +1,10 @@
 use Rattle.std.proofs.Common.{◌≡◌, ℕ, map, take}
 use Rattle.wl_client.specs.Agreement.{IsPeer}
-use Rattle.wl_owning.specs.Freed.{freed_of}
-use Rattle.wl_owning.specs.Owning.{AreKept}
-use Rattle.wl_peer.specs.Objects.{ById}
-use Rattle.wl_plain.specs.Desktop.{Resident}
-use Rattle.wl_state.specs.Kept.{buffer_of}
+use Rattle.law_desktop.specs.Freed.{freed_of}
+use Rattle.law_desktop.specs.Owning.{AreKept}
+use Rattle.spec_desktop.specs.Objects.{ById}
+use Rattle.spec_desktop.specs.Desktop.{Resident}
+use Rattle.wl_surface.specs.Kept.{buffer_of}
 use Rattle.wl_requests.proofs.Letting.{gone_of}
 use Rattle.wl_requests.proofs.residents.Resident.let_go_of_freed.Given as goal
 

@@ -2,12 +2,12 @@ use Rattle.std.proofs.Common.{Bool, false, ap, subst, sym, ◌∙◌}
 use Rattle.std.specs.Option.{option_map}
 use Rattle.wl_store.specs.Stores.{Stock}
 use Rattle.wl_client.specs.Agreement.{IsPeer}
-use Rattle.wl_state.specs.Kept.{buffer_of}
+use Rattle.wl_surface.specs.Kept.{buffer_of}
 use Rattle.std.specs.Prelude.{◌||◌}
-use Rattle.wl_plain.specs.Releases.{let_if, same_number}
-use Rattle.wl_plain.specs.Step.{is_over, with_peer}
+use Rattle.spec_desktop.specs.Releases.{let_if, same_number}
+use Rattle.spec_desktop.specs.Step.{is_over, with_peer}
 use Rattle.wl_requests.proofs.Doing.{kept-there, one-let}
-use Rattle.wl_owning.proofs.Keeping.Releases.{three-go}
+use Rattle.law_desktop.proofs.Keeping.Releases.{three-go}
 use Rattle.wl_requests.proofs.residents.Resident.let_go_of_three.Goals as goal
 
 pub returns-clause-stores : goal.returns-clause-stores

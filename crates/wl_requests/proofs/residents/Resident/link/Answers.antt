@@ -1,7 +1,7 @@
 use Rattle.std.proofs.Common.{ap, sym, subst, ◌∙◌}
 use Rattle.std.specs.Prelude.{Result, is_some}
-use Rattle.wl_plain.specs.Demand.{GetSubsurface}
-use Rattle.wl_plain.specs.WlSubsurface.{subsurface_made}
+use Rattle.spec_desktop.specs.Demand.{GetSubsurface}
+use Rattle.spec_desktop.specs.WlSubsurface.{subsurface_made}
 use Rattle.wl_surface.specs.declared.error.SurfaceError.{SurfaceError}
 use Rattle.wl_requests.specs.Linking.{IsJudgedBy}
 use Rattle.wl_requests.proofs.Judging.{copied-there, deep-is, deep-judged, lacks-judged, linked-judged, made-so, one-judged, passed, xdg-judged}

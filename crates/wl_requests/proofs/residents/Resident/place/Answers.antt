@@ -1,12 +1,12 @@
 use Rattle.std.proofs.Common.{ap, refl, ◌∙◌}
 use Rattle.std.specs.Prelude.{false}
 use Rattle.std.proofs.lemmas.Bool.{false_from_ne_true}
-use Rattle.wl_family.specs.Family.{is_bad_sibling, links_in}
-use Rattle.wl_owning.specs.RoleNames.{names_of}
-use Rattle.wl_owning.proofs.Keeping.OwningLinks.{owned-placed}
-use Rattle.wl_plain.specs.WlSubsurface.{demand_by_link, placed_beside}
-use Rattle.wl_xdg_state.specs.Kept.{kept_of}
-use Rattle.wl_tree_laws.specs.Stacks.{place_request}
+use Rattle.wl_links.specs.Family.{is_bad_sibling, links_in}
+use Rattle.law_desktop.specs.RoleNames.{names_of}
+use Rattle.law_desktop.proofs.Keeping.OwningLinks.{owned-placed}
+use Rattle.spec_desktop.specs.WlSubsurface.{demand_by_link, placed_beside}
+use Rattle.wl_shell.specs.Kept.{kept_of}
+use Rattle.wl_surface.specs.Stacks.{place_request}
 use Rattle.wl_requests.specs.Linking.{place_asked}
 use Rattle.wl_requests.proofs.Beside.{placed-kept}
 use Rattle.wl_requests.proofs.Linking.{link-of-child, no-link-of}

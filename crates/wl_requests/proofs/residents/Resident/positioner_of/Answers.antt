@@ -1,6 +1,6 @@
 use Rattle.std.proofs.Common.{ℕ, Option, ap, ◌∙◌}
-use Rattle.wl_plain.specs.XdgPopup.{positioner_of}
-use Rattle.wl_xdg_state.specs.Positioner.{Positioner}
+use Rattle.spec_desktop.specs.XdgPopup.{positioner_of}
+use Rattle.wl_shell.specs.Positioner.{Positioner}
 use Rattle.wl_requests.proofs.residents.Resident.positioner_of.Goals as goal
 
 pub returns-in-Some : goal.returns-in-Some

@@ -1,7 +1,7 @@
 use Rattle.std.proofs.Common.{subst}
 use Rattle.wl_client.specs.Agreement.{IsPeer}
-use Rattle.wl_peer.specs.Peer.{Errs, Peer, counted}
-use Rattle.wl_peer.specs.declared.refusals.Refusal.{Refusal}
+use Rattle.spec_desktop.specs.Peer.{Errs, Peer, counted}
+use Rattle.spec_desktop.specs.declared.refusals.Refusal.{Refusal}
 use Rattle.wl_requests.proofs.residents.Resident.refuse_place.Goals as goal
 
 pub returns-then-eq-clause-errs : goal.returns-then-eq-clause-errs

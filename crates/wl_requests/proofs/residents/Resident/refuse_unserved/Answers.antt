@@ -1,7 +1,7 @@
 use Rattle.std.proofs.Common.{refl}
-use Rattle.wl_peer.specs.Told.{display_error}
-use Rattle.wl_peer.specs.declared.refusals.ErrorCode.TheVariants.{Implementation}
-use Rattle.wl_plain.specs.WlSurface.{refuse_limit}
+use Rattle.spec_desktop.specs.Told.{display_error}
+use Rattle.spec_desktop.specs.declared.refusals.ErrorCode.TheVariants.{Implementation}
+use Rattle.spec_desktop.specs.WlSurface.{refuse_limit}
 use Rattle.wl_requests.proofs.Shelling.{refused-so}
 use Rattle.wl_requests.proofs.Meeting.{as-asked}
 use Rattle.wl_requests.proofs.residents.Resident.refuse_unserved.Goals as goal

@@ -1,8 +1,8 @@
 use Rattle.std.proofs.Common.{◌∙◌, ap, subst, refl}
 use Rattle.wl_client.specs.Agreement.{IsPeer}
-use Rattle.wl_peer.specs.Peer.{Errs, Peer}
-use Rattle.wl_peer.specs.declared.refusals.Refusal.{Refusal}
-use Rattle.wl_owning.specs.Owning.{shell_refusal}
+use Rattle.spec_desktop.specs.Peer.{Errs, Peer}
+use Rattle.spec_desktop.specs.declared.refusals.Refusal.{Refusal}
+use Rattle.law_desktop.specs.Owning.{shell_refusal}
 use Rattle.wl_requests.proofs.residents.Resident.refuse_xdg_surface.Goals as goal
 
 pub returns-clause-errs : goal.returns-clause-errs

@@ -1,6 +1,6 @@
 use Rattle.std.proofs.Common.{refl, ap, ◌∙◌}
 use Rattle.wl_scene.specs.declared.owned.Owned.{Owned as Lent}
-use Rattle.wl_xdg_state.specs.Kept.{kept_of}
+use Rattle.wl_shell.specs.Kept.{kept_of}
 use Rattle.wl_requests.proofs.PopupsReleased.{all-released, no-more-go, none-released, only-then, released-on}
 use Rattle.wl_requests.proofs.residents.Resident.release_grabs.Goals as goal
 

@@ -1,10 +1,10 @@
 use Rattle.std.proofs.Common.{◌≡◌}
 use Rattle.wl_client.specs.Agreement.{IsPeer}
-use Rattle.wl_peer.specs.Peer.{Peer}
+use Rattle.spec_desktop.specs.Peer.{Peer}
 use Rattle.wl_shell.specs.InOrder.{HasOrder}
-use Rattle.wl_stacking.specs.Stacking.{Owned}
-use Rattle.wl_xdg_state.specs.Kept.{kept_of}
-use Rattle.wl_owning.specs.Owning.{IsOwned, Names}
+use Rattle.spec_desktop.specs.Stacking.{Owned}
+use Rattle.wl_shell.specs.Kept.{kept_of}
+use Rattle.law_desktop.specs.Owning.{IsOwned, Names}
 use Rattle.wl_requests.proofs.PopupsReleased.{IsReleasedTo}
 use Rattle.wl_requests.proofs.residents.Resident.release_grabs.Given as goal
 

@@ -2,10 +2,10 @@ use Rattle.std.proofs.Common.{Bool, List, ap, map, slice_index_or, ◌==◌, ◌
 use Rattle.std.specs.List.{list_any}
 use Rattle.std.specs.Option.{option_map}
 use Rattle.std.specs.Prelude.{◌&&◌, ◌||◌, find}
-use Rattle.wl_plain.specs.Replies.{has_object}
-use Rattle.wl_state.specs.declared.content.Attached.{Attached}
-use Rattle.wl_state.specs.Kept.{buffer_of}
-use Rattle.wl_state.specs.Surface.{listed}
+use Rattle.spec_desktop.specs.Replies.{has_object}
+use Rattle.wl_surface.specs.declared.content.Attached.{Attached}
+use Rattle.wl_surface.specs.Kept.{buffer_of}
+use Rattle.wl_surface.specs.Surface.{listed}
 use Rattle.wl_requests.proofs.Letting.{any-more, has}
 use Rattle.wl_requests.proofs.residents.Resident.released.Goals as goal
 

@@ -2,11 +2,11 @@ use Rattle.std.proofs.Common.{◌≡◌, ◌==◌, ◌&&◌, ℕ, map, take}
 use Rattle.std.specs.List.{list_any}
 use Rattle.std.specs.List.Sorted.{IsStrictlyIncreasing}
 use Rattle.wl_client.specs.Agreement.{IsPeer}
-use Rattle.wl_owning.specs.Freed.{freed_of}
-use Rattle.wl_plain.specs.Desktop.{Resident}
-use Rattle.wl_plain.specs.Replies.{has_object}
-use Rattle.wl_xdg_state.specs.Popups.{is_among}
-use Rattle.wl_state.specs.Kept.{buffer_of}
+use Rattle.law_desktop.specs.Freed.{freed_of}
+use Rattle.spec_desktop.specs.Desktop.{Resident}
+use Rattle.spec_desktop.specs.Replies.{has_object}
+use Rattle.wl_shell.specs.Popups.{is_among}
+use Rattle.wl_surface.specs.Kept.{buffer_of}
 use Rattle.wl_requests.proofs.residents.Resident.released.Given as goal
 
 -- those of them that were looked at

@@ -1,18 +1,18 @@
 use Rattle.std.proofs.Common.{◌≡◌, ℕ, List, Option, ap, subst, sym, ◌∙◌}
 use Rattle.std.specs.Prelude.{is_some}
-use Rattle.wl_peer.specs.Peer.{Queues, counted}
-use Rattle.wl_peer.specs.Told.{Said}
-use Rattle.wl_xdg_state.specs.Kept.{changing, kept_of, kept_repositioning, reposition_answer}
-use Rattle.wl_xdg_state.specs.Popups.{popup_at}
-use Rattle.wl_xdg_state.specs.Positioner.{Placed, Positioner}
+use Rattle.spec_desktop.specs.Peer.{Queues, counted}
+use Rattle.spec_desktop.specs.Told.{Said}
+use Rattle.wl_shell.specs.Kept.{changing, kept_of, kept_repositioning, reposition_answer}
+use Rattle.wl_shell.specs.Popups.{popup_at}
+use Rattle.wl_shell.specs.Positioner.{Placed, Positioner}
 use Rattle.wl_proto.specs.declared.xdg_popup.XdgPopupRequest.TheVariants as popup
-use Rattle.wl_plain.specs.Demand.{Reposition}
-use Rattle.wl_plain.specs.XdgPopup.{popup_asked, positioner_of, repositioned_by}
+use Rattle.spec_desktop.specs.Demand.{Reposition}
+use Rattle.spec_desktop.specs.XdgPopup.{popup_asked, positioner_of, repositioned_by}
 use Rattle.wl_scene.specs.declared.owned.Owned.{Owned as Lent}
-use Rattle.wl_owning.specs.Owning.{kept_id, shell_refusal}
-use Rattle.wl_owning.specs.Popups.{anew_told}
-use Rattle.wl_owning.specs.RoleNames.{names_of}
-use Rattle.wl_owning.proofs.Popups.Repositioning.{popups-anew}
+use Rattle.law_desktop.specs.Owning.{kept_id, shell_refusal}
+use Rattle.law_desktop.specs.OwnedPopups.{anew_told}
+use Rattle.law_desktop.specs.RoleNames.{names_of}
+use Rattle.law_desktop.proofs.OwnedPopups.Repositioning.{popups-anew}
 use Rattle.wl_requests.specs.Residents.{drawn_if}
 use Rattle.wl_requests.proofs.PopupsAnew.{anew-done, anew-refused, placed-there}
 use Rattle.wl_requests.proofs.PopupsAnswered.{answered-ok, so-judged}

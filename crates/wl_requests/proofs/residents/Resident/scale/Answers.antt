@@ -1,14 +1,14 @@
 use Rattle.std.proofs.Common.{Bool, ap, sym, refl, ◌∙◌, w32}
 use Rattle.std.specs.Prelude.{Ok, if◌then◌else◌, unsigned_abs}
 use Rattle.std.proofs.lemmas.Int.{to_z-of_z}
-use Rattle.wl_peer.specs.declared.refusals.ErrorCode.TheVariants.{InvalidScale}
-use Rattle.wl_peer.specs.Peer.{counted}
-use Rattle.wl_state.specs.Request.{SetBufferScale}
-use Rattle.wl_plain.specs.Ask.{AskSurface}
-use Rattle.wl_plain.specs.Desktop.{Resident}
-use Rattle.wl_owning.specs.RoleNames.{names_of}
-use Rattle.wl_plain.specs.Step.{with_peer}
-use Rattle.wl_plain.specs.WlSurface.{refuse, scale_set}
+use Rattle.spec_desktop.specs.declared.refusals.ErrorCode.TheVariants.{InvalidScale}
+use Rattle.spec_desktop.specs.Peer.{counted}
+use Rattle.wl_surface.specs.Request.{SetBufferScale}
+use Rattle.spec_desktop.specs.Ask.{AskSurface}
+use Rattle.spec_desktop.specs.Desktop.{Resident}
+use Rattle.law_desktop.specs.RoleNames.{names_of}
+use Rattle.spec_desktop.specs.Step.{with_peer}
+use Rattle.spec_desktop.specs.WlSurface.{refuse, scale_set}
 use Rattle.wl_requests.proofs.Shelling.{accepted, asked-releases, counted-does, refused-so, surface-counted}
 use Rattle.wl_requests.proofs.Meeting.{as-asked}
 use Rattle.wl_requests.proofs.residents.Resident.scale.Goals as goal

@@ -1,7 +1,7 @@
 use Rattle.std.proofs.Common.{refl, inl, inr, sym, w32}
 use Rattle.std.specs.Prelude.{unsigned_abs}
 use Rattle.std.proofs.lemmas.Int.{to_z-of_z}
-use Rattle.wl_state.specs.Request.{SetBufferTransform}
+use Rattle.wl_surface.specs.Request.{SetBufferTransform}
 use Rattle.wl_requests.proofs.Doing.{asked-so, lacked}
 use Rattle.wl_requests.proofs.residents.Resident.set_buffer_transform.Goals as goal
 

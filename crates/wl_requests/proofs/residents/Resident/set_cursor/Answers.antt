@@ -1,19 +1,19 @@
 use Rattle.std.proofs.Common.{Err, List, Result, ap, false, inr, refl, subst, sym, true, ◌≡◌, ◌∙◌}
 use Rattle.std.specs.Prelude.{is_some}
-use Rattle.wl_invariants.proofs.KeptRecords.Toplevels.Releases.{role-released}
-use Rattle.wl_plain.specs.Changing.{changed_for}
-use Rattle.wl_plain.specs.Desktop.{unpointed}
-use Rattle.wl_owning.proofs.Keeping.OwningAsks.{owned-cursor}
-use Rattle.wl_owning.specs.Owning.{IsOwned, Names, by_number}
-use Rattle.wl_owning.specs.RoleNames.{names_of}
-use Rattle.wl_peer.specs.Peer.{counted}
-use Rattle.wl_peer.specs.declared.refusals.Refusal.{Refusal}
-use Rattle.wl_plain.specs.Demand.{Demand, MakeCursor}
-use Rattle.wl_plain.specs.Step.{with_peer}
-use Rattle.wl_plain.specs.WlPointer.{cursor_set}
-use Rattle.wl_state.specs.declared.role.Role.TheVariants.{Cursor as AsCursor}
+use Rattle.law_desktop.proofs.KeptRecords.Toplevels.Releases.{role-released}
+use Rattle.spec_desktop.specs.Changing.{changed_for}
+use Rattle.spec_desktop.specs.Desktop.{unpointed}
+use Rattle.law_desktop.proofs.Keeping.OwningAsks.{owned-cursor}
+use Rattle.law_desktop.specs.Owning.{IsOwned, Names, by_number}
+use Rattle.law_desktop.specs.RoleNames.{names_of}
+use Rattle.spec_desktop.specs.Peer.{counted}
+use Rattle.spec_desktop.specs.declared.refusals.Refusal.{Refusal}
+use Rattle.spec_desktop.specs.Demand.{Demand, MakeCursor}
+use Rattle.spec_desktop.specs.Step.{with_peer}
+use Rattle.spec_desktop.specs.WlPointer.{cursor_set}
+use Rattle.wl_surface.specs.declared.role.Role.TheVariants.{Cursor as AsCursor}
 use Rattle.wl_surface.specs.declared.frames.Waiting.{Waiting}
-use Rattle.wl_xdg_state.specs.Kept.{kept_of}
+use Rattle.wl_shell.specs.Kept.{kept_of}
 use Rattle.wl_requests.specs.declared.residents.Resident.{Resident as Kept}
 use Rattle.wl_requests.specs.Residents.{AnswersSo}
 use Rattle.wl_requests.proofs.Framing.{IsFramed, framed-role, one-more}

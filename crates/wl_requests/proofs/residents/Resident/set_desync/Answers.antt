@@ -2,26 +2,26 @@ use Rattle.std.proofs.Common.{◌≡◌, ℕ, List, Option, None, Some, map, tru
 use Rattle.std.specs.Prelude.{Result}
 use Rattle.wl_client.specs.Agreement.{IsPeer}
 use Rattle.wl_client.specs.View.{ClientView}
-use Rattle.wl_interface.specs.declared.interface.Interface.TheVariants.{WlBuffer}
-use Rattle.wl_peer.specs.Peer.{Queues, counted}
-use Rattle.wl_peer.specs.Told.{Said, said}
-use Rattle.wl_peer.specs.declared.refusals.Refusal.{Refusal}
+use Rattle.wl_proto.specs.declared.interface.Interface.TheVariants.{WlBuffer}
+use Rattle.spec_desktop.specs.Peer.{Queues, counted}
+use Rattle.spec_desktop.specs.Told.{Said, said}
+use Rattle.spec_desktop.specs.declared.refusals.Refusal.{Refusal}
 use Rattle.wl_proto.specs.Messages.{says}
 use Rattle.wl_proto.specs.declared.wl_subsurface.WlSubsurfaceRequest.TheVariants.{SetDesync}
 use Rattle.wl_scene.specs.declared.owned.Owned.{Owned as Lent}
-use Rattle.wl_xdg_state.specs.Kept.{kept_of}
-use Rattle.wl_state.specs.Kept.{buffer_of}
+use Rattle.wl_shell.specs.Kept.{kept_of}
+use Rattle.wl_surface.specs.Kept.{buffer_of}
 use Rattle.wl_surface.specs.Trees.{desynchronised_in}
-use Rattle.wl_plain.specs.Changing.{mode_set}
-use Rattle.wl_plain.specs.Demand.{Demand, SetMode}
-use Rattle.wl_plain.specs.Desktop.{Resident}
-use Rattle.wl_plain.specs.Step.{with_peer, with_surfaces}
-use Rattle.wl_plain.specs.WlSubsurface.{demand_by_link}
-use Rattle.wl_owning.specs.RoleNames.{names_of}
-use Rattle.wl_owning.proofs.Keeping.Freeing.{releases-freed}
-use Rattle.wl_owning.proofs.Keeping.Ids.{waits-desynchronised}
-use Rattle.wl_owning.proofs.Keeping.OwningLinks.{owned-desynchronised}
-use Rattle.wl_owning.proofs.Keeping.Trees.{once-freed}
+use Rattle.spec_desktop.specs.Changing.{mode_set}
+use Rattle.spec_desktop.specs.Demand.{Demand, SetMode}
+use Rattle.spec_desktop.specs.Desktop.{Resident}
+use Rattle.spec_desktop.specs.Step.{with_peer, with_surfaces}
+use Rattle.spec_desktop.specs.WlSubsurface.{demand_by_link}
+use Rattle.law_desktop.specs.RoleNames.{names_of}
+use Rattle.law_desktop.proofs.Keeping.Freeing.{releases-freed}
+use Rattle.law_desktop.proofs.Keeping.Ids.{waits-desynchronised}
+use Rattle.law_desktop.proofs.Keeping.OwningLinks.{owned-desynchronised}
+use Rattle.law_desktop.proofs.Keeping.Trees.{once-freed}
 use Rattle.wl_requests.specs.Linking.{IsChildOf}
 use Rattle.wl_requests.specs.Residents.{AnswersAs}
 use Rattle.wl_requests.specs.Touching.{IsMade, IsTouched, Releases}

@@ -1,5 +1,5 @@
 use Rattle.std.proofs.Common.{refl, inl, inr, sym}
-use Rattle.wl_state.specs.Request.{SetInputRegion}
+use Rattle.wl_surface.specs.Request.{SetInputRegion}
 use Rattle.wl_requests.proofs.Doing.{asked-so, copied-named, lacked}
 use Rattle.wl_requests.proofs.residents.Resident.set_input_region.Goals as goal
 

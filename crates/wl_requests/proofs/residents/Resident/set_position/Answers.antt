@@ -1,12 +1,12 @@
 use Rattle.std.proofs.Common.{ap, refl, w32}
 use Rattle.std.proofs.lemmas.Int.{to_z-of_z}
-use Rattle.wl_owning.specs.RoleNames.{names_of}
-use Rattle.wl_owning.proofs.Keeping.OwningLinks.{owned-moved}
-use Rattle.wl_peer.specs.Peer.{counted}
-use Rattle.wl_plain.specs.WlSubsurface.{demand_by_link}
+use Rattle.law_desktop.specs.RoleNames.{names_of}
+use Rattle.law_desktop.proofs.Keeping.OwningLinks.{owned-moved}
+use Rattle.spec_desktop.specs.Peer.{counted}
+use Rattle.spec_desktop.specs.WlSubsurface.{demand_by_link}
 use Rattle.wl_proto.specs.declared.wl_subsurface.WlSubsurfaceRequest.TheVariants as subsurface
-use Rattle.wl_xdg_state.specs.Kept.{kept_of}
-use Rattle.wl_state.specs.Request.{SetPosition}
+use Rattle.wl_shell.specs.Kept.{kept_of}
+use Rattle.wl_surface.specs.Request.{SetPosition}
 use Rattle.wl_requests.proofs.Linking.{link-of-child, no-link-of}
 use Rattle.wl_requests.proofs.Positions.{asked-so, ignored-so, lacked-so}
 use Rattle.wl_requests.proofs.residents.Resident.set_position.Goals as goal

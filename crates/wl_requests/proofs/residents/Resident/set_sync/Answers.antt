@@ -1,5 +1,5 @@
 use Rattle.std.proofs.Common.{ap, refl}
-use Rattle.wl_plain.specs.WlSubsurface.{demand_by_link}
+use Rattle.spec_desktop.specs.WlSubsurface.{demand_by_link}
 use Rattle.wl_proto.specs.declared.wl_subsurface.WlSubsurfaceRequest.TheVariants.{SetSync}
 use Rattle.wl_requests.proofs.Linking.{link-of-child, no-link-of}
 use Rattle.wl_requests.proofs.Positions.{ignored-so, synchronised-so}

@@ -1,15 +1,15 @@
 use Rattle.wl_proto.specs.declared.xdg_surface.XdgSurfaceRequest.TheVariants as xdg
 use Rattle.std.proofs.Common.{ap, inr, refl, subst, sym, true}
-use Rattle.wl_peer.specs.Peer.{counted}
-use Rattle.wl_state.specs.Request.{SetWindowGeometry}
-use Rattle.wl_xdg_state.specs.Kept.{geometry_answer, kept_of}
-use Rattle.wl_plain.specs.Ask.{AskSurface}
-use Rattle.wl_owning.specs.Owning.{IsOwned, Names, shell_refusal}
-use Rattle.wl_owning.specs.RoleNames.{names_of}
-use Rattle.wl_plain.specs.Step.{changed_by, with_peer}
-use Rattle.wl_plain.specs.XdgShell.{geometry_set}
-use Rattle.wl_owning.proofs.Keeping.OwningAsks.{owned-geometry}
-use Rattle.wl_owning.proofs.Keeping.OwningReads.{geometry-set-by}
+use Rattle.spec_desktop.specs.Peer.{counted}
+use Rattle.wl_surface.specs.Request.{SetWindowGeometry}
+use Rattle.wl_shell.specs.Kept.{geometry_answer, kept_of}
+use Rattle.spec_desktop.specs.Ask.{AskSurface}
+use Rattle.law_desktop.specs.Owning.{IsOwned, Names, shell_refusal}
+use Rattle.law_desktop.specs.RoleNames.{names_of}
+use Rattle.spec_desktop.specs.Step.{changed_by, with_peer}
+use Rattle.spec_desktop.specs.XdgShell.{geometry_set}
+use Rattle.law_desktop.proofs.Keeping.OwningAsks.{owned-geometry}
+use Rattle.law_desktop.proofs.Keeping.OwningReads.{geometry-set-by}
 use Rattle.wl_requests.proofs.Shelling.{accepted, asked-releases, geometry-keeps, names-counted, told-err, told-ok, wants-told, xdg-answered, xdg-refused}
 use Rattle.wl_requests.proofs.Numbers.{keeps-names}
 use Rattle.wl_requests.proofs.Naming.{subsurfaces-names}

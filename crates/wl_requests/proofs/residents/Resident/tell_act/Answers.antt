@@ -1,8 +1,8 @@
 use Rattle.std.proofs.Common.{List, refl, subst, sym, ◌∙◌}
-use Rattle.wl_peer.specs.Peer.{Queues}
-use Rattle.wl_peer.specs.Told.{Said}
-use Rattle.wl_xdg_state.specs.Kept.{kept_of}
-use Rattle.wl_xdg_state.specs.Shell.{next_serial}
+use Rattle.spec_desktop.specs.Peer.{Queues}
+use Rattle.spec_desktop.specs.Told.{Said}
+use Rattle.wl_shell.specs.Kept.{kept_of}
+use Rattle.wl_shell.specs.Shell.{next_serial}
 use Rattle.wl_requests.specs.Residents.{drawn_by}
 use Rattle.wl_requests.proofs.Committing.{told-none, told-popup, told-still, told-toplevel}
 use Rattle.wl_requests.proofs.Shelling.{drawn}

@@ -1,13 +1,13 @@
 use Rattle.std.proofs.Common.{List, [], ◌∷◌, ap, subst, ◌∙◌}
 use Rattle.wl_wire.specs.Wire.{Word}
-use Rattle.wl_interface.specs.declared.interface.Interface.TheVariants.{XdgPopup}
+use Rattle.wl_proto.specs.declared.interface.Interface.TheVariants.{XdgPopup}
 use Rattle.wl_proto.specs.Messages.{says}
-use Rattle.wl_peer.specs.Peer.{Queues}
-use Rattle.wl_peer.specs.Told.{Said, said}
+use Rattle.spec_desktop.specs.Peer.{Queues}
+use Rattle.spec_desktop.specs.Told.{Said, said}
 use Rattle.wl_client.specs.Said.{said_of}
-use Rattle.wl_xdg_state.specs.Shell.{next_serial}
-use Rattle.wl_plain.specs.Replies.{popup_configured}
-use Rattle.wl_plain.specs.Step.{xdg_configured}
+use Rattle.wl_shell.specs.Shell.{next_serial}
+use Rattle.spec_desktop.specs.Replies.{popup_configured}
+use Rattle.spec_desktop.specs.Step.{xdg_configured}
 use Rattle.wl_requests.proofs.Shelling.{drawn}
 use Rattle.wl_requests.proofs.residents.Resident.tell_anew.Goals as goal
 

@@ -1,8 +1,8 @@
 use Rattle.std.proofs.Common.{List, [], ◌∷◌, ap, subst, ◌∙◌}
-use Rattle.wl_peer.specs.Peer.{Queues}
+use Rattle.spec_desktop.specs.Peer.{Queues}
 use Rattle.wl_client.specs.Said.{said_of}
-use Rattle.wl_peer.specs.Told.{Said}
-use Rattle.wl_plain.specs.Step.{toplevel_configured, xdg_configured}
+use Rattle.spec_desktop.specs.Told.{Said}
+use Rattle.spec_desktop.specs.Step.{toplevel_configured, xdg_configured}
 use Rattle.wl_requests.proofs.residents.Resident.tell_configure.Goals as goal
 
 pub returns-clause-queues : goal.returns-clause-queues

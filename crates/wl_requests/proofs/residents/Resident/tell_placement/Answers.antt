@@ -1,9 +1,9 @@
 use Rattle.std.proofs.Common.{List, [], ◌∷◌, ap, subst, ◌∙◌}
-use Rattle.wl_peer.specs.Peer.{Queues}
+use Rattle.spec_desktop.specs.Peer.{Queues}
 use Rattle.wl_client.specs.Said.{said_of}
-use Rattle.wl_peer.specs.Told.{Said}
-use Rattle.wl_plain.specs.Replies.{popup_configured}
-use Rattle.wl_plain.specs.Step.{xdg_configured}
+use Rattle.spec_desktop.specs.Told.{Said}
+use Rattle.spec_desktop.specs.Replies.{popup_configured}
+use Rattle.spec_desktop.specs.Step.{xdg_configured}
 use Rattle.wl_requests.proofs.residents.Resident.tell_placement.Goals as goal
 
 pub returns-in-Some-clause-queues : goal.returns-in-Some-clause-queues

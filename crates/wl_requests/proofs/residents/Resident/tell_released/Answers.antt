@@ -1,9 +1,9 @@
 use Rattle.std.proofs.Common.{◌≡◌, ℕ, [], ◌∷◌, ap, subst, ◌∙◌}
 use Rattle.wl_client.specs.Said.{said_of}
-use Rattle.wl_interface.specs.declared.interface.Interface.TheVariants.{XdgPopup}
-use Rattle.wl_laws.proofs.Lists.Keys.{some-same}
-use Rattle.wl_peer.specs.Peer.{QueuesTo}
-use Rattle.wl_peer.specs.Told.{Said, said}
+use Rattle.wl_proto.specs.declared.interface.Interface.TheVariants.{XdgPopup}
+use Rattle.law_desktop.proofs.Lists.Keys.{some-same}
+use Rattle.spec_desktop.specs.Peer.{QueuesTo}
+use Rattle.spec_desktop.specs.Told.{Said, said}
 use Rattle.wl_proto.specs.Messages.{says}
 use Rattle.wl_requests.proofs.PopupsReleased.{only-told, queued-or-not, still-refused}
 use Rattle.wl_requests.proofs.residents.Resident.tell_released.Goals as goal

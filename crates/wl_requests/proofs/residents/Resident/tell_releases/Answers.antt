@@ -1,8 +1,8 @@
 use Rattle.std.proofs.Common.{[], ℕ, ap, arith, map, refl, sym, ◌∙◌}
 use Rattle.std.specs.Prelude.{is_some}
 use Rattle.wl_client.specs.View.{ClientView}
-use Rattle.wl_interface.specs.declared.interface.Interface.TheVariants.{WlBuffer}
-use Rattle.wl_peer.specs.Told.{Said, said}
+use Rattle.wl_proto.specs.declared.interface.Interface.TheVariants.{WlBuffer}
+use Rattle.spec_desktop.specs.Told.{Said, said}
 use Rattle.wl_proto.specs.Messages.{says}
 use Rattle.wl_requests.proofs.Doing.{gone}
 use Rattle.wl_requests.proofs.Letting.{all-told, lives-of, next-told, none-told}

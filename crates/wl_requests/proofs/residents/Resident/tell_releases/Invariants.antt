@@ -1,9 +1,9 @@
 use Rattle.std.proofs.Common.{◌≡◌, ◌≤◌, [], None, length, map, drop, true}
 use Rattle.std.specs.Prelude.{is_some}
 use Rattle.wl_client.specs.Agreement.{IsPeer}
-use Rattle.wl_interface.specs.declared.interface.Interface.TheVariants.{WlBuffer}
-use Rattle.wl_peer.specs.Peer.{Peer}
-use Rattle.wl_peer.specs.Told.{said}
+use Rattle.wl_proto.specs.declared.interface.Interface.TheVariants.{WlBuffer}
+use Rattle.spec_desktop.specs.Peer.{Peer}
+use Rattle.spec_desktop.specs.Told.{said}
 use Rattle.wl_proto.specs.Messages.{says}
 use Rattle.wl_requests.proofs.Letting.{IsToldSo}
 use Rattle.wl_requests.proofs.residents.Resident.tell_releases.Given as goal

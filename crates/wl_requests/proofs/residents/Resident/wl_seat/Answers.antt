@@ -1,9 +1,9 @@
 use Rattle.std.proofs.Common.{ap, arith, sym, ◌∙◌}
 use Rattle.std.specs.Prelude.{Err}
-use Rattle.wl_peer.specs.declared.refusals.Refusal.{Refusal}
+use Rattle.spec_desktop.specs.declared.refusals.Refusal.{Refusal}
 use Rattle.wl_proto.specs.Messages.{wl_seat_request}
-use Rattle.wl_plain.specs.Demanding.{demand_of}
-use Rattle.wl_plain.specs.LeftOut.{nothing_left_out}
+use Rattle.spec_desktop.specs.Demanding.{demand_of}
+use Rattle.spec_desktop.specs.LeftOut.{nothing_left_out}
 use Rattle.wl_requests.proofs.Asking.{seat-refused}
 use Rattle.wl_requests.proofs.Shelling.{refused-whole}
 use Rattle.wl_requests.proofs.residents.Resident.wl_seat.Goals as goal

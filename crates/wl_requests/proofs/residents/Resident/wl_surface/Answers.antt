@@ -1,18 +1,18 @@
 use Rattle.std.proofs.Common.{◌≡◌, ℕ, Bool, true, false, refl, subst, sym}
 use Rattle.std.specs.Prelude.{Ok, is_some, if◌then◌else◌}
-use Rattle.wl_peer.specs.declared.refusals.ErrorCode.TheVariants.{SurfaceHasRoleObject}
-use Rattle.wl_plain.specs.Demand.{EndSurface}
-use Rattle.wl_plain.specs.Desktop.{Resident}
-use Rattle.wl_plain.specs.WlSubsurface.{refuses}
-use Rattle.wl_plain.specs.WlSurface.{scale_set, transform_set}
-use Rattle.wl_xdg_state.specs.Shell.{xdg_of}
+use Rattle.spec_desktop.specs.declared.refusals.ErrorCode.TheVariants.{SurfaceHasRoleObject}
+use Rattle.spec_desktop.specs.Demand.{EndSurface}
+use Rattle.spec_desktop.specs.Desktop.{Resident}
+use Rattle.spec_desktop.specs.WlSubsurface.{refuses}
+use Rattle.spec_desktop.specs.WlSurface.{scale_set, transform_set}
+use Rattle.wl_shell.specs.Shell.{xdg_of}
 use Rattle.wl_requests.specs.declared.residents.Resident.{Resident as Kept}
 use Rattle.wl_requests.specs.declared.residents.Stacking.TheVariants.{Stays}
 use Rattle.wl_requests.specs.Residents.{StacksSo}
 use Rattle.wl_requests.specs.Touching.{Commits, Destroys, IsTouched, Touch}
 use Rattle.wl_requests.proofs.Meeting.{answered-so, asks-stay}
-use Rattle.wl_plain.specs.Demanding.{demand_of}
-use Rattle.wl_plain.specs.LeftOut.{nothing_left_out}
+use Rattle.spec_desktop.specs.Demanding.{demand_of}
+use Rattle.spec_desktop.specs.LeftOut.{nothing_left_out}
 use Rattle.wl_proto.specs.Messages.{wl_surface_request}
 use Rattle.wl_proto.specs.declared.wl_surface.WlSurfaceRequest.{WlSurfaceRequest}
 use Rattle.wl_proto.specs.declared.wl_surface.WlSurfaceRequest.TheVariants as surface

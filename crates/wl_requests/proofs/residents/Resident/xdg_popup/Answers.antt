@@ -1,7 +1,7 @@
 use Rattle.wl_proto.specs.declared.xdg_popup.XdgPopupRequest.TheVariants as popup
 use Rattle.std.proofs.Common.{refl}
 use Rattle.std.specs.Prelude.{is_some}
-use Rattle.wl_plain.specs.XdgPopup.{popup_demand}
+use Rattle.spec_desktop.specs.XdgPopup.{popup_demand}
 use Rattle.wl_requests.specs.Touching.{Closes}
 use Rattle.wl_requests.proofs.Meeting.{answered-so}
 use Rattle.wl_requests.proofs.PopupsAnswered.{touched-so}

@@ -1,19 +1,19 @@
 use Rattle.std.proofs.Common.{refl, ◌≡◌, ℕ, Option, Some, subst, sym, ◌∙◌, ap}
 use Rattle.std.specs.Prelude.{Ok, Result}
-use Rattle.wl_peer.specs.declared.refusals.Refusal.{Refusal}
-use Rattle.wl_xdg_state.specs.Kept.{kept_of}
-use Rattle.wl_xdg_state.specs.Shell.{XdgSurface as Xdg, xdg_with}
+use Rattle.spec_desktop.specs.declared.refusals.Refusal.{Refusal}
+use Rattle.wl_shell.specs.Kept.{kept_of}
+use Rattle.wl_shell.specs.Shell.{XdgSurface as Xdg, xdg_with}
 use Rattle.wl_requests.specs.declared.residents.Stacking.TheVariants.{Out, Stays}
-use Rattle.wl_plain.specs.Ask.{Ignore}
-use Rattle.wl_plain.specs.Demanding.{toplevel_asked, toplevel_demand}
-use Rattle.wl_peer.specs.Requests.{toplevel_request}
-use Rattle.wl_peer.specs.ToplevelRequest.{ToplevelRequest}
-use Rattle.wl_peer.specs.ToplevelRequest as toplevel
-use Rattle.wl_plain.specs.Desktop.{Desktop, Resident}
-use Rattle.wl_owning.proofs.Popups.Naming.{roles-named}
-use Rattle.wl_owning.specs.RoleNames.{names_of}
-use Rattle.wl_owning.proofs.Keeping.OwningXdg.{toplevel-named}
-use Rattle.wl_plain.specs.Demand.{Demand, Asks}
+use Rattle.spec_desktop.specs.Ask.{Ignore}
+use Rattle.spec_desktop.specs.Demanding.{toplevel_asked, toplevel_demand}
+use Rattle.spec_desktop.specs.Requests.{toplevel_request}
+use Rattle.spec_desktop.specs.ToplevelRequest.{ToplevelRequest}
+use Rattle.spec_desktop.specs.ToplevelRequest as toplevel
+use Rattle.spec_desktop.specs.Desktop.{Desktop, Resident}
+use Rattle.law_desktop.proofs.OwnedPopups.Naming.{roles-named}
+use Rattle.law_desktop.specs.RoleNames.{names_of}
+use Rattle.law_desktop.proofs.Keeping.OwningXdg.{toplevel-named}
+use Rattle.spec_desktop.specs.Demand.{Demand, Asks}
 use Rattle.wl_requests.specs.declared.residents.Resident.{Resident as Kept}
 use Rattle.wl_requests.specs.declared.xdg_toplevel.ToplevelAsked.TheVariants.{Destruction, Configure as AskedConfigure}
 use Rattle.wl_requests.specs.Residents.{AnswersSo, StacksSo, asked_by}

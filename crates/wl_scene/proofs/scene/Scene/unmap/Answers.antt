@@ -3,7 +3,7 @@ use Rattle.std.proofs.lemmas.Fn.{filter_same}
 use Rattle.std.specs.Prelude.{not}
 use Rattle.wl_scene.proofs.Stacks.{map-filter}
 use Rattle.wl_scene.proofs.scene.Scene.unmap.Goals as goal
-use Rattle.wl_stacking.specs.Stacking.{is_of}
+use Rattle.spec_desktop.specs.Stacking.{is_of}
 use Rattle.wl_scene.specs.Kept.{standing_of}
 
 pub returns-clause-standing : goal.returns-clause-standing

@@ -1,6 +1,6 @@
 use Rattle.std.proofs.Common.{refl}
-use Rattle.wl_plain.specs.Act.{Connect}
-use Rattle.wl_plain.specs.declared.answers.Done.TheVariants as gave
+use Rattle.spec_desktop.specs.Act.{Connect}
+use Rattle.spec_desktop.specs.declared.answers.Done.TheVariants as gave
 use Rattle.wl_session.proofs.Courses.{leads-step, marked-course}
 use Rattle.wl_session.proofs.sessions.Session.connect.Goals as goal
 

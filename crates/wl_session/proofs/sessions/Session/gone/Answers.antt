@@ -1,6 +1,6 @@
 use Rattle.std.proofs.Common.{refl}
-use Rattle.wl_plain.specs.Act.{Leave}
-use Rattle.wl_plain.specs.declared.answers.Done.TheVariants as gave
+use Rattle.spec_desktop.specs.Act.{Leave}
+use Rattle.spec_desktop.specs.declared.answers.Done.TheVariants as gave
 use Rattle.wl_session.proofs.Courses.{leads-step, marked-course}
 use Rattle.wl_session.proofs.sessions.Session.gone.Goals as goal
 

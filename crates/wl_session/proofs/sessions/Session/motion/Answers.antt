@@ -1,8 +1,8 @@
 use Rattle.std.proofs.Common.{refl, rules, w32}
 use Rattle.std.proofs.lemmas.Int.{to_z-of_z}
 use Rattle.std.specs.Prelude.{FitsSigned}
-use Rattle.wl_plain.specs.Act.{Motion}
-use Rattle.wl_plain.specs.declared.answers.Done.TheVariants as gave
+use Rattle.spec_desktop.specs.Act.{Motion}
+use Rattle.spec_desktop.specs.declared.answers.Done.TheVariants as gave
 use Rattle.wl_session.proofs.Courses.{leads-step, marked-course, motion-leads}
 use Rattle.wl_session.proofs.sessions.Session.motion.Goals as goal
 

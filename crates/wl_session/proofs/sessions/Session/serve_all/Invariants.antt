@@ -1,6 +1,6 @@
 use Rattle.std.proofs.Common.{◌≡◌, length}
 use Rattle.wl_desk.specs.Agreeing.{Agrees}
-use Rattle.wl_plain.specs.Desktop.{Desktop}
+use Rattle.spec_desktop.specs.Desktop.{Desktop}
 use Rattle.wl_desk.specs.Feeding.{rest_in}
 use Rattle.wl_session.specs.Course.{Took}
 use Rattle.wl_session.proofs.sessions.Session.serve_all.Given as goal

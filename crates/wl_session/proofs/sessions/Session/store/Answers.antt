@@ -1,6 +1,6 @@
 use Rattle.std.proofs.Common.{refl}
-use Rattle.wl_plain.specs.Act.{Store}
-use Rattle.wl_plain.specs.declared.answers.Done.TheVariants as gave
+use Rattle.spec_desktop.specs.Act.{Store}
+use Rattle.spec_desktop.specs.declared.answers.Done.TheVariants as gave
 use Rattle.wl_session.proofs.Courses.{leads-step, marked-course}
 use Rattle.wl_session.proofs.sessions.Session.store.Goals as goal
 

@@ -1,7 +1,7 @@
 use Rattle.std.proofs.Common.{◌≡◌, false, refl, ap, sym, [], inl, inr}
 use Rattle.std.proofs.lemmas.List.{append-nil}
-use Rattle.wl_plain.specs.declared.answers.Done.TheVariants as gave
-use Rattle.wl_plain.specs.Act.{Connect}
+use Rattle.spec_desktop.specs.declared.answers.Done.TheVariants as gave
+use Rattle.spec_desktop.specs.Act.{Connect}
 use Rattle.wl_session.specs.Step.{act_of}
 use Rattle.wl_session.specs.Events.{is_tick}
 use Rattle.wl_session.proofs.Runs.{quiet-leads}

@@ -2,12 +2,12 @@ use Rattle.std.proofs.Common.{◌∙◌, refl, sym, ap}
 use Rattle.wl_client.specs.declared.outputs.Output.{Output}
 use Rattle.wl_paint.specs.Damage.{Damaged, has}
 use Rattle.wl_desk.specs.Agreeing.{Agrees}
-use Rattle.wl_plain.specs.Desktop.{Desktop}
+use Rattle.spec_desktop.specs.Desktop.{Desktop}
 use Rattle.wl_desk.specs.View.{DeskView}
 use Rattle.wl_session.specs.Run.{IsNextFrame}
 use Rattle.wl_session.specs.View.{SessionView}
-use Rattle.wl_plain.specs.Act.{Tick}
-use Rattle.wl_plain.specs.declared.answers.Done.TheVariants as gave
+use Rattle.spec_desktop.specs.Act.{Tick}
+use Rattle.spec_desktop.specs.declared.answers.Done.TheVariants as gave
 use Rattle.wl_session.specs.Course.{TakesCourse}
 use Rattle.wl_session.proofs.Courses.{led-happens, tick-course}
 use Rattle.wl_session.proofs.sessions.Session.tick.Goals as goal

@@ -1,5 +1,5 @@
 use Rattle.std.proofs.Common.{ap, ◌∙◌}
-use Rattle.wl_xdg_state.specs.Kept.{configure_answer, kept_configured, kept_of}
+use Rattle.wl_shell.specs.Kept.{configure_answer, kept_configured, kept_of}
 use Rattle.wl_shell.proofs.Books.{changed-ok, stayed-err}
 use Rattle.wl_shell.proofs.shell.Shell.configure.Goals as goal
 

@@ -1,4 +1,4 @@
-use Rattle.wl_xdg_state.specs.Kept.{kept_without_role}
+use Rattle.wl_shell.specs.Kept.{kept_without_role}
 use Rattle.wl_shell.proofs.Books.{changed}
 use Rattle.wl_shell.proofs.shell.Shell.destroy_toplevel.Goals as goal
 

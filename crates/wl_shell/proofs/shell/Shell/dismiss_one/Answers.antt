@@ -1,5 +1,5 @@
-use Rattle.wl_xdg_state.specs.Kept.{kept_changed}
-use Rattle.wl_xdg_state.specs.Popups.{dismiss}
+use Rattle.wl_shell.specs.Kept.{kept_changed}
+use Rattle.wl_shell.specs.Popups.{dismiss}
 use Rattle.wl_shell.proofs.Books.{changed}
 use Rattle.wl_shell.proofs.shell.Shell.dismiss_one.Goals as goal
 

@@ -1,4 +1,4 @@
-use Rattle.wl_xdg_state.specs.Kept.{kept_asking}
+use Rattle.wl_shell.specs.Kept.{kept_asking}
 use Rattle.wl_shell.proofs.Books.{changed-ok, stayed-err}
 use Rattle.wl_shell.proofs.shell.Shell.geometry.Goals as goal
 

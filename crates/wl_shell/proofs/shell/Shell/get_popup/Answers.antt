@@ -1,4 +1,4 @@
-use Rattle.wl_xdg_state.specs.Kept.{kept_popup}
+use Rattle.wl_shell.specs.Kept.{kept_popup}
 use Rattle.wl_shell.proofs.Books.{changed-if, stayed-err}
 use Rattle.wl_shell.proofs.shell.Shell.get_popup.Goals as goal
 

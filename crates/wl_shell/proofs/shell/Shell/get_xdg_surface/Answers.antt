@@ -1,5 +1,5 @@
 use Rattle.std.proofs.Common.{Some, ap, ◌∙◌}
-use Rattle.wl_xdg_state.specs.Kept.{kept_of, with_kept}
+use Rattle.wl_shell.specs.Kept.{kept_of, with_kept}
 use Rattle.wl_shell.proofs.Books.{updated}
 use Rattle.wl_shell.proofs.shell.Shell.get_xdg_surface.Goals as goal
 

@@ -1,6 +1,6 @@
 use Rattle.std.proofs.Common.{Some, ap, ◌∙◌, ◌&&◌}
-use Rattle.wl_xdg_state.specs.Kept.{grab_answer, kept_grabbing, kept_of}
-use Rattle.wl_shell.specs.Popups.{parent_allows}
+use Rattle.wl_shell.specs.Kept.{grab_answer, kept_grabbing, kept_of}
+use Rattle.wl_shell.specs.PopupsKept.{parent_allows}
 use Rattle.wl_shell.proofs.Books.{changed-ok, stayed-err}
 use Rattle.wl_shell.proofs.shell.Shell.grab.Goals as goal
 

@@ -1,7 +1,7 @@
 use Rattle.std.proofs.Common.{ℕ, subst}
-use Rattle.wl_xdg_state.specs.Kept.{kept_of}
+use Rattle.wl_shell.specs.Kept.{kept_of}
 use Rattle.wl_shell.specs.declared.popups.Wanted.TheVariants.{Under}
-use Rattle.wl_shell.specs.Popups.{IsNewest, dismissible}
+use Rattle.wl_shell.specs.PopupsKept.{IsNewest, dismissible}
 use Rattle.wl_shell.proofs.Picking.{found-as, greatest-by, is-found}
 use Rattle.wl_shell.proofs.shell.Shell.newest_under.Goals as goal
 

@@ -1,5 +1,5 @@
 use Rattle.std.proofs.Common.{ap, ◌∙◌}
-use Rattle.wl_xdg_state.specs.Kept.{commit_answer, kept_after, kept_of}
+use Rattle.wl_shell.specs.Kept.{commit_answer, kept_after, kept_of}
 use Rattle.wl_shell.proofs.Books.{changed-ok, stayed-err}
 use Rattle.wl_shell.proofs.shell.Shell.on_commit.Goals as goal
 

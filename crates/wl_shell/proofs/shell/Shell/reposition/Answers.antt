@@ -1,5 +1,5 @@
 use Rattle.std.proofs.Common.{ap, ◌∙◌}
-use Rattle.wl_xdg_state.specs.Kept.{kept_of, kept_repositioning, reposition_answer}
+use Rattle.wl_shell.specs.Kept.{kept_of, kept_repositioning, reposition_answer}
 use Rattle.wl_shell.proofs.Books.{changed-ok, stayed-err}
 use Rattle.wl_shell.proofs.shell.Shell.reposition.Goals as goal
 

@@ -1,5 +1,5 @@
 use Rattle.std.proofs.Common.{Option, subst, sym}
-use Rattle.wl_state.specs.Kept.{Kept}
+use Rattle.wl_surface.specs.Kept.{Kept}
 use Rattle.wl_surface.specs.Slots.{StandsAt}
 use Rattle.wl_surface.specs.Waiting.{applied_by}
 use Rattle.wl_surface.proofs.Changed.{applied-none, applied-some}

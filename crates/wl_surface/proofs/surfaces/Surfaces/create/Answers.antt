@@ -1,5 +1,5 @@
 use Rattle.wl_surface.proofs.Slots.{with-new}
-use Rattle.wl_state.specs.Surface.{new_surface}
+use Rattle.wl_surface.specs.Surface.{new_surface}
 use Rattle.wl_surface.proofs.surfaces.Surfaces.create.Goals as goal
 
 pub returns-clause-ok : goal.returns-clause-ok

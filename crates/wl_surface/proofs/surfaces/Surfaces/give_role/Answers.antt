@@ -1,5 +1,5 @@
 use Rattle.std.proofs.Common.{sym}
-use Rattle.wl_state.proofs.Records.{For-role}
+use Rattle.wl_surface.proofs.Records.{For-role}
 use Rattle.wl_surface.proofs.Slots.{Changes-at, Changes-none}
 use Rattle.wl_surface.proofs.surfaces.Surfaces.give_role.Goals as goal
 use Rattle.wl_surface.proofs.surfaces.Surfaces.give_role.Goals.{in-Some+else-not-give_role, in_default}

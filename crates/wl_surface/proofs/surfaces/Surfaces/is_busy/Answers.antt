@@ -1,6 +1,6 @@
 use Rattle.std.proofs.Common.{refl, sym}
 use Rattle.wl_surface.proofs.Slots.{IsAny-kept, shows-same}
-use Rattle.wl_state.specs.Kept.{kept_shows}
+use Rattle.wl_surface.specs.Kept.{kept_shows}
 use Rattle.wl_surface.specs.Slots.{shows_at}
 use Rattle.wl_surface.proofs.surfaces.Surfaces.is_busy.Goals as goal
 

@@ -1,6 +1,6 @@
 use Rattle.std.proofs.Common.{refl, sym}
 use Rattle.wl_surface.proofs.Slots.{IsAny-kept, has-same}
-use Rattle.wl_state.specs.Kept.{kept_has}
+use Rattle.wl_surface.specs.Kept.{kept_has}
 use Rattle.wl_surface.specs.Slots.{has_at}
 use Rattle.wl_surface.proofs.surfaces.Surfaces.is_used.Goals as goal
 

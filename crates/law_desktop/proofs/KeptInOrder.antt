@@ -1,0 +1,10 @@
+pub mod Dismissed
+pub mod Each
+pub mod Elders
+pub mod Heard
+pub mod Laws
+pub mod Moved
+pub mod Owning
+pub mod Shells
+pub mod Surfaces
+pub mod Younger

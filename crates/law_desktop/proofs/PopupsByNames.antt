@@ -1,0 +1,3 @@
+pub mod Popped
+pub mod Rising
+pub mod Rooted

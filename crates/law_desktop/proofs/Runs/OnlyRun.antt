@@ -1,0 +1,17 @@
+-- Where no want of memory is met, a list of acts has one run.
+use Rattle.std.proofs.Common.{[], ◌∷◌, refl, ap, subst, sym, ◌∙◌, arith}
+use Rattle.law_desktop.specs.RunLaws.{HadMemoryAll, Lasts, OnlyRun}
+use Rattle.law_desktop.proofs.Runs.OneRun.{happens-long, one_run}
+
+pub only_run : OnlyRun
+only_run out [] [] [] old new end short run other fine well = (refl, run ∙ sym other)
+only_run out [] [] (done ∷ dones) old new end short run other fine well = absurd other
+only_run out [] (done ∷ dones) others old new end short run other fine well = absurd run
+only_run out (act ∷ acts) [] others old new end short run other fine well = absurd run
+only_run out (act ∷ acts) (done ∷ dones) [] old new end short run other fine well = absurd other
+only_run out (act ∷ acts) (done ∷ dones) (done' ∷ dones') old new end short (mid, step, run) (mid', step', run') fine well =
+    let first = one_run out act done done' old mid mid' short step step' fine.0 well.0 in
+    let moved : (again : Lasts out acts dones mid' new) × HadMemoryAll out acts dones mid' new again =
+    subst (λ d. (again : Lasts out acts dones d new) × HadMemoryAll out acts dones d new again) first.1 (run, fine.1) in
+    let later = only_run out acts dones dones' mid' new end (omega (arith, short, happens-long out act done' old mid' short step')) moved.0 run' moved.1 well.1 in
+    (ap (λ d. d ∷ dones) first.0 ∙ ap (λ ds. done' ∷ ds) later.0, later.1)

@@ -1,0 +1,44 @@
+-- What is so of each element of a list, and of those that pass a test.
+use Rattle.std.proofs.Common.{◌≡◌, ◌<◌, suc, List, [], ◌∷◌, Bool, true, false, cond, length, refl, sym, arith}
+use Rattle.std.proofs.lemmas.List.Folds.{Any-from_list_any, list_any-from_Any}
+use Rattle.std.specs.Prelude.{filter}
+use Rattle.std.specs.List.{Contains, list_any}
+use Rattle.law_desktop.proofs.Marks.Stacks.{Each}
+
+pub truth : (a b : Bool) → (a ≡ true → b ≡ true) → (b ≡ true → a ≡ true) → a ≡ b
+truth true b f g = sym (f refl)
+truth false true f g = g refl
+truth false false f g = refl
+
+left-if : {X : Type 0} (P : X → Type 0) (b : Bool) (x : X) (ys : List X) → P x → Each P ys → Each P (cond b (x ∷ ys) ys)
+left-if P true x ys p a = (p, a)
+left-if P false x ys p a = a
+
+pub each-left : {X : Type 0} (P : X → Type 0) (q : X → Bool) (xs : List X) → Each P xs → Each P (filter q xs)
+each-left P q [] a = a
+each-left P q (x ∷ xs) a = left-if P (q x) x (filter q xs) a.0 (each-left P q xs a.1)
+
+pub first-in : {X : Type 0} (x : X) (xs : List X) → Contains (x ∷ xs) x
+first-in x xs = (0, omega arith, refl)
+
+pub later-in : {X : Type 0} (x : X) (xs : List X) (y : X) → Contains xs y → Contains (x ∷ xs) y
+later-in x xs y c = let within : c.0 < length xs = c.1 in (suc c.0, omega arith, c.2)
+
+-- what is so of all that it contains
+pub each-in : {X : Type 0} (P : X → Type 0) (xs : List X) → ((x : X) → Contains xs x → P x) → Each P xs
+each-in P [] f = tt
+each-in P (x ∷ xs) f = (f x (first-in x xs), each-in P xs (λ y c. f y (later-in x xs y c)))
+
+pub in-any : {X : Type 0} (p : X → Bool) (xs : List X) (x : X) → Contains xs x → p x ≡ true → list_any p xs ≡ true
+in-any p xs x c e = list_any-from_Any p xs (c.0, x, c.1, c.2, e)
+
+-- an element that passes
+pub record Passing {X : Type 0} (p : X → Bool) (xs : List X) : Type 0 where
+  pub item : X
+  pub within : Contains xs item
+  pub passes : p item ≡ true
+
+pub any-in : {X : Type 0} (p : X → Bool) (xs : List X) → list_any p xs ≡ true → Passing p xs
+any-in p xs any =
+    let found = Any-from_list_any p xs any in
+    record { item = found.1; within = (found.0, found.2, found.3); passes = found.4 }

@@ -1,0 +1,5 @@
+use Rattle.law_desktop.proofs.MessageWays.Gone.{gone_marks_most}
+use Rattle.law_desktop.proofs.ways.gone_marks_most.Goals as goal
+
+pub returns : goal.returns
+returns c = gone_marks_most

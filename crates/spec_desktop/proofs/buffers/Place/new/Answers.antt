@@ -1,0 +1,5 @@
+use Rattle.std.proofs.Common.{rules}
+use Rattle.spec_desktop.proofs.buffers.Place.new.Goals as goal
+
+pub returns : goal.returns
+returns c = search rules

@@ -1,0 +1,370 @@
+//! Worked sessions as acts: two clients whose windows overlap, one with a subsurface, and one whose buffer two surfaces show.
+
+use crate::acts::{Act, Layer};
+use test_rows::begun::{
+    ANNOUNCED, ATTACH_10, BUFFER_10, BUFFER_11, COMMIT, CONFIGURED, POOL_12800,
+};
+use test_rows::rows::Message;
+use wl_wire::Arg;
+
+/// The registry 2, the wl_compositor 3, the wl_shm 4, the xdg_wm_base 5, and the toplevel 8 of the surface 6, which was configured.
+pub(crate) const BEGINS: &[Message] = &[
+    Message(1, 1, &[Arg::NewId(2)]),
+    Message(
+        2,
+        0,
+        &[
+            Arg::Uint(1),
+            Arg::Str(b"wl_compositor"),
+            Arg::Uint(2),
+            Arg::NewId(3),
+        ],
+    ),
+    Message(
+        2,
+        0,
+        &[
+            Arg::Uint(3),
+            Arg::Str(b"wl_shm"),
+            Arg::Uint(1),
+            Arg::NewId(4),
+        ],
+    ),
+    Message(
+        2,
+        0,
+        &[
+            Arg::Uint(6),
+            Arg::Str(b"xdg_wm_base"),
+            Arg::Uint(1),
+            Arg::NewId(5),
+        ],
+    ),
+    Message(3, 0, &[Arg::NewId(6)]),
+    Message(5, 2, &[Arg::NewId(7), Arg::Object(6)]),
+    Message(7, 1, &[Arg::NewId(8)]),
+    COMMIT,
+    Message(7, 4, &[Arg::Uint(1)]),
+];
+
+/// What it is told, after the globals: the formats, and the first configure.
+pub(crate) const BEGUN: &[Message] = &[
+    Message(4, 0, &[Arg::Uint(0)]),
+    Message(4, 0, &[Arg::Uint(1)]),
+    CONFIGURED,
+    Message(7, 0, &[Arg::Uint(1)]),
+];
+
+/// The pool 9 with the buffers 10 and 11 of 40 by 40 pixels.
+pub(crate) const WIDE_BUFFERS: &[Message] = &[POOL_12800, BUFFER_10, BUFFER_11];
+
+/// The same with buffers of 8 by 8 pixels.
+const SMALL_BUFFERS: &[Message] = &[
+    POOL_12800,
+    Message(
+        9,
+        0,
+        &[
+            Arg::NewId(10),
+            Arg::Int(0),
+            Arg::Int(8),
+            Arg::Int(8),
+            Arg::Int(32),
+            Arg::Uint(1),
+        ],
+    ),
+    Message(
+        9,
+        0,
+        &[
+            Arg::NewId(11),
+            Arg::Int(256),
+            Arg::Int(8),
+            Arg::Int(8),
+            Arg::Int(32),
+            Arg::Uint(1),
+        ],
+    ),
+];
+
+/// The buffer 10 is attached and damaged, and the toplevel is mapped.
+pub(crate) const MAPS_WIDE: &[Message] = &[
+    ATTACH_10,
+    Message(
+        6,
+        2,
+        &[Arg::Int(0), Arg::Int(0), Arg::Int(40), Arg::Int(40)],
+    ),
+    COMMIT,
+];
+
+const MAPS_SMALL: &[Message] = &[
+    ATTACH_10,
+    Message(6, 2, &[Arg::Int(0), Arg::Int(0), Arg::Int(8), Arg::Int(8)]),
+    COMMIT,
+];
+
+/// Three red pixels, as a store has them.
+const THREE_RED: &[u8] = &[0, 0, 255, 0, 0, 0, 255, 0, 0, 0, 255, 0];
+
+const RED: [u8; 3] = [0, 0, 255];
+
+const GREEN: [u8; 3] = [0, 255, 0];
+
+const BLACK: [u8; 3] = [0, 0, 0];
+
+const GREY: [u8; 3] = [128, 128, 128];
+
+/// The window of the client 1, all of one colour.
+const WIDE: Layer = Layer {
+    client: 1,
+    x: 0,
+    y: 0,
+    w: 40,
+    h: 40,
+    color: BLACK,
+};
+
+/// Its nine red points.
+const NINE: Layer = Layer {
+    client: 1,
+    x: 31,
+    y: 33,
+    w: 3,
+    h: 3,
+    color: RED,
+};
+
+/// The window of the client 2.
+const SMALL: Layer = Layer {
+    client: 2,
+    x: 0,
+    y: 0,
+    w: 8,
+    h: 8,
+    color: GREY,
+};
+
+/// The buffer 11, of which nine points are red, takes the place of the buffer 10.
+const CHANGES_NINE: &[Message] = &[
+    Message(6, 1, &[Arg::Object(11), Arg::Int(0), Arg::Int(0)]),
+    Message(
+        6,
+        2,
+        &[Arg::Int(31), Arg::Int(33), Arg::Int(3), Arg::Int(3)],
+    ),
+    COMMIT,
+];
+
+const RELEASED_10: &[Message] = &[Message(10, 0, &[])];
+
+/// The client 1 shows a window that is black, and the client 2 a grey one above it; then nine points of the lower one change.
+pub(crate) const TWO_WINDOWS: &[Act] = &[
+    Act::Connects(1),
+    Act::Sends(1, BEGINS),
+    Act::Told(1, ANNOUNCED),
+    Act::Told(1, BEGUN),
+    Act::Sends(1, WIDE_BUFFERS),
+    Act::Stores(1, 1, 11804, THREE_RED),
+    Act::Stores(1, 1, 11964, THREE_RED),
+    Act::Stores(1, 1, 12124, THREE_RED),
+    Act::Maps(1, MAPS_WIDE),
+    Act::Shows(&[WIDE]),
+    Act::Connects(2),
+    Act::Sends(2, BEGINS),
+    Act::Told(2, ANNOUNCED),
+    Act::Told(2, BEGUN),
+    Act::Sends(2, SMALL_BUFFERS),
+    Act::Fills(2, 1, 0, 256, 128),
+    Act::Maps(2, MAPS_SMALL),
+    Act::Shows(&[WIDE, SMALL]),
+    Act::Silent(1),
+    Act::Sends(1, CHANGES_NINE),
+    Act::Told(1, RELEASED_10),
+    Act::Shows(&[WIDE, NINE, SMALL]),
+    Act::Silent(1),
+    Act::Silent(2),
+];
+
+/// The wl_subcompositor 15, the surface 14 as a subsurface 16 at (4, 4), and its buffers 18, 19 and 20 of 4 by 4 pixels in the pool 17.
+const MAKES_SUBSURFACE: &[Message] = &[
+    Message(
+        2,
+        0,
+        &[
+            Arg::Uint(2),
+            Arg::Str(b"wl_subcompositor"),
+            Arg::Uint(1),
+            Arg::NewId(15),
+        ],
+    ),
+    Message(3, 0, &[Arg::NewId(14)]),
+    Message(15, 1, &[Arg::NewId(16), Arg::Object(14), Arg::Object(6)]),
+    Message(16, 1, &[Arg::Int(4), Arg::Int(4)]),
+    Message(4, 0, &[Arg::NewId(17), Arg::Int(192)]),
+    Message(
+        17,
+        0,
+        &[
+            Arg::NewId(18),
+            Arg::Int(0),
+            Arg::Int(4),
+            Arg::Int(4),
+            Arg::Int(16),
+            Arg::Uint(1),
+        ],
+    ),
+    Message(
+        17,
+        0,
+        &[
+            Arg::NewId(19),
+            Arg::Int(64),
+            Arg::Int(4),
+            Arg::Int(4),
+            Arg::Int(16),
+            Arg::Uint(1),
+        ],
+    ),
+    Message(
+        17,
+        0,
+        &[
+            Arg::NewId(20),
+            Arg::Int(128),
+            Arg::Int(4),
+            Arg::Int(4),
+            Arg::Int(16),
+            Arg::Uint(1),
+        ],
+    ),
+];
+
+const COMMIT_14: Message = Message(14, 6, &[]);
+
+const SHOWS_18: &[Message] = &[
+    Message(14, 1, &[Arg::Object(18), Arg::Int(0), Arg::Int(0)]),
+    COMMIT_14,
+    COMMIT,
+];
+
+/// A commit with the buffer 19 is held, and then one with the buffer 20.
+const HOLDS_19: &[Message] = &[
+    Message(14, 1, &[Arg::Object(19), Arg::Int(0), Arg::Int(0)]),
+    Message(14, 2, &[Arg::Int(0), Arg::Int(0), Arg::Int(1), Arg::Int(1)]),
+    COMMIT_14,
+];
+
+const HOLDS_20: &[Message] = &[
+    Message(14, 1, &[Arg::Object(20), Arg::Int(0), Arg::Int(0)]),
+    Message(14, 2, &[Arg::Int(3), Arg::Int(3), Arg::Int(1), Arg::Int(1)]),
+    COMMIT_14,
+];
+
+const COMMITS: &[Message] = &[COMMIT];
+
+/// The window of the client 1 in grey, and the subsurface in it with its first and its last point.
+pub(crate) const PARENT: Layer = Layer {
+    client: 1,
+    x: 0,
+    y: 0,
+    w: 40,
+    h: 40,
+    color: GREY,
+};
+
+const CHILD: Layer = Layer {
+    client: 1,
+    x: 4,
+    y: 4,
+    w: 4,
+    h: 4,
+    color: BLACK,
+};
+
+const FIRST: Layer = Layer {
+    client: 1,
+    x: 4,
+    y: 4,
+    w: 1,
+    h: 1,
+    color: RED,
+};
+
+const LAST: Layer = Layer {
+    client: 1,
+    x: 7,
+    y: 7,
+    w: 1,
+    h: 1,
+    color: GREEN,
+};
+
+/// A subsurface is shown by a commit of its parent; two commits of it are held, and shown with the next one of its parent.
+pub(crate) const SUBSURFACE: &[Act] = &[
+    Act::Connects(1),
+    Act::Sends(1, BEGINS),
+    Act::Told(1, ANNOUNCED),
+    Act::Told(1, BEGUN),
+    Act::Sends(1, WIDE_BUFFERS),
+    Act::Fills(1, 1, 0, 6400, 128),
+    Act::Maps(1, MAPS_WIDE),
+    Act::Sends(1, MAKES_SUBSURFACE),
+    Act::Stores(1, 2, 64, &[0, 0, 255, 0]),
+    Act::Stores(1, 2, 128, &[0, 0, 255, 0]),
+    Act::Stores(1, 2, 188, &[0, 255, 0, 0]),
+    Act::Sends(1, SHOWS_18),
+    Act::Shows(&[PARENT, CHILD]),
+    Act::Sends(1, HOLDS_19),
+    Act::Silent(1),
+    Act::Sends(1, HOLDS_20),
+    Act::Told(1, &[Message(19, 0, &[])]),
+    Act::Shows(&[PARENT, CHILD]),
+    Act::Silent(1),
+    Act::Sends(1, COMMITS),
+    Act::Told(1, &[Message(18, 0, &[])]),
+    Act::Shows(&[PARENT, CHILD, FIRST, LAST]),
+    Act::Silent(1),
+];
+
+/// The surface 14 without a role shows the buffer 10 too.
+const SHOWS_10_TWICE: &[Message] = &[
+    Message(3, 0, &[Arg::NewId(14)]),
+    Message(14, 1, &[Arg::Object(10), Arg::Int(0), Arg::Int(0)]),
+    COMMIT_14,
+];
+
+const ATTACHES_11: &[Message] = &[
+    Message(6, 1, &[Arg::Object(11), Arg::Int(0), Arg::Int(0)]),
+    Message(
+        6,
+        2,
+        &[Arg::Int(0), Arg::Int(0), Arg::Int(40), Arg::Int(40)],
+    ),
+    COMMIT,
+];
+
+const NONE_FOR_14: &[Message] = &[
+    Message(14, 1, &[Arg::Object(0), Arg::Int(0), Arg::Int(0)]),
+    COMMIT_14,
+];
+
+/// A buffer that two surfaces show is released once neither does.
+pub(crate) const SHOWN_TWICE: &[Act] = &[
+    Act::Connects(1),
+    Act::Sends(1, BEGINS),
+    Act::Told(1, ANNOUNCED),
+    Act::Told(1, BEGUN),
+    Act::Sends(1, WIDE_BUFFERS),
+    Act::Fills(1, 1, 0, 6400, 128),
+    Act::Maps(1, MAPS_WIDE),
+    Act::Shows(&[PARENT]),
+    Act::Sends(1, SHOWS_10_TWICE),
+    Act::Sends(1, ATTACHES_11),
+    Act::Silent(1),
+    Act::Shows(&[WIDE]),
+    Act::Sends(1, NONE_FOR_14),
+    Act::Told(1, RELEASED_10),
+    Act::Silent(1),
+    Act::Shows(&[WIDE]),
+];

@@ -1,0 +1,496 @@
+//! Grabs of popups: by which serials they are taken, and what becomes of a popup whose grab is refused (xdg-shell.xml, xdg_popup.grab).
+
+use crate::pointing::{
+    CLICKS_NOTHING, LEAVES, PRESS, PRESSES, RELEASE, RELEASES, SECOND_PRESS, TO_NOTHING,
+};
+use crate::support::{
+    ATTACH_18, BUFFER_18, COMMIT_14, DETACH_14, GET_POPUP, PLACED, POPUP, POPUP_MAPS, POSITIONER,
+    RELEASED_18, SURFACE, missed_after_toplevel,
+};
+use test_rows::begun::SEATED;
+use test_rows::rows::{Case, Message, Pixel, Row};
+use wl_session::{Cause, Fed};
+use wl_wire::Arg;
+
+/// xdg_popup.popup_done of the popup 17.
+pub(crate) const DISMISSED: Message = Message(17, 1, &[]);
+
+/// The popup 17 is made.
+pub(crate) const GETS: &[Row] = &[Row::Sends(GET_POPUP), Row::Waits(1, Some(&[]))];
+
+/// It grabs with the serial of the first press, or of its release: nothing is told of it.
+pub(crate) const GRAB_3: Message = Message(17, 1, &[Arg::Object(12), Arg::Uint(3)]);
+
+const GRAB_4: Message = Message(17, 1, &[Arg::Object(12), Arg::Uint(4)]);
+
+pub(crate) const GRABS: &[Row] = &[Row::Accepts(GRAB_3, &[])];
+
+const GRABS_4: &[Row] = &[Row::Accepts(GRAB_4, &[])];
+
+/// With these serials its grab is refused, and it is dismissed at once.
+const REFUSED_3: &[Row] = &[Row::Accepts(GRAB_3, &[DISMISSED])];
+
+const REFUSED_4: &[Row] = &[Row::Accepts(GRAB_4, &[DISMISSED])];
+
+const REFUSED_2: &[Row] = &[Row::Accepts(
+    Message(17, 1, &[Arg::Object(12), Arg::Uint(2)]),
+    &[DISMISSED],
+)];
+
+const REFUSED_0: &[Row] = &[Row::Accepts(
+    Message(17, 1, &[Arg::Object(12), Arg::Uint(0)]),
+    &[DISMISSED],
+)];
+
+const REFUSED_5: &[Row] = &[Row::Accepts(
+    Message(17, 1, &[Arg::Object(12), Arg::Uint(5)]),
+    &[DISMISSED],
+)];
+
+/// A popup that was dismissed isn't configured, nor is it shown: its commits have no effect.
+const STAYS_DISMISSED: &[Row] = &[
+    Row::Accepts(COMMIT_14, &[]),
+    Row::Sends(BUFFER_18),
+    Row::Sends(ATTACH_18),
+    Row::Accepts(COMMIT_14, &[]),
+    Row::Shows(0, 0, &[Pixel(40, 40, 0, 0, 0)]),
+];
+
+/// Nor is it told again that it was dismissed, whatever it grabs with.
+const GRABS_DISMISSED: &[Row] = &[
+    Row::Accepts(GRAB_3, &[]),
+    Row::Accepts(GRAB_4, &[]),
+    Row::Accepts(COMMIT_14, &[]),
+];
+
+/// The popup is placed and mapped after that, with the serial 5 of its configure where a press and its release were told.
+const MAPS_5: &[Row] = &[
+    Row::Accepts(COMMIT_14, &[PLACED, Message(15, 0, &[Arg::Uint(5)])]),
+    Row::Sends(Message(15, 4, &[Arg::Uint(5)])),
+    Row::Sends(BUFFER_18),
+    Row::Sends(ATTACH_18),
+    Row::Sends(COMMIT_14),
+    Row::Waits(1, Some(&[])),
+    Row::Shows(
+        64,
+        64,
+        &[Pixel(40, 40, 255, 0, 0), Pixel(47, 47, 255, 0, 0)],
+    ),
+];
+
+/// The pointer leaves the toplevel for where nothing is, and a press there dismisses the popup: its points are painted, and no others. Another press
+/// dismisses nothing.
+const DISMISSES: &[Row] = &[
+    TO_NOTHING,
+    Row::ToldOf(1, &[Message(13, 1, &[Arg::Uint(6), Arg::Object(6)])]),
+    PRESS,
+    Row::ToldOf(1, &[DISMISSED]),
+    Row::Shows(
+        64,
+        64,
+        &[
+            Pixel(40, 40, 0, 0, 0),
+            Pixel(47, 47, 0, 0, 0),
+            Pixel(39, 39, 255, 0, 0),
+        ],
+    ),
+    RELEASE,
+    Row::Waits(1, Some(&[])),
+    PRESS,
+    Row::Waits(1, Some(&[])),
+    Row::Shows(0, 0, &[]),
+];
+
+/// The second button is pressed and told with the serial 4, so that the press before it isn't the latest.
+const PRESSES_SECOND: &[Row] = &[
+    SECOND_PRESS,
+    Row::ToldOf(
+        1,
+        &[Message(
+            13,
+            3,
+            &[Arg::Uint(4), Arg::Uint(15), Arg::Uint(273), Arg::Uint(1)],
+        )],
+    ),
+];
+
+/// The button is pressed and released again, with the serials 5 and 6.
+const PRESSES_AGAIN: &[Row] = &[PRESS, Row::Takes, RELEASE, Row::Takes];
+
+/// A press of a button that is down, or a release of one that isn't, is ignored, and the serials stay.
+const PRESSES_IN_VAIN: &[Row] = &[RELEASE, Row::Waits(1, Some(&[]))];
+
+/// A popup that is mapped can't grab: its client ends, and its windows go.
+const GRABS_MAPPED: &[Row] = &[
+    Row::Shows(64, 64, &[]),
+    Row::Errs(GRAB_3, 17, 0),
+    Row::ErrorTold(17, 0, b"invalid_grab"),
+    Row::Is(
+        1,
+        Fed::Ended(Cause::Protocol {
+            object: 17,
+            code: 0,
+        }),
+    ),
+    Row::Shows(1664, 1664, &[Pixel(0, 0, 0, 0, 0), Pixel(40, 40, 0, 0, 0)]),
+];
+
+/// The mapped popup with a grab can't grab once more.
+const GRABS_MAPPED_AGAIN: &[Row] = &[
+    Row::Errs(GRAB_4, 17, 0),
+    Row::ErrorTold(17, 0, b"invalid_grab"),
+];
+
+/// The toplevel goes, and the popup with it; its grab has no effect then, however right its serial is. The pointer leaves the toplevel's surface.
+const TOPLEVEL_GOES: &[Row] = &[Row::Accepts(
+    Message(8, 0, &[]),
+    &[
+        Message(1, 1, &[Arg::Uint(8)]),
+        DISMISSED,
+        Message(13, 1, &[Arg::Uint(5), Arg::Object(6)]),
+    ],
+)];
+
+/// The popup with a grab is unmapped, which ends the grab.
+const UNMAPS: &[Row] = &[
+    Row::Sends(DETACH_14),
+    Row::Accepts(COMMIT_14, &[RELEASED_18]),
+    Row::Shows(64, 64, &[Pixel(40, 40, 0, 0, 0)]),
+];
+
+/// It is mapped again, with the next configure.
+const MAPS_AGAIN: &[Row] = &[
+    Row::Accepts(COMMIT_14, &[PLACED, Message(15, 0, &[Arg::Uint(6)])]),
+    Row::Sends(Message(15, 4, &[Arg::Uint(6)])),
+    Row::Sends(ATTACH_18),
+    Row::Sends(COMMIT_14),
+    Row::Shows(64, 64, &[Pixel(40, 40, 255, 0, 0)]),
+];
+
+/// The pointer leaves the toplevel after that.
+const LEAVES_LATER: &[Row] = &[
+    TO_NOTHING,
+    Row::ToldOf(1, &[Message(13, 1, &[Arg::Uint(7), Arg::Object(6)])]),
+];
+
+const LEAVES_UNMAPPED: &[Row] = &[
+    TO_NOTHING,
+    Row::ToldOf(1, &[Message(13, 1, &[Arg::Uint(6), Arg::Object(6)])]),
+];
+
+/// A press where nothing is dismisses the popup that is mapped again and grabbed anew.
+const DISMISSES_LATER: &[Row] = &[
+    PRESS,
+    Row::ToldOf(1, &[DISMISSED]),
+    Row::Shows(64, 64, &[Pixel(40, 40, 0, 0, 0)]),
+];
+
+/// xdg_popup.destroy of the popup with a grab.
+const POPUP_GOES: &[Row] = &[
+    Row::Accepts(Message(17, 0, &[]), &[Message(1, 1, &[Arg::Uint(17)])]),
+    Row::Shows(64, 64, &[Pixel(40, 40, 0, 0, 0)]),
+];
+
+/// The popup isn't mapped yet, and was not placed: a press where nothing is dismisses it all the same, and nothing is painted.
+pub(crate) const DISMISSES_UNMAPPED: &[Row] = &[
+    PRESS,
+    Row::ToldOf(1, &[DISMISSED]),
+    Row::Shows(0, 0, &[]),
+];
+
+/// By the serials of a press and of a release, and by none.
+const BY_PRESS_OR_RELEASE: &[Case] = &[
+    (
+        "taken with the serial of the press",
+        &[
+            SEATED, PRESSES, SURFACE, POSITIONER, GETS, GRABS, RELEASES, MAPS_5, DISMISSES,
+        ],
+    ),
+    (
+        "taken with it after the release",
+        &[
+            SEATED, PRESSES, RELEASES, SURFACE, POSITIONER, GETS, GRABS, MAPS_5, DISMISSES,
+        ],
+    ),
+    (
+        "taken with the serial of the release",
+        &[
+            SEATED, PRESSES, RELEASES, SURFACE, POSITIONER, GETS, GRABS_4, MAPS_5, DISMISSES,
+        ],
+    ),
+    (
+        "refused before any press, with the serial of no event",
+        &[
+            SEATED,
+            SURFACE,
+            POSITIONER,
+            GETS,
+            REFUSED_0,
+            STAYS_DISMISSED,
+        ],
+    ),
+];
+
+/// By serials of other events, and by the latest of two presses.
+const BY_OTHER_SERIALS: &[Case] = &[
+    (
+        "refused before any press, with a serial that comes later",
+        &[
+            SEATED,
+            SURFACE,
+            POSITIONER,
+            GETS,
+            REFUSED_3,
+            PRESSES,
+            GRABS_DISMISSED,
+        ],
+    ),
+    (
+        "refused with the serial of wl_pointer.enter",
+        &[
+            SEATED,
+            PRESSES,
+            RELEASES,
+            SURFACE,
+            POSITIONER,
+            GETS,
+            REFUSED_2,
+            STAYS_DISMISSED,
+            GRABS_DISMISSED,
+        ],
+    ),
+    (
+        "refused with a serial to come",
+        &[
+            SEATED,
+            PRESSES,
+            RELEASES,
+            SURFACE,
+            POSITIONER,
+            GETS,
+            REFUSED_5,
+            STAYS_DISMISSED,
+        ],
+    ),
+    (
+        "refused with the serial of the press before the latest",
+        &[
+            SEATED,
+            PRESSES,
+            PRESSES_SECOND,
+            SURFACE,
+            POSITIONER,
+            GETS,
+            REFUSED_3,
+            STAYS_DISMISSED,
+        ],
+    ),
+    (
+        "taken with that of the latest of two presses",
+        &[
+            SEATED,
+            PRESSES,
+            PRESSES_SECOND,
+            SURFACE,
+            POSITIONER,
+            GETS,
+            GRABS_4,
+        ],
+    ),
+];
+
+/// By one before the latest, and of popups that are mapped.
+const BY_THE_LATEST: &[Case] = &[
+    (
+        "refused with the serial of the release before the latest",
+        &[
+            SEATED,
+            PRESSES,
+            RELEASES,
+            PRESSES_AGAIN,
+            SURFACE,
+            POSITIONER,
+            GETS,
+            REFUSED_4,
+            STAYS_DISMISSED,
+        ],
+    ),
+    (
+        "taken where what came after it is ignored",
+        &[
+            SEATED,
+            PRESSES,
+            RELEASES,
+            PRESSES_IN_VAIN,
+            SURFACE,
+            POSITIONER,
+            GETS,
+            GRABS,
+            MAPS_5,
+            DISMISSES,
+        ],
+    ),
+    (
+        "a popup that is mapped can't grab",
+        &[SURFACE, POSITIONER, POPUP, POPUP_MAPS, SEATED, GRABS_MAPPED],
+    ),
+    (
+        "not even with a grab, and with the right serial",
+        &[
+            SEATED,
+            PRESSES,
+            RELEASES,
+            SURFACE,
+            POSITIONER,
+            GETS,
+            GRABS,
+            MAPS_5,
+            GRABS_MAPPED_AGAIN,
+        ],
+    ),
+];
+
+/// Of popups that were dismissed, or have a grab.
+const ASKED_AGAIN: &[Case] = &[
+    (
+        "a popup that was dismissed can't grab",
+        &[
+            SEATED,
+            PRESSES,
+            RELEASES,
+            SURFACE,
+            POSITIONER,
+            GETS,
+            TOPLEVEL_GOES,
+            GRABS_DISMISSED,
+        ],
+    ),
+    (
+        "a second request is judged by itself",
+        &[
+            SEATED,
+            PRESSES,
+            RELEASES,
+            SURFACE,
+            POSITIONER,
+            GETS,
+            GRABS,
+            GRABS_4,
+            REFUSED_2,
+            STAYS_DISMISSED,
+        ],
+    ),
+    (
+        "dismissed before it is mapped",
+        &[
+            SEATED,
+            PRESSES,
+            RELEASES,
+            SURFACE,
+            POSITIONER,
+            GETS,
+            GRABS,
+            LEAVES,
+            DISMISSES_UNMAPPED,
+        ],
+    ),
+];
+
+/// Of popups that are unmapped or destroyed.
+const ENDED: &[Case] = &[
+    (
+        "unmapped without its grab",
+        &[
+            SEATED,
+            PRESSES,
+            RELEASES,
+            SURFACE,
+            POSITIONER,
+            GETS,
+            GRABS,
+            MAPS_5,
+            UNMAPS,
+            LEAVES_UNMAPPED,
+            CLICKS_NOTHING,
+        ],
+    ),
+    (
+        "mapped again without it",
+        &[
+            SEATED,
+            PRESSES,
+            RELEASES,
+            SURFACE,
+            POSITIONER,
+            GETS,
+            GRABS,
+            MAPS_5,
+            UNMAPS,
+            MAPS_AGAIN,
+            LEAVES_LATER,
+            CLICKS_NOTHING,
+        ],
+    ),
+    (
+        "mapped again with another",
+        &[
+            SEATED,
+            PRESSES,
+            RELEASES,
+            SURFACE,
+            POSITIONER,
+            GETS,
+            GRABS,
+            MAPS_5,
+            UNMAPS,
+            GRABS,
+            MAPS_AGAIN,
+            LEAVES_LATER,
+            DISMISSES_LATER,
+        ],
+    ),
+    (
+        "destroyed with its grab",
+        &[
+            SEATED,
+            PRESSES,
+            RELEASES,
+            SURFACE,
+            POSITIONER,
+            GETS,
+            GRABS,
+            MAPS_5,
+            POPUP_GOES,
+            LEAVES_UNMAPPED,
+            CLICKS_NOTHING,
+        ],
+    ),
+];
+
+#[test]
+fn grabs_by_press_and_release_are_as_worked(rt: HostRuntime) {
+    assert_eq!(rt;
+        missed_after_toplevel(rt.alloc(), BY_PRESS_OR_RELEASE),
+        None
+    );
+}
+
+#[test]
+fn grabs_by_other_serials_are_as_worked(rt: HostRuntime) {
+    assert_eq!(rt; missed_after_toplevel(rt.alloc(), BY_OTHER_SERIALS), None);
+}
+
+#[test]
+fn grabs_by_the_latest_are_as_worked(rt: HostRuntime) {
+    assert_eq!(rt; missed_after_toplevel(rt.alloc(), BY_THE_LATEST), None);
+}
+
+#[test]
+fn grabs_that_are_asked_again_are_as_worked(rt: HostRuntime) {
+    assert_eq!(rt; missed_after_toplevel(rt.alloc(), ASKED_AGAIN), None);
+}
+
+#[test]
+fn grabs_that_end_are_as_worked(rt: HostRuntime) {
+    assert_eq!(rt; missed_after_toplevel(rt.alloc(), ENDED), None);
+}

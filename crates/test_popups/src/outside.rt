@@ -1,0 +1,624 @@
+//! Presses while a client's popups grab: which of them dismiss, which popups go, in which order, and what is painted and told then (xdg-shell.xml,
+//! xdg_popup.grab).
+
+use crate::grabs::{DISMISSED, DISMISSES_UNMAPPED, GETS, GRABS};
+use crate::pointing::{
+    LEAVES, PRESS, PRESSES, RELEASE, RELEASES, SECOND_PRESS, TO_NOTHING, TO_POPUP, TO_TOPLEVEL,
+};
+use crate::submenus::{ATTACH_25, COMMIT_22, POSITIONER_21};
+use crate::support::{
+    ATTACH_18, BUFFER_18, COMMIT_14, DETACH_14, PLACED, POSITIONER, RELEASED_18, SURFACE,
+    missed_after_toplevel,
+};
+use test_rows::begun::SEATED;
+use test_rows::rows::{Case, Message, Pixel, Row};
+use wl_session::{Done, Step};
+use wl_wire::{Arg, Fixed};
+
+/// The popup 17 is mapped at (40, 40), with the serial 4 of its configure where just a press was told.
+const MAPS_4: &[Row] = &[
+    Row::Accepts(COMMIT_14, &[PLACED, Message(15, 0, &[Arg::Uint(4)])]),
+    Row::Sends(Message(15, 4, &[Arg::Uint(4)])),
+    Row::Sends(BUFFER_18),
+    Row::Sends(ATTACH_18),
+    Row::Sends(COMMIT_14),
+    Row::Waits(1, Some(&[])),
+    Row::Shows(64, 64, &[Pixel(40, 40, 255, 0, 0)]),
+];
+
+/// The button is released over the toplevel, with the serial 5.
+const RELEASES_5: &[Row] = &[
+    RELEASE,
+    Row::ToldOf(
+        1,
+        &[Message(
+            13,
+            3,
+            &[Arg::Uint(5), Arg::Uint(13), Arg::Uint(272), Arg::Uint(0)],
+        )],
+    ),
+];
+
+/// The pointer goes to the popup, which is pressed: nothing is dismissed, and nothing is painted.
+const ENTERS_POPUP: &[Row] = &[
+    TO_POPUP,
+    Row::ToldOf(
+        1,
+        &[
+            Message(13, 1, &[Arg::Uint(6), Arg::Object(6)]),
+            Message(
+                13,
+                0,
+                &[
+                    Arg::Uint(7),
+                    Arg::Object(14),
+                    Arg::Fixed(Fixed(512)),
+                    Arg::Fixed(Fixed(768)),
+                ],
+            ),
+        ],
+    ),
+];
+
+const PRESSES_POPUP: &[Row] = &[
+    PRESS,
+    Row::ToldOf(
+        1,
+        &[Message(
+            13,
+            3,
+            &[Arg::Uint(8), Arg::Uint(11), Arg::Uint(272), Arg::Uint(1)],
+        )],
+    ),
+    Row::Shows(0, 0, &[Pixel(40, 40, 255, 0, 0)]),
+];
+
+/// While the button is down the popup keeps the focus. The other button is pressed where nothing is: the popup is dismissed, is told of the button,
+/// and is left.
+const DISMISSES_FOCUS: &[Row] = &[
+    TO_NOTHING,
+    Row::ToldOf(
+        1,
+        &[Message(
+            13,
+            2,
+            &[
+                Arg::Uint(8),
+                Arg::Fixed(Fixed(5120)),
+                Arg::Fixed(Fixed(-9216)),
+            ],
+        )],
+    ),
+    SECOND_PRESS,
+    Row::ToldOf(
+        1,
+        &[
+            DISMISSED,
+            Message(
+                13,
+                3,
+                &[Arg::Uint(9), Arg::Uint(15), Arg::Uint(273), Arg::Uint(1)],
+            ),
+            Message(13, 1, &[Arg::Uint(10), Arg::Object(14)]),
+        ],
+    ),
+    Row::Shows(64, 64, &[Pixel(40, 40, 0, 0, 0)]),
+    RELEASE,
+    Row::Waits(1, Some(&[])),
+];
+
+/// A press of the toplevel dismisses nothing: its surface is one of the client's.
+const PRESSES_TOPLEVEL: &[Row] = &[
+    PRESS,
+    Row::ToldOf(
+        1,
+        &[Message(
+            13,
+            3,
+            &[Arg::Uint(6), Arg::Uint(11), Arg::Uint(272), Arg::Uint(1)],
+        )],
+    ),
+    Row::Shows(0, 0, &[Pixel(40, 40, 255, 0, 0)]),
+];
+
+/// A button is down that the toplevel was told of, and the pointer goes where nothing is. A press of the other button there dismisses by what it
+/// hits, and is told to the toplevel, which keeps the focus.
+const DISMISSES_HELD: &[Row] = &[
+    TO_NOTHING,
+    Row::Takes,
+    SECOND_PRESS,
+    Row::ToldOf(
+        1,
+        &[
+            DISMISSED,
+            Message(
+                13,
+                3,
+                &[Arg::Uint(5), Arg::Uint(15), Arg::Uint(273), Arg::Uint(1)],
+            ),
+        ],
+    ),
+    Row::Shows(64, 64, &[Pixel(40, 40, 0, 0, 0)]),
+];
+
+/// A press that is ignored dismisses nothing: the button is down.
+const IGNORED: &[Row] = &[
+    TO_NOTHING,
+    Row::Takes,
+    PRESS,
+    Row::Waits(1, Some(&[])),
+    Row::Shows(0, 0, &[Pixel(40, 40, 255, 0, 0)]),
+];
+
+/// Nor does a release where nothing is.
+const RELEASES_OUTSIDE: &[Row] = &[
+    TO_NOTHING,
+    Row::Takes,
+    RELEASE,
+    Row::ToldOf(
+        1,
+        &[
+            Message(
+                13,
+                3,
+                &[Arg::Uint(5), Arg::Uint(13), Arg::Uint(272), Arg::Uint(0)],
+            ),
+            Message(13, 1, &[Arg::Uint(6), Arg::Object(6)]),
+        ],
+    ),
+    Row::Shows(0, 0, &[Pixel(40, 40, 255, 0, 0)]),
+];
+
+/// A second toplevel of the client, the buffer 11 at (32, 32): the surface 26 with its xdg_surface 27 and its toplevel 28.
+const SECOND_TOPLEVEL: &[Row] = &[
+    Row::Sends(Message(3, 0, &[Arg::NewId(26)])),
+    Row::Sends(Message(5, 2, &[Arg::NewId(27), Arg::Object(26)])),
+    Row::Sends(Message(27, 1, &[Arg::NewId(28)])),
+    Row::Sends(Message(26, 6, &[])),
+    Row::Takes,
+    Row::Sends(Message(27, 4, &[Arg::Uint(2)])),
+    Row::Sends(Message(26, 1, &[Arg::Object(11), Arg::Int(0), Arg::Int(0)])),
+    Row::Sends(Message(26, 6, &[])),
+    Row::Waits(1, Some(&[])),
+    Row::Shows(1024, 1024, &[Pixel(32, 32, 0, 0, 0)]),
+];
+
+/// The toplevel below it is pressed, which raises it, and its popup grabs with the serial 4 of that. The popup stands above the other toplevel.
+const PRESSES_BELOW: &[Row] = &[
+    TO_TOPLEVEL,
+    Row::Takes,
+    PRESS,
+    Row::Takes,
+    Row::Shows(64, 1600, &[Pixel(32, 32, 255, 0, 0)]),
+];
+
+const GRABS_4: &[Row] = &[Row::Accepts(Message(17, 1, &[Arg::Object(12), Arg::Uint(4)]), &[])];
+
+const MAPS_5: &[Row] = &[
+    Row::Accepts(COMMIT_14, &[PLACED, Message(15, 0, &[Arg::Uint(5)])]),
+    Row::Sends(Message(15, 4, &[Arg::Uint(5)])),
+    Row::Sends(BUFFER_18),
+    Row::Sends(ATTACH_18),
+    Row::Sends(COMMIT_14),
+    Row::Waits(1, Some(&[])),
+    Row::Shows(64, 64, &[Pixel(40, 40, 255, 0, 0), Pixel(48, 48, 0, 0, 0)]),
+];
+
+/// The other toplevel is pressed, which raises it and dismisses nothing, since it is of the same client.
+const PRESSES_SECOND_TOPLEVEL: &[Row] = &[
+    RELEASE,
+    Row::Takes,
+    Row::Calls(
+        Step::Motion {
+            time: 14,
+            x: 60,
+            y: 60,
+        },
+        Done::Motion,
+    ),
+    Row::Takes,
+    PRESS,
+    Row::ToldOf(
+        1,
+        &[Message(
+            13,
+            3,
+            &[Arg::Uint(9), Arg::Uint(11), Arg::Uint(272), Arg::Uint(1)],
+        )],
+    ),
+    Row::Shows(128, 1024, &[Pixel(32, 32, 0, 0, 0), Pixel(40, 40, 0, 0, 0)]),
+];
+
+/// The surface 22 with its xdg_surface 23.
+const SURFACE_22: &[Row] = &[
+    Row::Sends(Message(3, 0, &[Arg::NewId(22)])),
+    Row::Sends(Message(5, 2, &[Arg::NewId(23), Arg::Object(22)])),
+];
+
+/// It has the popup 24 on the popup 17, or on the toplevel.
+const GETS_SUBMENU: &[Row] = &[Row::Accepts(
+    Message(23, 2, &[Arg::NewId(24), Arg::Object(15), Arg::Object(21)]),
+    &[],
+)];
+
+const GETS_BESIDE: &[Row] = &[Row::Accepts(
+    Message(23, 2, &[Arg::NewId(24), Arg::Object(7), Arg::Object(21)]),
+    &[],
+)];
+
+const GRAB_24: Message = Message(24, 1, &[Arg::Object(12), Arg::Uint(3)]);
+
+const SUBMENU_GRABS: &[Row] = &[Row::Accepts(GRAB_24, &[])];
+
+const SUBMENU_DISMISSED: Message = Message(24, 1, &[]);
+
+/// It is mapped with the buffer 25 of 4 by 4 pixels, at (32, 32).
+const SUBMENU_MAPS: &[Row] = &[
+    Row::Accepts(
+        COMMIT_22,
+        &[
+            Message(
+                24,
+                0,
+                &[Arg::Int(-8), Arg::Int(-8), Arg::Int(4), Arg::Int(4)],
+            ),
+            Message(23, 0, &[Arg::Uint(5)]),
+        ],
+    ),
+    Row::Sends(Message(23, 4, &[Arg::Uint(5)])),
+    Row::Sends(Message(
+        9,
+        0,
+        &[
+            Arg::NewId(25),
+            Arg::Int(6400),
+            Arg::Int(4),
+            Arg::Int(4),
+            Arg::Int(16),
+            Arg::Uint(1),
+        ],
+    )),
+    Row::Sends(ATTACH_25),
+    Row::Sends(COMMIT_22),
+    Row::Waits(1, Some(&[])),
+    Row::Shows(16, 16, &[Pixel(32, 32, 0, 0, 0), Pixel(36, 36, 255, 0, 0)]),
+];
+
+/// The pointer goes where nothing is while the button is down, which is released there.
+const GOES_OUT: &[Row] = &[TO_NOTHING, RELEASE, Row::Takes];
+
+/// A press there dismisses both, the newest first, and paints the points of both and no others.
+const DISMISSES_BOTH: &[Row] = &[
+    PRESS,
+    Row::ToldOf(1, &[SUBMENU_DISMISSED, DISMISSED]),
+    Row::Shows(
+        80,
+        80,
+        &[
+            Pixel(32, 32, 255, 0, 0),
+            Pixel(40, 40, 0, 0, 0),
+            Pixel(0, 0, 255, 0, 0),
+        ],
+    ),
+];
+
+/// The popup of one without a grab can't grab: it is dismissed, and its parent isn't.
+const SUBMENU_REFUSED: &[Row] = &[
+    Row::Accepts(GRAB_24, &[SUBMENU_DISMISSED]),
+    Row::Accepts(COMMIT_22, &[]),
+    Row::Shows(0, 0, &[Pixel(40, 40, 255, 0, 0)]),
+];
+
+/// The popup that doesn't grab stays, and a press where nothing is leaves it.
+const STAYS_OUTSIDE: &[Row] = &[
+    PRESS,
+    Row::Waits(1, Some(&[])),
+    Row::Shows(0, 0, &[Pixel(40, 40, 255, 0, 0)]),
+];
+
+/// That with the grab goes alone: the other is no popup of it.
+const DISMISSES_SUBMENU: &[Row] = &[
+    PRESS,
+    Row::ToldOf(1, &[SUBMENU_DISMISSED]),
+    Row::Shows(
+        16,
+        16,
+        &[Pixel(32, 32, 255, 0, 0), Pixel(40, 40, 255, 0, 0)],
+    ),
+];
+
+/// The other popup of the toplevel is placed, and not mapped.
+const BESIDE_PLACED: &[Row] = &[
+    Row::Accepts(
+        COMMIT_22,
+        &[
+            Message(
+                24,
+                0,
+                &[Arg::Int(-8), Arg::Int(-8), Arg::Int(4), Arg::Int(4)],
+            ),
+            Message(23, 0, &[Arg::Uint(5)]),
+        ],
+    ),
+    Row::Shows(0, 0, &[]),
+];
+
+const DISMISSES_BESIDE: &[Row] = &[
+    PRESS,
+    Row::ToldOf(1, &[SUBMENU_DISMISSED]),
+    Row::Shows(0, 0, &[Pixel(40, 40, 255, 0, 0)]),
+];
+
+/// The menu is unmapped, and its submenu isn't seen with it. That grabs still.
+const MENU_UNMAPS: &[Row] = &[
+    Row::Sends(DETACH_14),
+    Row::Accepts(COMMIT_14, &[RELEASED_18]),
+    Row::Shows(80, 80, &[Pixel(40, 40, 0, 0, 0), Pixel(32, 32, 255, 0, 0)]),
+];
+
+/// A press where nothing is dismisses the submenu alone, of which nothing is painted.
+const DISMISSES_UNSEEN: &[Row] = &[
+    PRESS,
+    Row::ToldOf(1, &[SUBMENU_DISMISSED]),
+    Row::Shows(0, 0, &[]),
+];
+
+/// The submenu goes, and the menu grabs still: a press where nothing is dismisses it.
+const SUBMENU_GOES: &[Row] = &[
+    Row::Accepts(Message(24, 0, &[]), &[Message(1, 1, &[Arg::Uint(24)])]),
+    Row::Shows(16, 16, &[Pixel(32, 32, 255, 0, 0)]),
+];
+
+const DISMISSES_MENU: &[Row] = &[
+    PRESS,
+    Row::ToldOf(1, &[DISMISSED]),
+    Row::Shows(64, 64, &[Pixel(40, 40, 0, 0, 0)]),
+];
+
+/// The popup of one that was dismissed can't grab, and is dismissed too.
+const SUBMENU_DISMISSED_TOO: &[Row] = &[
+    Row::Accepts(GRAB_24, &[SUBMENU_DISMISSED]),
+    Row::Accepts(COMMIT_22, &[]),
+];
+
+/// By what is pressed.
+const BY_WHERE: &[Case] = &[
+    (
+        "the popup is pressed, and is dismissed with the focus",
+        &[
+            SEATED,
+            PRESSES,
+            SURFACE,
+            POSITIONER,
+            GETS,
+            GRABS,
+            MAPS_4,
+            RELEASES_5,
+            ENTERS_POPUP,
+            PRESSES_POPUP,
+            DISMISSES_FOCUS,
+        ],
+    ),
+    (
+        "its toplevel is pressed",
+        &[
+            SEATED,
+            PRESSES,
+            SURFACE,
+            POSITIONER,
+            GETS,
+            GRABS,
+            MAPS_4,
+            RELEASES_5,
+            PRESSES_TOPLEVEL,
+        ],
+    ),
+    (
+        "another toplevel of the client is pressed",
+        &[
+            SECOND_TOPLEVEL,
+            SEATED,
+            PRESSES_BELOW,
+            SURFACE,
+            POSITIONER,
+            GETS,
+            GRABS_4,
+            MAPS_5,
+            PRESSES_SECOND_TOPLEVEL,
+        ],
+    ),
+];
+
+/// While a button is down, by a press that is ignored, and by a release.
+const BY_BUTTON: &[Case] = &[
+    (
+        "dismissed while a button is down",
+        &[
+            SEATED,
+            PRESSES,
+            SURFACE,
+            POSITIONER,
+            GETS,
+            GRABS,
+            MAPS_4,
+            DISMISSES_HELD,
+        ],
+    ),
+    (
+        "a press that is ignored",
+        &[
+            SEATED, PRESSES, SURFACE, POSITIONER, GETS, GRABS, MAPS_4, IGNORED,
+        ],
+    ),
+    (
+        "a release",
+        &[
+            SEATED,
+            PRESSES,
+            SURFACE,
+            POSITIONER,
+            GETS,
+            GRABS,
+            MAPS_4,
+            RELEASES_OUTSIDE,
+        ],
+    ),
+];
+
+/// A menu with a submenu.
+const SUBMENUS: &[Case] = &[
+    (
+        "a menu and its submenu grab",
+        &[
+            SEATED,
+            PRESSES,
+            SURFACE,
+            POSITIONER,
+            GETS,
+            GRABS,
+            MAPS_4,
+            POSITIONER_21,
+            SURFACE_22,
+            GETS_SUBMENU,
+            SUBMENU_GRABS,
+            SUBMENU_MAPS,
+            GOES_OUT,
+            DISMISSES_BOTH,
+        ],
+    ),
+    (
+        "a submenu without a grab goes with its menu",
+        &[
+            SEATED,
+            PRESSES,
+            SURFACE,
+            POSITIONER,
+            GETS,
+            GRABS,
+            MAPS_4,
+            POSITIONER_21,
+            SURFACE_22,
+            GETS_SUBMENU,
+            SUBMENU_MAPS,
+            GOES_OUT,
+            DISMISSES_BOTH,
+        ],
+    ),
+    (
+        "no submenu of a menu without a grab has one",
+        &[
+            SEATED,
+            PRESSES,
+            SURFACE,
+            POSITIONER,
+            GETS,
+            MAPS_4,
+            POSITIONER_21,
+            SURFACE_22,
+            GETS_SUBMENU,
+            SUBMENU_REFUSED,
+            GOES_OUT,
+            STAYS_OUTSIDE,
+        ],
+    ),
+];
+
+/// Where one of them went, or has no grab.
+const ENDED: &[Case] = &[
+    (
+        "one of two popups of the toplevel grabs",
+        &[
+            SEATED,
+            PRESSES,
+            SURFACE,
+            POSITIONER,
+            GETS,
+            MAPS_4,
+            POSITIONER_21,
+            SURFACE_22,
+            GETS_BESIDE,
+            SUBMENU_GRABS,
+            BESIDE_PLACED,
+            GOES_OUT,
+            DISMISSES_BESIDE,
+        ],
+    ),
+    (
+        "a submenu's grab stays where its menu is unmapped",
+        &[
+            SEATED,
+            PRESSES,
+            SURFACE,
+            POSITIONER,
+            GETS,
+            GRABS,
+            MAPS_4,
+            POSITIONER_21,
+            SURFACE_22,
+            GETS_SUBMENU,
+            SUBMENU_GRABS,
+            SUBMENU_MAPS,
+            MENU_UNMAPS,
+            GOES_OUT,
+            DISMISSES_UNSEEN,
+        ],
+    ),
+    (
+        "a menu's grab stays where its submenu goes",
+        &[
+            SEATED,
+            PRESSES,
+            SURFACE,
+            POSITIONER,
+            GETS,
+            GRABS,
+            MAPS_4,
+            POSITIONER_21,
+            SURFACE_22,
+            GETS_SUBMENU,
+            SUBMENU_GRABS,
+            SUBMENU_MAPS,
+            SUBMENU_GOES,
+            GOES_OUT,
+            DISMISSES_MENU,
+        ],
+    ),
+    (
+        "no popup of one that was dismissed grabs",
+        &[
+            SEATED,
+            PRESSES,
+            RELEASES,
+            SURFACE,
+            POSITIONER,
+            GETS,
+            GRABS,
+            LEAVES,
+            DISMISSES_UNMAPPED,
+            POSITIONER_21,
+            SURFACE_22,
+            GETS_SUBMENU,
+            SUBMENU_DISMISSED_TOO,
+        ],
+    ),
+];
+
+#[test]
+fn presses_dismiss_by_where_as_worked(rt: HostRuntime) {
+    assert_eq!(rt; missed_after_toplevel(rt.alloc(), BY_WHERE), None);
+}
+
+#[test]
+fn presses_dismiss_by_button_as_worked(rt: HostRuntime) {
+    assert_eq!(rt; missed_after_toplevel(rt.alloc(), BY_BUTTON), None);
+}
+
+#[test]
+fn presses_dismiss_submenus_as_worked(rt: HostRuntime) {
+    assert_eq!(rt; missed_after_toplevel(rt.alloc(), SUBMENUS), None);
+}
+
+#[test]
+fn presses_dismiss_what_is_left_as_worked(rt: HostRuntime) {
+    assert_eq!(rt; missed_after_toplevel(rt.alloc(), ENDED), None);
+}

@@ -1,0 +1,223 @@
+//! A popup of a toplevel: where it stands, and what is painted again as it comes, changes and goes.
+
+use crate::support::{
+    ATTACH_18, COMMIT_14, DETACH_14, GET_POPUP, PLACED, POPUP, POPUP_MAPS, POSITIONER, RELEASED_18,
+    SURFACE, missed_after_toplevel,
+};
+use test_rows::begun::{ATTACH_10, ATTACH_NONE, COMMIT, CONFIGURED};
+use test_rows::rows::{Case, Message, Pixel, Row};
+use wl_session::{Done, Step};
+use wl_wire::Arg;
+
+/// The popup's points are painted, and no others: it stands at (40, 40).
+const POPUP_SHOWS: &[Row] = &[
+    Row::Shows(
+        64,
+        64,
+        &[
+            Pixel(40, 40, 255, 0, 0),
+            Pixel(47, 47, 255, 0, 0),
+            Pixel(48, 40, 0, 0, 0),
+            Pixel(40, 48, 0, 0, 0),
+            Pixel(39, 40, 0, 0, 0),
+            Pixel(39, 39, 255, 0, 0),
+        ],
+    ),
+    Row::Shows(0, 0, &[]),
+];
+
+/// The corner of the toplevel's window geometry moves, and the popup goes along: its tree is painted again where it was and where it is, and the
+/// toplevel isn't (xdg-shell.xml, xdg_positioner.set_anchor_rect, which is relative to that).
+const GEOMETRY_MOVES: &[Row] = &[
+    Row::Sends(Message(
+        7,
+        3,
+        &[Arg::Int(4), Arg::Int(4), Arg::Int(32), Arg::Int(32)],
+    )),
+    Row::Shows(0, 0, &[]),
+    Row::Sends(COMMIT),
+    Row::Waits(1, Some(&[])),
+    Row::Shows(
+        112,
+        112,
+        &[
+            Pixel(44, 44, 255, 0, 0),
+            Pixel(51, 51, 255, 0, 0),
+            Pixel(43, 43, 0, 0, 0),
+            Pixel(40, 40, 0, 0, 0),
+            Pixel(52, 44, 0, 0, 0),
+            Pixel(39, 39, 255, 0, 0),
+        ],
+    ),
+];
+
+/// xdg_toplevel.destroy: the popup is dismissed, and nothing of both is shown any more.
+const TOPLEVEL_GOES: &[Row] = &[
+    Row::Accepts(
+        Message(8, 0, &[]),
+        &[Message(1, 1, &[Arg::Uint(8)]), Message(17, 1, &[])],
+    ),
+    Row::Shows(1664, 1664, &[Pixel(0, 0, 0, 0, 0), Pixel(44, 44, 0, 0, 0)]),
+    Row::Shows(0, 0, &[]),
+];
+
+/// Damage of the toplevel paints no popup again.
+const TOPLEVEL_DAMAGED: &[Row] = &[
+    Row::Sends(Message(6, 2, &[Arg::Int(0), Arg::Int(0), Arg::Int(1), Arg::Int(1)])),
+    Row::Sends(COMMIT),
+    Row::Shows(1, 1, &[]),
+];
+
+/// Nor does damage of the popup the toplevel.
+const POPUP_DAMAGED: &[Row] = &[
+    Row::Sends(Message(14, 2, &[Arg::Int(1), Arg::Int(1), Arg::Int(2), Arg::Int(1)])),
+    Row::Sends(COMMIT_14),
+    Row::Shows(2, 2, &[]),
+];
+
+/// A popup that is unmapped is configured again by its next commit, with another serial (xdg-shell.xml, xdg_surface).
+const POPUP_UNMAPS: &[Row] = &[
+    Row::Sends(DETACH_14),
+    Row::Accepts(COMMIT_14, &[RELEASED_18]),
+    Row::Shows(64, 64, &[Pixel(40, 40, 0, 0, 0)]),
+    Row::Accepts(COMMIT_14, &[PLACED, Message(15, 0, &[Arg::Uint(3)])]),
+    Row::Shows(0, 0, &[]),
+    Row::Sends(Message(15, 4, &[Arg::Uint(3)])),
+    Row::Sends(ATTACH_18),
+    Row::Sends(COMMIT_14),
+    Row::Shows(64, 64, &[Pixel(40, 40, 255, 0, 0)]),
+];
+
+/// With the toplevel its popup is unmapped and comes back, beside the place of the toplevel's next mapping, which is 32 pixels farther to the
+/// right and down: of the toplevel 32 by 32 points are in the output, and none of the popup.
+const TOPLEVEL_UNMAPS: &[Row] = &[
+    Row::Sends(ATTACH_NONE),
+    Row::Accepts(COMMIT, &[Message(10, 0, &[])]),
+    Row::Shows(1664, 1664, &[Pixel(0, 0, 0, 0, 0), Pixel(40, 40, 0, 0, 0)]),
+    Row::Accepts(COMMIT, &[CONFIGURED, Message(7, 0, &[Arg::Uint(3)])]),
+    Row::Sends(Message(7, 4, &[Arg::Uint(3)])),
+    Row::Sends(ATTACH_10),
+    Row::Sends(COMMIT),
+    Row::Shows(
+        1024,
+        1024,
+        &[Pixel(32, 32, 255, 0, 0), Pixel(63, 63, 255, 0, 0)],
+    ),
+];
+
+/// xdg_popup.destroy: its id is given back, and it isn't shown any more.
+const POPUP_GOES: &[Row] = &[
+    Row::Accepts(Message(17, 0, &[]), &[Message(1, 1, &[Arg::Uint(17)])]),
+    Row::Shows(64, 64, &[Pixel(40, 40, 0, 0, 0)]),
+    Row::Accepts(Message(15, 0, &[]), &[Message(1, 1, &[Arg::Uint(15)])]),
+    Row::Accepts(
+        Message(14, 0, &[]),
+        &[Message(1, 1, &[Arg::Uint(14)]), RELEASED_18],
+    ),
+    Row::Shows(0, 0, &[]),
+];
+
+/// A client that goes leaves the points of its toplevel and of its popup to be painted again.
+const CLIENT_GOES: &[Row] = &[
+    Row::Calls(Step::Gone { client: 1 }, Done::Gone(true)),
+    Row::Shows(1664, 1664, &[Pixel(0, 0, 0, 0, 0), Pixel(40, 40, 0, 0, 0)]),
+];
+
+/// A commit before the popup was configured places it once: a change of the positioner afterwards has no effect, nor does its end, since the popup
+/// has a copy of it.
+const POSITIONER_CHANGES: &[Row] = &[
+    Row::Sends(Message(16, 6, &[Arg::Int(-8), Arg::Int(-8)])),
+    Row::Accepts(Message(16, 0, &[]), &[Message(1, 1, &[Arg::Uint(16)])]),
+];
+
+const CASES: &[Case] = &[
+    (
+        "a popup is shown at its place",
+        &[SURFACE, POSITIONER, POPUP, POPUP_MAPS, POPUP_SHOWS],
+    ),
+    (
+        "it goes along with its parent's geometry, and with its parent",
+        &[
+            SURFACE,
+            POSITIONER,
+            POPUP,
+            POPUP_MAPS,
+            POPUP_SHOWS,
+            GEOMETRY_MOVES,
+            TOPLEVEL_GOES,
+        ],
+    ),
+    (
+        "damage is that of one tree",
+        &[
+            SURFACE,
+            POSITIONER,
+            POPUP,
+            POPUP_MAPS,
+            POPUP_SHOWS,
+            TOPLEVEL_DAMAGED,
+            POPUP_DAMAGED,
+        ],
+    ),
+    (
+        "a popup is unmapped and comes back",
+        &[
+            SURFACE,
+            POSITIONER,
+            POPUP,
+            POPUP_MAPS,
+            POPUP_SHOWS,
+            POPUP_UNMAPS,
+        ],
+    ),
+    (
+        "with its toplevel it is unmapped and comes back",
+        &[
+            SURFACE,
+            POSITIONER,
+            POPUP,
+            POPUP_MAPS,
+            POPUP_SHOWS,
+            TOPLEVEL_UNMAPS,
+        ],
+    ),
+    (
+        "a popup goes",
+        &[
+            SURFACE,
+            POSITIONER,
+            POPUP,
+            POPUP_MAPS,
+            POPUP_SHOWS,
+            POPUP_GOES,
+        ],
+    ),
+    (
+        "a popup goes with its client",
+        &[
+            SURFACE,
+            POSITIONER,
+            POPUP,
+            POPUP_MAPS,
+            POPUP_SHOWS,
+            CLIENT_GOES,
+        ],
+    ),
+    (
+        "a popup has a copy of its positioner",
+        &[
+            SURFACE,
+            POSITIONER,
+            &[Row::Sends(GET_POPUP)],
+            POSITIONER_CHANGES,
+            &[Row::Accepts(COMMIT_14, &[PLACED, Message(15, 0, &[Arg::Uint(2)])])],
+            POPUP_MAPS,
+            POPUP_SHOWS,
+        ],
+    ),
+];
+
+#[test]
+fn popups_are_as_worked(rt: HostRuntime) {
+    assert_eq!(rt; missed_after_toplevel(rt.alloc(), CASES), None);
+}

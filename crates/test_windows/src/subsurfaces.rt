@@ -1,0 +1,281 @@
+//! Subsurfaces: when what they commit is shown, where they stand, and how deep they go.
+
+use std::alloc::Global;
+use test_rows::begun::{COMMIT, GLOBALS, GREEN, RED, missed_after_map};
+use test_rows::rows::{Case, Fault, Message, Pixel, REGISTRY, Row, first_missed_case};
+use wl_session::Fed;
+use wl_wire::Arg;
+
+/// The buffers 18, 19 and 20, one behind another in the pool 17: 4 by 4 pixels with a stride of 16, of the format 1.
+const BUFFER_18: Message = Message(
+    17,
+    0,
+    &[
+        Arg::NewId(18),
+        Arg::Int(0),
+        Arg::Int(4),
+        Arg::Int(4),
+        Arg::Int(16),
+        Arg::Uint(1),
+    ],
+);
+
+const BUFFER_19: Message = Message(
+    17,
+    0,
+    &[
+        Arg::NewId(19),
+        Arg::Int(64),
+        Arg::Int(4),
+        Arg::Int(4),
+        Arg::Int(16),
+        Arg::Uint(1),
+    ],
+);
+
+const BUFFER_20: Message = Message(
+    17,
+    0,
+    &[
+        Arg::NewId(20),
+        Arg::Int(128),
+        Arg::Int(4),
+        Arg::Int(4),
+        Arg::Int(16),
+        Arg::Uint(1),
+    ],
+);
+
+/// wl_surface.commit of the subsurface's surface 14.
+const COMMIT_14: Message = Message(14, 6, &[]);
+
+/// wl_surface.attach of the surface 14: the black buffer 18, the buffer 19 whose first pixel is red, or the buffer 20 whose first pixel is
+/// red and whose last is green.
+const ATTACH_18: Message = Message(14, 1, &[Arg::Object(18), Arg::Int(0), Arg::Int(0)]);
+
+const ATTACH_19: Message = Message(14, 1, &[Arg::Object(19), Arg::Int(0), Arg::Int(0)]);
+
+const ATTACH_20: Message = Message(14, 1, &[Arg::Object(20), Arg::Int(0), Arg::Int(0)]);
+
+/// wl_surface.damage of the first pixel of the surface 14, and of its last.
+const FIRST_PIXEL: Message = Message(14, 2, &[Arg::Int(0), Arg::Int(0), Arg::Int(1), Arg::Int(1)]);
+
+const LAST_PIXEL: Message = Message(14, 2, &[Arg::Int(3), Arg::Int(3), Arg::Int(1), Arg::Int(1)]);
+
+/// The subsurface 16 of the toplevel stands at (4, 4). Its buffers lie in the store 2.
+const SUBSURFACE: &[Row] = &[
+    Row::Binds(2, b"wl_subcompositor", 1, 15, Fed::Alive),
+    Row::Sends(Message(3, 0, &[Arg::NewId(14)])),
+    Row::Sends(Message(15, 1, &[Arg::NewId(16), Arg::Object(14), Arg::Object(6)])),
+    Row::Sends(Message(16, 1, &[Arg::Int(4), Arg::Int(4)])),
+    Row::Sends(Message(4, 0, &[Arg::NewId(17), Arg::Int(192)])),
+    Row::Sends(BUFFER_18),
+    Row::Sends(BUFFER_19),
+    Row::Sends(BUFFER_20),
+    Row::Fills(1, 2, 64, 1, RED),
+    Row::Fills(1, 2, 128, 1, RED),
+    Row::Fills(1, 2, 188, 1, GREEN),
+];
+
+/// Nothing of the subsurface is seen but what is black as its parent.
+const ALL_BLACK: &[Pixel] = &[
+    Pixel(0, 0, 0, 0, 0),
+    Pixel(4, 4, 0, 0, 0),
+    Pixel(7, 7, 0, 0, 0),
+    Pixel(39, 39, 0, 0, 0),
+    Pixel(63, 47, 0, 0, 0),
+];
+
+/// It is mapped with the black buffer 18, by a commit of its own and then one of its parent (wayland.xml, wl_subcompositor.get_subsurface).
+/// All of the window is painted, each point once.
+const SHOWN: &[Row] = &[
+    Row::Sends(ATTACH_18),
+    Row::Sends(COMMIT_14),
+    Row::Sends(COMMIT),
+    Row::Waits(1, Some(&[])),
+    Row::Shows(1600, 1600, ALL_BLACK),
+];
+
+/// Only the first pixel of the subsurface is red; those beside it are black.
+const RED_AT_4: &[Pixel] = &[
+    Pixel(4, 4, 255, 0, 0),
+    Pixel(0, 0, 0, 0, 0),
+    Pixel(3, 4, 0, 0, 0),
+    Pixel(4, 3, 0, 0, 0),
+    Pixel(5, 4, 0, 0, 0),
+    Pixel(4, 5, 0, 0, 0),
+    Pixel(7, 7, 0, 0, 0),
+    Pixel(39, 39, 0, 0, 0),
+];
+
+/// Its first pixel is red and its last is green; those beside them are black.
+const RED_AND_GREEN: &[Pixel] = &[
+    Pixel(4, 4, 255, 0, 0),
+    Pixel(7, 7, 0, 255, 0),
+    Pixel(0, 0, 0, 0, 0),
+    Pixel(3, 4, 0, 0, 0),
+    Pixel(5, 4, 0, 0, 0),
+    Pixel(5, 5, 0, 0, 0),
+    Pixel(6, 7, 0, 0, 0),
+    Pixel(8, 7, 0, 0, 0),
+    Pixel(8, 8, 0, 0, 0),
+    Pixel(39, 39, 0, 0, 0),
+];
+
+/// What a synchronised subsurface commits is held until its parent commits (wayland.xml, wl_subsurface.set_sync). A later commit takes the place
+/// of one that is held, whose buffer is released then though it was never shown (wl_buffer.release). The damage of both adds up, and the buffer
+/// that was shown is released with the commit of the parent.
+const HELD: &[Row] = &[
+    Row::Sends(ATTACH_19),
+    Row::Sends(FIRST_PIXEL),
+    Row::Sends(COMMIT_14),
+    Row::Waits(1, Some(&[])),
+    Row::Sends(ATTACH_20),
+    Row::Sends(LAST_PIXEL),
+    Row::Sends(COMMIT_14),
+    Row::Told(&[Message(19, 0, &[])]),
+    Row::Takes,
+    Row::Shows(0, 0, ALL_BLACK),
+    Row::Sends(COMMIT),
+    Row::Told(&[Message(18, 0, &[])]),
+    Row::Takes,
+    Row::Shows(2, 2, RED_AND_GREEN),
+];
+
+/// A subsurface that is no longer synchronised shows what was held at once, without a commit of its parent
+/// (wayland.xml, wl_subsurface.set_desync).
+const SET_DESYNC: &[Row] = &[
+    Row::Sends(ATTACH_19),
+    Row::Sends(FIRST_PIXEL),
+    Row::Sends(COMMIT_14),
+    Row::Waits(1, Some(&[])),
+    Row::Shows(0, 0, &[]),
+    Row::Sends(Message(16, 5, &[])),
+    Row::Told(&[Message(18, 0, &[])]),
+    Row::Takes,
+    Row::Shows(1, 1, RED_AT_4),
+];
+
+/// Placed below its parent it is hidden by it once the parent commits (wayland.xml, wl_subsurface.place_below).
+const PLACE_BELOW: &[Row] = &[
+    Row::Sends(Message(16, 3, &[Arg::Object(6)])),
+    Row::Sends(COMMIT),
+    Row::Shows(16, 1600, ALL_BLACK),
+    Row::Waits(1, Some(&[])),
+];
+
+/// Without its wl_subsurface a surface is unmapped at once (wayland.xml, wl_subsurface.destroy). Its buffer isn't released before it commits none
+/// (wl_buffer.release).
+const DESTROY: &[Row] = &[
+    Row::Sends(Message(16, 0, &[])),
+    Row::Told(&[Message(1, 1, &[Arg::Uint(16)])]),
+    Row::Takes,
+    Row::Shows(16, 1600, ALL_BLACK),
+    Row::Sends(Message(14, 1, &[Arg::Object(0), Arg::Int(0), Arg::Int(0)])),
+    Row::Sends(COMMIT_14),
+    Row::Told(&[Message(20, 0, &[])]),
+];
+
+/// The damage of commits that are held adds up (wayland.xml, wl_surface.damage): 1,024 rectangles in all count one by one.
+const RECTANGLES_1024: &[Row] = &[
+    Row::Changes(511, FIRST_PIXEL, FIRST_PIXEL),
+    Row::Sends(FIRST_PIXEL),
+    Row::Sends(COMMIT_14),
+    Row::Sends(FIRST_PIXEL),
+    Row::Sends(COMMIT_14),
+    Row::Sends(COMMIT),
+    Row::Waits(1, Some(&[])),
+    Row::Shows(1, 1, &[]),
+];
+
+/// One more means the whole surface, though no commit has more than 1,024 of its own.
+const RECTANGLES_1025: &[Row] = &[
+    Row::Changes(512, FIRST_PIXEL, FIRST_PIXEL),
+    Row::Sends(COMMIT_14),
+    Row::Sends(FIRST_PIXEL),
+    Row::Sends(COMMIT_14),
+    Row::Sends(COMMIT),
+    Row::Waits(1, Some(&[])),
+    Row::Shows(16, 16, &[]),
+];
+
+/// Each begins with a subsurface of a toplevel, both shown.
+const CASES: &[Case] = &[
+    ("what it commits is held", &[SUBSURFACE, SHOWN, HELD]),
+    (
+        "it is synchronised no longer",
+        &[SUBSURFACE, SHOWN, SET_DESYNC],
+    ),
+    (
+        "its parent hides it",
+        &[SUBSURFACE, SHOWN, HELD, PLACE_BELOW],
+    ),
+    (
+        "its wl_subsurface goes",
+        &[SUBSURFACE, SHOWN, HELD, DESTROY],
+    ),
+    (
+        "1,024 held rectangles",
+        &[SUBSURFACE, SHOWN, RECTANGLES_1024],
+    ),
+    (
+        "1,025 held rectangles",
+        &[SUBSURFACE, SHOWN, RECTANGLES_1025],
+    ),
+];
+
+#[test]
+fn subsurfaces_are_as_worked(rt: HostRuntime) {
+    assert_eq!(rt; missed_after_map(rt.alloc(), CASES), None);
+}
+
+/// The wl_subcompositor 9, and the surfaces 100 to 117. From 101 on each up to 115 is a subsurface of the one before it: 115 is at depth 15.
+const DEPTH_15: &[Row] = &[
+    Row::Binds(2, b"wl_subcompositor", 1, 9, Fed::Alive),
+    Row::MakesSurfaces(100, 118),
+    Row::Nests(101, 116),
+    Row::Waits(1, Some(&[])),
+];
+
+/// wl_display.error of wl_display with implementation.
+const TOO_DEEP: Row = Row::ErrorTold(1, 3, b"implementation");
+
+/// One at depth 16 is made, and none below it: the limit of this compositor on wl_subcompositor.get_subsurface, where a surface without a parent
+/// is at depth 0.
+const DEPTH_17: &[Row] = &[
+    Row::Nests(116, 117),
+    Row::Waits(1, Some(&[])),
+    Row::Errs(
+        Message(9, 1, &[Arg::NewId(217), Arg::Object(117), Arg::Object(116)]),
+        1,
+        3,
+    ),
+    TOO_DEEP,
+];
+
+/// It holds for what hangs below the surface already as well: the new subsurface would be at depth 16, and its own one at 17.
+const PUSHED_TO_DEPTH_17: &[Row] = &[
+    Row::Nests(117, 118),
+    Row::Waits(1, Some(&[])),
+    Row::Errs(
+        Message(9, 1, &[Arg::NewId(216), Arg::Object(116), Arg::Object(115)]),
+        1,
+        3,
+    ),
+    TOO_DEEP,
+];
+
+const DEEP: &[Case] = &[
+    ("it is too deep", &[DEPTH_17]),
+    ("its own subsurface is too deep", &[PUSHED_TO_DEPTH_17]),
+];
+
+/// The first of the cases that isn't as wanted after the subsurface at depth 15 was made, and what wasn't.
+fn missed_after_depth_15(alloc: Global, cases: &[Case]) -> Option<(usize, Fault)> {
+    first_missed_case(alloc, &[REGISTRY, GLOBALS, DEPTH_15], cases)
+}
+
+#[test]
+fn subsurfaces_go_16_deep(rt: HostRuntime) {
+    assert_eq!(rt; missed_after_depth_15(rt.alloc(), DEEP), None);
+}

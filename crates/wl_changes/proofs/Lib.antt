@@ -1,4 +1,0 @@
-pub mod ToldDamage
-pub mod RenamedWindows
-pub mod OneTree
-pub mod TurnedWindows

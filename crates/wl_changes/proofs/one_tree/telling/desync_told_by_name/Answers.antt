@@ -1,5 +1,0 @@
-use Rattle.wl_changes.proofs.OneTree.Named.{desync-told-by-name}
-use Rattle.wl_changes.proofs.one_tree.telling.desync_told_by_name.Goals as goal
-
-pub returns : goal.returns
-returns g c = desync-told-by-name _ c.reads_surfaces.ensures c.finds_links.ensures c.desynchronises.ensures c.desync_tells_applied.ensures

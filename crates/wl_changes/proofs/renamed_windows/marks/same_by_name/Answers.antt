@@ -1,5 +1,0 @@
-use Rattle.wl_changes.proofs.RenamedWindows.Told.{same-by-name}
-use Rattle.wl_changes.proofs.renamed_windows.marks.same_by_name.Goals as goal
-
-pub returns : goal.returns
-returns c = same-by-name c.same_as_records.ensures

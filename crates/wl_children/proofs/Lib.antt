@@ -1,3 +1,0 @@
-mod Beside
-mod Rows
-mod Whole

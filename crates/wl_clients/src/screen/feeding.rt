@@ -1,0 +1,268 @@
+//! What a client sends is taken one message at a time, and its toplevels and their windows follow; a client ends, and goes.
+
+ghost use Rattle.std.specs.Prelude.{ℕ, ◌≡◌, ◌<◌, ◌≤◌, ◌||◌, IfSome, List, None, Some, length, is_some, pos, true, false};
+ghost use Rattle.wl_scene.specs.Marking.{IsAsLarge};
+ghost use Rattle.wl_clients.specs.Marking.{MarksAtLeast, MarksAtMost, MarksOwn, MarksOwnIf, MarksThrough};
+ghost use Rattle.spec_desktop.specs.Objects.{ById};
+ghost use Rattle.wl_store.specs.Stores.{write_refusal};
+ghost use Rattle.wl_client.specs.Agreement.{IsPeer};
+ghost use Rattle.spec_desktop.specs.Peer.{IsIdleAt, Peer, ended, stored_at};
+ghost use Rattle.spec_desktop.specs.Desktop.{Desktop, Resident as Plain, become};
+ghost use Rattle.wl_paint.specs.Damage.{has};
+ghost use Rattle.wl_requests.specs.Grabbing.{IsGrabbingOf};
+ghost use Rattle.wl_requests.specs.Messages.{IsAsked};
+ghost use Rattle.wl_requests.specs.PointerAsks.{MessageAsksPointer};
+ghost use Rattle.wl_clients.specs.Screens.{IsFollowed, IsParted, has_own};
+ghost use Rattle.wl_clients.specs.Seats.{IsBare, IsChangedSo, IsClearedBy, IsSeated, ended_by, opened_kept};
+ghost use Rattle.wl_clients.specs.Finding.{IsPlacedBy};
+ghost use Rattle.wl_clients.specs.View.{Pile, pile_of};
+ghost use Rattle.spec_desktop.specs.LeftOut.{nothing_left_out};
+ghost use Rattle.law_desktop.specs.Ordered.{Ordered};
+ghost use Rattle.spec_desktop.specs.Happens.{Serves};
+ghost use Rattle.spec_desktop.specs.Through.{ServesThrough};
+ghost use Rattle.spec_desktop.specs.Act.{IsLeft, IsSent, IsStored, stored_of};
+
+use crate::screen::laws::message_laws;
+use crate::screen::screens::Screen;
+use crate::screen::touching::{find_toplevel, popup_to_place, root_of, touched_by};
+use spec_desktop::{ClientNo, Done, Stored};
+use std::alloc::Allocator;
+use wl_client::{Cause, Client, StoreNo};
+use wl_links::Subsurfaces;
+use wl_requests::{Asked, Grabbing, Outcome, Placing, PointerAsked, Resident};
+use wl_scene::{Owned, parent_corner};
+use wl_shell::Shell;
+use wl_surface::{Linked, SurfaceNo};
+
+/// Nothing is owned.
+pub fn bare<A: Allocator + Copy>(alloc: A) -> Owned<A>
+    ensures { IsBare result }
+{
+    Owned {
+        linked: Linked::new(alloc),
+        shell: Shell::new(alloc),
+    }
+}
+
+impl<A: Allocator + Copy> Screen<A> {
+    /// Where the client ended, nothing is left of what it owned.
+    pub(crate) fn clear(&mut self, resident: &mut Resident<A>, client: ClientNo, alloc: A)
+        ensures clears { IsClearedBy resident.old.client.ended client resident.old resident.new (pile_of self.old) (pile_of self.new) }
+        ensures damage { self.new.damage ≡ self.old.damage }
+    {
+        if resident.client.has_ended() {
+            resident.owned = bare(alloc);
+            resident.subsurfaces = Subsurfaces::new(alloc);
+            self.scene.unmap_all(client);
+            self.stacked.remove_client(client);
+        }
+    }
+
+    /// A message of a client that lives on: the toplevels and the windows of this one, if there is one, are as it leaves them, and what it
+    /// changes of them is marked.
+    fn follow(
+        &mut self,
+        resident: &Resident<A>,
+        client: ClientNo,
+        toplevel: Option<SurfaceNo>,
+        outcome: &Outcome<A>,
+    )
+        ensures follows { IsFollowed client toplevel resident.now outcome.now.stacking outcome.now.applied self.old self.new }
+        ensures sides { IsAsLarge self.old.damage self.new.damage }
+    {
+        self.restack(client, outcome.stacking);
+        self.add_run(resident, client, toplevel);
+        self.mark_turned(client, toplevel, outcome.stacking, &outcome.applied);
+        self.restack_windows(client, toplevel, outcome.stacking);
+    }
+
+    /// A message by which the client ended: its windows are marked, with those that this toplevel, if there is one, had for a moment, and
+    /// nothing is left of what it owned.
+    fn part(
+        &mut self,
+        resident: &mut Resident<A>,
+        client: ClientNo,
+        toplevel: Option<SurfaceNo>,
+        outcome: &Outcome<A>,
+        alloc: A,
+    )
+        ensures parts { IsParted client toplevel resident.old resident.new outcome.now.stacking outcome.now.applied self.old self.new }
+        ensures sides { IsAsLarge self.old.damage self.new.damage }
+        ensures client { resident.new.client ≡ resident.old.client }
+    {
+        if outcome.applied.is_some() {
+            self.restack(client, outcome.stacking);
+            self.add_run(resident, client, toplevel);
+        }
+        self.mark_client(client);
+        self.mark_new();
+        self.clear(resident, client, alloc);
+    }
+
+    /// A message that touched no tree of surfaces: where the client ended by it, its windows are marked, and nothing is left of what it owned.
+    fn part_alone(&mut self, resident: &mut Resident<A>, client: ClientNo, alloc: A)
+        ensures clears { IsClearedBy resident.old.client.ended client resident.old resident.new (pile_of self.old) (pile_of self.new) }
+        ensures points { is_some resident.old.client.ended ≡ true → (x y : ℕ) → x < self.old.damage.width → y < self.old.damage.height
+            → has self.new.damage x y ≡ (has self.old.damage x y || has_own client (pos x) (pos y) self.old.stacked.windows) }
+        ensures lives { resident.old.client.ended ≡ None → (resident.new ≡ resident.old) × (self.new ≡ self.old) }
+        ensures sides { IsAsLarge self.old.damage self.new.damage }
+        ensures client { resident.new.client ≡ resident.old.client }
+    {
+        if !resident.client.has_ended() {
+            return;
+        }
+        self.mark_client(client);
+        self.clear(resident, client, alloc);
+    }
+
+    /// What a popup is placed by where what is asked is to commit its surface or to place it anew: within the output, by where the window
+    /// geometry of its parent stands.
+    fn placing(&self, resident: &Resident<A>, client: ClientNo, asked: &Asked) -> Placing
+        ensures { IsPlacedBy self.now client resident.now asked.now result }
+    {
+        let owned = &resident.owned;
+        let parent_at = match popup_to_place(&owned.shell, asked) {
+            Some(popup) => parent_corner(&self.scene, client, owned, popup.parent()),
+            None => (0, 0),
+        };
+        Placing {
+            bounds: self.damage.bounds(),
+            parent_at,
+        }
+    }
+
+    /// Takes the first whole message of a client that lives, which asks this, and answers what it asks of the pointer; None where there is
+    /// none. What it changes of the windows of a toplevel is marked, tree by tree: the damage that it applied, where the windows of a tree
+    /// stand as they did; else all of them, as they were before and as they are after. Where the client ends by it, its windows are marked, and
+    /// no more; so does one that asks for a wl_pointer where there is no seat for that. A grab is allowed by what is handed in for that.
+    pub fn serve(
+        &mut self,
+        resident: &mut Resident<A>,
+        client: ClientNo,
+        asked: Asked,
+        has_seat: bool,
+        grabbing: Grabbing,
+    ) -> Option<PointerAsked>
+        requires { IsAsked resident.old.client asked }
+        ensures serves { is_some result ≡ true → (others : ℕ → ById ℕ) (base d : Desktop) (r : Plain)
+            → self.old.damage.width ≡ d.output.width → self.old.damage.height ≡ d.output.height
+            → IsSeated client others base resident.old (pile_of self.old) d r → Ordered d → IsGrabbingOf grabbing asked client r d
+            → (e : Desktop) × (q : Plain) × Serves nothing_left_out client d e × IsSeated client others base resident.new (pile_of self.new) e q }
+        ensures marks { is_some result ≡ true → (others : ℕ → ById ℕ) (base d : Desktop) (r : Plain)
+            → self.old.damage.width ≡ d.output.width → self.old.damage.height ≡ d.output.height
+            → IsSeated client others base resident.old (pile_of self.old) d r → Ordered d → IsGrabbingOf grabbing asked client r d
+            → (e : Desktop) (q : Plain) → Serves nothing_left_out client d e → IsSeated client others base resident.new (pile_of self.new) e q
+            → MarksAtLeast d e self.old.damage self.new.damage }
+        ensures within { is_some result ≡ true → (others : ℕ → ById ℕ) (base d : Desktop) (r : Plain)
+            → self.old.damage.width ≡ d.output.width → self.old.damage.height ≡ d.output.height
+            → IsSeated client others base resident.old (pile_of self.old) d r → Ordered d → IsGrabbingOf grabbing asked client r d
+            → (e : Desktop) (q : Plain) → Serves nothing_left_out client d e → IsSeated client others base resident.new (pile_of self.new) e q
+            → MarksAtMost client d e self.old.damage self.new.damage }
+        ensures through { is_some result ≡ true → (others : ℕ → ById ℕ) (base d : Desktop) (r : Plain)
+            → self.old.damage.width ≡ d.output.width → self.old.damage.height ≡ d.output.height
+            → IsSeated client others base resident.old (pile_of self.old) d r → Ordered d → IsGrabbingOf grabbing asked client r d
+            → (e : Desktop) × (q : Plain) × (path : List Desktop) × ServesThrough nothing_left_out client d path e
+            × IsSeated client others base resident.new (pile_of self.new) e q × MarksThrough d path self.old.damage self.new.damage }
+        ensures asks { IfSome result (λ asked. (resident.old.client.ended ≡ None) × MessageAsksPointer resident.old asked) }
+        ensures seat { IfSome result (λ asked. (id : ℕ) → asked ≡ PointerAsked.NewPointer id → has_seat ≡ false → is_some resident.new.client.ended ≡ true) }
+        ensures idle { is_some result ≡ false → (resident.new ≡ resident.old) × (pile_of self.new ≡ pile_of self.old)
+            × (self.new.damage ≡ self.old.damage) × IsIdleAt resident.old.client.ended resident.old.client.rest }
+        ensures sides { IsAsLarge self.old.damage self.new.damage }
+        ensures less { is_some result ≡ true → length resident.new.client.rest < length resident.old.client.rest }
+    {
+        message_laws();
+        if resident.client.has_ended() {
+            return None;
+        }
+        let alloc = resident.client.allocator();
+        let pointer = resident.pointer_asked(&asked);
+        let placing = self.placing(resident, client, &asked);
+        let Some(surface) = touched_by(resident, &asked) else {
+            let Some(_outcome) = resident.serve(asked, has_seat, placing, grabbing) else {
+                return None;
+            };
+            self.part_alone(resident, client, alloc);
+            return Some(pointer);
+        };
+        let root = root_of(resident, surface);
+        let toplevel = find_toplevel(&resident.owned.shell, &self.stacked, client, root);
+        let surfaces = resident.owned.linked.surfaces.len();
+        let has_room = self.prepare(client, toplevel, surfaces).is_ok();
+        let Some(outcome) = resident.serve(asked, has_room, placing, grabbing) else {
+            return None;
+        };
+        if resident.client.has_ended() {
+            self.part(resident, client, toplevel, &outcome, alloc);
+        } else {
+            self.follow(resident, client, toplevel, &outcome);
+        }
+        Some(pointer)
+    }
+
+    /// The client ends by this, where it lives, also where an event wasn't queued for it. Its windows are marked, and no more.
+    pub fn end(&mut self, resident: &mut Resident<A>, client: ClientNo, cause: Cause, alloc: A)
+        ensures ends { (others : ℕ → ById ℕ) (base d : Desktop) (r : Plain) → IsSeated client others base resident.old (pile_of self.old) d r
+            → (q : Plain) × IsSeated client others base resident.new (pile_of self.new) (become client r (ended_by r.peer.status cause r.peer) d) q }
+        ensures marks { MarksOwn resident.old.client.ended client resident.old (pile_of self.old) self.old.damage self.new.damage }
+        ensures refused { resident.old.client.ended ≡ None → (others : ℕ → ById ℕ) (base d : Desktop) (r : Plain)
+            → IsSeated client others base (opened_kept resident.old) (pile_of self.old) d r
+            → (q : Plain) × IsSeated client others base resident.new (pile_of self.new) (become client r (ended cause r.peer) d) q }
+        ensures marks_refused { resident.old.client.ended ≡ None
+            → MarksOwnIf true client (opened_kept resident.old) (pile_of self.old) self.old.damage self.new.damage }
+        ensures rest { length resident.new.client.rest ≤ length resident.old.client.rest }
+    {
+        if !resident.client.has_ended() {
+            self.mark_client(client);
+            resident.client.end(cause);
+        }
+        self.clear(resident, client, alloc);
+    }
+
+    /// The client goes. True where it was alive. Its windows are marked then, and no more.
+    pub fn gone(&mut self, resident: &mut Resident<A>, client: ClientNo, alloc: A) -> bool
+        ensures changes { IsChangedSo client IsLeft (Done.Gone result) resident.old resident.new (pile_of self.old) (pile_of self.new) }
+        ensures marks { MarksOwn resident.old.client.ended client resident.old (pile_of self.old) self.old.damage self.new.damage }
+    {
+        if !resident.client.has_ended() {
+            self.mark_client(client);
+        }
+        let lived = resident.client.gone();
+        self.clear(resident, client, alloc);
+        lived
+    }
+}
+
+/// Bytes are put into a store of a client that lives.
+pub fn store<A: Allocator + Copy>(
+    resident: &mut Resident<A>,
+    store: StoreNo,
+    at: u32,
+    bytes: &[u8],
+) -> Stored
+    ensures changes { (c : ℕ) (pile : Pile) → IsChangedSo c (IsStored store at bytes.now) (Done.Store result) resident.old resident.new pile pile }
+{
+    store_of(&mut resident.client, store, at, bytes)
+}
+
+/// So many unsent bytes were sent. False and unchanged where there are fewer.
+pub fn sent<A: Allocator + Copy>(resident: &mut Resident<A>, count: usize) -> bool
+    ensures changes { (c : ℕ) (pile : Pile) → IsChangedSo c (IsSent count) (Done.Sent result) resident.old resident.new pile pile }
+{
+    resident.client.sent(count)
+}
+
+/// Puts bytes into a store of a client that lives.
+fn store_of<A: Allocator + Copy>(
+    client: &mut Client<A>,
+    store: StoreNo,
+    at: u32,
+    bytes: &[u8],
+) -> Stored
+    ensures told { (p : Peer) → IsPeer client.old p → IsPeer client.new (stored_at p.status store at bytes.now p) × (result ≡ stored_of p.status (write_refusal store at (length bytes.now) p.stores)) }
+    ensures table { client.new.objects ≡ client.old.objects }
+{
+    if client.has_ended() {
+        return Stored::NoClient;
+    }
+    Stored::of(client.store(store, at, bytes))
+}

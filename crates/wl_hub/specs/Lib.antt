@@ -1,4 +1,0 @@
-pub mod Faults
-pub mod Moves
-pub mod Outcome
-pub mod Sockets

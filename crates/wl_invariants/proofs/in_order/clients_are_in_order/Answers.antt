@@ -1,5 +1,0 @@
-use Rattle.wl_invariants.proofs.InOrder.Laws.{clients_are_in_order}
-use Rattle.wl_invariants.proofs.in_order.clients_are_in_order.Goals as goal
-
-pub returns : goal.returns
-returns c = clients_are_in_order

@@ -1,5 +1,0 @@
-use Rattle.wl_invariants.proofs.TreeMarks.Whole.{may-mark-whole-tree}
-use Rattle.wl_invariants.proofs.tree_marks.may_mark_whole_tree.Goals as goal
-
-pub returns : goal.returns
-returns c = may-mark-whole-tree

@@ -1,6 +1,0 @@
-pub mod Isolation
-pub mod Lists
-pub mod Marks
-pub mod Pieces
-pub mod Runs
-pub mod Soundness

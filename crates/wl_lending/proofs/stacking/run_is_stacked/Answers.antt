@@ -1,5 +1,0 @@
-use Rattle.wl_lending.proofs.Standing.{run-is-stacked}
-use Rattle.wl_lending.proofs.stacking.run_is_stacked.Goals as goal
-
-pub returns : goal.returns
-returns c = run-is-stacked

@@ -1,5 +1,0 @@
-use Rattle.wl_lending.proofs.Standing.{stacked-client-gone}
-use Rattle.wl_lending.proofs.stacking.stacked_client_gone.Goals as goal
-
-pub returns : goal.returns
-returns c = stacked-client-gone

@@ -1,0 +1,4 @@
+pub mod Family
+pub mod Stacks
+pub mod Subsurfaces
+pub mod Trees

@@ -1,3 +1,0 @@
-pub mod Popped
-mod Rising
-pub mod Rooted

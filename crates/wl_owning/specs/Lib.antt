@@ -1,6 +1,0 @@
-pub mod Freed
-pub mod Owning
-pub mod Popups
-pub mod RoleNames
-pub mod Subsurfaces
-pub mod Twins

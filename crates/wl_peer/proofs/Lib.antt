@@ -1,4 +1,0 @@
-pub mod Pieces
-pub mod Requests
-pub mod Rows
-pub mod Unique

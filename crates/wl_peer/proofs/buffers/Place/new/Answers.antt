@@ -1,5 +1,0 @@
-use Rattle.std.proofs.Common.{rules}
-use Rattle.wl_peer.proofs.buffers.Place.new.Goals as goal
-
-pub returns : goal.returns
-returns c = search rules

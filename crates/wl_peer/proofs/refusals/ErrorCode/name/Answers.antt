@@ -1,5 +1,0 @@
-use Rattle.std.proofs.Common.{rules}
-use Rattle.wl_peer.proofs.refusals.ErrorCode.name.Goals as goal
-
-pub returns-in-InvalidMethod : goal.returns-in-InvalidMethod
-returns-in-InvalidMethod c = search rules

@@ -1,0 +1,103 @@
+//! The side files of a folder.
+
+ghost use Rattle.std.specs.Prelude.{◌≡◌, false};
+ghost use Rattle.wl_recording.specs.Side.{Rose};
+ghost use Rattle.wl_program.specs.Folder.{MayGive, MayOpen};
+
+use std::alloc::AllocError;
+use std::fs::File;
+use std::io::{ErrorKind, Read};
+use std::marker::Model;
+use std::rt::Files;
+use wl_recording::{SideFault, SideFiles};
+
+/// The files of a folder, of which one is open at a time. It is seen as the folder's path, whether a file is open, and how many
+/// faults there were.
+#[derive(Drop)]
+pub struct Folder<'a, R: Files + Alloc> {
+    rt: &'a R,
+    folder: &'a str,
+    path: String<R::A>,
+    file: Option<R::File>,
+    faults: u64,
+}
+
+impl<'a, R: Files + Alloc> Model for Folder<'a, R> {
+    ghost use Rattle.std.specs.Prelude.{is_some};
+    ghost use Rattle.wl_program.specs.Folder.{FolderView};
+
+    ghost Value = { FolderView };
+
+    ghost view = { λ f. record { folder = f.folder.now; is_open = is_some f.file; faults = f.faults } };
+}
+
+impl<'a, R: Files + Alloc> Folder<'a, R> {
+    /// No file is open, and there was no fault. It takes no memory.
+    pub fn new(rt: &'a R, folder: &'a str) -> Folder<'a, R>
+        ensures { result ≡ record { folder = folder.entry.now; is_open = false; faults = 0 } }
+    {
+        Folder {
+            rt,
+            folder,
+            path: String::new(rt.alloc()),
+            file: None,
+            faults: 0,
+        }
+    }
+
+    /// Counts a fault.
+    fn fault(&mut self) -> SideFault
+        ensures rose { Rose self.old.faults self.new.faults }
+        ensures kept { (self.new.folder ≡ self.old.folder) × (self.new.is_open ≡ self.old.is_open) }
+    {
+        self.faults = self.faults.saturating_add(1);
+        SideFault
+    }
+
+    fn set_path(&mut self, name: &str) -> Result<(), AllocError>
+        ensures { self.new ≡ self.old }
+    {
+        self.path.clear();
+        self.path.push_str(self.folder)?;
+        self.path.push_str("/")?;
+        self.path.push_str(name)
+    }
+}
+
+/// What a folder holds isn't known, so nothing is said of the bytes of an open file.
+impl<R: Files + Alloc> SideFiles for Folder<'_, R> {
+    ghost fault_count = { λ side. side.faults };
+
+    ghost gives = { MayGive };
+
+    ghost opens = { MayOpen };
+
+    fn open(&mut self, name: &str) -> Result<bool, SideFault> {
+        self.file = None;
+        if self.set_path(name).is_err() {
+            return Err(self.fault());
+        }
+        match File::open(self.rt, self.path.as_str()) {
+            Ok(file) => {
+                self.file = Some(file);
+                Ok(true)
+            }
+            Err(error) if error.kind() == ErrorKind::NotFound => Ok(false),
+            Err(_) => Err(self.fault()),
+        }
+    }
+
+    fn read(&mut self, buf: &mut [u8]) -> Result<usize, SideFault> {
+        let Some(file) = &mut self.file else {
+            return Ok(0);
+        };
+        match file.read(buf) {
+            Ok(n) => Ok(n),
+            Err(_) => Err(self.fault()),
+        }
+    }
+
+    fn faults(&self) -> u64 {
+        self.faults
+    }
+}

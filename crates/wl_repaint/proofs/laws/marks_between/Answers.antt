@@ -1,5 +1,0 @@
-use Rattle.wl_repaint.proofs.Between.{marks-between}
-use Rattle.wl_repaint.proofs.laws.marks_between.Goals as goal
-
-pub returns : goal.returns
-returns g c = marks-between _ c.is_tree_of_root.ensures c.marks_damage_alone.ensures c.marks_tree_alone.ensures c.may_mark_whole_tree.ensures

@@ -1,7 +1,0 @@
-use Rattle.std.proofs.Common.{take}
-use Rattle.wl_repaint.specs.Repaint.{is_damaged_by}
-use Rattle.wl_repaint.proofs.Marked.{IsMarked}
-use Rattle.wl_repaint.proofs.marking.mark_surfaces.Given as goal
-
-abbrev pub invariant-loop-change : goal.invariant-loop-change
-invariant-loop-change g l = IsMarked (is_damaged_by l.windows) (take l.change-index l.changes) l.fn.damage l.damage

@@ -1,5 +1,0 @@
-use Rattle.wl_runs.proofs.Marked.{runs-are-marked}
-use Rattle.wl_runs.proofs.marks.runs_are_marked.Goals as goal
-
-pub returns : goal.returns
-returns g c = runs-are-marked _ c.marks_by_trees_between.ensures

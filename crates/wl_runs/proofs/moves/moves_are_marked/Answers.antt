@@ -1,5 +1,0 @@
-use Rattle.wl_runs.proofs.Shifted.{moves-are-marked}
-use Rattle.wl_runs.proofs.moves.moves_are_marked.Goals as goal
-
-pub returns : goal.returns
-returns g c = moves-are-marked _ c.marks_by_trees_between.ensures

@@ -1,0 +1,39 @@
+//! Windows and the damage of their surfaces, marked on an output.
+
+ghost use Rattle.std.specs.Prelude.{ℕ, ◌≡◌, ◌<◌, ◌||◌, pos};
+ghost use Rattle.wl_paint.specs.Damage.{has};
+ghost use Rattle.wl_scene.specs.Marking.{IsAsLarge, any_record_has, is_record_damaged};
+
+use crate::record::WindowRecord;
+use std::alloc::Allocator;
+use wl_geom::Rect;
+use wl_paint::Damage;
+
+/// How many rectangles of a surface's damage count one by one.
+const MAX_RECTS: usize = 1_024;
+
+/// All points of a window are marked, if there is one.
+pub fn mark_window<A: Allocator>(damage: &mut Damage<A>, window: Option<WindowRecord>)
+    ensures points { (x y : ℕ) → x < damage.old.width → y < damage.old.height → has damage.new x y ≡ (has damage.old x y || any_record_has (pos x) (pos y) window) }
+    ensures sides { IsAsLarge damage.old damage.new }
+{
+    if let Some(window) = window {
+        damage.add(window.rect());
+    }
+}
+
+/// The points of a window are marked that its surface's damage holds: these rectangles in surface pixels, cut to the surface; more than 1,024
+/// damage all of it (wayland.xml, wl_surface.damage).
+pub fn mark_damage<A: Allocator>(damage: &mut Damage<A>, window: WindowRecord, rects: &[Rect])
+    ensures points { (x y : ℕ) → x < damage.old.width → y < damage.old.height
+        → has damage.new x y ≡ (has damage.old x y || is_record_damaged rects.now (pos x) (pos y) window) }
+    ensures sides { IsAsLarge damage.old damage.new }
+{
+    if rects.len() > MAX_RECTS {
+        damage.add(window.rect());
+        return;
+    }
+    for rect in rects {
+        damage.add(window.part(*rect));
+    }
+}

@@ -1,0 +1,50 @@
+//! The windows of the trees of several roots, one after another.
+
+ghost use Rattle.std.specs.Prelude.{◌≡◌, ◌≤◌, ◌+◌, ◌++◌, IsOk, OnOk, length, vec_capacity, vec_len};
+ghost use Rattle.wl_surface.specs.Linked.{Stand};
+ghost use Rattle.spec_desktop.specs.Windows.{Owner};
+ghost use Rattle.wl_surface.specs.Surfaces.{Surfaces as Asked};
+ghost use Rattle.wl_scene.specs.Told.{told_at, told_trees};
+
+use crate::roots::RootPlace;
+use crate::tree_window::TreeWindow;
+use crate::tree_windows::add_windows;
+use std::alloc::{AllocError, Allocator};
+use wl_surface::Linked;
+
+/// Adds the windows of the tree of this root behind the others, from bottom to top where it is placed.
+fn add_root<A: Allocator + Copy>(
+    linked: &Linked<A>,
+    root: &RootPlace,
+    windows: &mut Vec<TreeWindow, A>,
+) -> Result<(), AllocError>
+    ensures ok { OnOk result ((all : Asked) (owner : Owner) → Stand linked.now.surfaces linked.now.family all
+        → windows.new.items ≡ windows.old.items ++ told_at owner all root.now) }
+    ensures succeeds { (all : Asked) (owner : Owner) → Stand linked.now.surfaces linked.now.family all
+        → vec_len windows.old + length (told_at owner all root.now) ≤ vec_capacity windows.old → IsOk result }
+    ensures capacity { vec_capacity windows.old ≤ vec_capacity windows.new }
+{
+    add_windows(linked, root.surface, root.x, root.y, windows)
+}
+
+/// Adds the windows of the trees of these roots behind the others, tree after tree, each from bottom to top where its root is placed.
+///
+/// # Errors
+///
+/// An `Err` is for want of memory: then those of the first roots alone may have come. There is none where there is room for all of them already.
+pub fn add_trees<A: Allocator + Copy>(
+    linked: &Linked<A>,
+    roots: &[RootPlace],
+    windows: &mut Vec<TreeWindow, A>,
+) -> Result<(), AllocError>
+    ensures ok { OnOk result ((all : Asked) (owner : Owner) → Stand linked.now.surfaces linked.now.family all
+        → windows.new.items ≡ windows.old.items ++ told_trees owner all roots.now) }
+    ensures succeeds { (all : Asked) (owner : Owner) → Stand linked.now.surfaces linked.now.family all
+        → vec_len windows.old + length (told_trees owner all roots.now) ≤ vec_capacity windows.old → IsOk result }
+    ensures capacity { vec_capacity windows.old ≤ vec_capacity windows.new }
+{
+    for root in roots {
+        add_root(linked, root, windows)?;
+    }
+    Ok(())
+}

@@ -1,0 +1,93 @@
+//! The window of a surface of a tree.
+
+ghost use Rattle.std.specs.Prelude.{◌≡◌, ◌+ℤ◌};
+ghost use Rattle.wl_surface.specs.Linked.{Stand};
+ghost use Rattle.wl_surface.specs.State.{within_bounds};
+ghost use Rattle.wl_surface.specs.Surfaces.{Surfaces as Asked};
+ghost use Rattle.wl_scene.specs.TreeWindows.{place_beside, window_at};
+
+use std::alloc::Allocator;
+use wl_store::Transform;
+use wl_surface::{Linked, SurfaceNo};
+
+/// The coordinates of a surface are held within -16,777,216 to 16,777,216 pixels.
+const BOUND: i64 = 16_777_216;
+
+/// A window of a tree: its surface, the surface at the root of the tree, where its upper left corner is on the output and its size, in
+/// pixels, and how its buffer is turned and scaled (wayland.xml, wl_subcompositor, wl_surface.set_buffer_transform and set_buffer_scale).
+#[derive(Clone, Copy, Debug, PartialEq, Eq)]
+pub struct TreeWindow {
+    pub surface: SurfaceNo,
+    pub root: SurfaceNo,
+    pub x: i32,
+    pub y: i32,
+    pub w: u32,
+    pub h: u32,
+    pub transform: Transform,
+    pub scale: u32,
+}
+
+/// So many pixels to the right and down.
+#[derive(Clone, Copy, Debug)]
+pub(crate) struct Point {
+    pub x: i32,
+    pub y: i32,
+}
+
+/// A place on the output for a surface of the tree with this root: so far from a corner there. The sum isn't held within the bounds.
+#[derive(Clone, Copy, Debug)]
+pub(crate) struct Spot {
+    pub root: SurfaceNo,
+    pub corner: Point,
+    pub position: Point,
+}
+
+/// A coordinate in pixels, held within the bounds.
+fn held(exact: i64) -> i32
+    ensures { result ≡ within_bounds exact }
+{
+    if exact < -BOUND {
+        return -16_777_216;
+    }
+    if exact > BOUND {
+        return 16_777_216;
+    }
+    exact as i32
+}
+
+/// The sum of a corner, a position from it and an offset, in pixels, held within the bounds.
+fn held_sum(corner: i32, position: i32, offset: i32) -> i32
+    ensures { result ≡ within_bounds ((corner +ℤ position) +ℤ offset) }
+{
+    held(i64::from(corner) + i64::from(position) + i64::from(offset))
+}
+
+/// The window of a surface that is placed there, as a child is at its position from the corner of its parent (wayland.xml,
+/// wl_subsurface.set_position): its corner is there plus its own offset. `None` where it shows no buffer, or isn't there.
+pub(crate) fn window_of<A: Allocator + Copy>(
+    linked: &Linked<A>,
+    surface: SurfaceNo,
+    spot: &Spot,
+) -> Option<TreeWindow>
+    ensures { (all : Asked) → Stand linked.now.surfaces linked.now.family all
+        → result ≡ window_at all spot.now.root surface (place_beside spot.now) }
+{
+    let current = linked.surfaces.current(surface)?;
+    match current.buffer {
+        None => None,
+        Some(_) => {
+            let x = held_sum(spot.corner.x, spot.position.x, current.offset.x);
+            let y = held_sum(spot.corner.y, spot.position.y, current.offset.y);
+            Some(TreeWindow {
+                surface,
+                root: spot.root,
+                x,
+                y,
+                w: current.w,
+                h: current.h,
+                transform: current.transform,
+                scale: current.scale.number,
+            })
+        }
+    }
+}

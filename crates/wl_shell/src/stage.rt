@@ -1,0 +1,36 @@
+//! How far a role object is.
+
+ghost use Rattle.std.specs.Prelude.{◌≡◌};
+ghost use Rattle.wl_shell.specs.Shell.{acknowledged, answers_states};
+
+/// How far a role object is (xdg-shell.xml, xdg_surface: the initial commit, ack_configure, and mapping).
+#[derive(Clone, Copy, Debug, PartialEq, Eq)]
+pub enum Stage {
+    /// Nothing was configured since it was made, or since its surface was unmapped.
+    Fresh,
+    /// A configure is to be acknowledged.
+    Waiting,
+    /// A configure was acknowledged.
+    Ready,
+    /// Its surface is mapped.
+    Mapped,
+}
+
+impl Stage {
+    /// The stage after an acknowledgement.
+    pub(crate) fn acknowledged(self) -> Stage
+        ensures { result ≡ acknowledged self }
+    {
+        match self {
+            Stage::Waiting => Stage::Ready,
+            Stage::Fresh | Stage::Ready | Stage::Mapped => self,
+        }
+    }
+
+    /// A request for another state is answered by a configure, since there was one before.
+    pub(crate) fn answers_states(self) -> bool
+        ensures { result ≡ answers_states self }
+    {
+        self != Stage::Fresh
+    }
+}

@@ -1,6 +1,0 @@
-pub mod Kept
-pub mod Places
-pub mod Rooms
-mod Told
-pub mod Together
-pub mod Written

@@ -1,3 +1,0 @@
-pub mod Hits
-pub mod Lone
-pub mod Rows

@@ -1,0 +1,11 @@
+-- Laws of surfaces.
+use Rattle.std.specs.Prelude.{ℕ, ◌≡◌, List, [], ◌∷◌, ◌++◌}
+use Rattle.wl_surface.specs.Request.{Request, Commit}
+use Rattle.wl_surface.specs.State.{applied, apply, held, values}
+
+-- After a commit what is held is what was pending, and once the surface is applied that is what counts.
+abbrev pub CommitTakesAll : Type 0
+CommitTakesAll =
+    (requests : List Request) (cut : ℕ)
+    → (held (record { requests = requests ++ Commit ∷ []; cut = cut }) ≡ values requests)
+    × (applied (apply (record { requests = requests ++ Commit ∷ []; cut = cut })) ≡ values requests)

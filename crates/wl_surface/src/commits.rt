@@ -1,0 +1,313 @@
+//! Commits, the modes of links and their ends, and the trees that these apply.
+
+ghost use Rattle.std.specs.Prelude.{ℕ, [], ◌≡◌, ◌==◌, ◌&&◌, not, cond, Bool, List, None, Err, count_by, filter, map, IfErr, IfOk, MatchBool, OnErr, OnOk};
+ghost use Rattle.wl_links.specs.Family.{HangTogether, links_in, parents_of, stacks_in};
+ghost use Rattle.wl_surface.specs.Linked.{IsLink, Stand, numbered};
+ghost use Rattle.wl_surface.specs.Room.{HasRoom};
+ghost use Rattle.wl_surface.specs.Tree.{AreAmong, AreOnce, AreShown, AreToldAfter, IsCommitTold, IsDesyncTold, IsEndTold, IsTold, applied_among, is_among, is_committed, is_released, numbers_of, shown_by, stacks_among};
+ghost use Rattle.wl_surface.specs.Kept.{buffer_of};
+ghost use Rattle.wl_surface.specs.Request.{Commit};
+ghost use Rattle.wl_surface.specs.Surface.{asking};
+ghost use Rattle.wl_surface.specs.Applied.{AreFreed, AreGone, is_shown_at};
+ghost use Rattle.wl_surface.specs.Slots.{IsAny, Numbered, StandForAll, is_whole_at, shows_at};
+ghost use Rattle.wl_surface.specs.Surfaces.{Link, Surfaces as Asked, surface_at, with_change};
+ghost use Rattle.wl_surface.specs.Trees.{applied_tree, committed_in, descends_from, destroyed_in, desynchronised_in, ended_in, ending, levels, with_link};
+ghost use Rattle.wl_surface.specs.Waiting.{AreWaiting, Callback, frames_at, is_in};
+ghost use Rattle.wl_links.specs.Trees.{is_under};
+
+use crate::applied::{Applied, Change};
+use crate::content::{Attached, BufferNo};
+use crate::error::SurfaceError;
+use crate::linked::Linked;
+use crate::surfaces::SurfaceNo;
+use crate::tree::{add_freed, apply_each, below, shown_of};
+use std::alloc::{AllocError, Allocator};
+
+/// What a call applied, and the buffers that the surfaces which it applied, held or ended had applied and held before it, as they were
+/// attached. One that was shown more than once is there as often. Each buffer that is freed is among them (wayland.xml, wl_buffer.release).
+#[derive(Drop)]
+pub struct Told<A: Allocator> {
+    pub applied: Applied<A>,
+    pub shown: Vec<Attached, A>,
+}
+
+/// What is found before a tree is applied, while nothing has changed yet: its surfaces, the buffers that these show, and room for what
+/// is told.
+#[derive(Drop)]
+pub(crate) struct Room<A: Allocator> {
+    pub(crate) below: Vec<SurfaceNo, A>,
+    pub(crate) shown: Vec<Attached, A>,
+    pub(crate) changes: Vec<Change<A>, A>,
+    pub(crate) freed: Vec<BufferNo, A>,
+}
+
+impl<A: Allocator + Copy> Linked<A> {
+    /// wl_surface.commit: what is pending is held and, unless the surface behaves synchronised, applied with what descends from it. What that
+    /// changes is told, and which buffers were shown before.
+    ///
+    /// # Errors
+    ///
+    /// `Size` where the sides of the buffer that it would show are no multiples of the scale, and else `Memory`. Nothing changes then.
+    pub fn commit(&mut self, surface: SurfaceNo) -> Result<Told<A>, SurfaceError>
+        ensures ok { OnOk result ((all : Asked) → Stand self.old.surfaces self.old.family all → Stand self.new.surfaces self.new.family (committed_in surface all)) }
+        ensures waits { OnOk result ((all : Asked) (cs : List Callback) → Stand self.old.surfaces self.old.family all → AreWaiting self.old.surfaces.frames (numbered all) cs
+            → AreWaiting self.new.surfaces.frames (numbered (committed_in surface all)) cs) }
+        ensures changes { IfOk result (λ told. (all : Asked) → Stand self.old.surfaces self.old.family all → IsCommitTold surface all told.applied.changes.items) }
+        ensures freed { IfOk result (λ told. (all : Asked) → Stand self.old.surfaces self.old.family all
+            → AreFreed told.applied.freed.items (numbered all) (numbered (committed_in surface all))) }
+        ensures shown { IfOk result (λ told. (all : Asked) → Stand self.old.surfaces self.old.family all
+            → AreShown (is_committed surface all) all (map buffer_of told.shown.items)) }
+        ensures among { IfOk result (λ told. AreAmong told.applied.freed.items (map buffer_of told.shown.items)) }
+        ensures callbacks { IfOk result (λ told. told.applied.callbacks.items ≡ []) }
+        ensures err { OnErr result (self.new ≡ self.old) }
+        ensures cause { (all : Asked) → Stand self.old.surfaces self.old.family all → MatchBool (is_whole_at (surface_at surface all)) (IfErr result (λ e. e ≡ SurfaceError.Memory)) (result ≡ Err SurfaceError.Size) }
+    {
+        if !self.surfaces.is_whole(surface) {
+            return Err(SurfaceError::Size);
+        }
+        if self.family.behaves_synchronised(surface) {
+            return self.hold(surface);
+        }
+        self.commit_now(surface)
+    }
+
+    /// A commit of a surface that behaves synchronised.
+    fn hold(&mut self, surface: SurfaceNo) -> Result<Told<A>, SurfaceError>
+        ensures ok { OnOk result ((all : Asked) → Stand self.old.surfaces self.old.family all → Stand self.new.surfaces self.new.family (with_change surface (asking Commit) all)) }
+        ensures waits { OnOk result ((all : Asked) (cs : List Callback) → Stand self.old.surfaces self.old.family all → AreWaiting self.old.surfaces.frames (numbered all) cs
+            → AreWaiting self.new.surfaces.frames (numbered (with_change surface (asking Commit) all)) cs) }
+        ensures changes { IfOk result (λ told. told.applied.changes.items ≡ []) }
+        ensures freed { IfOk result (λ told. (all : Asked) → Stand self.old.surfaces self.old.family all
+            → AreFreed told.applied.freed.items (numbered all) (numbered (with_change surface (asking Commit) all))) }
+        ensures shown { IfOk result (λ told. (all : Asked) → Stand self.old.surfaces self.old.family all → AreShown (λ n. n == surface) all (map buffer_of told.shown.items)) }
+        ensures among { IfOk result (λ told. AreAmong told.applied.freed.items (map buffer_of told.shown.items)) }
+        ensures callbacks { IfOk result (λ told. told.applied.callbacks.items ≡ []) }
+        ensures err { OnErr result (self.new ≡ self.old) }
+        ensures cause { IfErr result (λ e. e ≡ SurfaceError.Memory) }
+    {
+        let alloc = self.alloc;
+        let shown = shown_of(&self.surfaces, &[surface], alloc)?;
+        let mut freed = Vec::with_capacity(alloc, shown.len())?;
+        self.surfaces.hold(surface)?;
+        self.family.hold(surface);
+        add_freed(&self.surfaces, &shown, &mut freed);
+        let applied = Applied {
+            changes: Vec::new(alloc),
+            freed,
+            callbacks: Vec::new(alloc),
+        };
+        Ok(Told { applied, shown })
+    }
+
+    /// A commit of a surface that doesn't.
+    fn commit_now(&mut self, surface: SurfaceNo) -> Result<Told<A>, SurfaceError>
+        ensures ok { OnOk result ((all : Asked) → Stand self.old.surfaces self.old.family all
+            → Stand self.new.surfaces self.new.family (applied_tree levels surface (with_change surface (asking Commit) all))) }
+        ensures waits { OnOk result ((all : Asked) (cs : List Callback) → Stand self.old.surfaces self.old.family all → AreWaiting self.old.surfaces.frames (numbered all) cs
+            → AreWaiting self.new.surfaces.frames (numbered (applied_tree levels surface (with_change surface (asking Commit) all))) cs) }
+        ensures changes { IfOk result (λ told. (all : Asked) → Stand self.old.surfaces self.old.family all
+            → IsTold surface (with_change surface (asking Commit) all) told.applied.changes.items) }
+        ensures freed { IfOk result (λ told. (all : Asked) → Stand self.old.surfaces self.old.family all
+            → AreFreed told.applied.freed.items (numbered all) (numbered (applied_tree levels surface (with_change surface (asking Commit) all)))) }
+        ensures shown { IfOk result (λ told. (all : Asked) → Stand self.old.surfaces self.old.family all
+            → AreShown (descends_from 16 all surface) all (map buffer_of told.shown.items)) }
+        ensures among { IfOk result (λ told. AreAmong told.applied.freed.items (map buffer_of told.shown.items)) }
+        ensures callbacks { IfOk result (λ told. told.applied.callbacks.items ≡ []) }
+        ensures err { OnErr result (self.new ≡ self.old) }
+        ensures cause { IfErr result (λ e. e ≡ SurfaceError.Memory) }
+    {
+        let room = self.room(surface, Vec::new(self.alloc))?;
+        self.surfaces.hold(surface)?;
+        self.family.hold(surface);
+        Ok(self.apply_tree(room))
+    }
+
+    /// wl_subsurface.set_desync: the child's commits are applied at once, unless a surface above it is synchronised. What was held is applied
+    /// where it behaved synchronised and doesn't any more. Nothing changes where it has no link, nor without memory.
+    pub fn set_desync(&mut self, child: SurfaceNo) -> Result<Told<A>, SurfaceError>
+        ensures ok { OnOk result ((all : Asked) (number : ℕ) (link : Link) → IsLink all number child link → Stand self.old.surfaces self.old.family all
+            → Stand self.new.surfaces self.new.family (desynchronised_in number all)) }
+        ensures waits { OnOk result ((all : Asked) (number : ℕ) (link : Link) (cs : List Callback) → IsLink all number child link → Stand self.old.surfaces self.old.family all
+            → AreWaiting self.old.surfaces.frames (numbered all) cs → AreWaiting self.new.surfaces.frames (numbered (desynchronised_in number all)) cs) }
+        ensures changes { IfOk result (λ told. (all : Asked) (number : ℕ) (link : Link) → IsLink all number child link → Stand self.old.surfaces self.old.family all
+            → IsDesyncTold number child all told.applied.changes.items) }
+        ensures freed { IfOk result (λ told. (all : Asked) (number : ℕ) (link : Link) → IsLink all number child link → Stand self.old.surfaces self.old.family all
+            → AreFreed told.applied.freed.items (numbered all) (numbered (desynchronised_in number all))) }
+        ensures shown { IfOk result (λ told. (all : Asked) (number : ℕ) (link : Link) → IsLink all number child link → Stand self.old.surfaces self.old.family all
+            → AreShown (is_released number child all) all (map buffer_of told.shown.items)) }
+        ensures among { IfOk result (λ told. AreAmong told.applied.freed.items (map buffer_of told.shown.items)) }
+        ensures callbacks { IfOk result (λ told. told.applied.callbacks.items ≡ []) }
+        ensures none { links_in self.old.family child ≡ None → OnOk result (self.new ≡ self.old) }
+        ensures err { OnErr result (self.new ≡ self.old) }
+        ensures cause { IfErr result (λ e. e ≡ SurfaceError.Memory) }
+    {
+        if self.family.link(child).is_none() {
+            return Ok(self.nothing());
+        }
+        let was_synchronised = self.family.behaves_synchronised(child);
+        let room = self.room(child, Vec::new(self.alloc))?;
+        self.family.set_synchronised(child, false);
+        let is_synchronised = self.family.behaves_synchronised(child);
+        if was_synchronised && !is_synchronised {
+            return Ok(self.apply_tree(room));
+        }
+        Ok(self.nothing())
+    }
+
+    /// wl_subsurface.destroy: the link of the child ends, which is applied with what descends from it. Nothing changes where it has no link,
+    /// nor without memory.
+    pub fn remove_subsurface(&mut self, child: SurfaceNo) -> Result<Told<A>, SurfaceError>
+        ensures ok { OnOk result ((all : Asked) (number : ℕ) (link : Link) → IsLink all number child link → Stand self.old.surfaces self.old.family all
+            → Stand self.new.surfaces self.new.family (ended_in all link)) }
+        ensures waits { OnOk result ((all : Asked) (number : ℕ) (link : Link) (cs : List Callback) → IsLink all number child link → Stand self.old.surfaces self.old.family all
+            → AreWaiting self.old.surfaces.frames (numbered all) cs → AreWaiting self.new.surfaces.frames (numbered (ended_in all link)) cs) }
+        ensures changes { IfOk result (λ told. (all : Asked) (number : ℕ) (link : Link) → IsLink all number child link → Stand self.old.surfaces self.old.family all
+            → IsTold child (with_link number ending all) told.applied.changes.items) }
+        ensures freed { IfOk result (λ told. (all : Asked) (number : ℕ) (link : Link) → IsLink all number child link → Stand self.old.surfaces self.old.family all
+            → AreFreed told.applied.freed.items (numbered all) (numbered (ended_in all link))) }
+        ensures shown { IfOk result (λ told. (all : Asked) (number : ℕ) (link : Link) → IsLink all number child link → Stand self.old.surfaces self.old.family all
+            → AreShown (descends_from 16 all child) all (map buffer_of told.shown.items)) }
+        ensures among { IfOk result (λ told. AreAmong told.applied.freed.items (map buffer_of told.shown.items)) }
+        ensures callbacks { IfOk result (λ told. told.applied.callbacks.items ≡ []) }
+        ensures none { links_in self.old.family child ≡ None → OnOk result (self.new ≡ self.old) }
+        ensures err { OnErr result (self.new ≡ self.old) }
+        ensures cause { IfErr result (λ e. e ≡ SurfaceError.Memory) }
+    {
+        if self.family.link(child).is_none() {
+            return Ok(self.nothing());
+        }
+        let room = self.room(child, Vec::new(self.alloc))?;
+        self.family.leave(child);
+        Ok(self.apply_tree(room))
+    }
+
+    /// wl_surface.destroy: the surface is gone with its frame requests, and its links end, that to its parent and those to its children. What
+    /// descended from it is applied. Nothing changes without memory.
+    pub fn destroy(&mut self, surface: SurfaceNo) -> Result<Told<A>, SurfaceError>
+        ensures ok { OnOk result ((all : Asked) → Stand self.old.surfaces self.old.family all → Stand self.new.surfaces self.new.family (destroyed_in surface all)) }
+        ensures waits { OnOk result ((all : Asked) (cs : List Callback) → Stand self.old.surfaces self.old.family all → AreWaiting self.old.surfaces.frames (numbered all) cs
+            → AreWaiting self.new.surfaces.frames (numbered (destroyed_in surface all)) (filter (λ c. not (is_in (frames_at (surface_at surface all)) c)) cs)) }
+        ensures changes { IfOk result (λ told. (all : Asked) → Stand self.old.surfaces self.old.family all → IsEndTold surface all told.applied.changes.items) }
+        ensures freed { IfOk result (λ told. (all : Asked) → Stand self.old.surfaces self.old.family all
+            → AreFreed told.applied.freed.items (numbered all) (numbered (destroyed_in surface all))) }
+        ensures shown { IfOk result (λ told. (all : Asked) → Stand self.old.surfaces self.old.family all
+            → AreShown (descends_from 16 all surface) all (map buffer_of told.shown.items)) }
+        ensures among { IfOk result (λ told. AreAmong told.applied.freed.items (map buffer_of told.shown.items)) }
+        ensures callbacks { IfOk result (λ told. (all : Asked) (cs : List Callback) → AreWaiting self.old.surfaces.frames (numbered all) cs
+            → told.applied.callbacks.items ≡ map (λ (c : Callback). c.id) (filter (is_in (frames_at (surface_at surface all))) cs)) }
+        ensures err { OnErr result (self.new ≡ self.old) }
+        ensures cause { IfErr result (λ e. e ≡ SurfaceError.Memory) }
+    {
+        let own = self.own_end(surface)?;
+        let room = self.room(surface, own)?;
+        let callbacks = self.surfaces.destroy(surface)?;
+        self.family.remove(surface);
+        let Told { applied, shown } = self.apply_tree(room);
+        let applied = Applied {
+            changes: applied.changes,
+            freed: applied.freed,
+            callbacks,
+        };
+        Ok(Told { applied, shown })
+    }
+
+    /// Nothing is told.
+    fn nothing(&self) -> Told<A>
+        ensures changes { result.applied.changes.items ≡ [] }
+        ensures freed { result.applied.freed.items ≡ [] }
+        ensures callbacks { result.applied.callbacks.items ≡ [] }
+        ensures shown { result.shown.items ≡ [] }
+    {
+        let applied = Applied {
+            changes: Vec::new(self.alloc),
+            freed: Vec::new(self.alloc),
+            callbacks: Vec::new(self.alloc),
+        };
+        Told {
+            applied,
+            shown: Vec::new(self.alloc),
+        }
+    }
+
+    /// Whether a surface shows a buffer.
+    fn is_shown(&self, surface: SurfaceNo) -> bool
+        ensures { (all : Numbered) → StandForAll self.now.surfaces all → result ≡ is_shown_at (all surface) }
+    {
+        match self.surfaces.current(surface) {
+            Some(current) => current.buffer.is_some(),
+            None => false,
+        }
+    }
+
+    /// What it changes that a surface goes: that it shows no buffer any more.
+    fn own_end(&self, surface: SurfaceNo) -> Result<Vec<Change<A>, A>, AllocError>
+        ensures { IfOk result (λ changes. (all : Numbered) → StandForAll self.now.surfaces all → AreGone surface (all surface) changes.items) }
+    {
+        let mut changes = Vec::new(self.alloc);
+        if self.is_shown(surface) {
+            changes.push(Change {
+                surface,
+                rects: Vec::new(self.alloc),
+            })?;
+        }
+        Ok(changes)
+    }
+
+    /// Room for what it changes that the surface is applied with what descends from it, behind what is told before.
+    fn room(&self, surface: SurfaceNo, told: Vec<Change<A>, A>) -> Result<Room<A>, AllocError>
+        ensures those { IfOk result (λ room. (number : ℕ) → is_among room.below.items number ≡ is_under 16 (parents_of (links_in self.now.family)) surface number) }
+        ensures once { IfOk result (λ room. AreOnce room.below.items) }
+        ensures shown { IfOk result (λ room. (all : Numbered) → StandForAll self.now.surfaces all → map buffer_of room.shown.items ≡ shown_by room.below.items all) }
+        ensures told { IfOk result (λ room. room.changes.items ≡ told.items) }
+        ensures room { IfOk result HasRoom }
+        ensures hang { HangTogether self.now.family }
+    {
+        let below = below(&self.family, surface, self.alloc)?;
+        let shown = shown_of(&self.surfaces, &below, self.alloc)?;
+        let mut changes = told;
+        changes.reserve(below.len())?;
+        let freed = Vec::with_capacity(self.alloc, shown.len())?;
+        Ok(Room {
+            below,
+            shown,
+            changes,
+            freed,
+        })
+    }
+
+    /// Applies these surfaces, and tells what that changes.
+    fn apply_tree(&mut self, room: Room<A>) -> Told<A>
+        requires room { HasRoom room }
+        ensures stand { (all : Numbered) → StandForAll self.old.surfaces all → StandForAll self.new.surfaces (applied_among room.below.items all) }
+        ensures waits { (all : Numbered) (cs : List Callback) → AreWaiting self.old.surfaces.frames all cs
+            → AreWaiting self.new.surfaces.frames (applied_among room.below.items all) cs }
+        ensures told { (all : Numbered) → StandForAll self.old.surfaces all → AreOnce room.below.items → AreToldAfter room.changes.items room.below.items all result.applied.changes.items }
+        ensures freed { (all : Numbered) → StandForAll self.new.surfaces all → (buffer : ℕ) (is : Bool) → IsAny (shows_at buffer) all is
+            → count_by (λ n. n == buffer) result.applied.freed.items ≡ cond (is_among (numbers_of (map buffer_of room.shown.items)) buffer && not is) 1 0 }
+        ensures shown { result.shown.items ≡ room.shown.items }
+        ensures among { AreAmong result.applied.freed.items (map buffer_of result.shown.items) }
+        ensures callbacks { result.applied.callbacks.items ≡ [] }
+        ensures links { links_in self.new.family ≡ links_in self.old.family }
+        ensures places { self.new.family.places ≡ self.old.family.places }
+        ensures stacks { stacks_in self.new.family ≡ stacks_among room.below.items (stacks_in self.old.family) }
+    {
+        let mut changes = room.changes;
+        let mut freed = room.freed;
+        apply_each(
+            &mut self.surfaces,
+            &mut self.family,
+            &room.below,
+            &mut changes,
+        );
+        add_freed(&self.surfaces, &room.shown, &mut freed);
+        let applied = Applied {
+            changes,
+            freed,
+            callbacks: Vec::new(self.alloc),
+        };
+        Told {
+            applied,
+            shown: room.shown,
+        }
+    }
+}

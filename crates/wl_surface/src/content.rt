@@ -1,0 +1,64 @@
+//! What a surface shows: a buffer, how it is turned, and how far it has moved.
+
+ghost use Rattle.std.specs.Prelude.{◌≡◌, ◌+ℤ◌};
+ghost use Rattle.wl_surface.specs.State.{within_bounds};
+ghost use Rattle.wl_surface.specs.Kept.{IsFarther};
+
+use wl_store::{Layout, StoreNo};
+
+/// A buffer's number among its client's: no other that is pending, held, applied or named by a wl_buffer has it.
+pub type BufferNo = u64;
+
+/// How far a surface may be from where it began, to each side, in pixels.
+const BOUND: i64 = 16_777_216;
+
+/// A wl_buffer as it is attached: its number, the id that it was made with, its store, and where it lies there.
+#[derive(Clone, Copy, Debug)]
+pub struct Attached {
+    pub number: BufferNo,
+    pub object: u32,
+    pub store: StoreNo,
+    pub layout: Layout,
+}
+
+/// How far a surface has moved from its place, in pixels to the right and down.
+#[derive(Clone, Copy, Debug, PartialEq, Eq)]
+pub struct Offset {
+    pub x: i32,
+    pub y: i32,
+}
+
+/// A place, in pixels, held within -16,777,216 to 16,777,216: the nearest bound where it is farther.
+pub fn held(place: i64) -> i32
+    ensures { result ≡ within_bounds place }
+{
+    if place < -BOUND {
+        return -16_777_216;
+    }
+    if place > BOUND {
+        return 16_777_216;
+    }
+    place as i32
+}
+
+/// The sum of a place and an offset, in pixels, held within -16,777,216 to 16,777,216.
+pub fn bounded_sum(a: i32, b: i32) -> i32
+    ensures { result ≡ within_bounds (a +ℤ b) }
+{
+    held(i64::from(a) + i64::from(b))
+}
+
+impl Offset {
+    /// Farther by so much, held within the bounds, or as it is.
+    pub(crate) fn farther(self, by: Option<Offset>) -> Offset
+        ensures { IsFarther self by result }
+    {
+        match by {
+            None => self,
+            Some(by) => Offset {
+                x: bounded_sum(self.x, by.x),
+                y: bounded_sum(self.y, by.y),
+            },
+        }
+    }
+}

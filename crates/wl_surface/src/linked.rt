@@ -1,0 +1,186 @@
+//! The surfaces of a client with the links between them.
+
+ghost use Rattle.std.specs.Prelude.{ℕ, [], ◌≡◌, true, false, is_some, IfErr, OnErr, OnOk, Option, Some, None, Err};
+ghost use Rattle.wl_links.specs.Family.{is_bad_sibling, links_in, member_of};
+ghost use Rattle.wl_surface.specs.Linked.{IsLink, IsRefused, Stand, is_other_role, is_taken, link_refusal, surface_error};
+ghost use Rattle.wl_surface.specs.Request.{Member, PlaceAbove, PlaceBelow, SetPosition};
+ghost use Rattle.wl_surface.specs.Surface.{asking};
+ghost use Rattle.wl_surface.specs.Surfaces.{Link, Surfaces as Asked, link_at, no_surfaces, surface_at, with_change};
+ghost use Rattle.wl_surface.specs.Trees.{linked, synchronised_in};
+ghost use Rattle.wl_surface.specs.Hanging.{kids_of};
+ghost use Rattle.wl_surface.specs.Stacks.{IsKept, place_request};
+
+use crate::error::SurfaceError;
+use crate::role::Role;
+use crate::surfaces::{SurfaceNo, Surfaces};
+use std::alloc::Allocator;
+use wl_links::{Family, PlaceError, Side};
+
+/// The surfaces of a client, and how they hang together. What is asked of one surface by itself is asked of `surfaces`; what is asked of a
+/// link, and what applies a tree, of both.
+#[derive(Drop)]
+pub struct Linked<A: Allocator> {
+    pub surfaces: Surfaces<A>,
+    pub family: Family<A>,
+    pub(crate) alloc: A,
+}
+
+/// Why a child isn't placed, among the errors of surfaces.
+fn place_error(error: PlaceError) -> SurfaceError
+    ensures { result ≡ surface_error error }
+{
+    match error {
+        PlaceError::BadSurface => SurfaceError::NotSibling,
+        PlaceError::Memory => SurfaceError::Memory,
+    }
+}
+
+/// Whether a role isn't that of a subsurface.
+fn is_other_role(role: Option<Role>) -> bool
+    ensures { result ≡ is_other_role role }
+{
+    match role {
+        None | Some(Role::Subsurface) => false,
+        Some(Role::Toplevel | Role::Popup | Role::Cursor) => true,
+    }
+}
+
+impl<A: Allocator + Copy> Linked<A> {
+    /// No surfaces, and no links.
+    pub fn new(alloc: A) -> Self
+        ensures stand { Stand result.surfaces result.family no_surfaces }
+        ensures frames { result.surfaces.frames ≡ [] }
+    {
+        Linked {
+            surfaces: Surfaces::new(alloc),
+            family: Family::new(alloc),
+            alloc,
+        }
+    }
+
+    /// wl_subcompositor.get_subsurface: a link from a child to its parent. The child is a subsurface from now on, synchronised at first, and
+    /// topmost, at (0, 0), once the parent is committed and applied.
+    ///
+    /// # Errors
+    ///
+    /// In this order: `TooDeep` where there would be more than 16 levels below a root, `Role` where the child has another role or a link that
+    /// lives, `BadParent` where the parent is the child or descends from it, `Memory`. The first three change nothing. Without memory the
+    /// surfaces and links are the same; a place for either surface may stay in the family.
+    pub fn subsurface(&mut self, child: SurfaceNo, parent: SurfaceNo) -> Result<(), SurfaceError>
+        ensures ok { OnOk result ((all : Asked) (number : ℕ) → Stand self.old.surfaces self.old.family all → link_at number all ≡ None
+            → is_some (surface_at child all) ≡ true → is_some (surface_at parent all) ≡ true
+            → Stand self.new.surfaces self.new.family (linked number child parent all)) }
+        ensures refused { (all : Asked) → Stand self.old.surfaces self.old.family all → IsRefused (link_refusal all child parent) result }
+        ensures err { OnErr result ((all : Asked) → Stand self.old.surfaces self.old.family all
+            → is_some (surface_at child all) ≡ true → is_some (surface_at parent all) ≡ true → Stand self.new.surfaces self.new.family all) }
+        ensures frames { self.new.surfaces.frames ≡ self.old.surfaces.frames }
+    {
+        if self.family.is_too_deep(child, parent) {
+            return Err(SurfaceError::TooDeep);
+        }
+        if self.is_taken(child) {
+            return Err(SurfaceError::Role);
+        }
+        if self.family.is_under(child, parent) {
+            return Err(SurfaceError::BadParent);
+        }
+        self.family.join(child, parent)?;
+        self.surfaces.give_role(child, Role::Subsurface)
+    }
+
+    /// Whether a surface has another role than that of a subsurface, or a link that lives.
+    fn is_taken(&self, child: SurfaceNo) -> bool
+        ensures taken { (all : Asked) → Stand self.now.surfaces self.now.family all → result ≡ is_taken all child }
+        ensures free { result ≡ false → links_in self.now.family child ≡ None }
+    {
+        is_other_role(self.surfaces.role(child)) || self.family.link(child).is_some()
+    }
+
+    /// wl_subsurface.set_position: once the parent is committed and applied, the child's upper left corner is so many pixels right and down
+    /// from the parent's. Nothing changes where the child has no link, nor without memory.
+    pub fn set_position(&mut self, child: SurfaceNo, x: i32, y: i32) -> Result<(), SurfaceError>
+        ensures ok { OnOk result ((all : Asked) (number : ℕ) (link : Link) → IsLink all number child link → Stand self.old.surfaces self.old.family all
+            → Stand self.new.surfaces self.new.family (with_change link.parent (asking (SetPosition number x y)) all)) }
+        ensures none { links_in self.old.family child ≡ None → OnOk result (self.new ≡ self.old) }
+        ensures surfaces { self.new.surfaces ≡ self.old.surfaces }
+        ensures err { OnErr result (self.new ≡ self.old) }
+        ensures cause { IfErr result (λ e. e ≡ SurfaceError.Memory) }
+    {
+        if self.family.link(child).is_none() {
+            return Ok(());
+        }
+        self.family.set_position(child, x, y)?;
+        Ok(())
+    }
+
+    /// wl_subsurface.place_above and place_below: once the parent is committed and applied, the child stands right above or right below a
+    /// sibling, or the parent. Nothing changes where the child has no link.
+    ///
+    /// # Errors
+    ///
+    /// `NotSibling` where the other surface is neither the parent nor another child of it, or else `Memory`. Neither changes anything.
+    pub fn place(
+        &mut self,
+        child: SurfaceNo,
+        sibling: SurfaceNo,
+        side: Side,
+    ) -> Result<(), SurfaceError>
+        ensures ok { OnOk result ((all : Asked) (number : ℕ) (link : Link) (at : Member) → IsLink all number child link
+            → IsKept (kids_of all) at (member_of link.parent sibling) → Stand self.old.surfaces self.old.family all
+            → Stand self.new.surfaces self.new.family (with_change link.parent (asking (place_request side number at)) all)) }
+        ensures none { links_in self.old.family child ≡ None → OnOk result (self.new ≡ self.old) }
+        ensures bad { is_bad_sibling child sibling (links_in self.old.family) ≡ true → result ≡ Err SurfaceError.NotSibling }
+        ensures cause { is_bad_sibling child sibling (links_in self.old.family) ≡ false → IfErr result (λ e. e ≡ SurfaceError.Memory) }
+        ensures surfaces { self.new.surfaces ≡ self.old.surfaces }
+        ensures err { OnErr result (self.new ≡ self.old) }
+    {
+        if self.family.link(child).is_none() {
+            return Ok(());
+        }
+        match self.family.place(child, sibling, side) {
+            Ok(()) => Ok(()),
+            Err(error) => Err(place_error(error)),
+        }
+    }
+
+    /// wl_subsurface.place_above: [`Linked::place`] right above the sibling.
+    pub fn place_above(&mut self, child: SurfaceNo, sibling: SurfaceNo) -> Result<(), SurfaceError>
+        ensures ok { OnOk result ((all : Asked) (number : ℕ) (link : Link) (at : Member) → IsLink all number child link
+            → IsKept (kids_of all) at (member_of link.parent sibling) → Stand self.old.surfaces self.old.family all
+            → Stand self.new.surfaces self.new.family (with_change link.parent (asking (PlaceAbove number at)) all)) }
+        ensures none { links_in self.old.family child ≡ None → OnOk result (self.new ≡ self.old) }
+        ensures bad { is_bad_sibling child sibling (links_in self.old.family) ≡ true → result ≡ Err SurfaceError.NotSibling }
+        ensures cause { is_bad_sibling child sibling (links_in self.old.family) ≡ false → IfErr result (λ e. e ≡ SurfaceError.Memory) }
+        ensures surfaces { self.new.surfaces ≡ self.old.surfaces }
+        ensures err { OnErr result (self.new ≡ self.old) }
+    {
+        self.place(child, sibling, Side::Above)
+    }
+
+    /// wl_subsurface.place_below: [`Linked::place`] right below the sibling.
+    pub fn place_below(&mut self, child: SurfaceNo, sibling: SurfaceNo) -> Result<(), SurfaceError>
+        ensures ok { OnOk result ((all : Asked) (number : ℕ) (link : Link) (at : Member) → IsLink all number child link
+            → IsKept (kids_of all) at (member_of link.parent sibling) → Stand self.old.surfaces self.old.family all
+            → Stand self.new.surfaces self.new.family (with_change link.parent (asking (PlaceBelow number at)) all)) }
+        ensures none { links_in self.old.family child ≡ None → OnOk result (self.new ≡ self.old) }
+        ensures bad { is_bad_sibling child sibling (links_in self.old.family) ≡ true → result ≡ Err SurfaceError.NotSibling }
+        ensures cause { is_bad_sibling child sibling (links_in self.old.family) ≡ false → IfErr result (λ e. e ≡ SurfaceError.Memory) }
+        ensures surfaces { self.new.surfaces ≡ self.old.surfaces }
+        ensures err { OnErr result (self.new ≡ self.old) }
+    {
+        self.place(child, sibling, Side::Below)
+    }
+
+    /// wl_subsurface.set_sync: the child's commits are held until its parent is applied. Nothing changes where it has no link.
+    pub fn set_sync(&mut self, child: SurfaceNo)
+        ensures stand { (all : Asked) (number : ℕ) (link : Link) → IsLink all number child link → Stand self.old.surfaces self.old.family all
+            → Stand self.new.surfaces self.new.family (synchronised_in number all) }
+        ensures none { links_in self.old.family child ≡ None → self.new ≡ self.old }
+        ensures surfaces { self.new.surfaces ≡ self.old.surfaces }
+    {
+        if self.family.link(child).is_none() {
+            return;
+        }
+        self.family.set_synchronised(child, true);
+    }
+}

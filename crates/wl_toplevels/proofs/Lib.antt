@@ -1,5 +1,0 @@
-mod MarkedLists
-mod MarkedOrder
-mod MarkedStack
-mod MarkedTrees
-pub mod RootsOf

@@ -1,9 +1,0 @@
-pub mod Changes
-pub mod DemandLaws
-pub mod Done
-pub mod Marked
-pub mod Messages
-pub mod OrderLaws
-pub mod Roots
-pub mod StackedWith
-pub mod Toplevel

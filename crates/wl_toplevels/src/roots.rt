@@ -1,8 +1,0 @@
-//! The laws of the roots of the trees that are stacked with a toplevel (xdg-shell.xml, xdg_popup). Each law is a function that promises it.
-
-ghost use Rattle.wl_toplevels.specs.Roots.{RootsStay};
-
-/// A toplevel keeps its roots where their surfaces keep their corners and the popups that are mapped on one of them are the same.
-pub fn roots_stay()
-    ensures { RootsStay }
-{}

@@ -1,3 +1,0 @@
-pub mod Hanging
-pub mod Laws
-pub mod Stacks

@@ -1,3 +1,0 @@
-mod Rows
-pub mod Shown
-pub mod Trees

@@ -1,9 +1,0 @@
-pub mod Kept
-pub mod Laws
-pub mod Moves
-pub mod Placing
-pub mod Popups
-pub mod Positioner
-pub mod Settings
-pub mod Shell
-pub mod Waits
