@@ -1,19 +1,19 @@
-//! Calls of `Surfaces`, each made in one place.
+//! Calls of `SurfaceStates`, each made in one place.
 
 use std::alloc::Allocator;
 use wl_geom::{Rect, Region};
 use wl_store::layout;
-use wl_surface::{Attached, BufferNo, SurfaceError, SurfaceNo, Surfaces};
+use wl_surface::{Attached, BufferNo, SurfaceError, SurfaceNo, SurfaceStates};
 
 pub(crate) fn create<A: Allocator + Copy>(
-    surfaces: &mut Surfaces<A>,
+    surfaces: &mut SurfaceStates<A>,
 ) -> Result<SurfaceNo, SurfaceError> {
     surfaces.create()
 }
 
 /// Attaches a buffer of 5 by 8 pixels at an offset.
 pub(crate) fn attach<A: Allocator + Copy>(
-    surfaces: &mut Surfaces<A>,
+    surfaces: &mut SurfaceStates<A>,
     surface: SurfaceNo,
     number: BufferNo,
     x: i32,
@@ -32,7 +32,7 @@ pub(crate) fn attach<A: Allocator + Copy>(
 
 /// Damages the surface 0.
 pub(crate) fn damage<A: Allocator + Copy>(
-    surfaces: &mut Surfaces<A>,
+    surfaces: &mut SurfaceStates<A>,
     rect: Rect,
 ) -> Result<(), SurfaceError> {
     surfaces.damage(0, rect)
@@ -40,7 +40,7 @@ pub(crate) fn damage<A: Allocator + Copy>(
 
 /// Commits, and applies that at once.
 pub(crate) fn commit<A: Allocator + Copy>(
-    surfaces: &mut Surfaces<A>,
+    surfaces: &mut SurfaceStates<A>,
     surface: SurfaceNo,
 ) -> Result<(), SurfaceError> {
     surfaces.hold(surface)?;
@@ -50,7 +50,7 @@ pub(crate) fn commit<A: Allocator + Copy>(
 
 /// Destroys a surface.
 pub(crate) fn destroy<A: Allocator + Copy>(
-    surfaces: &mut Surfaces<A>,
+    surfaces: &mut SurfaceStates<A>,
     surface: SurfaceNo,
 ) -> Result<(), SurfaceError> {
     match surfaces.destroy(surface) {
@@ -61,7 +61,7 @@ pub(crate) fn destroy<A: Allocator + Copy>(
 
 /// Sets the opaque region of the surface 0.
 pub(crate) fn set_opaque<A: Allocator + Copy>(
-    surfaces: &mut Surfaces<A>,
+    surfaces: &mut SurfaceStates<A>,
     region: Option<&Region<A>>,
 ) -> Result<(), SurfaceError> {
     surfaces.set_opaque(0, region)
@@ -69,7 +69,7 @@ pub(crate) fn set_opaque<A: Allocator + Copy>(
 
 /// Sets the input region of the surface 0.
 pub(crate) fn set_input<A: Allocator + Copy>(
-    surfaces: &mut Surfaces<A>,
+    surfaces: &mut SurfaceStates<A>,
     region: Option<&Region<A>>,
 ) -> Result<(), SurfaceError> {
     surfaces.set_input(0, region)

@@ -5,12 +5,12 @@ use std::alloc::Allocator;
 use wl_geom::{Rect, Region};
 use wl_scene::{Stacked, Surfaced, TreeWindow, hit, is_among, takes_input};
 use wl_store::Transform;
-use wl_surface::Surfaces;
+use wl_surface::SurfaceStates;
 
 /// The surfaces of the client 1, which is the only one.
 #[derive(Drop)]
 struct Only<'a, A: Allocator> {
-    surfaces: &'a Surfaces<A>,
+    surfaces: &'a SurfaceStates<A>,
 }
 
 impl<'a, A: Allocator> Surfaced for Only<'a, A> {
@@ -21,7 +21,7 @@ impl<'a, A: Allocator> Surfaced for Only<'a, A> {
 
     ghost slots = { λ only client. if client == 1 then only.surfaces.now else no_slots };
 
-    fn surfaces(&self, client: u32) -> Option<&Surfaces<A>> {
+    fn surfaces(&self, client: u32) -> Option<&SurfaceStates<A>> {
         if client == 1 {
             Some(self.surfaces)
         } else {
@@ -49,7 +49,7 @@ fn window(client: u32, surface: usize, x: i32, y: i32) -> Stacked {
 }
 
 // The surface 0 takes input within 4 by 4 points, and the surface 1 everywhere.
-fn are_made<A: Allocator + Copy>(surfaces: &mut Surfaces<A>, alloc: A) -> bool {
+fn are_made<A: Allocator + Copy>(surfaces: &mut SurfaceStates<A>, alloc: A) -> bool {
     let mut region = Region::new(alloc);
     let corner = Rect {
         x: 0,
@@ -66,7 +66,7 @@ fn are_made<A: Allocator + Copy>(surfaces: &mut Surfaces<A>, alloc: A) -> bool {
 
 fn surface_hit<A: Allocator>(
     windows: &[Stacked],
-    surfaces: &Surfaces<A>,
+    surfaces: &SurfaceStates<A>,
     x: i32,
     y: i32,
 ) -> Option<usize> {
@@ -75,7 +75,7 @@ fn surface_hit<A: Allocator>(
 }
 
 // The surface 0 stands over the surface 1, and over both a window of a client that isn't there.
-fn overlap<A: Allocator>(surfaces: &Surfaces<A>) -> bool {
+fn overlap<A: Allocator>(surfaces: &SurfaceStates<A>) -> bool {
     let windows = [window(1, 1, 0, 0), window(1, 0, 2, 2), window(2, 0, 2, 2)];
     surface_hit(&windows, surfaces, 1, 1) == Some(1)
         && surface_hit(&windows, surfaces, 3, 3) == Some(0)
@@ -88,7 +88,7 @@ fn overlap<A: Allocator>(surfaces: &Surfaces<A>) -> bool {
 
 #[test]
 fn the_topmost_window_that_takes_the_input_is_hit(rt: HostRuntime) {
-    let mut surfaces = Surfaces::new(rt.alloc());
+    let mut surfaces = SurfaceStates::new(rt.alloc());
     assert!(rt; are_made(&mut surfaces, rt.alloc()) && overlap(&surfaces));
     assert!(rt; takes_input(&window(1, 0, i32::MIN, 0), Some(&surfaces), i32::MIN, 3));
     assert!(rt; !takes_input(&window(1, 0, i32::MIN, 0), Some(&surfaces), i32::MAX, 3));

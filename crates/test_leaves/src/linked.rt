@@ -3,7 +3,7 @@ use test_support::Refusing;
 use wl_geom::Rect;
 use wl_links::{Member, Placed};
 use wl_store::layout;
-use wl_surface::{Attached, BufferNo, Linked, Role, SurfaceError, SurfaceNo, Told};
+use wl_surface::{Attached, BufferNo, Role, SurfaceError, SurfaceNo, Surfaces, Told};
 
 const ROOT: SurfaceNo = 0;
 
@@ -24,7 +24,7 @@ fn child_at(child: SurfaceNo, x: i32, y: i32) -> Placed {
 }
 
 fn stack_is<A: Allocator + Copy>(
-    linked: &Linked<A>,
+    linked: &Surfaces<A>,
     surface: SurfaceNo,
     wanted: &[Placed],
 ) -> bool {
@@ -32,9 +32,9 @@ fn stack_is<A: Allocator + Copy>(
 }
 
 // Makes so many surfaces.
-fn made<A: Allocator + Copy>(linked: &mut Linked<A>, count: usize) -> bool {
+fn made<A: Allocator + Copy>(linked: &mut Surfaces<A>, count: usize) -> bool {
     for number in 0..count {
-        if linked.surfaces.create() != Ok(number) {
+        if linked.states.create() != Ok(number) {
             return false;
         }
     }
@@ -42,7 +42,7 @@ fn made<A: Allocator + Copy>(linked: &mut Linked<A>, count: usize) -> bool {
 }
 
 // Attaches a buffer of 4 by 4 pixels.
-fn attach<A: Allocator + Copy>(linked: &mut Linked<A>, surface: SurfaceNo, number: BufferNo) {
+fn attach<A: Allocator + Copy>(linked: &mut Surfaces<A>, surface: SurfaceNo, number: BufferNo) {
     if let Ok(layout) = layout(64, 0, 4, 4, 16, 1) {
         let buffer = Attached {
             number,
@@ -50,22 +50,22 @@ fn attach<A: Allocator + Copy>(linked: &mut Linked<A>, surface: SurfaceNo, numbe
             store: 1,
             layout,
         };
-        linked.surfaces.attach(surface, Some(buffer), 0, 0);
+        linked.states.attach(surface, Some(buffer), 0, 0);
     }
 }
 
-fn damage_at<A: Allocator>(linked: &mut Linked<A>, surface: SurfaceNo, at: i32) -> bool {
+fn damage_at<A: Allocator>(linked: &mut Surfaces<A>, surface: SurfaceNo, at: i32) -> bool {
     let point = Rect {
         x: at,
         y: at,
         w: 1,
         h: 1,
     };
-    linked.surfaces.damage(surface, point) == Ok(())
+    linked.states.damage(surface, point) == Ok(())
 }
 
-fn shown<A: Allocator>(linked: &Linked<A>, surface: SurfaceNo) -> Option<BufferNo> {
-    let current = linked.surfaces.current(surface)?;
+fn shown<A: Allocator>(linked: &Surfaces<A>, surface: SurfaceNo) -> Option<BufferNo> {
+    let current = linked.states.current(surface)?;
     Some(current.buffer?.number)
 }
 
@@ -100,7 +100,7 @@ fn tells_shown<A: Allocator>(answer: Result<Told<A>, SurfaceError>, wanted: &[Bu
 
 // Attaches another buffer, damages a point and commits: whether that tells just this.
 fn commits<A: Allocator + Copy>(
-    linked: &mut Linked<A>,
+    linked: &mut Surfaces<A>,
     surface: SurfaceNo,
     buffer: BufferNo,
     wanted: &[(SurfaceNo, usize)],
@@ -111,7 +111,7 @@ fn commits<A: Allocator + Copy>(
 }
 
 // A window with a child at (4, 4), which shows the buffer 18 once the window is committed.
-fn has_child<A: Allocator + Copy>(linked: &mut Linked<A>) -> bool {
+fn has_child<A: Allocator + Copy>(linked: &mut Surfaces<A>) -> bool {
     made(linked, 2)
         && commits(linked, ROOT, 10, &[(ROOT, 1)], &[])
         && linked.subsurface(CHILD, ROOT) == Ok(())
@@ -122,7 +122,7 @@ fn has_child<A: Allocator + Copy>(linked: &mut Linked<A>) -> bool {
 }
 
 // Whether surfaces without children tell what their commits and their ends change, and free a buffer once none of them shows it.
-fn tells_what_changes<A: Allocator + Copy>(linked: &mut Linked<A>) -> bool {
+fn tells_what_changes<A: Allocator + Copy>(linked: &mut Surfaces<A>) -> bool {
     let is_shown = made(linked, 2) && commits(linked, 0, 7, &[(0, 1)], &[]);
     attach(linked, 0, 8);
     is_shown
@@ -136,20 +136,20 @@ fn tells_what_changes<A: Allocator + Copy>(linked: &mut Linked<A>) -> bool {
 // wl_surface.commit and wl_surface.destroy, wl_buffer.release
 #[test]
 fn changes_are_told(rt: HostRuntime) {
-    let mut linked = Linked::new(rt.alloc());
+    let mut linked = Surfaces::new(rt.alloc());
     assert!(rt; tells_what_changes(&mut linked));
 }
 
 // Whether commits of a synchronised child are held, the later in the place of the earlier with the damage of both, and applied by a commit of its
 // parent. A buffer is released where no surface holds or shows it any more.
-fn holds_commits<A: Allocator + Copy>(linked: &mut Linked<A>) -> bool {
+fn holds_commits<A: Allocator + Copy>(linked: &mut Surfaces<A>) -> bool {
     has_child(linked)
         && shown(linked, CHILD) == Some(18)
         && stack_is(linked, ROOT, &[ITSELF, child_at(CHILD, 4, 4)])
         && commits(linked, CHILD, 19, &[], &[])
         && commits(linked, CHILD, 20, &[], &[19])
         && shown(linked, CHILD) == Some(18)
-        && linked.surfaces.is_busy(20)
+        && linked.states.is_busy(20)
         && tells(linked.commit(ROOT), &[(ROOT, 0), (CHILD, 2)], &[18])
         && shown(linked, CHILD) == Some(20)
 }
@@ -157,12 +157,12 @@ fn holds_commits<A: Allocator + Copy>(linked: &mut Linked<A>) -> bool {
 // wl_subsurface
 #[test]
 fn a_synchronised_child_is_held(rt: HostRuntime) {
-    let mut linked = Linked::new(rt.alloc());
+    let mut linked = Surfaces::new(rt.alloc());
     assert!(rt; holds_commits(&mut linked));
 }
 
 // Whether what was held is applied at once, and so are later commits.
-fn releases<A: Allocator + Copy>(linked: &mut Linked<A>) -> bool {
+fn releases<A: Allocator + Copy>(linked: &mut Surfaces<A>) -> bool {
     let is_released = has_child(linked)
         && commits(linked, CHILD, 19, &[], &[])
         && tells(linked.set_desync(CHILD), &[(CHILD, 1)], &[18])
@@ -178,24 +178,24 @@ fn releases<A: Allocator + Copy>(linked: &mut Linked<A>) -> bool {
 // wl_subsurface.set_desync
 #[test]
 fn a_child_is_released(rt: HostRuntime) {
-    let mut linked = Linked::new(rt.alloc());
+    let mut linked = Surfaces::new(rt.alloc());
     assert!(rt; releases(&mut linked));
 }
 
 // Whether a link that ends lets what was held of the child be applied.
-fn ends_with_its_link<A: Allocator + Copy>(linked: &mut Linked<A>) -> bool {
+fn ends_with_its_link<A: Allocator + Copy>(linked: &mut Surfaces<A>) -> bool {
     let is_ended = has_child(linked)
         && commits(linked, CHILD, 19, &[], &[])
         && tells(linked.remove_subsurface(CHILD), &[(CHILD, 1)], &[18])
         && stack_is(linked, ROOT, &[ITSELF])
         && linked.family.link(CHILD).is_none()
         && tells(linked.remove_subsurface(CHILD), &[], &[]);
-    linked.surfaces.attach(CHILD, None, 0, 0);
+    linked.states.attach(CHILD, None, 0, 0);
     is_ended && tells(linked.commit(CHILD), &[(CHILD, 0)], &[19])
 }
 
 // Whether a parent that goes does so too.
-fn ends_with_its_parent<A: Allocator + Copy>(linked: &mut Linked<A>) -> bool {
+fn ends_with_its_parent<A: Allocator + Copy>(linked: &mut Surfaces<A>) -> bool {
     linked.subsurface(CHILD, ROOT) == Ok(())
         && commits(linked, CHILD, 20, &[], &[])
         && tells(linked.destroy(ROOT), &[(ROOT, 0), (CHILD, 1)], &[10])
@@ -206,13 +206,13 @@ fn ends_with_its_parent<A: Allocator + Copy>(linked: &mut Linked<A>) -> bool {
 // wl_subsurface.destroy and wl_surface.destroy
 #[test]
 fn a_link_ends(rt: HostRuntime) {
-    let mut linked = Linked::new(rt.alloc());
+    let mut linked = Surfaces::new(rt.alloc());
     assert!(rt; ends_with_its_link(&mut linked) && ends_with_its_parent(&mut linked));
 }
 
 // Attaches another buffer and commits: whether that tells that just these were shown.
 fn commit_tells_shown<A: Allocator + Copy>(
-    linked: &mut Linked<A>,
+    linked: &mut Surfaces<A>,
     surface: SurfaceNo,
     buffer: BufferNo,
     wanted: &[BufferNo],
@@ -222,7 +222,7 @@ fn commit_tells_shown<A: Allocator + Copy>(
 }
 
 // Whether what surfaces had applied and held before is told of those that a call applies, holds or ends, and of no others.
-fn tells_what_was_shown<A: Allocator + Copy>(linked: &mut Linked<A>) -> bool {
+fn tells_what_was_shown<A: Allocator + Copy>(linked: &mut Surfaces<A>) -> bool {
     has_child(linked)
         && commit_tells_shown(linked, CHILD, 19, &[18, 18])
         && commit_tells_shown(linked, CHILD, 20, &[18, 19])
@@ -238,12 +238,12 @@ fn tells_what_was_shown<A: Allocator + Copy>(linked: &mut Linked<A>) -> bool {
 // wl_buffer.release
 #[test]
 fn what_was_shown_is_told(rt: HostRuntime) {
-    let mut linked = Linked::new(rt.alloc());
+    let mut linked = Surfaces::new(rt.alloc());
     assert!(rt; tells_what_was_shown(&mut linked));
 }
 
 // Whether the order of a surface and its children counts once the parent is committed.
-fn places_children<A: Allocator + Copy>(linked: &mut Linked<A>) -> bool {
+fn places_children<A: Allocator + Copy>(linked: &mut Surfaces<A>) -> bool {
     made(linked, 4)
         && linked.subsurface(1, 0) == Ok(())
         && linked.subsurface(2, 0) == Ok(())
@@ -259,12 +259,12 @@ fn places_children<A: Allocator + Copy>(linked: &mut Linked<A>) -> bool {
 
 #[test]
 fn children_are_placed(rt: HostRuntime) {
-    let mut linked = Linked::new(rt.alloc());
+    let mut linked = Surfaces::new(rt.alloc());
     assert!(rt; places_children(&mut linked));
 }
 
 // Whether each of the surfaces 1 to 16 becomes the child of the one before it.
-fn chains_16<A: Allocator + Copy>(linked: &mut Linked<A>) -> bool {
+fn chains_16<A: Allocator + Copy>(linked: &mut Surfaces<A>) -> bool {
     for child in 1..17_usize {
         if linked.subsurface(child, child - 1) != Ok(()) {
             return false;
@@ -288,7 +288,7 @@ const ASKED: [Asked; 7] = [
 
 // The first that isn't answered so.
 fn answered_otherwise<A: Allocator + Copy>(
-    linked: &mut Linked<A>,
+    linked: &mut Surfaces<A>,
     asked: &[Asked],
 ) -> Option<usize> {
     for (place, &(child, parent, wanted)) in asked.iter().enumerate() {
@@ -300,25 +300,25 @@ fn answered_otherwise<A: Allocator + Copy>(
 }
 
 // Whether links are refused in this order.
-fn refuses_links<A: Allocator + Copy>(linked: &mut Linked<A>) -> bool {
+fn refuses_links<A: Allocator + Copy>(linked: &mut Surfaces<A>) -> bool {
     made(linked, 20)
-        && linked.surfaces.give_role(19, Role::Toplevel) == Ok(())
+        && linked.states.give_role(19, Role::Toplevel) == Ok(())
         && chains_16(linked)
         && answered_otherwise(linked, &ASKED).is_none()
         && tells(linked.remove_subsurface(16), &[(16, 0)], &[])
         && linked.subsurface(0, 17) == Err(SurfaceError::TooDeep)
-        && linked.surfaces.role(18) == Some(Role::Subsurface)
+        && linked.states.role(18) == Some(Role::Subsurface)
 }
 
 // wl_subcompositor.get_subsurface
 #[test]
 fn links_are_refused(rt: HostRuntime) {
-    let mut linked = Linked::new(rt.alloc());
+    let mut linked = Surfaces::new(rt.alloc());
     assert!(rt; refuses_links(&mut linked));
 }
 
 // What a commit of the window and of its child tells, the window's first: None where there was no memory for it.
-fn committed<A: Allocator + Copy>(linked: &mut Linked<A>, surface: SurfaceNo) -> Option<usize> {
+fn committed<A: Allocator + Copy>(linked: &mut Surfaces<A>, surface: SurfaceNo) -> Option<usize> {
     match linked.commit(surface) {
         Ok(told) => Some(told.applied.changes.len()),
         Err(_) => None,
@@ -326,7 +326,7 @@ fn committed<A: Allocator + Copy>(linked: &mut Linked<A>, surface: SurfaceNo) ->
 }
 
 // Without memory a commit of a window applies nothing of it, nor of its child.
-fn applies_all_or_nothing<A: Allocator + Copy>(linked: &mut Linked<A>) -> Option<bool> {
+fn applies_all_or_nothing<A: Allocator + Copy>(linked: &mut Surfaces<A>) -> Option<bool> {
     if !has_child(linked) {
         return None;
     }
@@ -347,7 +347,7 @@ fn a_commit_needs_memory(rt: HostRuntime) {
     let mut seen = 0_u32;
     for served in 0..60_u64 {
         let refusing = Refusing::new(rt.alloc(), served);
-        let mut linked = Linked::new(&refusing);
+        let mut linked = Surfaces::new(&refusing);
         if let Some(is_whole) = applies_all_or_nothing(&mut linked) {
             assert!(rt; is_whole, "{served}");
             if refusing.refused() {
@@ -364,7 +364,7 @@ fn an_end_needs_memory(rt: HostRuntime) {
     let mut refused = 0_u32;
     for served in 0..40_u64 {
         let refusing = Refusing::new(rt.alloc(), served);
-        let mut linked = Linked::new(&refusing);
+        let mut linked = Surfaces::new(&refusing);
         if made(&mut linked, 1) && commits(&mut linked, ROOT, 7, &[(ROOT, 1)], &[]) {
             let is_gone = linked.destroy(ROOT).is_ok();
             assert!(rt; is_gone == shown(&linked, ROOT).is_none(), "{served}");

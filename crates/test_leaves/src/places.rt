@@ -3,7 +3,7 @@ use wl_geom::Rect;
 use wl_scene::{Owned, RootPlace, Scene, Surface, Toplevel, add_roots, parent_corner};
 use wl_shell::{NewPopup, Positioner, Shell, ShellError};
 use wl_store::layout;
-use wl_surface::{Attached, Linked, SurfaceNo};
+use wl_surface::{Attached, SurfaceNo, Surfaces};
 
 const WHOLE: Rect = Rect {
     x: 0,
@@ -110,7 +110,7 @@ fn positioner() -> Result<Positioner, ShellError> {
 }
 
 // Attaches a buffer of 4 by 4 pixels, so many pixels to the right, and commits.
-fn shows<A: Allocator + Copy>(linked: &mut Linked<A>, surface: SurfaceNo, right: i32) -> bool {
+fn shows<A: Allocator + Copy>(linked: &mut Surfaces<A>, surface: SurfaceNo, right: i32) -> bool {
     if let Ok(layout) = layout(64, 0, 4, 4, 16, 1) {
         let buffer = Attached {
             number: surface as u64,
@@ -118,7 +118,7 @@ fn shows<A: Allocator + Copy>(linked: &mut Linked<A>, surface: SurfaceNo, right:
             store: 1,
             layout,
         };
-        linked.surfaces.attach(surface, Some(buffer), right, 0);
+        linked.states.attach(surface, Some(buffer), right, 0);
     }
     linked.commit(surface).is_ok()
 }
@@ -166,20 +166,20 @@ fn has_row<A: Allocator + Copy>(owned: &mut Owned<A>, row: &Row) -> bool {
     if !row.is_mapped {
         return true;
     }
-    shows(&mut owned.linked, row.surface, row.right) && is_mapped(&mut owned.shell, row.surface)
+    shows(&mut owned.surfaces, row.surface, row.right) && is_mapped(&mut owned.shell, row.surface)
 }
 
 fn has_toplevel<A: Allocator + Copy>(owned: &mut Owned<A>) -> bool {
     owned.shell.get_xdg_surface(0, 10, 2, false, false).is_ok()
         && owned.shell.get_toplevel(0, 80, false).is_ok()
         && is_ready(&mut owned.shell, 0, Some(OF_TOPLEVEL))
-        && shows(&mut owned.linked, 0, 2)
+        && shows(&mut owned.surfaces, 0, 2)
         && is_mapped(&mut owned.shell, 0)
 }
 
 fn has_all<A: Allocator + Copy>(owned: &mut Owned<A>) -> bool {
     for number in 0..6_usize {
-        if owned.linked.surfaces.create() != Ok(number) {
+        if owned.surfaces.states.create() != Ok(number) {
             return false;
         }
     }
@@ -196,7 +196,7 @@ fn has_all<A: Allocator + Copy>(owned: &mut Owned<A>) -> bool {
 
 fn owned<A: Allocator + Copy>(alloc: A) -> Owned<A> {
     Owned {
-        linked: Linked::new(alloc),
+        surfaces: Surfaces::new(alloc),
         shell: Shell::new(alloc),
     }
 }

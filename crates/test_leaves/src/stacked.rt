@@ -3,7 +3,7 @@ use std::alloc::Allocator;
 use test_support::Refusing;
 use wl_scene::{RootPlace, StackedWindows, TreeWindow, add_trees, add_windows};
 use wl_store::Transform;
-use wl_surface::{Linked, SurfaceNo};
+use wl_surface::{SurfaceNo, Surfaces};
 
 fn window(surface: SurfaceNo) -> TreeWindow {
     TreeWindow {
@@ -136,7 +136,7 @@ fn has_run_of<A: Allocator>(all: &StackedWindows<A>, wanted: &[TreeWindow]) -> b
 // xdg_toplevel.move: the windows of a toplevel come to another place of the output, and stay where they are in the stack.
 #[test]
 fn a_toplevel_comes_to_another_place(rt: HostRuntime) {
-    let mut linked = Linked::new(rt.alloc());
+    let mut linked = Surfaces::new(rt.alloc());
     let mut all = StackedWindows::new(rt.alloc());
     let mut windows = Vec::new(rt.alloc());
     assert!(rt; has_family(&mut linked) && add_windows(&linked, 0, 10, 20, &mut windows).is_ok());
@@ -200,7 +200,7 @@ fn popups_are_stacked_with_their_toplevel(rt: HostRuntime) {
 // The trees of several roots come to other places one after another.
 #[test]
 fn a_toplevel_takes_its_popups_along(rt: HostRuntime) {
-    let mut linked = Linked::new(rt.alloc());
+    let mut linked = Surfaces::new(rt.alloc());
     let mut all = StackedWindows::new(rt.alloc());
     let mut windows = Vec::new(rt.alloc());
     assert!(rt; has_family(&mut linked));

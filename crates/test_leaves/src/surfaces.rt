@@ -5,7 +5,7 @@ use test_support::Refusing;
 use wl_geom::{Rect, Region};
 use wl_store::Transform;
 use wl_surface::{
-    Attached, BufferNo, MAX_SURFACES, Offset, Role, SurfaceError, SurfaceNo, Surfaces,
+    Attached, BufferNo, MAX_SURFACES, Offset, Role, SurfaceError, SurfaceNo, SurfaceStates,
 };
 
 const FOUR_BY_FOUR: Rect = Rect {
@@ -16,7 +16,7 @@ const FOUR_BY_FOUR: Rect = Rect {
 };
 
 fn attaches<A: Allocator + Copy>(
-    surfaces: &mut Surfaces<A>,
+    surfaces: &mut SurfaceStates<A>,
     surface: SurfaceNo,
     number: BufferNo,
     x: i32,
@@ -26,14 +26,14 @@ fn attaches<A: Allocator + Copy>(
     true
 }
 
-fn detaches<A: Allocator + Copy>(surfaces: &mut Surfaces<A>, x: i32, y: i32) -> bool {
+fn detaches<A: Allocator + Copy>(surfaces: &mut SurfaceStates<A>, x: i32, y: i32) -> bool {
     surfaces.attach(0, None, x, y);
     true
 }
 
 // Whether buffer 7 is used so, is busy so, and the surface has content so.
 fn reads<A: Allocator>(
-    surfaces: &Surfaces<A>,
+    surfaces: &SurfaceStates<A>,
     surface: SurfaceNo,
     is_used: bool,
     is_busy: bool,
@@ -48,31 +48,34 @@ fn number(buffer: Option<Attached>) -> Option<BufferNo> {
     Some(buffer?.number)
 }
 
-fn pending<A: Allocator>(surfaces: &Surfaces<A>, surface: SurfaceNo) -> Option<BufferNo> {
+fn pending<A: Allocator>(surfaces: &SurfaceStates<A>, surface: SurfaceNo) -> Option<BufferNo> {
     number(surfaces.pending_buffer(surface))
 }
 
 // The buffer that is shown, and the surface's size.
-fn shown<A: Allocator>(surfaces: &Surfaces<A>, surface: SurfaceNo) -> Option<(BufferNo, u32, u32)> {
+fn shown<A: Allocator>(
+    surfaces: &SurfaceStates<A>,
+    surface: SurfaceNo,
+) -> Option<(BufferNo, u32, u32)> {
     let current = surfaces.current(surface)?;
     Some((current.buffer?.number, current.w, current.h))
 }
 
-fn is_at<A: Allocator>(surfaces: &Surfaces<A>, surface: SurfaceNo, x: i32, y: i32) -> bool {
+fn is_at<A: Allocator>(surfaces: &SurfaceStates<A>, surface: SurfaceNo, x: i32, y: i32) -> bool {
     match surfaces.current(surface) {
         Some(current) => current.offset == Offset { x, y },
         None => false,
     }
 }
 
-fn is_opaque<A: Allocator>(surfaces: &Surfaces<A>, x: i32, y: i32) -> bool {
+fn is_opaque<A: Allocator>(surfaces: &SurfaceStates<A>, x: i32, y: i32) -> bool {
     match surfaces.current(0) {
         Some(current) => current.opaque.contains(x, y),
         None => false,
     }
 }
 
-fn takes_input<A: Allocator>(surfaces: &Surfaces<A>, x: i32, y: i32) -> bool {
+fn takes_input<A: Allocator>(surfaces: &SurfaceStates<A>, x: i32, y: i32) -> bool {
     match surfaces.current(0) {
         Some(current) => match current.input {
             Some(region) => region.contains(x, y),
@@ -82,7 +85,7 @@ fn takes_input<A: Allocator>(surfaces: &Surfaces<A>, x: i32, y: i32) -> bool {
     }
 }
 
-fn has_no_size<A: Allocator>(surfaces: &Surfaces<A>) -> bool {
+fn has_no_size<A: Allocator>(surfaces: &SurfaceStates<A>) -> bool {
     match surfaces.current(0) {
         Some(current) => current.buffer.is_none() && current.w == 0 && current.h == 0,
         None => false,
@@ -91,7 +94,7 @@ fn has_no_size<A: Allocator>(surfaces: &Surfaces<A>) -> bool {
 
 // Whether the buffers that are pending, held and applied have these numbers.
 fn had<A: Allocator>(
-    surfaces: &Surfaces<A>,
+    surfaces: &SurfaceStates<A>,
     surface: SurfaceNo,
     first: Option<BufferNo>,
     second: Option<BufferNo>,
@@ -102,35 +105,48 @@ fn had<A: Allocator>(
 }
 
 // Attaches at this offset, commits, and says whether the surface is at that place then.
-fn moves<A: Allocator + Copy>(surfaces: &mut Surfaces<A>, by: (i32, i32), x: i32, y: i32) -> bool {
+fn moves<A: Allocator + Copy>(
+    surfaces: &mut SurfaceStates<A>,
+    by: (i32, i32),
+    x: i32,
+    y: i32,
+) -> bool {
     attach(surfaces, 0, 7, by.0, by.1);
     commit(surfaces, 0) == Ok(()) && is_at(surfaces, 0, x, y)
 }
 
-fn has_form<A: Allocator>(surfaces: &Surfaces<A>, transform: Transform, w: u32, h: u32) -> bool {
+fn has_form<A: Allocator>(
+    surfaces: &SurfaceStates<A>,
+    transform: Transform,
+    w: u32,
+    h: u32,
+) -> bool {
     match surfaces.current(0) {
         Some(current) => current.transform == transform && current.w == w && current.h == h,
         None => false,
     }
 }
 
-fn sets_both<A: Allocator + Copy>(surfaces: &mut Surfaces<A>, region: Option<&Region<A>>) -> bool {
+fn sets_both<A: Allocator + Copy>(
+    surfaces: &mut SurfaceStates<A>,
+    region: Option<&Region<A>>,
+) -> bool {
     set_opaque(surfaces, region) == Ok(()) && set_input(surfaces, region) == Ok(())
 }
 
 // Before a commit nothing is opaque, and input is taken everywhere.
-fn is_unset<A: Allocator>(surfaces: &Surfaces<A>) -> bool {
+fn is_unset<A: Allocator>(surfaces: &SurfaceStates<A>) -> bool {
     !is_opaque(surfaces, 0, 0) && !is_opaque(surfaces, 3, 3) && takes_input(surfaces, 9, 9)
 }
 
-fn is_four_by_four<A: Allocator>(surfaces: &Surfaces<A>) -> bool {
+fn is_four_by_four<A: Allocator>(surfaces: &SurfaceStates<A>) -> bool {
     is_opaque(surfaces, 3, 3)
         && !is_opaque(surfaces, 4, 3)
         && takes_input(surfaces, 0, 0)
         && !takes_input(surfaces, 9, 9)
 }
 
-fn has_counted(surfaces: &mut Surfaces<Global>, region: &mut Region<Global>) -> bool {
+fn has_counted(surfaces: &mut SurfaceStates<Global>, region: &mut Region<Global>) -> bool {
     create(surfaces) == Ok(0)
         && region.add(FOUR_BY_FOUR) == Ok(())
         && is_unset(surfaces)
@@ -143,7 +159,7 @@ fn has_counted(surfaces: &mut Surfaces<Global>, region: &mut Region<Global>) -> 
         && is_four_by_four(surfaces)
 }
 
-fn creates_256<A: Allocator + Copy>(surfaces: &mut Surfaces<A>) -> bool {
+fn creates_256<A: Allocator + Copy>(surfaces: &mut SurfaceStates<A>) -> bool {
     for number in 0..256_usize {
         if create(surfaces) != Ok(number) {
             return false;
@@ -202,7 +218,7 @@ pub(crate) enum Row {
 }
 
 // Does what a row says, and tells whether it is as wanted.
-fn is_met<A: Allocator + Copy>(surfaces: &mut Surfaces<A>, row: &Row) -> bool {
+fn is_met<A: Allocator + Copy>(surfaces: &mut SurfaceStates<A>, row: &Row) -> bool {
     match *row {
         Row::Creates(wanted) => create(surfaces) == wanted,
         Row::Creates256 => creates_256(surfaces),
@@ -220,7 +236,7 @@ fn is_met<A: Allocator + Copy>(surfaces: &mut Surfaces<A>, row: &Row) -> bool {
 }
 
 // Whether it is as a row says that does nothing.
-fn is_seen<A: Allocator>(surfaces: &Surfaces<A>, row: &Row) -> bool {
+fn is_seen<A: Allocator>(surfaces: &SurfaceStates<A>, row: &Row) -> bool {
     match *row {
         Row::Reads(surface, used, busy, content) => reads(surfaces, surface, used, busy, content),
         Row::IsUsed(buffer, wanted) => surfaces.is_used(buffer) == wanted,
@@ -239,7 +255,7 @@ fn is_seen<A: Allocator>(surfaces: &Surfaces<A>, row: &Row) -> bool {
     }
 }
 
-fn are_met<A: Allocator + Copy>(surfaces: &mut Surfaces<A>, rows: &[Row]) -> bool {
+fn are_met<A: Allocator + Copy>(surfaces: &mut SurfaceStates<A>, rows: &[Row]) -> bool {
     for row in rows {
         if !is_met(surfaces, row) {
             return false;
@@ -249,7 +265,7 @@ fn are_met<A: Allocator + Copy>(surfaces: &mut Surfaces<A>, rows: &[Row]) -> boo
 }
 
 // Does what a row says of no region, or of anything else.
-fn is_met_or_unset(surfaces: &mut Surfaces<Global>, row: &Row) -> bool {
+fn is_met_or_unset(surfaces: &mut SurfaceStates<Global>, row: &Row) -> bool {
     match *row {
         Row::UnsetsOpaque => set_opaque(surfaces, None) == Ok(()),
         Row::UnsetsInput => set_input(surfaces, None) == Ok(()),
@@ -257,7 +273,7 @@ fn is_met_or_unset(surfaces: &mut Surfaces<Global>, row: &Row) -> bool {
     }
 }
 
-fn missed_row(surfaces: &mut Surfaces<Global>, rows: &[Row]) -> Option<usize> {
+fn missed_row(surfaces: &mut SurfaceStates<Global>, rows: &[Row]) -> Option<usize> {
     for (place, row) in rows.iter().enumerate() {
         if !is_met_or_unset(surfaces, row) {
             return Some(place);
@@ -267,7 +283,7 @@ fn missed_row(surfaces: &mut Surfaces<Global>, rows: &[Row]) -> Option<usize> {
 }
 
 // The part and its row that are the first not to be met.
-fn missed(surfaces: &mut Surfaces<Global>, parts: &[&[Row]]) -> Option<(usize, usize)> {
+fn missed(surfaces: &mut SurfaceStates<Global>, parts: &[&[Row]]) -> Option<(usize, usize)> {
     for (part, rows) in parts.iter().enumerate() {
         if let Some(place) = missed_row(surfaces, rows) {
             return Some((part, place));
@@ -277,7 +293,7 @@ fn missed(surfaces: &mut Surfaces<Global>, parts: &[&[Row]]) -> Option<(usize, u
 }
 
 fn missed_by(alloc: Global, parts: &[&[Row]]) -> Option<(usize, usize)> {
-    let mut surfaces = Surfaces::new(alloc);
+    let mut surfaces = SurfaceStates::new(alloc);
     missed(&mut surfaces, parts)
 }
 
@@ -319,7 +335,7 @@ const UNSETS: &[Row] = &[
 // What a region becomes once it was set isn't seen, and a region counts from the commit on.
 #[test]
 fn regions_count_from_the_commit_on(rt: HostRuntime) {
-    let mut surfaces = Surfaces::new(rt.alloc());
+    let mut surfaces = SurfaceStates::new(rt.alloc());
     let mut region = Region::new(rt.alloc());
     assert!(rt; has_counted(&mut surfaces, &mut region));
     assert_eq!(rt; missed_row(&mut surfaces, UNSETS), None);
@@ -350,7 +366,7 @@ const COMMITTED: &[Row] = &[
 ];
 
 // Makes surfaces up to the first that is refused for want of memory: how many were made. None where another error comes.
-fn made<A: Allocator + Copy>(surfaces: &mut Surfaces<A>) -> Option<SurfaceNo> {
+fn made<A: Allocator + Copy>(surfaces: &mut SurfaceStates<A>) -> Option<SurfaceNo> {
     for number in 0..256_usize {
         match create(surfaces) {
             Ok(made) if made == number => {}
@@ -362,7 +378,7 @@ fn made<A: Allocator + Copy>(surfaces: &mut Surfaces<A>) -> Option<SurfaceNo> {
 }
 
 // Whether the next is refused once more, and those that were made, and no other, are there.
-fn has_only<A: Allocator + Copy>(surfaces: &mut Surfaces<A>, made: SurfaceNo) -> bool {
+fn has_only<A: Allocator + Copy>(surfaces: &mut SurfaceStates<A>, made: SurfaceNo) -> bool {
     for number in 0..made {
         if surfaces.current(number).is_none() {
             return false;
@@ -373,7 +389,7 @@ fn has_only<A: Allocator + Copy>(surfaces: &mut Surfaces<A>, made: SurfaceNo) ->
 
 // Whether surfaces are made up to a refusal, and those stay.
 fn keeps_what_was_made<A: Allocator + Copy, B: Allocator>(
-    surfaces: &mut Surfaces<A>,
+    surfaces: &mut SurfaceStates<A>,
     heap: &Refusing<B>,
 ) -> bool {
     match made(surfaces) {
@@ -384,7 +400,7 @@ fn keeps_what_was_made<A: Allocator + Copy, B: Allocator>(
 
 fn makes_up_to_a_refusal<B: Allocator + Copy>(alloc: B, served: u64) -> bool {
     let heap = Refusing::new(alloc, served);
-    let mut surfaces = Surfaces::new(&heap);
+    let mut surfaces = SurfaceStates::new(&heap);
     keeps_what_was_made(&mut surfaces, &heap)
 }
 
@@ -397,7 +413,7 @@ fn a_surface_without_memory_is_not_made(rt: HostRuntime) {
 
 // Makes a surface, attaches buffer 7 at (1, 2), damages and commits, up to the first call that is refused for want of memory: how many of the three
 // that take memory were done. None where a call answers what it can't.
-fn done_before_a_refusal<A: Allocator + Copy>(surfaces: &mut Surfaces<A>) -> Option<u32> {
+fn done_before_a_refusal<A: Allocator + Copy>(surfaces: &mut SurfaceStates<A>) -> Option<u32> {
     match create(surfaces) {
         Ok(0) => {}
         Err(SurfaceError::Memory) => return Some(0),
@@ -418,7 +434,7 @@ fn done_before_a_refusal<A: Allocator + Copy>(surfaces: &mut Surfaces<A>) -> Opt
 
 // How many of the three were done. None where the surfaces aren't what these made of them.
 fn leaves<A: Allocator + Copy, B: Allocator>(
-    surfaces: &mut Surfaces<A>,
+    surfaces: &mut SurfaceStates<A>,
     heap: &Refusing<B>,
 ) -> Option<u32> {
     let done = done_before_a_refusal(surfaces)?;
@@ -433,7 +449,7 @@ fn leaves<A: Allocator + Copy, B: Allocator>(
 
 fn done_where_served<B: Allocator + Copy>(alloc: B, served: u64) -> Option<u32> {
     let heap = Refusing::new(alloc, served);
-    let mut surfaces = Surfaces::new(&heap);
+    let mut surfaces = SurfaceStates::new(&heap);
     leaves(&mut surfaces, &heap)
 }
 
@@ -454,7 +470,7 @@ fn damage_and_commit_without_memory(rt: HostRuntime) {
     assert!(rt; damages && commits);
 }
 
-fn damages<A: Allocator + Copy>(surfaces: &mut Surfaces<A>, times: u32) -> bool {
+fn damages<A: Allocator + Copy>(surfaces: &mut SurfaceStates<A>, times: u32) -> bool {
     for _ in 0..times {
         if damage(surfaces, FOUR_BY_FOUR) != Ok(()) {
             return false;
@@ -464,7 +480,7 @@ fn damages<A: Allocator + Copy>(surfaces: &mut Surfaces<A>, times: u32) -> bool 
 }
 
 fn takes_no_more_memory<A: Allocator + Copy, B: Allocator>(
-    surfaces: &mut Surfaces<A>,
+    surfaces: &mut SurfaceStates<A>,
     heap: &Refusing<B>,
 ) -> bool {
     if create(surfaces) != Ok(0) || !damages(surfaces, 1025) {
@@ -478,12 +494,15 @@ fn takes_no_more_memory<A: Allocator + Copy, B: Allocator>(
 #[test]
 fn damage_without_end(rt: HostRuntime) {
     let heap = Refusing::new(rt.alloc(), 1000);
-    let mut surfaces = Surfaces::new(&heap);
+    let mut surfaces = SurfaceStates::new(&heap);
     assert!(rt; takes_no_more_memory(&mut surfaces, &heap));
 }
 
 // Sets both regions, up to the first that is refused for want of memory: how many were set. None where a call answers what it can't.
-fn set_both<A: Allocator + Copy>(surfaces: &mut Surfaces<A>, region: &Region<A>) -> Option<u32> {
+fn set_both<A: Allocator + Copy>(
+    surfaces: &mut SurfaceStates<A>,
+    region: &Region<A>,
+) -> Option<u32> {
     match set_opaque(surfaces, Some(region)) {
         Ok(()) => {}
         Err(SurfaceError::Memory) => return Some(0),
@@ -498,7 +517,7 @@ fn set_both<A: Allocator + Copy>(surfaces: &mut Surfaces<A>, region: &Region<A>)
 
 // How many regions were set, and 3 where a commit was done after both. None where an allocation was refused to both, or none to one.
 fn sets_and_commits<A: Allocator + Copy, B: Allocator>(
-    surfaces: &mut Surfaces<A>,
+    surfaces: &mut SurfaceStates<A>,
     region: &Region<A>,
     heap: &Refusing<B>,
 ) -> Option<u32> {
@@ -515,7 +534,7 @@ fn sets_and_commits<A: Allocator + Copy, B: Allocator>(
 
 // 2 where there is no memory for a surface and a region.
 fn sets_a_region<A: Allocator + Copy, B: Allocator>(
-    surfaces: &mut Surfaces<A>,
+    surfaces: &mut SurfaceStates<A>,
     region: &mut Region<A>,
     heap: &Refusing<B>,
 ) -> Option<u32> {
@@ -533,7 +552,7 @@ fn sets_a_region<A: Allocator + Copy, B: Allocator>(
 // No region can be set in any case: it takes no memory.
 fn set_where_served(alloc: Global, served: u64) -> Option<u32> {
     let heap = Refusing::new(alloc, served);
-    let mut surfaces = Surfaces::new(&heap);
+    let mut surfaces = SurfaceStates::new(&heap);
     let mut region = Region::new(&heap);
     let set = sets_a_region(&mut surfaces, &mut region, &heap);
     let is_unset = sets_both(&mut surfaces, None);

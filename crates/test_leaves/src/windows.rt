@@ -2,11 +2,11 @@ use std::alloc::Allocator;
 use test_support::Refusing;
 use wl_scene::{TreeWindow, add_windows};
 use wl_store::{Transform, layout};
-use wl_surface::{Attached, BufferNo, Linked, SurfaceNo};
+use wl_surface::{Attached, BufferNo, SurfaceNo, Surfaces};
 
 // Attaches a buffer of 4 by 4 pixels, so many pixels to the right, and commits.
 fn shows<A: Allocator + Copy>(
-    linked: &mut Linked<A>,
+    linked: &mut Surfaces<A>,
     surface: SurfaceNo,
     number: BufferNo,
     right: i32,
@@ -18,14 +18,14 @@ fn shows<A: Allocator + Copy>(
             store: 1,
             layout,
         };
-        linked.surfaces.attach(surface, Some(buffer), right, 0);
+        linked.states.attach(surface, Some(buffer), right, 0);
     }
     linked.commit(surface).is_ok()
 }
 
-fn made<A: Allocator + Copy>(linked: &mut Linked<A>, count: usize) -> bool {
+fn made<A: Allocator + Copy>(linked: &mut Surfaces<A>, count: usize) -> bool {
     for number in 0..count {
-        if linked.surfaces.create() != Ok(number) {
+        if linked.states.create() != Ok(number) {
             return false;
         }
     }
@@ -33,7 +33,7 @@ fn made<A: Allocator + Copy>(linked: &mut Linked<A>, count: usize) -> bool {
 }
 
 // A root, a child of it at (4, 5) with one of its own at (-1, 0), and another child below the root.
-pub(crate) fn has_family<A: Allocator + Copy>(linked: &mut Linked<A>) -> bool {
+pub(crate) fn has_family<A: Allocator + Copy>(linked: &mut Surfaces<A>) -> bool {
     made(linked, 4)
         && linked.subsurface(1, 0) == Ok(())
         && linked.subsurface(2, 1) == Ok(())
@@ -61,7 +61,7 @@ pub(crate) fn window(surface: SurfaceNo, x: i32, y: i32) -> TreeWindow {
 }
 
 // Whether the tree of the surface 0, at (10, 20), has just these windows.
-fn has<A: Allocator + Copy>(linked: &Linked<A>, alloc: A, wanted: &[TreeWindow]) -> bool {
+fn has<A: Allocator + Copy>(linked: &Surfaces<A>, alloc: A, wanted: &[TreeWindow]) -> bool {
     let mut windows = Vec::new(alloc);
     add_windows(linked, 0, 10, 20, &mut windows).is_ok() && windows.as_slice() == wanted
 }
@@ -70,7 +70,7 @@ fn has<A: Allocator + Copy>(linked: &Linked<A>, alloc: A, wanted: &[TreeWindow])
 // of a surface without a buffer, nor of its children.
 #[test]
 fn a_tree_is_seen_in_its_order(rt: HostRuntime) {
-    let mut linked = Linked::new(rt.alloc());
+    let mut linked = Surfaces::new(rt.alloc());
     assert!(rt; has_family(&mut linked));
     let all = [
         window(3, 19, 20),
@@ -79,18 +79,18 @@ fn a_tree_is_seen_in_its_order(rt: HostRuntime) {
         window(2, 15, 25),
     ];
     assert!(rt; has(&linked, rt.alloc(), &all));
-    linked.surfaces.attach(1, None, 0, 0);
+    linked.states.attach(1, None, 0, 0);
     assert!(rt; linked.commit(1).is_ok() && has(&linked, rt.alloc(), &all));
     assert!(rt; linked.commit(0).is_ok());
     assert!(rt; has(&linked, rt.alloc(), &[window(3, 19, 20), window(0, 12, 20)]));
     assert!(rt; linked.remove_subsurface(3).is_ok());
     assert!(rt; has(&linked, rt.alloc(), &[window(0, 12, 20)]));
-    linked.surfaces.attach(0, None, 0, 0);
+    linked.states.attach(0, None, 0, 0);
     assert!(rt; linked.commit(0).is_ok() && has(&linked, rt.alloc(), &[]));
 }
 
 // Attaches a buffer of 5 by 8 pixels to the surface 0, so many pixels to the right, turns it by 90 degrees and commits.
-fn shows_turned<A: Allocator + Copy>(linked: &mut Linked<A>, right: i32) -> bool {
+fn shows_turned<A: Allocator + Copy>(linked: &mut Surfaces<A>, right: i32) -> bool {
     if let Ok(layout) = layout(160, 0, 5, 8, 20, 1) {
         let buffer = Attached {
             number: 10,
@@ -98,15 +98,15 @@ fn shows_turned<A: Allocator + Copy>(linked: &mut Linked<A>, right: i32) -> bool
             store: 1,
             layout,
         };
-        linked.surfaces.attach(0, Some(buffer), right, 0);
+        linked.states.attach(0, Some(buffer), right, 0);
     }
-    linked.surfaces.set_transform(0, 1) == Ok(()) && linked.commit(0).is_ok()
+    linked.states.set_transform(0, 1) == Ok(()) && linked.commit(0).is_ok()
 }
 
 // wl_surface.attach and set_buffer_transform: a window is as large as its turned buffer, and stands no farther than 16,777,216.
 #[test]
 fn a_window_is_turned_and_moved(rt: HostRuntime) {
-    let mut linked = Linked::new(rt.alloc());
+    let mut linked = Surfaces::new(rt.alloc());
     assert!(rt; made(&mut linked, 1) && shows_turned(&mut linked, 16_777_216));
     let window = TreeWindow {
         surface: 0,
@@ -127,7 +127,7 @@ fn windows_need_memory(rt: HostRuntime) {
     let mut refused = 0_u32;
     for served in 0..80_u64 {
         let heap = Refusing::new(rt.alloc(), served);
-        let mut linked = Linked::new(&heap);
+        let mut linked = Surfaces::new(&heap);
         if has_family(&mut linked) {
             let mut windows = Vec::new(&heap);
             let is_added = add_windows(&linked, 0, 10, 20, &mut windows).is_ok();

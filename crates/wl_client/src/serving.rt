@@ -9,7 +9,7 @@ use crate::first_message::First;
 use crate::served::{Next, Served};
 use spec_desktop::{Action, Cause, ErrorCode, Refusal};
 use std::alloc::Allocator;
-use wl_surface::Surfaces;
+use wl_surface::SurfaceStates;
 
 impl<A: Allocator + Copy> Client<A> {
     ghost use Rattle.wl_client.specs.Agreement.{IsPeer};
@@ -35,7 +35,7 @@ impl<A: Allocator + Copy> Client<A> {
     }
 
     /// Does what an accepted message asks.
-    fn act_with(&mut self, action: Action, surfaces: &Surfaces<A>)
+    fn act_with(&mut self, action: Action, surfaces: &SurfaceStates<A>)
         ensures acts { (used : ℕ → Bool) → AreUsed surfaces.now used → (p : Peer) → IsPeer self.old p
             → (q : Peer) × ActsWith used action (counted p) q × IsPeer self.new q }
         ensures table { self.new.ended ≡ None → ChangesTable action self.old.objects self.new.objects }
@@ -85,7 +85,7 @@ impl<A: Allocator + Copy> Client<A> {
         &mut self,
         size: usize,
         judged: Result<Action, Refusal>,
-        surfaces: &Surfaces<A>,
+        surfaces: &SurfaceStates<A>,
     ) -> Served
         requires lives { self.old.ended ≡ None }
         requires own { IsOwnMessage self.old size judged }
@@ -108,7 +108,7 @@ impl<A: Allocator + Copy> Client<A> {
 
     /// Takes the first message of a client that lives, where it is of one of the client's own interfaces, or is refused before its own errors are
     /// looked at. A wl_buffer that goes leaves its store the use of a buffer that one of the surfaces uses.
-    pub fn serve(&mut self, surfaces: &Surfaces<A>) -> Served
+    pub fn serve(&mut self, surfaces: &SurfaceStates<A>) -> Served
         ensures serves { was_taken result ≡ true → (used : ℕ → Bool) → AreUsed surfaces.now used → (p : Peer) → IsPeer self.old p
             → (q : Peer) × ServesWith used p q × IsPeer self.new q }
         ensures less { was_taken result ≡ true → length self.new.rest < length self.old.rest }

@@ -11,7 +11,7 @@ use spec_desktop::{Action, ErrorCode, Refusal, ShmBuffer};
 use std::alloc::Allocator;
 use std::collections::BTreeMap;
 use wl_store::StoreNo;
-use wl_surface::Surfaces;
+use wl_surface::SurfaceStates;
 
 /// What a wl_buffer's one request, destroy, asks.
 pub(crate) fn action<A: Allocator>(
@@ -45,7 +45,7 @@ impl<A: Allocator + Copy> Client<A> {
     }
 
     /// Whether a surface uses the buffer of this wl_buffer.
-    fn is_buffer_used(&self, id: u32, surfaces: &Surfaces<A>) -> bool
+    fn is_buffer_used(&self, id: u32, surfaces: &SurfaceStates<A>) -> bool
         ensures { (used : ℕ → Bool) → AreUsed surfaces.now used → result ≡ has_used used (held_at self.now.buffers id) }
     {
         match self.buffers.get(&id) {
@@ -55,7 +55,12 @@ impl<A: Allocator + Copy> Client<A> {
     }
 
     /// A buffer goes, and its use of the store, unless a surface uses it.
-    pub(crate) fn destroy_buffer_with(&mut self, id: u32, store: StoreNo, surfaces: &Surfaces<A>)
+    pub(crate) fn destroy_buffer_with(
+        &mut self,
+        id: u32,
+        store: StoreNo,
+        surfaces: &SurfaceStates<A>,
+    )
         ensures acts { (used : ℕ → Bool) → AreUsed surfaces.now used → (p : Peer) → IsPeer self.old p
             → (q : Peer) × ActsWith used (DestroyBuffer id store) p q × IsPeer self.new q }
         ensures table { self.new.ended ≡ None → HoldsAt self.old.objects self.new.objects id None }

@@ -39,12 +39,12 @@ use Rattle.wl_clients.proofs.Seats.{view_of}
 module _ {A : Type 0} where
   -- what the shell finds of popups with a grab is what there is by ids
   grab-found : (k : Kept A) (names : Names) (o : Owned) → AreFound k.owned.shell
-      → IsOwned names k.owned.linked.surfaces k.owned.linked.family (kept_of k.owned.shell) o
+      → IsOwned names k.owned.surfaces.states k.owned.surfaces.family (kept_of k.owned.shell) o
       → list_any (λ e. is_grabbing e.1) k.owned.shell ≡ list_any (λ p. p.popup.has_grab) (popups_of o.shell)
   grab-found k names o found is =
       let f = number_in names.surfaces in
       shells_find.grabs k.owned.shell (λ number. history_in number (by_numbers names o).surfaces) (by_numbers names o).shell found
-      (kept-by-numbers names k.owned.linked.surfaces k.owned.linked.family (kept_of k.owned.shell) o is).shell
+      (kept-by-numbers names k.owned.surfaces.states k.owned.surfaces.family (kept_of k.owned.shell) o is).shell
       ∙ ap (list_any (λ (p : Popped). p.popup.has_grab)) (popups-named f o.shell)
       ∙ any-renamed f (λ p. p.popup.has_grab) (λ p. refl) (popups_of o.shell)
 

@@ -47,7 +47,7 @@ lends-client {A} rs (suc n) = at-map (λ (r : Kept A). r.client) rs n
 
 -- and of its surfaces
 abbrev surfaces_of : {A : Type 0} → Option (Kept A) → Option Slots
-surfaces_of {A} o = option_map (λ (r : Kept A). r.owned.linked.surfaces) o
+surfaces_of {A} o = option_map (λ (r : Kept A). r.owned.surfaces.states) o
 
 seen-surfaces : {A : Type 0} (o : Option (Kept A)) → option_map (λ (v : OwnedView). v.surfaces) (option_map (λ (r : Kept A). owned_view r) o) ≡ surfaces_of o
 seen-surfaces None = refl

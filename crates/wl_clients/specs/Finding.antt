@@ -44,7 +44,7 @@ popup_to_place book asked = None
 -- The window geometry of its parent stands there, whatever client is stood for.
 abbrev pub IsCornerOf : {A : Type 0} → List Standing → ℕ → Kept A → ℤ × ℤ → Popup → Type 0
 IsCornerOf standing c v at popup =
-    (o : Owned) → IsHeld v.owned.linked.surfaces v.owned.linked.family v.owned.shell o
+    (o : Owned) → IsHeld v.owned.surfaces.states v.owned.surfaces.family v.owned.shell o
     → record { x = at.0; y = at.1 } ≡ parent_corner standing c o popup.parent
 
 -- It is placed within the output, by that.

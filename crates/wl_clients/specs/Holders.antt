@@ -18,7 +18,7 @@ use Rattle.wl_clients.specs.View.{Pile}
 abbrev pub SaysGrab : {A : Type 0} → Bool → Option (Kept A) → Type 0
 SaysGrab says None = says ≡ false
 SaysGrab says (Some k) =
-    (names : Names) (o : Owned) → IsOwned names k.owned.linked.surfaces k.owned.linked.family (kept_of k.owned.shell) o
+    (names : Names) (o : Owned) → IsOwned names k.owned.surfaces.states k.owned.surfaces.family (kept_of k.owned.shell) o
     → says ≡ list_any (λ p. p.popup.has_grab) (popups_of o.shell)
 
 -- none has at so many places

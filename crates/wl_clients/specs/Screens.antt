@@ -58,7 +58,7 @@ IsTouchedBy v asked touched = touched ≡ None
 
 -- the root of its tree
 abbrev pub root_in : {A : Type 0} → Kept A → Option ℕ → Option ℕ
-root_in v touched = option_map (λ surface. root_by 16 (parents_of (links_in v.owned.linked.family)) surface) touched
+root_in v touched = option_map (λ surface. root_by 16 (parents_of (links_in v.owned.surfaces.family)) surface) touched
 
 -- ---- windows
 
@@ -158,7 +158,7 @@ pub record IsSameScreen {A : Type 0} (old new : Screen A) : Type 0 where
 -- What is kept stands for what a client owns, whose popups come in the order of their creation; and where the toplevel stands, the
 -- xdg_surface of its surface, if there is one, has a role object.
 pub record IsRunHeld {A : Type 0} (c : ℕ) (v : Kept A) (toplevel : ℕ) (standing : List Standing) (o : Owned) : Type 0 where
-  pub held : IsHeld v.owned.linked.surfaces v.owned.linked.family v.owned.shell o
+  pub held : IsHeld v.owned.surfaces.states v.owned.surfaces.family v.owned.shell o
   pub rising : AreRising (popups_of o.shell)
   pub role : is_some (find (is_standing c toplevel) standing) ≡ true → HasRole v.owned.shell toplevel
   pub few : length o.shell ≤ 256

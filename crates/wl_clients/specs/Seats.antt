@@ -62,8 +62,8 @@ IsRestacked c (Out number) was is = (is.standing ≡ without_surface_of c number
 
 -- nothing is kept of surfaces, of links and of the shell, and of wl_subsurfaces
 pub record IsBare {A : Type 0} (owned : Owned A) : Type 0 where
-  pub surfaces : Stand owned.linked.surfaces owned.linked.family no_surfaces
-  pub frames : owned.linked.surfaces.frames ≡ []
+  pub surfaces : Stand owned.surfaces.states owned.surfaces.family no_surfaces
+  pub frames : owned.surfaces.states.frames ≡ []
   pub shell : owned.shell ≡ []
 
 -- Where the client ended, nothing is left of what it owned, and none of its toplevels stands.

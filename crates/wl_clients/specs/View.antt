@@ -22,8 +22,8 @@ pub record OwnedView : Type 0 where
 abbrev pub owned_view : {A : Type 0} → Resident A → OwnedView
 owned_view r =
     record {
-      surfaces = r.owned.linked.surfaces;
-      family = r.owned.linked.family;
+      surfaces = r.owned.surfaces.states;
+      family = r.owned.surfaces.family;
       shell = r.owned.shell;
       subsurfaces = r.subsurfaces;
     }

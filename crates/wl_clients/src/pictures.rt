@@ -14,7 +14,7 @@ use wl_geom::Region;
 use wl_paint::Painted;
 use wl_scene::{Stacked, TreeWindow, current_of};
 use wl_store::{Picture, Scale, Transform};
-use wl_surface::{Attached, Surfaces};
+use wl_surface::{Attached, SurfaceStates};
 
 /// The picture of a buffer, if it can be shown.
 fn picture_of<'a, A: Allocator + Copy>(
@@ -53,7 +53,7 @@ fn unseen<'a, A: Allocator>(window: &TreeWindow, nowhere: &'a Region<A>) -> Pain
 pub fn lend<'a, A: Allocator + Copy>(
     stacked: &Stacked,
     client: Option<&'a Client<A>>,
-    surfaces: Option<&'a Surfaces<A>>,
+    surfaces: Option<&'a SurfaceStates<A>>,
     nowhere: &'a Region<A>,
 ) -> Painted<'a, A>
     ensures { window_of result ≡ window_kept (option_copied client.entry) nowhere.now stacked.now.window

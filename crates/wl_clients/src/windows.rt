@@ -13,7 +13,7 @@ use wl_geom::Region;
 use wl_paint::{Painted, Windows};
 use wl_requests::Resident;
 use wl_scene::{Stacked, Surfaced};
-use wl_surface::Surfaces;
+use wl_surface::SurfaceStates;
 
 /// The windows of the output with the clients and what each owns, that of client c at index c - 1, and a region without a point.
 #[derive(Drop)]
@@ -50,7 +50,7 @@ fn lend_of<'a, A: Allocator + Copy>(
 {
     match resident_of(residents, stacked.client) {
         Some(resident) => {
-            let surfaces = &resident.owned.linked.surfaces;
+            let surfaces = &resident.owned.surfaces.states;
             lend(stacked, Some(&resident.client), Some(surfaces), nowhere)
         }
         None => lend(stacked, None, None, nowhere),
@@ -71,11 +71,11 @@ impl<'a, A: Allocator> Surfaced for Owners<'a, A> {
 
     ghost slots = { λ owners. slots_lent (owned_views owners.residents.now) };
 
-    fn surfaces(&self, client: u32) -> Option<&Surfaces<A>> {
+    fn surfaces(&self, client: u32) -> Option<&SurfaceStates<A>> {
         let Some(resident) = resident_of(self.residents, client) else {
             return None;
         };
-        Some(&resident.owned.linked.surfaces)
+        Some(&resident.owned.surfaces.states)
     }
 }
 

@@ -76,8 +76,8 @@ owned-places names now a b tied tying shell other o same ties named kept is =
 -- ---- one more is answered
 
 module _ {A : Type 0} (time : ℕ) (old now new : Kept A) (r mid : Resident) (a : IsAnswered time r mid) (is : IsResident now mid) (id : ℕ)
-    (due : IsNextDue id (numbered now.client.objects mid) mid.callbacks new.owned.linked.surfaces.frames) (places : new.owned.linked.surfaces.places ≡ now.owned.linked.surfaces.places)
-    (ties : new.owned.linked.family ≡ now.owned.linked.family)
+    (due : IsNextDue id (numbered now.client.objects mid) mid.callbacks new.owned.surfaces.states.frames) (places : new.owned.surfaces.states.places ≡ now.owned.surfaces.states.places)
+    (ties : new.owned.surfaces.family ≡ now.owned.surfaces.family)
     (shell : new.owned.shell ≡ now.owned.shell) (subsurfaces : new.subsurfaces ≡ now.subsurfaces)
     (m : Peer) (queues : Queues (frame_told time id) (removed id mid.peer) m) (peer : IsPeer new.client m) where
   abbrev numbers : ById ℕ
@@ -90,10 +90,10 @@ module _ {A : Type 0} (time : ℕ) (old now new : Kept A) (r mid : Resident) (a 
   told = subst (λ n. Queues (frame_told time n) (removed n mid.peer) m) (sym due.has_id) queues
 
   counts : is_in (frames_counting mid.owned.surfaces) c ≡ true
-  counts = counting-due numbers now.owned.linked.surfaces now.owned.linked.family mid.owned.surfaces is.owns.surfaces c due.surface due.due
+  counts = counting-due numbers now.owned.surfaces.states now.owned.surfaces.family mid.owned.surfaces is.owns.surfaces c due.surface due.due
 
   nothing-before : filter (is_in (frames_counting mid.owned.surfaces)) due.before ≡ []
-  nothing-before = none-due numbers now.owned.linked.surfaces now.owned.linked.family mid.owned.surfaces is.owns.surfaces due.before due.undue
+  nothing-before = none-due numbers now.owned.surfaces.states now.owned.surfaces.family mid.owned.surfaces is.owns.surfaces due.before due.undue
 
   -- it ends by that
   pub last-over : is_some new.client.ended ≡ true → (q : Peer) × Queues (frames_told time r) (done_due r).peer q × IsLeft old new (done_due r) q
@@ -127,7 +127,7 @@ module _ {A : Type 0} (time : ℕ) (old now new : Kept A) (r mid : Resident) (a 
       let next : Resident = without_it time mid due.before due.after c m a.status due.all_are nothing-before counts told in
       let names = callback-gone now.client.objects new.client.objects id heard holds in
       let requests = told-requests (frame_told time c.id) (removed c.id mid.peer) m told lives in
-      let left = framed-less now.owned.linked.surfaces.frames new.owned.linked.surfaces.frames (numbered now.client.objects mid) (mid.peer.requests + 1) mid.callbacks (due.before ++ due.after)
+      let left = framed-less now.owned.surfaces.states.frames new.owned.surfaces.states.frames (numbered now.client.objects mid) (mid.peer.requests + 1) mid.callbacks (due.before ++ due.after)
       is.frames due.others
       in (
         next,
@@ -135,7 +135,7 @@ module _ {A : Type 0} (time : ℕ) (old now new : Kept A) (r mid : Resident) (a 
         record {
           lives = alive;
           peer = peer;
-          owns = owned-places (names_of now.client.objects) (names_of new.client.objects) now.owned.linked.surfaces new.owned.linked.surfaces now.owned.linked.family new.owned.linked.family
+          owns = owned-places (names_of now.client.objects) (names_of new.client.objects) now.owned.surfaces.states new.owned.surfaces.states now.owned.surfaces.family new.owned.surfaces.family
               now.owned.shell
               new.owned.shell mid.owned places ties names shell is.owns;
           frames = rw (requests, ap (λ (n : Names). n.surfaces) names) left;
@@ -149,12 +149,12 @@ module _ {A : Type 0} (time : ℕ) (old now new : Kept A) (r mid : Resident) (a 
 pub last-answered : {A : Type 0} (time : ℕ) (old now : Kept A) (r mid : Resident) → IsAnswered time r mid → IsResident now mid → names_of now.client.objects ≡ names_of old.client.objects
     → AreUndue (numbered now.client.objects mid) mid.callbacks → (q : Peer) × Queues (frames_told time r) (done_due r).peer q × IsLeft old now (done_due r) q
 last-answered time old now r mid a is names undue =
-    let none = none-due (targets_in WlSurface now.client.objects) now.owned.linked.surfaces now.owned.linked.family mid.owned.surfaces is.owns.surfaces mid.callbacks undue in (
+    let none = none-due (targets_in WlSurface now.client.objects) now.owned.surfaces.states now.owned.surfaces.family mid.owned.surfaces is.owns.surfaces mid.callbacks undue in (
       mid.peer,
       all-answered time r mid a none,
       record {
         peer = is.peer;
-        owns = λ alive. subst (λ (o : Owned). IsOwned (names_of now.client.objects) now.owned.linked.surfaces now.owned.linked.family (kept_of now.owned.shell) o) a.owned is.owns;
+        owns = λ alive. subst (λ (o : Owned). IsOwned (names_of now.client.objects) now.owned.surfaces.states now.owned.surfaces.family (kept_of now.owned.shell) o) a.owned is.owns;
         frames = λ alive. rw (all-callbacks time r mid a none, going-requests (callbacks_due r) r.peer, ← a.owned, ← a.requests) is.frames;
         subsurfaces = λ alive. rw (← a.subsurfaces) is.subsurfaces;
         numbers = λ alive. keeps-names old.client.objects now.client.objects names;

@@ -71,14 +71,14 @@ module _ (all : Surfaces) (l : Link) (sibling : ℕ) (mine : link_of l.child all
 
 -- by what is kept
 pub placed-kept : {A : Type 0} (v : Kept A) (r : Resident) (object child sibling other : ℕ) (its : IsLinkOf v r object child) → IsResident v r → IsSurface v sibling other → (bad : Bool)
-    → is_bad_sibling child other (links_in v.owned.linked.family) ≡ bad → PlacedBy bad r.owned.surfaces its.link sibling
+    → is_bad_sibling child other (links_in v.owned.surfaces.family) ≡ bad → PlacedBy bad r.owned.surfaces its.link sibling
 placed-kept v r object child sibling other its is named bad e =
     let numbers = targets_in WlSurface v.client.objects in
-    let by = stand-by numbers v.owned.linked.surfaces v.owned.linked.family r.owned.surfaces is.owns.surfaces in
-    let same = siblings-named (number_in numbers) v.owned.linked.surfaces v.owned.linked.family r.owned.surfaces its.link.child sibling
+    let by = stand-by numbers v.owned.surfaces.states v.owned.surfaces.family r.owned.surfaces is.owns.surfaces in
+    let same = siblings-named (number_in numbers) v.owned.surfaces.states v.owned.surfaces.family r.owned.surfaces its.link.child sibling
     (sym (is.owns.surfaces.numbered its.link.child) ∙ ap is_some its.named) (sym (is.owns.surfaces.numbered sibling) ∙ ap is_some named) by in
     subst (λ b. PlacedBy b r.owned.surfaces its.link sibling)
-    (sym same ∙ ap (λ n. is_bad_sibling n (number_in numbers sibling) (links_in v.owned.linked.family)) (number-of-name numbers its.link.child child its.named)
-    ∙ ap (λ n. is_bad_sibling child n (links_in v.owned.linked.family)) (number-of-name numbers sibling other named) ∙ e)
+    (sym same ∙ ap (λ n. is_bad_sibling n (number_in numbers sibling) (links_in v.owned.surfaces.family)) (number-of-name numbers its.link.child child its.named)
+    ∙ ap (λ n. is_bad_sibling child n (links_in v.owned.surfaces.family)) (number-of-name numbers sibling other named) ∙ e)
     (placed-by r.owned.surfaces its.link sibling its.found (λ k f.
-    let found = finds-named (number_in numbers) v.owned.linked.surfaces v.owned.linked.family r.owned.surfaces sibling k by f in (found.0.of_child, found.1)))
+    let found = finds-named (number_in numbers) v.owned.surfaces.states v.owned.surfaces.family r.owned.surfaces sibling k by f in (found.0.of_child, found.1)))

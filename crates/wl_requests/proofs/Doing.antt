@@ -69,28 +69,28 @@ cut-bounds (Some k) s stands = (stands.history.cut_within, stands.history.commit
 pub asked-so : {A : Type 0} (old new : Kept A) (r : Resident) (id number : ℕ) (request : Request) → IsResident old r → IsSurface old id number → is_about_children request ≡ false → is_commit
     request ≡ false
     → ((v : Values) → (asked v request).buffer ≡ v.buffer)
-    → ((g : Option Rect) → geometry_asked g request ≡ g) → frames_of (request ∷ []) ≡ [] → new.owned.linked.surfaces.frames ≡ old.owned.linked.surfaces.frames
-    → Changes old.owned.linked.surfaces new.owned.linked.surfaces number (asking request) → new.owned.linked.family ≡ old.owned.linked.family → new.client ≡ old.client
+    → ((g : Option Rect) → geometry_asked g request ≡ g) → frames_of (request ∷ []) ≡ [] → new.owned.surfaces.states.frames ≡ old.owned.surfaces.states.frames
+    → Changes old.owned.surfaces.states new.owned.surfaces.states number (asking request) → new.owned.surfaces.family ≡ old.owned.surfaces.family → new.client ≡ old.client
     → new.subsurfaces ≡ old.subsurfaces → kept_of new.owned.shell
     ≡ kept_of old.owned.shell
     → ((changed_by (AskSurface id request) r).peer ≡ r.peer) × IsLeft old new (changed_by (AskSurface id request) r) r.peer
 asked-so old new r id number request is named about plain keeps other asks_none frames changes ties same subs shell =
     let names = names_of old.client.objects in
-    let there = surface-named names.surfaces old.owned.linked.surfaces old.owned.linked.family r.owned.surfaces is.owns.surfaces id number named in
-    let read = surface-read names.surfaces old.owned.linked.surfaces old.owned.linked.family r.owned.surfaces is.owns.surfaces id number named ∙ there.1 in
-    let bounds = cut-bounds (kept_at old.owned.linked.surfaces number) there.0
-    (subst (λ (o : Option Surface). StandsAt (kept_at old.owned.linked.surfaces number) o) read (is.owns.surfaces.stand number)) in
+    let there = surface-named names.surfaces old.owned.surfaces.states old.owned.surfaces.family r.owned.surfaces is.owns.surfaces id number named in
+    let read = surface-read names.surfaces old.owned.surfaces.states old.owned.surfaces.family r.owned.surfaces is.owns.surfaces id number named ∙ there.1 in
+    let bounds = cut-bounds (kept_at old.owned.surfaces.states number) there.0
+    (subst (λ (o : Option Surface). StandsAt (kept_at old.owned.surfaces.states number) o) read (is.owns.surfaces.stand number)) in
     let none = asked-keeps request plain keeps id r there.0 there.1 bounds.0 bounds.1 in (
       ap (λ (q : Resident). q.peer) none,
       record {
         peer = rw same is.peer;
         owns = λ alive. rw (same, shell, ties)
-            (owned-asked names old.owned.linked.surfaces old.owned.linked.family (kept_of old.owned.shell) r is.owns id number request new.owned.linked.surfaces named about plain other changes);
+            (owned-asked names old.owned.surfaces.states old.owned.surfaces.family (kept_of old.owned.shell) r is.owns id number request new.owned.surfaces.states named about plain other changes);
         frames = λ alive.
             let table : new.client.objects ≡ old.client.objects = ap (λ (w : ClientView). w.objects) same in
             subst (λ (ws : List Waiting). IsFramed ws new.client.objects (changed_by (AskSurface id request) r)) (sym frames)
-            (framed-asked old.owned.linked.surfaces.frames old.client.objects new.client.objects r (changed_by (AskSurface id request) r) refl (no-more r.peer.requests) is.frames
-            old.owned.linked.surfaces old.owned.linked.family
+            (framed-asked old.owned.surfaces.states.frames old.client.objects new.client.objects r (changed_by (AskSurface id request) r) refl (no-more r.peer.requests) is.frames
+            old.owned.surfaces.states old.owned.surfaces.family
             is.owns.surfaces id number request asks_none plain named
             (ap names_of table) refl);
         subsurfaces = λ alive. rw (same, subs) is.subsurfaces;
@@ -113,8 +113,8 @@ pub one-let : (v w : ClientView) (r : Resident) (change : Stock → Stock) → I
     → IsPeer w (record r.peer { stores = change r.peer.stores })
 one-let v w r change is only stores = subst (λ (x : ClientView). IsPeer x (record r.peer { stores = change r.peer.stores })) (sym only) (IsPeer-stores v r.peer change w.stores stores is)
 
-pub kept-there : {A : Type 0} (v w : Lent A) (numbers : ById ℕ) (all : Surfaces) → w ≡ v → AreKept numbers v.linked.surfaces v.linked.family all
-    → AreKept numbers w.linked.surfaces w.linked.family all
+pub kept-there : {A : Type 0} (v w : Lent A) (numbers : ById ℕ) (all : Surfaces) → w ≡ v → AreKept numbers v.surfaces.states v.surfaces.family all
+    → AreKept numbers w.surfaces.states w.surfaces.family all
 kept-there v w numbers all same kept = rw same kept
 
 -- The buffers that a surface had are let go of, once what was asked of it stands: so it was done.

@@ -63,20 +63,20 @@ number-there numbers others agree all numbered id there = ap (λ (n : Option ℕ
 
 pub holds-by : {A : Type 0} (old new : Kept A) (names : Names) (o : Owned)
     → ((id : ℕ) → is_some (names.surfaces id) ≡ true → targets_in WlSurface old.client.objects id ≡ names.surfaces id)
-    → IsOwned names new.owned.linked.surfaces new.owned.linked.family (kept_of new.owned.shell) o → HoldsBy old new o
+    → IsOwned names new.owned.surfaces.states new.owned.surfaces.family (kept_of new.owned.shell) o → HoldsBy old new o
 holds-by old new names o agree is =
-    let by = kept-by-numbers names new.owned.linked.surfaces new.owned.linked.family (kept_of new.owned.shell) o is in
+    let by = kept-by-numbers names new.owned.surfaces.states new.owned.surfaces.family (kept_of new.owned.shell) o is in
     let same = number-there names.surfaces (targets_in WlSurface old.client.objects) agree o.surfaces is.surfaces.numbered in
     record {
       renames = renames-still (number_in names.surfaces) (names_before old) o same by.renames;
       held =
-          held-still (number_in names.surfaces) (names_before old) o same by.renames new.owned.linked.surfaces new.owned.linked.family new.owned.shell
+          held-still (number_in names.surfaces) (names_before old) o same by.renames new.owned.surfaces.states new.owned.surfaces.family new.owned.shell
           (record { surfaces = by.surfaces; shell = by.shell });
     }
 
 -- the names of a client's table are those from before
 pub holds-same : {A : Type 0} (old new : Kept A) (names : Names) (o : Owned) → targets_in WlSurface old.client.objects ≡ names.surfaces
-    → IsOwned names new.owned.linked.surfaces new.owned.linked.family (kept_of new.owned.shell) o → HoldsBy old new o
+    → IsOwned names new.owned.surfaces.states new.owned.surfaces.family (kept_of new.owned.shell) o → HoldsBy old new o
 holds-same old new names o same is = holds-by old new names o (λ id there. ap (λ (f : ById ℕ). f id) same) is
 
 -- one surface is gone
@@ -88,7 +88,7 @@ left-alone numbers gone id = at (id == gone)
     at false there = refl
 
 pub holds-without : {A : Type 0} (old new : Kept A) (names : Names) (gone : ℕ) (o : Owned) → targets_in WlSurface old.client.objects ≡ names.surfaces
-    → IsOwned (record names { surfaces = with_id gone None names.surfaces }) new.owned.linked.surfaces new.owned.linked.family (kept_of new.owned.shell) o → HoldsBy old new o
+    → IsOwned (record names { surfaces = with_id gone None names.surfaces }) new.owned.surfaces.states new.owned.surfaces.family (kept_of new.owned.shell) o → HoldsBy old new o
 holds-without old new names gone o same is =
     holds-by old new (record names { surfaces = with_id gone None names.surfaces }) o (λ id there. ap (λ (f : ById ℕ). f id) same ∙ left-alone names.surfaces gone id there) is
 
@@ -99,7 +99,7 @@ holds-behind old mid new o same is =
     let f = ap (λ (held : Held). number_in (targets_in WlSurface held)) same in
     record {
       renames = subst (λ (f : ℕ → ℕ). RenamesOwned f o) f is.renames;
-      held = subst (λ (f : ℕ → ℕ). IsHeld new.owned.linked.surfaces new.owned.linked.family new.owned.shell (renamed_owned f o)) f is.held;
+      held = subst (λ (f : ℕ → ℕ). IsHeld new.owned.surfaces.states new.owned.surfaces.family new.owned.shell (renamed_owned f o)) f is.held;
     }
 
 pub held-so : {A : Type 0} (old mid new : Kept A) (judged : Result Demand Refusal) (c : ℕ) (r : Resident) (d : Desktop) → mid.client.objects ≡ old.client.objects → HoldsSo judged c r d mid new

@@ -1,7 +1,7 @@
 -- What is kept stands, by the numbers from before, for what a client owns after xdg_popup.destroy.
 use Rattle.std.proofs.Common.{◌≡◌, ℕ, true, Option, Some, None, Result, refl, subst, sym}
 use Rattle.std.specs.Prelude.{Ok}
-use Rattle.wl_surface.specs.declared.linked.Linked.{Linked}
+use Rattle.wl_surface.specs.declared.surfaces.Surfaces.{Surfaces as Linked}
 use Rattle.law_desktop.specs.Owning.{IsOwned, IsXdg, with_toplevel}
 use Rattle.law_desktop.specs.RoleNames.{names_of}
 use Rattle.law_desktop.proofs.Keeping.OwningXdg.{toplevel-named}
@@ -28,14 +28,14 @@ pub popup-held : {A : Type 0} (old new : Kept A) (object number : ℕ) (judged :
     → HoldsSo (judged (Some x)) c r d old new)
     → HoldsSo (judged (xdg_with object r.owned.shell)) c r d old new
 popup-held old new object number judged c d r is named holds =
-    let one = toplevel-named (names_of old.client.objects) old.owned.linked.surfaces old.owned.linked.family (kept_of old.owned.shell) r.owned is.owns object number
+    let one = toplevel-named (names_of old.client.objects) old.owned.surfaces.states old.owned.surfaces.family (kept_of old.owned.shell) r.owned is.owns object number
     (roles-named.popup old.client.objects object number named) in
     subst (λ (o : Option Xdg). HoldsSo (judged o) c r d old new) (sym one.4) (holds one.0 one.1 one.2 one.3 one.5)
 
 -- it goes
 pub popup-left : {A : Type 0} (old new : Kept A) (judged : Result Demand Refusal) (c : ℕ) (r : Resident) (d : Desktop) (object number : ℕ) (k : KeptXdg) (x : Xdg) (h : History) → IsResident old r
     → IsXdg (names_of old.client.objects) (kept_of old.owned.shell) r.owned number k x h → is_role object x.role ≡ true → judged ≡ Ok (EndPopup object x.id)
-    → kept_of new.owned.shell ≡ changing number kept_without_role (kept_of old.owned.shell) → new.owned.linked ≡ old.owned.linked → HoldsSo judged c r d old new
+    → kept_of new.owned.shell ≡ changing number kept_without_role (kept_of old.owned.shell) → new.owned.surfaces ≡ old.owned.surfaces → HoldsSo judged c r d old new
 popup-left {A} old new judged c r d object number k x h is one its asked keeps linked =
     let names = names_of old.client.objects in
     let left = with_toplevel object None names in
@@ -43,6 +43,6 @@ popup-left {A} old new judged c r d object number k x h is one its asked keeps l
     let made = (changed_for c (EndPopup object x.id) then (unpointed d)).owned in
     subst (λ (j : Result Demand Refusal). HoldsSo j c r d old new) (sym asked)
     (holds-same old new left made refl
-    (subst (λ (l : Linked A). IsOwned left l.surfaces l.family (kept_of new.owned.shell) made) (sym linked)
-    (popups-go.gone names old.owned.linked.surfaces old.owned.linked.family (kept_of old.owned.shell) then number k x h c object (unpointed d)
+    (subst (λ (l : Linked A). IsOwned left l.states l.family (kept_of new.owned.shell) made) (sym linked)
+    (popups-go.gone names old.owned.surfaces.states old.owned.surfaces.family (kept_of old.owned.shell) then number k x h c object (unpointed d)
     (kept_of new.owned.shell) left is.owns one its keeps refl)))

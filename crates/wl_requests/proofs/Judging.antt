@@ -107,8 +107,8 @@ module _ {A : Type 0} (v : Kept A) (names : Names) (r : Resident) (child below p
   abbrev f : ℕ → ℕ
   f = number_in names.surfaces
 
-  by-names : StandBy f v.owned.linked.surfaces v.owned.linked.family all
-  by-names = stand-by names.surfaces v.owned.linked.surfaces v.owned.linked.family all two.owns.surfaces
+  by-names : StandBy f v.owned.surfaces.states v.owned.surfaces.family all
+  by-names = stand-by names.surfaces v.owned.surfaces.states v.owned.surfaces.family all two.owns.surfaces
 
   below-there : has_surface child all ≡ true
   below-there = sym (two.owns.surfaces.numbered child) ∙ ap is_some two.child_named
@@ -125,11 +125,11 @@ module _ {A : Type 0} (v : Kept A) (names : Names) (r : Resident) (child below p
   refusal-is : link_refusal (renamed f all) below above ≡ link_refusal all child parent
   refusal-is = ap₂ (λ (b a : ℕ). link_refusal (renamed f all) b a) (sym below-is) (sym above-is) ∙ refuses-named f all by-names.renaming child parent below-there above-there
 
-  pub deep-is : (is : Bool) → IsTooDeep below above (links_in v.owned.linked.family) is → HangTogether v.owned.linked.family → is_too_deep all child parent ≡ is
+  pub deep-is : (is : Bool) → IsTooDeep below above (links_in v.owned.surfaces.family) is → HangTogether v.owned.surfaces.family → is_too_deep all child parent ≡ is
   deep-is is deep hangs =
       sym (keeps-refusals f all by-names.renaming child parent below-there above-there).0
       ∙ ap₂ (λ (b a : ℕ). is_too_deep (renamed f all) b a) below-is above-is
-      ∙ (both-refuse v.owned.linked.surfaces v.owned.linked.family (renamed f all) below above hangs by-names.stands).0 is deep
+      ∙ (both-refuse v.owned.surfaces.states v.owned.surfaces.family (renamed f all) below above hangs by-names.stands).0 is deep
 
   -- a surface has a wl_subsurface where one is kept of it
   has-some : (id : ℕ) → slice_index_or v.subsurfaces below None ≡ Some id → has_subsurface child r ≡ true
@@ -157,7 +157,7 @@ module _ {A : Type 0} (v : Kept A) (names : Names) (r : Resident) (child below p
       at None e false has = refl
 
   xdg-is : is_some (kept_of v.owned.shell below) ≡ is_some (xdg_of child r.owned.shell)
-  xdg-is = xdg-there names v.owned.linked.surfaces v.owned.linked.family (kept_of v.owned.shell) r.owned two.owns child below two.child_named
+  xdg-is = xdg-there names v.owned.surfaces.states v.owned.surfaces.family (kept_of v.owned.shell) r.owned two.owns child below two.child_named
 
   -- a surface that has none is no child
   no-link : has_subsurface child r ≡ false → is_some (link_of child all) ≡ false
@@ -166,7 +166,7 @@ module _ {A : Type 0} (v : Kept A) (names : Names) (r : Resident) (child below p
       at : (o : Option Link) → link_of child all ≡ o → is_some o ≡ false
       at None e = refl
       at (Some l) e =
-          let finds = (finds-named f v.owned.linked.surfaces v.owned.linked.family all child l by-names e).0 in
+          let finds = (finds-named f v.owned.surfaces.states v.owned.surfaces.family all child l by-names e).0 in
           let there = child-there r l.number l.child (two.orderly.order.links l.number l (record { here = finds.here; lives = finds.lives })) in
           let its : has_subsurface child r ≡ true = ap (λ i. has_subsurface i r) (sym finds.of_child) ∙ there in
           absurd (let both = sym free ∙ its in cc)
@@ -204,7 +204,7 @@ module _ {A : Type 0} (v : Kept A) (names : Names) (r : Resident) (child below p
 
     -- else it is as the surfaces and links say
     pub linked-judged : is_some (slice_index_or v.subsurfaces below None) ≡ false → is_some (kept_of v.owned.shell below) ≡ false → (told : Result (Unit {0}) SurfaceError)
-        → ((those : Surfaces) → Stand v.owned.linked.surfaces v.owned.linked.family those → IsRefused (link_refusal those below above) told)
+        → ((those : Surfaces) → Stand v.owned.surfaces.states v.owned.surfaces.family those → IsRefused (link_refusal those below above) told)
         → IsJudgedBy object told demand judged
     linked-judged free bare told refused =
         judged-so object demand (is_too_deep all child parent) taken (is_bad_parent all child parent) told
@@ -215,13 +215,13 @@ module _ {A : Type 0} (v : Kept A) (names : Names) (r : Resident) (child below p
 
   pub made-so : (number id : ℕ) (slots : Slots) (tied : Tied) (left : List (Option ℕ)) → link_at number all ≡ None → find (λ s. s.id == id) r.subsurfaces ≡ None
       → is_some (slice_index_or v.subsurfaces below None) ≡ false
-      → ((those : Surfaces) (number : ℕ) → Stand v.owned.linked.surfaces v.owned.linked.family those → link_at number those ≡ None → has_surface below those ≡ true → has_surface above those ≡ true
+      → ((those : Surfaces) (number : ℕ) → Stand v.owned.surfaces.states v.owned.surfaces.family those → link_at number those ≡ None → has_surface below those ≡ true → has_surface above those ≡ true
       → Stand slots tied (linked number below above those))
       → IsSetAt below (Some id) v.subsurfaces left
       → IsOwned names slots tied (kept_of v.owned.shell) (record r.owned { surfaces = linked number child parent all })
       × AreOfSurfaces left names.surfaces (r.subsurfaces ++ record { id = id; link = number; surface = Some child } ∷ [])
   made-so number id slots tied left none new free makes set = (
-    owned-linked names v.owned.linked.surfaces v.owned.linked.family (kept_of v.owned.shell) r.owned two.owns number child below parent above slots tied two.child_named two.parent_named none makes,
+    owned-linked names v.owned.surfaces.states v.owned.surfaces.family (kept_of v.owned.shell) r.owned two.owns number child below parent above slots tied two.child_named two.parent_named none makes,
     linked-subsurfaces v.subsurfaces left names.surfaces r.subsurfaces id number child below two.child_named two.owns.surfaces.once (nobody (slice_index_or v.subsurfaces below None) free) new set
         two.subsurfaces,
   )

@@ -75,14 +75,14 @@ module _ {A : Type 0} (v : Kept A) (r : Resident) (is : IsResident v r) (orderly
   abbrev numbers : ℕ → Option ℕ
   numbers = targets_in WlSurface v.client.objects
 
-  by-names : StandBy (number_in numbers) v.owned.linked.surfaces v.owned.linked.family r.owned.surfaces
-  by-names = stand-by numbers v.owned.linked.surfaces v.owned.linked.family r.owned.surfaces is.owns.surfaces
+  by-names : StandBy (number_in numbers) v.owned.surfaces.states v.owned.surfaces.family r.owned.surfaces
+  by-names = stand-by numbers v.owned.surfaces.states v.owned.surfaces.family r.owned.surfaces is.owns.surfaces
 
   -- what is kept of a surface's link
-  kept-link : (id number : ℕ) → numbers id ≡ Some number → links_in v.owned.linked.family number ≡ option_map (kept_by (number_in numbers)) (link_of id r.owned.surfaces)
+  kept-link : (id number : ℕ) → numbers id ≡ Some number → links_in v.owned.surfaces.family number ≡ option_map (kept_by (number_in numbers)) (link_of id r.owned.surfaces)
   kept-link id number named =
-      ap (links_in v.owned.linked.family) (sym (number-of-name numbers id number named))
-      ∙ ties-named (number_in numbers) v.owned.linked.surfaces v.owned.linked.family r.owned.surfaces id (sym (is.owns.surfaces.numbered id) ∙ ap is_some named) by-names
+      ap (links_in v.owned.surfaces.family) (sym (number-of-name numbers id number named))
+      ∙ ties-named (number_in numbers) v.owned.surfaces.states v.owned.surfaces.family r.owned.surfaces id (sym (is.owns.surfaces.numbered id) ∙ ap is_some named) by-names
 
   linked-there : (o : Option Link) → is_some (option_map (kept_by (number_in numbers)) o) ≡ true → (l : Link) × (o ≡ Some l)
   linked-there None e = absurd (cc)
@@ -92,8 +92,8 @@ module _ {A : Type 0} (v : Kept A) (r : Resident) (is : IsResident v r) (orderly
   link-of-child child of =
       let known = is.subsurfaces.known child object of.0 in
       let one = linked-there (link_of known.0 r.owned.surfaces) (ap is_some (sym (kept-link known.0 child known.1)) ∙ of.1) in
-      let finds = (finds-named (number_in numbers) v.owned.linked.surfaces v.owned.linked.family r.owned.surfaces known.0 one.0 by-names one.1).0 in
-      let ends = ends-there (number_in numbers) r.owned.surfaces (renaming-of numbers v.owned.linked.surfaces v.owned.linked.family r.owned.surfaces is.owns.surfaces) one.0.number one.0 finds.here
+      let finds = (finds-named (number_in numbers) v.owned.surfaces.states v.owned.surfaces.family r.owned.surfaces known.0 one.0 by-names one.1).0 in
+      let ends = ends-there (number_in numbers) r.owned.surfaces (renaming-of numbers v.owned.surfaces.states v.owned.surfaces.family r.owned.surfaces is.owns.surfaces) one.0.number one.0 finds.here
       finds.lives in
       let parent = some-there (numbers one.0.parent) (is.owns.surfaces.numbered one.0.parent ∙ ends.1) in
       let mine = child-by (subsurface_at object r) known.0 known.2 in

@@ -128,8 +128,8 @@ own-left {A} old new r then q is owned callbacks subsurfaces more same kept keep
   peer = peer;
   owns = λ alive. rw (names-kept old.client.objects new.client.objects (keeps alive), same, owned) is.owns;
   frames = λ alive.
-      subst (λ (o : Lent A). IsFramed o.linked.surfaces.frames new.client.objects then) (sym same)
-      (framed-names old.owned.linked.surfaces.frames old.client.objects new.client.objects r then callbacks more is.frames (names-kept old.client.objects new.client.objects (keeps alive))
+      subst (λ (o : Lent A). IsFramed o.surfaces.states.frames new.client.objects then) (sym same)
+      (framed-names old.owned.surfaces.states.frames old.client.objects new.client.objects r then callbacks more is.frames (names-kept old.client.objects new.client.objects (keeps alive))
       (ap (λ (o : Owned). o.surfaces) owned));
   subsurfaces = λ alive.
       rw (ap (λ (n : Names). n.surfaces) (names-kept old.client.objects new.client.objects (keeps alive)), kept, subsurfaces) is.subsurfaces;
@@ -170,10 +170,10 @@ own-answered old new r left (Err refusal) q is owned callbacks subsurfaces more 
     (q, errs, own-left old new r left q is owned callbacks subsurfaces more same kept keeps peer)
 
 -- the buffers that its surfaces use
-pub used-of : {A : Type 0} (old : Kept A) (r : Resident) → IsResident old r → AreUsed old.owned.linked.surfaces (λ number. is_used number r.owned.surfaces)
+pub used-of : {A : Type 0} (old : Kept A) (r : Resident) → IsResident old r → AreUsed old.owned.surfaces.states (λ number. is_used number r.owned.surfaces)
 used-of old r is =
     let numbers = (names_of old.client.objects).surfaces in
-    let slots = old.owned.linked.surfaces in
+    let slots = old.owned.surfaces.states in
     (by_number numbers r.owned.surfaces, is.owns.surfaces.stand, λ number. any-is numbers slots _ r.owned.surfaces is.owns.surfaces (λ s. has number s.history) (has_at number) refl (λ s. refl))
 
 pub own-served : {A : Type 0} (old new : Kept A) (r : Resident) (q : Peer) → IsResident old r → PassesTo true old.client → new.owned ≡ old.owned → new.subsurfaces ≡ old.subsurfaces

@@ -243,7 +243,7 @@ module _ {A : Type 0} (v : Kept A) (r : Resident) (its : Owns v r) where
       → AsksPointerSo numbered (demand_of nothing_left_out r object version m) (pointer_asked_by target (kind.Toplevel t))
   toplevel-told object version target m t named is_it =
       let request = toplevel_request m.opcode m.fields in
-      let one = toplevel-named (names_of v.client.objects) v.owned.linked.surfaces v.owned.linked.family (kept_of v.owned.shell) r.owned its object target
+      let one = toplevel-named (names_of v.client.objects) v.owned.surfaces.states v.owned.surfaces.family (kept_of v.owned.shell) r.owned its object target
       (roles-named.toplevel v.client.objects object target named) in
       subst (λ (j : Result Demand Refusal). AsksPointerSo numbered j (pointer_asked_by target (kind.Toplevel t))) (sym (toplevel-of r object version m is_it.0))
       (subst (λ (o : Option Xdg). AsksPointerSo numbered (toplevel_asked object o request) (pointer_asked_by target (kind.Toplevel t))) (sym one.4)

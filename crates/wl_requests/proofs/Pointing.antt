@@ -45,11 +45,11 @@ no-other (Some roles.Subsurface) never = absurd (never (roles.Subsurface, refl, 
 
 module _ {A : Type 0} (v : Kept A) (r : Resident) (is : IsResident v r) (object id number : ℕ) (named : IsSurface v id number) where
   xdg-is : is_some (kept_of v.owned.shell number) ≡ is_some (xdg_of id r.owned.shell)
-  xdg-is = xdg-there (names_of v.client.objects) v.owned.linked.surfaces v.owned.linked.family (kept_of v.owned.shell) r.owned is.owns id number named
+  xdg-is = xdg-there (names_of v.client.objects) v.owned.surfaces.states v.owned.surfaces.family (kept_of v.owned.shell) r.owned is.owns id number named
 
   role-is : role_at (by_number (names_of v.client.objects).surfaces r.owned.surfaces number) ≡ role_of r id
   role-is =
-      ap role_at (surface-read (names_of v.client.objects).surfaces v.owned.linked.surfaces v.owned.linked.family r.owned.surfaces is.owns.surfaces id number named)
+      ap role_at (surface-read (names_of v.client.objects).surfaces v.owned.surfaces.states v.owned.surfaces.family r.owned.surfaces is.owns.surfaces id number named)
       ∙ role-same (surface_at id r.owned.surfaces)
 
   by-parts : (a b : Bool) → is_no_cursor (role_of r id) ≡ a → is_some (xdg_of id r.owned.shell) ≡ b

@@ -53,7 +53,7 @@ pub placed-there : {A : Type 0} (old new : Kept A) (object number : ℕ) (placin
 placed-there old new object number placing judged c d r is ordered named placed answers =
     let names = names_of old.client.objects in
     let kept = kept_of old.owned.shell in
-    let one = toplevel-named names old.owned.linked.surfaces old.owned.linked.family kept r.owned is.owns object number (roles-named.popup old.client.objects object number named) in
+    let one = toplevel-named names old.owned.surfaces.states old.owned.surfaces.family kept r.owned is.owns object number (roles-named.popup old.client.objects object number named) in
     let entry = entry-named XdgPopup old.client.objects object number named in
     let there : is_of XdgPopup (r.peer.objects object) ≡ true =
     ap (λ (o : Objects). is_of XdgPopup (o object)) (sym is.peer.objects) ∙ ap (λ (e : Option Entry). is_of XdgPopup (option_map object_of e)) entry.1 ∙ entry.2 in
@@ -115,7 +115,7 @@ module _ {A : Type 0} (old new : Kept A) (c : ℕ) (r : Resident) (d : Desktop) 
   after = changed_for c demand counted_one (unpointed d)
 
   pub anew-done : (placed : Option Placed) → reposition_answer positioner placing.bounds placing.parent_at (kept_of old.owned.shell number) ≡ Ok placed
-      → kept_of new.owned.shell ≡ changing number (kept_repositioning placed r.peer.serial positioner) (kept_of old.owned.shell) → new.owned.linked ≡ old.owned.linked
+      → kept_of new.owned.shell ≡ changing number (kept_repositioning placed r.peer.serial positioner) (kept_of old.owned.shell) → new.owned.surfaces ≡ old.owned.surfaces
       → new.subsurfaces ≡ old.subsurfaces → (new.client.ended ≡ None → names_of new.client.objects ≡ names_of old.client.objects)
       → (q : Peer) × Queues (anew_told placed token r.peer.serial p.object.id x.id) (drawn_if (is_some placed) (counted r.peer)) q × IsPeer new.client q
       → MeetsSo c demand counted_one d old new
@@ -140,7 +140,7 @@ module _ {A : Type 0} (old new : Kept A) (c : ℕ) (r : Resident) (d : Desktop) 
         inr queues,
         left-still old new r after queued.0 is queued.2 (anew-callbacks where_to positioner o counted_one) (subst (λ (n : ℕ). r.peer.requests ≤ n) (sym requests) (one-more r.peer.requests)) surfaces
             (anew-subsurfaces where_to positioner o counted_one) linked kept table
-            (λ alive. popups-anew.repositioned names old.owned.linked.surfaces old.owned.linked.family before counted_one number k x h c token p positioner placing.bounds placing.parent_at placed
+            (λ alive. popups-anew.repositioned names old.owned.surfaces.states old.owned.surfaces.family before counted_one number k x h c token p positioner placing.bounds placing.parent_at placed
             (unpointed d) (kept_of new.owned.shell) is.owns one here its.bounds its.parent answer keeps),
       )
 

@@ -16,7 +16,7 @@ use Rattle.spec_desktop.specs.Objects.{Objects, interface_number, is_of, object_
 use Rattle.spec_desktop.specs.Peer.{Errs, Peer, Queues, WantsOr, counted, made, object_at_version, removed}
 use Rattle.spec_desktop.specs.Told.{Said, id_deleted}
 use Rattle.wl_links.specs.Family.{Tied}
-use Rattle.wl_surface.specs.declared.linked.Linked.{Linked}
+use Rattle.wl_surface.specs.declared.surfaces.Surfaces.{Surfaces as Linked}
 use Rattle.wl_surface.specs.Slots.{Changes, Numbered, Slots, StandForAll, role_at}
 use Rattle.wl_surface.specs.declared.applied.Applied.{Applied}
 use Rattle.wl_surface.specs.declared.error.SurfaceError.{SurfaceError}
@@ -72,15 +72,15 @@ use Rattle.wl_requests.proofs.Shelling.{entry-named, objects-counted, refused-wh
 
 -- A role object goes, and nothing else of the client than its shell changes.
 left-as : {A : Type 0} (old new : Kept A) (r after : Resident) (q : Peer) (object : ℕ) → IsResident old r → IsPeer new.client q → after.callbacks ≡ r.callbacks
-    → r.peer.requests ≤ after.peer.requests → after.owned.surfaces ≡ r.owned.surfaces → after.subsurfaces ≡ r.subsurfaces → new.owned.linked ≡ old.owned.linked → new.subsurfaces ≡ old.subsurfaces
+    → r.peer.requests ≤ after.peer.requests → after.owned.surfaces ≡ r.owned.surfaces → after.subsurfaces ≡ r.subsurfaces → new.owned.surfaces ≡ old.owned.surfaces → new.subsurfaces ≡ old.subsurfaces
     → (new.client.ended ≡ None → names_of new.client.objects ≡ with_toplevel object None (names_of old.client.objects))
-    → (new.client.ended ≡ None → IsOwned (names_of new.client.objects) old.owned.linked.surfaces old.owned.linked.family (kept_of new.owned.shell) after.owned)
+    → (new.client.ended ≡ None → IsOwned (names_of new.client.objects) old.owned.surfaces.states old.owned.surfaces.family (kept_of new.owned.shell) after.owned)
     → IsLeft old new after q
 left-as {A} old new r after q object is peer callbacks more surfaces subsurfaces linked kept table owns = record {
   peer = peer;
-  owns = λ alive. subst (λ (l : Linked A). IsOwned (names_of new.client.objects) l.surfaces l.family (kept_of new.owned.shell) after.owned) (sym linked) (owns alive);
-  frames = λ alive. subst (λ (l : Linked A). IsFramed l.surfaces.frames new.client.objects after) (sym linked)
-      (framed-kept old.owned.linked.surfaces.frames old.client.objects new.client.objects r after callbacks more is.frames (ap (λ (n : Names). n.surfaces) (table alive)) surfaces);
+  owns = λ alive. subst (λ (l : Linked A). IsOwned (names_of new.client.objects) l.states l.family (kept_of new.owned.shell) after.owned) (sym linked) (owns alive);
+  frames = λ alive. subst (λ (l : Linked A). IsFramed l.states.frames new.client.objects after) (sym linked)
+      (framed-kept old.owned.surfaces.states.frames old.client.objects new.client.objects r after callbacks more is.frames (ap (λ (n : Names). n.surfaces) (table alive)) surfaces);
   subsurfaces = λ alive. rw (kept, subsurfaces)
       (subsurfaces-named old.subsurfaces r.subsurfaces old.client.objects new.client.objects is.subsurfaces (ap (λ (n : Names). n.surfaces) (table alive)));
   numbers = λ alive. keeps-toplevel old.client.objects new.client.objects object None (table alive);
@@ -135,7 +135,7 @@ pub popup-answered : {A : Type 0} (done : Bool) (old new : Kept A) (object numbe
     → AnswersAs done (judged (Some x)) c r d old new)
     → AnswersAs done (judged (xdg_with object r.owned.shell)) c r d old new
 popup-answered done old new object number judged c d r is named answers =
-    let one = toplevel-named (names_of old.client.objects) old.owned.linked.surfaces old.owned.linked.family (kept_of old.owned.shell) r.owned is.owns object number
+    let one = toplevel-named (names_of old.client.objects) old.owned.surfaces.states old.owned.surfaces.family (kept_of old.owned.shell) r.owned is.owns object number
     (roles-named.popup old.client.objects object number named) in
     subst (λ (o : Option Xdg). AnswersAs done (judged o) c r d old new) (sym one.4) (answers one.0 one.1 one.2 one.3 one.5)
 
@@ -155,7 +155,7 @@ pub popup-ends : {A : Type 0} (old new : Kept A) (c : ℕ) (r : Resident) (d : D
     → IsXdg (names_of old.client.objects) (kept_of old.owned.shell) r.owned number k x h → is_role object x.role ≡ true
     → (q : Peer) × Queues (id_deleted object ∷ []) (removed object (counted r.peer)) q × IsPeer new.client q
     → (new.client.ended ≡ None → names_of new.client.objects ≡ with_toplevel object None (names_of old.client.objects))
-    → kept_of new.owned.shell ≡ changing number kept_without_role (kept_of old.owned.shell) → new.owned.linked ≡ old.owned.linked → new.subsurfaces ≡ old.subsurfaces
+    → kept_of new.owned.shell ≡ changing number kept_without_role (kept_of old.owned.shell) → new.owned.surfaces ≡ old.owned.surfaces → new.subsurfaces ≡ old.subsurfaces
     → MeetsAs true c (EndPopup object x.id) (with_peer (counted r.peer) r) d old new
 popup-ends old new c r d object number k x h is one its gone table keeps linked kept =
     let then : Resident = with_peer (counted r.peer) r in
@@ -165,7 +165,7 @@ popup-ends old new c r d object number k x h is one its gone table keeps linked 
       gone.0,
       subst (λ (es : List Said). Queues (id_deleted object ∷ es) after.peer gone.0) (sym (still-released then after refl)) gone.1,
       left-as old new r after gone.0 object is gone.2 refl (one-more r.peer.requests) refl refl linked kept table
-          (λ alive. popups-go.gone (names_of old.client.objects) old.owned.linked.surfaces old.owned.linked.family (kept_of old.owned.shell) then number k x h c object (unpointed d)
+          (λ alive. popups-go.gone (names_of old.client.objects) old.owned.surfaces.states old.owned.surfaces.family (kept_of old.owned.shell) then number k x h c object (unpointed d)
           (kept_of new.owned.shell)
           (names_of new.client.objects) is.owns one its keeps (table alive)),
     )
@@ -196,7 +196,7 @@ pub toplevel-there : {A : Type 0} (old new : Kept A) (object number : ℕ) (judg
     → is_role object x.role ≡ true → AnswersSo (judged (Some x)) c r d old new)
     → AnswersSo (judged (xdg_with object r.owned.shell)) c r d old new
 toplevel-there old new object number judged c d r is named answers =
-    let one = toplevel-named (names_of old.client.objects) old.owned.linked.surfaces old.owned.linked.family (kept_of old.owned.shell) r.owned is.owns object number
+    let one = toplevel-named (names_of old.client.objects) old.owned.surfaces.states old.owned.surfaces.family (kept_of old.owned.shell) r.owned is.owns object number
     (roles-named.toplevel old.client.objects object number named) in
     subst (λ (o : Option Xdg). AnswersSo (judged o) c r d old new) (sym one.4) (answers one.0 one.1 one.2 one.3 one.4 one.5)
 
@@ -239,11 +239,11 @@ module _ {A : Type 0} (old gone : Kept A) (w : ClientView) (shell : Book) (c : �
   events-are =
       ap (λ (es : List Said). id_deleted object ∷ (es ++ popups_done counted_one ended_one)) (still-released counted_one ended_one refl)
       ∙ ap (λ (es : List Said). id_deleted object ∷ es)
-      (popups-dismissed.end names_before old.owned.linked.surfaces old.owned.linked.family (kept_of old.owned.shell) counted_one c object x.id x.surface (unpointed d) is.owns no-popup)
+      (popups-dismissed.end names_before old.owned.surfaces.states old.owned.surfaces.family (kept_of old.owned.shell) counted_one c object x.id x.surface (unpointed d) is.owns no-popup)
       ∙ ap (λ (b : Bool). id_deleted object ∷ map done_told (undismissed (goes_with b x.id) r.owned.shell)) (sym no-popup)
 
   module _ (q : Peer) (told : Queues (id_deleted object ∷ []) without q) (peer : IsPeer w q) (dismisses : DismissesWith number (record old { client = w }) gone)
-      (over : is_some w.ended ≡ true → gone.client ≡ w) (linked : gone.owned.linked ≡ old.owned.linked) (kept : gone.subsurfaces ≡ old.subsurfaces)
+      (over : is_some w.ended ≡ true → gone.client ≡ w) (linked : gone.owned.surfaces ≡ old.owned.surfaces) (kept : gone.subsurfaces ≡ old.subsurfaces)
       (keeps : kept_of shell ≡ changing number kept_without_role (orphaned (kept_of gone.owned.shell number) (kept_of gone.owned.shell)))
       (table : gone.client.ended ≡ None → names_of gone.client.objects ≡ with_toplevel object None names_before) where
     lived : r.peer.status ≡ None
@@ -251,12 +251,12 @@ module _ {A : Type 0} (old gone : Kept A) (w : ClientView) (shell : Book) (c : �
 
     -- all were dismissed
     owns-so : (p : Peer) → AreDismissed names_before x.id r.owned q p gone → gone.client.ended ≡ None
-        → IsOwned (names_of gone.client.objects) old.owned.linked.surfaces old.owned.linked.family (kept_of shell) ended_one.owned
+        → IsOwned (names_of gone.client.objects) old.owned.surfaces.states old.owned.surfaces.family (kept_of shell) ended_one.owned
     owns-so p dismissed alive =
-        let slots = old.owned.linked.surfaces in
-        let tied = old.owned.linked.family in
+        let slots = old.owned.surfaces.states in
+        let tied = old.owned.surfaces.family in
         let was = kept_of gone.owned.shell in
-        let all = subst (λ (l : Linked A). IsOwned names_before l.surfaces l.family was (record r.owned { shell = dismissing (go_with x.id r.owned.shell) r.owned.shell })) linked
+        let all = subst (λ (l : Linked A). IsOwned names_before l.states l.family was (record r.owned { shell = dismissing (go_with x.id r.owned.shell) r.owned.shell })) linked
         (dismissed.owns alive) in
         let on = subst (λ (b : Bool). IsOwned names_before slots tied was (record r.owned { shell = dismissing (goes_with b x.id) r.owned.shell })) no-popup all in
         let orphans = toplevels-go.orphaned names_before slots tied was (record r.owned { shell = dismissing (goes_with false x.id) r.owned.shell }) x.id number (orphaned (was number) was) on
@@ -265,7 +265,7 @@ module _ {A : Type 0} (old gone : Kept A) (w : ClientView) (shell : Book) (c : �
         shell-named (roles-named.toplevel old.client.objects object number named) keeps (table alive)
 
     meets-with : (p : Peer) → Queues (id_deleted object ∷ those_told) without p → IsPeer gone.client p
-        → (gone.client.ended ≡ None → IsOwned (names_of gone.client.objects) old.owned.linked.surfaces old.owned.linked.family (kept_of shell) ended_one.owned)
+        → (gone.client.ended ≡ None → IsOwned (names_of gone.client.objects) old.owned.surfaces.states old.owned.surfaces.family (kept_of shell) ended_one.owned)
         → MeetsSo c ending counted_one d old left_so
     meets-with p all peer owns = (
       p,
@@ -342,9 +342,9 @@ module _ {A : Type 0} (old new : Kept A) (c : ℕ) (r : Resident) (d : Desktop) 
   none-told = ap (releases one_more) found ∙ role-released x.surface AsPopup one_more ordered.order.known.apart
 
   pub popup-comes : (q : Peer) → WantsOr true (Queues [] (made id (object_at_version XdgPopup version) (counted r.peer)) q) (counted r.peer) q → IsPeer new.client q
-      → Changes old.owned.linked.surfaces new.owned.linked.surfaces number (with_role AsPopup)
+      → Changes old.owned.surfaces.states new.owned.surfaces.states number (with_role AsPopup)
       → kept_of new.owned.shell ≡ changing number (kept_popup id parent positioner (r.peer.requests + 1)) (kept_of old.owned.shell)
-      → new.owned.linked.family ≡ old.owned.linked.family → new.owned.linked.surfaces.frames ≡ old.owned.linked.surfaces.frames → new.subsurfaces ≡ old.subsurfaces
+      → new.owned.surfaces.family ≡ old.owned.surfaces.family → new.owned.surfaces.states.frames ≡ old.owned.surfaces.states.frames → new.subsurfaces ≡ old.subsurfaces
       → (new.client.ended ≡ None → names_of new.client.objects ≡ with_toplevel id (Some number) (names_of old.client.objects))
       → MeetsSo c asked one_more d old new
   popup-comes q wants peer changes keeps tied frames kept table =
@@ -353,12 +353,12 @@ module _ {A : Type 0} (old new : Kept A) (c : ℕ) (r : Resident) (d : Desktop) 
         at wants,
         record {
           peer = peer;
-          owns = λ alive. subst (λ (t : Tied). IsOwned (names_of new.client.objects) new.owned.linked.surfaces t (kept_of new.owned.shell) (given (xdg_at x.id r.owned.shell)).owned) (sym tied)
-              (popups-come.made (names_of old.client.objects) old.owned.linked.surfaces old.owned.linked.family (kept_of old.owned.shell) one_more number k x h c id version parent positioner
-              (unpointed d) new.owned.linked.surfaces (kept_of new.owned.shell) (names_of new.client.objects) is.owns one bare (roles-named.free old.client.objects id free) changes keeps (table alive));
-          frames = λ alive. subst (λ (m : Resident). IsFramed new.owned.linked.surfaces.frames new.client.objects m) (sym found) (rw frames
-              (framed-role old.owned.linked.surfaces.frames old.client.objects new.client.objects r (given (Some x)) refl (one-more r.peer.requests) is.frames old.owned.linked.surfaces
-              old.owned.linked.family is.owns.surfaces x.surface number AsPopup one.surface (ap (λ (n : Names). n.surfaces) (table alive)) refl));
+          owns = λ alive. subst (λ (t : Tied). IsOwned (names_of new.client.objects) new.owned.surfaces.states t (kept_of new.owned.shell) (given (xdg_at x.id r.owned.shell)).owned) (sym tied)
+              (popups-come.made (names_of old.client.objects) old.owned.surfaces.states old.owned.surfaces.family (kept_of old.owned.shell) one_more number k x h c id version parent positioner
+              (unpointed d) new.owned.surfaces.states (kept_of new.owned.shell) (names_of new.client.objects) is.owns one bare (roles-named.free old.client.objects id free) changes keeps (table alive));
+          frames = λ alive. subst (λ (m : Resident). IsFramed new.owned.surfaces.states.frames new.client.objects m) (sym found) (rw frames
+              (framed-role old.owned.surfaces.states.frames old.client.objects new.client.objects r (given (Some x)) refl (one-more r.peer.requests) is.frames old.owned.surfaces.states
+              old.owned.surfaces.family is.owns.surfaces x.surface number AsPopup one.surface (ap (λ (n : Names). n.surfaces) (table alive)) refl));
           subsurfaces = λ alive. subst (λ (m : Resident). AreOfSurfaces new.subsurfaces (targets_in WlSurface new.client.objects) m.subsurfaces) (sym found) (rw kept
               (subsurfaces-named old.subsurfaces r.subsurfaces old.client.objects new.client.objects is.subsurfaces (ap (λ (n : Names). n.surfaces) (table alive))));
           numbers = λ alive. keeps-toplevel old.client.objects new.client.objects id (Some number) (table alive);

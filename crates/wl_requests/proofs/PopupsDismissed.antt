@@ -10,7 +10,7 @@ use Rattle.wl_proto.specs.Messages.{says}
 use Rattle.spec_desktop.specs.declared.cause.Cause.{Cause}
 use Rattle.spec_desktop.specs.Peer.{Peer, Queues}
 use Rattle.spec_desktop.specs.Told.{Said, said}
-use Rattle.wl_surface.specs.declared.linked.Linked.{Linked}
+use Rattle.wl_surface.specs.declared.surfaces.Surfaces.{Surfaces as Linked}
 use Rattle.wl_shell.specs.Found.{AreFound}
 use Rattle.wl_shell.specs.InOrder.{HasOrder, goes_with, newest_first, undismissed, with_dismissed}
 use Rattle.wl_shell.specs.PopupsKept.{IsNewest, dismissible_under}
@@ -88,14 +88,14 @@ pub record IsDismissingSo {A : Type 0} (names : Names) (xdg : ℕ) (o : Owned) (
   pub many : length gone ≡ count
   pub were : WereDismissed (go_with xdg o.shell) o.shell gone left
   pub told : IsToldSo (map done_told (undismissed (go_with xdg o.shell) o.shell)) (map done_told (undismissed (go_with xdg o.shell) left)) p q
-  pub owns : IsOwned names now.owned.linked.surfaces now.owned.linked.family (kept_of now.owned.shell) (record o { shell = left })
+  pub owns : IsOwned names now.owned.surfaces.states now.owned.surfaces.family (kept_of now.owned.shell) (record o { shell = left })
 
 -- those that went up to this one
 abbrev pub IsDismissedTo : {A : Type 0} → Names → ℕ → Owned → ℕ → Peer → Kept A → Type 0
 IsDismissedTo names xdg o count p now = (q : Peer) × (gone : List Popped) × (left : Shell) × IsDismissingSo names xdg o count p q gone left now
 
 pub none-dismissed : {A : Type 0} (names : Names) (xdg : ℕ) (o : Owned) (p : Peer) (now : Kept A)
-    → IsOwned names now.owned.linked.surfaces now.owned.linked.family (kept_of now.owned.shell) o → HasOrder o.shell → IsPeer now.client p → p.status ≡ None
+    → IsOwned names now.owned.surfaces.states now.owned.surfaces.family (kept_of now.owned.shell) o → HasOrder o.shell → IsPeer now.client p → p.status ≡ None
     → IsDismissedTo names xdg o 0 p now
 none-dismissed names xdg o p now owns order peer lives = (
   p,
@@ -144,11 +144,11 @@ module _ {A : Type 0} (names : Names) (xdg : ℕ) (o : Owned) (count : ℕ) (p q
   goes-next : AreFound book → (result : Option ℕ) → IsNewest (dismissible_under book (kept_of book surface)) (kept_of book) result → NextIs names (kept_of book) is left result
   goes-next found result newest =
       subst (λ (b : Bool). NextIs names (kept_of book) (goes_with b xdg) left result) (so.were.popups xdg)
-      (popups-dismissed.next names now.owned.linked.surfaces now.owned.linked.family book owned xdg surface result found so.owns so.were.has_order named newest)
+      (popups-dismissed.next names now.owned.surfaces.states now.owned.surfaces.family book owned xdg surface result found so.owns so.were.has_order named newest)
 
   pub dismissed-on : AreFound book → (new : Kept A) (went : ℕ) (after : ℕ → Option KeptXdg) → now.client.ended ≡ None
       → IsNewest (dismissible_under book (kept_of book surface)) (kept_of book) (Some went)
-      → after ≡ changing went (kept_changed dismiss) (kept_of book) → kept_of new.owned.shell ≡ after → new.owned.linked ≡ now.owned.linked
+      → after ≡ changing went (kept_changed dismiss) (kept_of book) → kept_of new.owned.shell ≡ after → new.owned.surfaces ≡ now.owned.surfaces
       → ((popup : ℕ) → role_id (after went) ≡ Some popup → (m : Peer) → IsPeer now.client m → (n : Peer) × Queues (said popup (says XdgPopup 1 []) ∷ []) m n × IsPeer new.client n)
       → IsDismissedTo names xdg o (count + 1) p new
   dismissed-on found new went after lives newest changes keeps linked tells =
@@ -160,7 +160,7 @@ module _ {A : Type 0} (names : Names) (xdg : ℕ) (o : Owned) (count : ℕ) (p q
       let alive : q.status ≡ None = sym so.peer.status ∙ lives in
       let rest = with_dismissed it.xdg.id left in
       let more = subst (λ (ps : List Popped). IsToldSo (map done_told (undismissed is o.shell)) (map done_told ps) p q) next.1.next.order so.told in
-      let owns = popups-dismissed.dismissed names now.owned.linked.surfaces now.owned.linked.family (kept_of book) owned went it (kept_of new.owned.shell) so.owns next.1.next.only next.1.surface
+      let owns = popups-dismissed.dismissed names now.owned.surfaces.states now.owned.surfaces.family (kept_of book) owned went it (kept_of new.owned.shell) so.owns next.1.next.only next.1.surface
       (keeps ∙ changes) in
       let many : length (gone ++ it ∷ []) ≡ count + 1 = let both = length-append gone (it ∷ []) in let was = so.many in omega (arith, both, was) in (
         told.0,
@@ -171,12 +171,12 @@ module _ {A : Type 0} (names : Names) (xdg : ℕ) (o : Owned) (count : ℕ) (p q
           many = many;
           were = popups-dismissed.on.next is o.shell left gone it.xdg.surface it so.were next.1.next;
           told = told-one (map done_told (undismissed is o.shell)) (map done_told (undismissed is rest)) (done_told it) p q told.0 more alive told.1;
-          owns = subst (λ (l : Linked A). IsOwned names l.surfaces l.family (kept_of new.owned.shell) (record o { shell = rest })) (sym linked) owns;
+          owns = subst (λ (l : Linked A). IsOwned names l.states l.family (kept_of new.owned.shell) (record o { shell = rest })) (sym linked) owns;
         },
       )
 
   -- all went
-  pub all-dismissed : AreFound book → (new : Kept A) → IsNewest (dismissible_under book (kept_of book surface)) (kept_of book) None → new.client ≡ now.client → new.owned.linked ≡ now.owned.linked
+  pub all-dismissed : AreFound book → (new : Kept A) → IsNewest (dismissible_under book (kept_of book surface)) (kept_of book) None → new.client ≡ now.client → new.owned.surfaces ≡ now.owned.surfaces
       → new.owned.shell ≡ book → AreDismissed names xdg o p q new
   all-dismissed found new newest client linked shell =
       let none = goes-next found None newest in

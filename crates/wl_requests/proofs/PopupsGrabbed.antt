@@ -9,7 +9,7 @@ use Rattle.spec_desktop.specs.declared.refusals.Refusal.{Refusal}
 use Rattle.spec_desktop.specs.Objects.{Objects, is_of, object_of}
 use Rattle.spec_desktop.specs.Peer.{Peer, Queues, counted}
 use Rattle.spec_desktop.specs.Told.{Said}
-use Rattle.wl_surface.specs.declared.linked.Linked.{Linked}
+use Rattle.wl_surface.specs.declared.surfaces.Surfaces.{Surfaces as Linked}
 use Rattle.wl_surface.specs.State.{History}
 use Rattle.wl_shell.specs.Descent.{has_popup_at}
 use Rattle.wl_shell.specs.Found.{AreFound}
@@ -58,7 +58,7 @@ pub popup-there : {A : Type 0} (old new : Kept A) (object number : ℕ) (judged 
     → AnswersSo (judged (Some x)) c r d old new)
     → AnswersSo (judged (xdg_with object r.owned.shell)) c r d old new
 popup-there old new object number judged c d r is ordered named answers =
-    let one = toplevel-named (names_of old.client.objects) old.owned.linked.surfaces old.owned.linked.family (kept_of old.owned.shell) r.owned is.owns object number
+    let one = toplevel-named (names_of old.client.objects) old.owned.surfaces.states old.owned.surfaces.family (kept_of old.owned.shell) r.owned is.owns object number
     (roles-named.popup old.client.objects object number named) in
     let entry = entry-named XdgPopup old.client.objects object number named in
     let there : is_of XdgPopup (r.peer.objects object) ≡ true =
@@ -84,7 +84,7 @@ pub grab-told : {A : Type 0} (old : Kept A) (r : Resident) (number : ℕ) (k : K
 grab-told old r number k x h g serial c d allowed told found is one given allows answer =
     let book = old.owned.shell in
     let its : Resident = with_peer (counted r.peer) r in
-    let latest = popups-grab.allowed (names_of old.client.objects) old.owned.linked.surfaces old.owned.linked.family book its number k x h c serial (unpointed d) found is.owns one in
+    let latest = popups-grab.allowed (names_of old.client.objects) old.owned.surfaces.states old.owned.surfaces.family book its number k x h c serial (unpointed d) found is.owns one in
     answer
     ∙ ap (λ (b : Bool). grab_answer (parent_allows book (kept_of book number) && b) (kept_of book number)) (allows ∙ allowed-so g serial c r d given)
     ∙ ap (λ (b : Bool). grab_answer b (kept_of book number)) latest
@@ -136,16 +136,16 @@ was-dismissed x p (Some object) e told = at object.kind e told
 
 -- nothing else of the client than its shell changes
 pub left-still : {A : Type 0} (old new : Kept A) (r after : Resident) (q : Peer) → IsResident old r → IsPeer new.client q → after.callbacks ≡ r.callbacks
-    → r.peer.requests ≤ after.peer.requests → after.owned.surfaces ≡ r.owned.surfaces → after.subsurfaces ≡ r.subsurfaces → new.owned.linked ≡ old.owned.linked → new.subsurfaces ≡ old.subsurfaces
+    → r.peer.requests ≤ after.peer.requests → after.owned.surfaces ≡ r.owned.surfaces → after.subsurfaces ≡ r.subsurfaces → new.owned.surfaces ≡ old.owned.surfaces → new.subsurfaces ≡ old.subsurfaces
     → (new.client.ended ≡ None → names_of new.client.objects ≡ names_of old.client.objects)
-    → (new.client.ended ≡ None → IsOwned (names_of old.client.objects) old.owned.linked.surfaces old.owned.linked.family (kept_of new.owned.shell) after.owned)
+    → (new.client.ended ≡ None → IsOwned (names_of old.client.objects) old.owned.surfaces.states old.owned.surfaces.family (kept_of new.owned.shell) after.owned)
     → IsLeft old new after q
 left-still {A} old new r after q is peer callbacks more surfaces subsurfaces linked kept table owns = record {
   peer = peer;
-  owns = λ alive. subst (λ (l : Linked A). IsOwned (names_of new.client.objects) l.surfaces l.family (kept_of new.owned.shell) after.owned) (sym linked)
-      (subst (λ (n : Names). IsOwned n old.owned.linked.surfaces old.owned.linked.family (kept_of new.owned.shell) after.owned) (sym (table alive)) (owns alive));
-  frames = λ alive. subst (λ (l : Linked A). IsFramed l.surfaces.frames new.client.objects after) (sym linked)
-      (framed-kept old.owned.linked.surfaces.frames old.client.objects new.client.objects r after callbacks more is.frames (ap (λ (n : Names). n.surfaces) (table alive)) surfaces);
+  owns = λ alive. subst (λ (l : Linked A). IsOwned (names_of new.client.objects) l.states l.family (kept_of new.owned.shell) after.owned) (sym linked)
+      (subst (λ (n : Names). IsOwned n old.owned.surfaces.states old.owned.surfaces.family (kept_of new.owned.shell) after.owned) (sym (table alive)) (owns alive));
+  frames = λ alive. subst (λ (l : Linked A). IsFramed l.states.frames new.client.objects after) (sym linked)
+      (framed-kept old.owned.surfaces.states.frames old.client.objects new.client.objects r after callbacks more is.frames (ap (λ (n : Names). n.surfaces) (table alive)) surfaces);
   subsurfaces = λ alive. rw (kept, subsurfaces)
       (subsurfaces-named old.subsurfaces r.subsurfaces old.client.objects new.client.objects is.subsurfaces (ap (λ (n : Names). n.surfaces) (table alive)));
   numbers = λ alive. keeps-names old.client.objects new.client.objects (table alive);
@@ -179,15 +179,15 @@ module _ {A : Type 0} (old new : Kept A) (c : ℕ) (r : Resident) (d : Desktop) 
   events-are b e =
       ap (λ (es : List Said). es ++ popups_done counted_one (changed_for c (Grab x.id serial) counted_one (unpointed d)))
       (still-released counted_one (changed_for c (Grab x.id serial) counted_one (unpointed d)) (surfaces-stay is_allowed x.id counted_one))
-      ∙ popups-dismissed.grab names_before old.owned.linked.surfaces old.owned.linked.family (kept_of old.owned.shell) counted_one c x.id serial (unpointed d) is.owns
+      ∙ popups-dismissed.grab names_before old.owned.surfaces.states old.owned.surfaces.family (kept_of old.owned.shell) counted_one c x.id serial (unpointed d) is.owns
       ∙ ap (λ (b : Bool). grab_done b x.id r.owned.shell) e
 
   -- ---- it is taken, or nothing is done
 
-  module _ (peer : IsPeer new.client (counted r.peer)) (linked : new.owned.linked ≡ old.owned.linked) (kept : new.subsurfaces ≡ old.subsurfaces)
+  module _ (peer : IsPeer new.client (counted r.peer)) (linked : new.owned.surfaces ≡ old.owned.surfaces) (kept : new.subsurfaces ≡ old.subsurfaces)
       (table : names_of new.client.objects ≡ names_before) where
     abbrev OwnedBy : Demand → Type 0
-    OwnedBy demand = IsOwned names_before old.owned.linked.surfaces old.owned.linked.family (kept_of new.owned.shell) (changed_for c demand counted_one (unpointed d)).owned
+    OwnedBy demand = IsOwned names_before old.owned.surfaces.states old.owned.surfaces.family (kept_of new.owned.shell) (changed_for c demand counted_one (unpointed d)).owned
 
     nothing-done : OwnedBy (Asks Ignore) → MeetsSo c (Asks Ignore) counted_one d old new
     nothing-done owns =
@@ -206,7 +206,7 @@ module _ {A : Type 0} (old new : Kept A) (c : ℕ) (r : Resident) (d : Desktop) 
               (ap (λ (m : Resident). m.peer) (sym same))),
           subst (λ (m : Resident). IsLeft old new m (counted r.peer)) (sym same)
               (left-still old new r after (counted r.peer) is peer refl (one-more r.peer.requests) refl refl linked kept (λ alive. table)
-              (λ alive. subst (λ (m : Resident). IsOwned names_before old.owned.linked.surfaces old.owned.linked.family (kept_of new.owned.shell) m.owned) same owns)),
+              (λ alive. subst (λ (m : Resident). IsOwned names_before old.owned.surfaces.states old.owned.surfaces.family (kept_of new.owned.shell) m.owned) same owns)),
         )
 
     answered : (told : Result Bool ShellError) → told ≡ grab_answer is_allowed (kept_of old.owned.shell number) → told ≡ Ok true → grab_answer is_allowed (kept_of old.owned.shell number) ≡ Ok true
@@ -227,7 +227,7 @@ module _ {A : Type 0} (old new : Kept A) (c : ℕ) (r : Resident) (d : Desktop) 
     grab-taken told answer is_ok keeps =
         let ok = answered told answer is_ok in
         at p.popup.is_dismissed refl ok
-        (popups-grab.taken names_before old.owned.linked.surfaces old.owned.linked.family (kept_of old.owned.shell) counted_one number k x h c serial p (unpointed d) (kept_of new.owned.shell)
+        (popups-grab.taken names_before old.owned.surfaces.states old.owned.surfaces.family (kept_of old.owned.shell) counted_one number k x h c serial p (unpointed d) (kept_of new.owned.shell)
         is.owns one here ok keeps)
       where
         given : (b : Bool) → is_allowed ≡ b → p.popup.is_dismissed ≡ false → grab_answer is_allowed (kept_of old.owned.shell number) ≡ Ok true → OwnedBy (Grab x.id serial)
@@ -246,17 +246,17 @@ module _ {A : Type 0} (old new : Kept A) (c : ℕ) (r : Resident) (d : Desktop) 
   shell-named = is.owns.named x.id ∙ ap (number_of names_before.surfaces) one.at_id ∙ one.surface
 
   module _ (mid : Kept A) (told : Result Bool ShellError) (answer : told ≡ grab_answer is_allowed (kept_of old.owned.shell number)) (not_ok : told ≡ Ok false)
-      (peer : IsPeer mid.client (counted r.peer)) (stays : mid.owned.linked ≡ old.owned.linked)
+      (peer : IsPeer mid.client (counted r.peer)) (stays : mid.owned.surfaces ≡ old.owned.surfaces)
       (keeps : kept_of mid.owned.shell ≡ changing number (kept_grabbing false) (kept_of old.owned.shell)) (dismisses : DismissesWith number mid new)
-      (linked : new.owned.linked ≡ old.owned.linked) (kept : new.subsurfaces ≡ old.subsurfaces)
+      (linked : new.owned.surfaces ≡ old.owned.surfaces) (kept : new.subsurfaces ≡ old.subsurfaces)
       (table : new.client.ended ≡ None → names_of new.client.objects ≡ names_before) where
     refused : (grab_demand serial x p ≡ Grab x.id serial) × (is_allowed ≡ false) × (has_popup_at x.id r.owned.shell ≡ true)
     refused = popups-grab.refused names_before (kept_of old.owned.shell) r.owned number k x h serial p is_allowed one here (sym answer ∙ not_ok)
 
-    owned-still : IsOwned names_before mid.owned.linked.surfaces mid.owned.linked.family (kept_of mid.owned.shell) r.owned
+    owned-still : IsOwned names_before mid.owned.surfaces.states mid.owned.surfaces.family (kept_of mid.owned.shell) r.owned
     owned-still =
-        subst (λ (l : Linked A). IsOwned names_before l.surfaces l.family (kept_of mid.owned.shell) r.owned) (sym stays)
-        (subst (λ (ks : ℕ → Option KeptXdg). IsOwned names_before old.owned.linked.surfaces old.owned.linked.family ks r.owned)
+        subst (λ (l : Linked A). IsOwned names_before l.states l.family (kept_of mid.owned.shell) r.owned) (sym stays)
+        (subst (λ (ks : ℕ → Option KeptXdg). IsOwned names_before old.owned.surfaces.states old.owned.surfaces.family ks r.owned)
         (sym (keeps ∙ none-taken number (kept_of old.owned.shell))) is.owns)
 
     dismissed : (q : Peer) × AreDismissed names_before x.id r.owned (counted r.peer) q new
@@ -273,9 +273,9 @@ module _ {A : Type 0} (old new : Kept A) (c : ℕ) (r : Resident) (d : Desktop) 
               (subst (λ (es : List Said). Queues es (counted r.peer) q) (sym its) gone.told)),
           subst (λ (m : Resident). IsLeft old new m q) (sym same)
               (left-still old new r after q is gone.peer refl (one-more r.peer.requests) refl refl linked kept table
-              (λ alive. subst (λ (l : Linked A). IsOwned names_before l.surfaces l.family (kept_of new.owned.shell) after.owned) linked
+              (λ alive. subst (λ (l : Linked A). IsOwned names_before l.states l.family (kept_of new.owned.shell) after.owned) linked
               (subst
-              (λ (b : Bool). IsOwned names_before new.owned.linked.surfaces new.owned.linked.family (kept_of new.owned.shell)
+              (λ (b : Bool). IsOwned names_before new.owned.surfaces.states new.owned.surfaces.family (kept_of new.owned.shell)
               (record r.owned { shell = dismissing (goes_with b x.id) r.owned.shell })) refused.2 (gone.owns alive)))),
         )
 

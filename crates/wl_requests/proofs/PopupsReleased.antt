@@ -12,7 +12,7 @@ use Rattle.spec_desktop.specs.declared.cause.Cause.{Cause}
 use Rattle.spec_desktop.specs.declared.cause.Cause.TheVariants.{Memory, Slow}
 use Rattle.spec_desktop.specs.Peer.{IsUnqueuedFor, Peer, QueuesFirst, QueuesTo, has_room, queued}
 use Rattle.spec_desktop.specs.Told.{Said, said, said_bytes}
-use Rattle.wl_surface.specs.declared.linked.Linked.{Linked}
+use Rattle.wl_surface.specs.declared.surfaces.Surfaces.{Surfaces as Linked}
 use Rattle.wl_shell.specs.Found.{AreFound}
 use Rattle.wl_shell.specs.InOrder.{HasOrder, undismissed, with_dismissed}
 use Rattle.wl_shell.specs.PopupsKept.{IsNewest, dismissible_grabbing}
@@ -134,14 +134,14 @@ pub record IsReleasingSo {A : Type 0} (names : Names) (o : Owned) (count : ℕ) 
   pub many : length gone ≡ count
   pub were : WereDismissed has_grab o.shell gone left
   pub told : IsToldTo (map done_told (undismissed has_grab o.shell)) (map done_told (undismissed has_grab left)) p q now.client.refused
-  pub owns : IsOwned names now.owned.linked.surfaces now.owned.linked.family (kept_of now.owned.shell) (record o { shell = left })
+  pub owns : IsOwned names now.owned.surfaces.states now.owned.surfaces.family (kept_of now.owned.shell) (record o { shell = left })
 
 -- those that went up to this one
 abbrev pub IsReleasedTo : {A : Type 0} → Names → Owned → ℕ → Peer → Kept A → Type 0
 IsReleasedTo names o count p now = (q : Peer) × (gone : List Popped) × (left : Shell) × IsReleasingSo names o count p q gone left now
 
 pub none-released : {A : Type 0} (names : Names) (o : Owned) (p : Peer) (now : Kept A)
-    → IsOwned names now.owned.linked.surfaces now.owned.linked.family (kept_of now.owned.shell) o → HasOrder o.shell → IsPeer now.client p → IsReleasedTo names o 0 p now
+    → IsOwned names now.owned.surfaces.states now.owned.surfaces.family (kept_of now.owned.shell) o → HasOrder o.shell → IsPeer now.client p → IsReleasedTo names o 0 p now
 none-released names o p now owns order peer = (
   p,
   [],
@@ -164,11 +164,11 @@ module _ {A : Type 0} (names : Names) (o : Owned) (count : ℕ) (p q : Peer) (go
 
   goes-next : AreFound book → (result : Option ℕ) → IsNewest (dismissible_grabbing book) (kept_of book) result → NextIs names (kept_of book) has_grab left result
   goes-next found result newest =
-      next-grabbing names now.owned.linked.surfaces now.owned.linked.family book owned found so.owns result so.were.has_order newest
+      next-grabbing names now.owned.surfaces.states now.owned.surfaces.family book owned found so.owns result so.were.has_order newest
 
   pub released-on : AreFound book → (new : Kept A) (went : ℕ) (after : ℕ → Option KeptXdg)
       → IsNewest (dismissible_grabbing book) (kept_of book) (Some went)
-      → after ≡ changing went (kept_changed dismiss) (kept_of book) → kept_of new.owned.shell ≡ after → new.owned.linked ≡ now.owned.linked
+      → after ≡ changing went (kept_changed dismiss) (kept_of book) → kept_of new.owned.shell ≡ after → new.owned.surfaces ≡ now.owned.surfaces
       → ((popup : ℕ) → role_id (after went) ≡ Some popup → (m : Peer) → IsPeer now.client m
       → (n : Peer) × QueuesTo (said popup (says XdgPopup 1 []) ∷ []) m n new.client.refused × IsPeer (opened new.client) n)
       → (is_some now.client.refused ≡ true → new.client ≡ now.client)
@@ -199,10 +199,10 @@ module _ {A : Type 0} (names : Names) (o : Owned) (count : ℕ) (p q : Peer) (go
       many : length (gone ++ it ∷ []) ≡ count + 1
       many = let both = length-append gone (it ∷ []) in let was = so.many in omega (arith, both, was)
 
-      owns : IsOwned names new.owned.linked.surfaces new.owned.linked.family (kept_of new.owned.shell) (record o { shell = rest })
+      owns : IsOwned names new.owned.surfaces.states new.owned.surfaces.family (kept_of new.owned.shell) (record o { shell = rest })
       owns =
-          subst (λ (l : Linked A). IsOwned names l.surfaces l.family (kept_of new.owned.shell) (record o { shell = rest })) (sym linked)
-          (popups-dismissed.dismissed names now.owned.linked.surfaces now.owned.linked.family (kept_of book) owned went it (kept_of new.owned.shell) so.owns next.1.next.only next.1.surface
+          subst (λ (l : Linked A). IsOwned names l.states l.family (kept_of new.owned.shell) (record o { shell = rest })) (sym linked)
+          (popups-dismissed.dismissed names now.owned.surfaces.states now.owned.surfaces.family (kept_of book) owned went it (kept_of new.owned.shell) so.owns next.1.next.only next.1.surface
           (keeps ∙ changes))
 
       by : (n : Peer) → IsPeer (opened new.client) n → IsToldTo all (map done_told (undismissed has_grab rest)) p n new.client.refused → IsReleasedTo names o (count + 1) p new
@@ -226,7 +226,7 @@ module _ {A : Type 0} (names : Names) (o : Owned) (count : ℕ) (p q : Peer) (go
           (told-over all (done_told it ∷ map done_told (undismissed has_grab rest)) (map done_told (undismissed has_grab rest)) p q now.client.refused more over))
 
   -- all went
-  pub all-released : AreFound book → (new : Kept A) → IsNewest (dismissible_grabbing book) (kept_of book) None → new.client ≡ now.client → new.owned.linked ≡ now.owned.linked
+  pub all-released : AreFound book → (new : Kept A) → IsNewest (dismissible_grabbing book) (kept_of book) None → new.client ≡ now.client → new.owned.surfaces ≡ now.owned.surfaces
       → new.owned.shell ≡ book → GrabsAreReleased names o p q new
   all-released found new newest client linked shell =
       let none = goes-next found None newest in

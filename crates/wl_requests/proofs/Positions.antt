@@ -95,15 +95,15 @@ unplaced-so old new c r d judged object child sibling its request orderly false 
 module _ {A : Type 0} (old new : Kept A) (c : ℕ) (r : Resident) (d : Desktop) (is : IsResident old r) (orderly : OwnsOrdered r)
     (only : new.client ≡ record old.client { requests = new.client.requests }) (peer : IsPeer new.client (counted r.peer))
     (shell : new.owned.shell ≡ old.owned.shell) (subs : new.subsurfaces ≡ old.subsurfaces)
-    (slots : new.owned.linked.surfaces ≡ old.owned.linked.surfaces) where
+    (slots : new.owned.surfaces.states ≡ old.owned.surfaces.states) where
   abbrev counted_of : Resident
   counted_of = with_peer (counted r.peer) r
 
   objects : new.client.objects ≡ old.client.objects
   objects = ap (λ (v : ClientView). v.objects) only
 
-  left-so : (after : Resident) → IsOwned (names_of old.client.objects) new.owned.linked.surfaces new.owned.linked.family (kept_of old.owned.shell) after.owned
-      → IsFramed old.owned.linked.surfaces.frames old.client.objects after → after.subsurfaces ≡ r.subsurfaces → IsLeft old new after (counted r.peer)
+  left-so : (after : Resident) → IsOwned (names_of old.client.objects) new.owned.surfaces.states new.owned.surfaces.family (kept_of old.owned.shell) after.owned
+      → IsFramed old.owned.surfaces.states.frames old.client.objects after → after.subsurfaces ≡ r.subsurfaces → IsLeft old new after (counted r.peer)
   left-so after owned framed same = record {
     peer = peer;
     owns = λ alive. rw (objects, shell) owned;
@@ -114,8 +114,8 @@ module _ {A : Type 0} (old new : Kept A) (c : ℕ) (r : Resident) (d : Desktop) 
 
   -- wl_subsurface.set_sync
   pub synchronised-so : (judged : Result Demand Refusal) (object child : ℕ) (its : IsLinkOf old r object child) → judged ≡ Ok (SetMode its.link.number true)
-      → ((all : Surfaces) (number : ℕ) (link : Link) → IsLink all number child link → Stand old.owned.linked.surfaces old.owned.linked.family all
-      → Stand new.owned.linked.surfaces new.owned.linked.family (synchronised_in number all))
+      → ((all : Surfaces) (number : ℕ) (link : Link) → IsLink all number child link → Stand old.owned.surfaces.states old.owned.surfaces.family all
+      → Stand new.owned.surfaces.states new.owned.surfaces.family (synchronised_in number all))
       → AnswersSo judged c r d old new
   synchronised-so judged object child its demand makes =
       let names = names_of old.client.objects in
@@ -126,23 +126,23 @@ module _ {A : Type 0} (old new : Kept A) (c : ℕ) (r : Resident) (d : Desktop) 
         counted r.peer,
         inr (subst (λ (es : List Said). Queues es (counted r.peer) (counted r.peer)) (sym none) refl),
         left-so after
-            (owned-synchronised names old.owned.linked.surfaces old.owned.linked.family (kept_of old.owned.shell) r.owned is.owns its.link.number child its.link its.here its.lives its.named
-            new.owned.linked.surfaces new.owned.linked.family makes)
-            (framed-left old.owned.linked.surfaces.frames old.client.objects old.client.objects r after refl (one-more r.peer.requests) is.frames (λ number. refl) (λ number. refl))
+            (owned-synchronised names old.owned.surfaces.states old.owned.surfaces.family (kept_of old.owned.shell) r.owned is.owns its.link.number child its.link its.here its.lives its.named
+            new.owned.surfaces.states new.owned.surfaces.family makes)
+            (framed-left old.owned.surfaces.states.frames old.client.objects old.client.objects r after refl (one-more r.peer.requests) is.frames (λ number. refl) (λ number. refl))
             refl,
       ))
 
   -- what is asked of the parent
   pub asked-so : (judged : Result Demand Refusal) (object child : ℕ) (its : IsLinkOf old r object child) (request : Request) → judged ≡ Ok (Asks (AskSurface its.link.parent request))
       → is_commit request ≡ false → ((v : Values) → (asked v request).buffer ≡ v.buffer) → frames_of (request ∷ []) ≡ []
-      → IsOwned (names_of old.client.objects) new.owned.linked.surfaces new.owned.linked.family (kept_of old.owned.shell)
+      → IsOwned (names_of old.client.objects) new.owned.surfaces.states new.owned.surfaces.family (kept_of old.owned.shell)
       (record r.owned { surfaces = with_change its.link.parent (asking request) r.owned.surfaces })
       → AnswersSo judged c r d old new
   asked-so judged object child its request demand plain keeps no_frames owned =
       let numbers = targets_in WlSurface old.client.objects in
-      let kept = old.owned.linked in
-      let there = surface-named numbers kept.surfaces kept.family r.owned.surfaces is.owns.surfaces its.link.parent its.above its.parent in
-      let read = surface-read numbers kept.surfaces kept.family r.owned.surfaces is.owns.surfaces its.link.parent its.above its.parent ∙ there.1 in
+      let kept = old.owned.surfaces in
+      let there = surface-named numbers kept.states kept.family r.owned.surfaces is.owns.surfaces its.link.parent its.above its.parent in
+      let read = surface-read numbers kept.states kept.family r.owned.surfaces is.owns.surfaces its.link.parent its.above its.parent ∙ there.1 in
       let bounds = cut-bounds (kept_at kept.surfaces its.above) there.0 (subst (λ (o : Option Surface). StandsAt (kept_at kept.surfaces its.above) o) read (is.owns.surfaces.stand its.above)) in
       let none = asked-keeps request plain keeps its.link.parent counted_of there.0 there.1 bounds.0 bounds.1 in
       let after = asked_of its.link.parent request counted_of in
@@ -154,7 +154,7 @@ module _ {A : Type 0} (old new : Kept A) (c : ℕ) (r : Resident) (d : Desktop) 
         subst (λ (x : Resident). IsLeft old new x (counted r.peer)) (sym none)
             (left-so after owned
             (framed-asked kept.surfaces.frames old.client.objects old.client.objects r after refl
-            (one-more r.peer.requests) is.frames kept.surfaces kept.family is.owns.surfaces its.link.parent its.above
+            (one-more r.peer.requests) is.frames kept.states kept.family is.owns.surfaces its.link.parent its.above
             request no_frames plain its.parent refl refl)
             refl),
       ))
@@ -162,7 +162,7 @@ module _ {A : Type 0} (old new : Kept A) (c : ℕ) (r : Resident) (d : Desktop) 
   -- wl_subsurface.place_above and place_below
   pub placed-so : (side : Side) (judged : Result Demand Refusal) (object child : ℕ) (its : IsLinkOf old r object child) (at : Member)
       → judged ≡ Ok (Asks (AskSurface its.link.parent (place_request side its.link.number at)))
-      → IsOwned (names_of old.client.objects) new.owned.linked.surfaces new.owned.linked.family (kept_of old.owned.shell)
+      → IsOwned (names_of old.client.objects) new.owned.surfaces.states new.owned.surfaces.family (kept_of old.owned.shell)
       (record r.owned { surfaces = with_change its.link.parent (asking (place_request side its.link.number at)) r.owned.surfaces })
       → AnswersSo judged c r d old new
   placed-so Above judged object child its at demand owned = asked-so judged object child its (PlaceAbove its.link.number at) demand refl (λ v. refl) refl owned

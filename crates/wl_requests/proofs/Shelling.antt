@@ -180,7 +180,7 @@ pub xdg-answered : {A : Type 0} (old new : Kept A) (object number version : ℕ)
     → AnswersWhole (xdg_asked r (Some x) version request) c r d old new)
     → AnswersWhole (xdg_demand r object version request) c r d old new
 xdg-answered old new object number version request c d r is named answers =
-    let one = xdg-named (names_of old.client.objects) old.owned.linked.surfaces old.owned.linked.family (kept_of old.owned.shell) r.owned is.owns object number named in
+    let one = xdg-named (names_of old.client.objects) old.owned.surfaces.states old.owned.surfaces.family (kept_of old.owned.shell) r.owned is.owns object number named in
     subst (λ (o : Option Xdg). AnswersWhole (xdg_asked r o version request) c r d old new) (sym one.4) (answers one.0 one.1 one.2 one.3 one.5)
 
 -- the object is a toplevel
@@ -190,7 +190,7 @@ pub toplevel-answered : {A : Type 0} (old new : Kept A) (object number : ℕ) (j
     → AnswersWhole (judged (Some x)) c r d old new)
     → AnswersWhole (judged (xdg_with object r.owned.shell)) c r d old new
 toplevel-answered old new object number judged c d r is named answers =
-    let one = toplevel-named (names_of old.client.objects) old.owned.linked.surfaces old.owned.linked.family (kept_of old.owned.shell) r.owned is.owns object number
+    let one = toplevel-named (names_of old.client.objects) old.owned.surfaces.states old.owned.surfaces.family (kept_of old.owned.shell) r.owned is.owns object number
     (roles-named.toplevel old.client.objects object number named) in
     subst (λ (o : Option Xdg). AnswersWhole (judged o) c r d old new) (sym one.4) (answers one.0 one.1 one.2 one.3 one.5)
 
@@ -234,10 +234,10 @@ pub counted-on : {A : Type 0} (old mid : Kept A) (r : Resident) → IsResident o
 counted-on {A} old mid r is only same kept peer = record {
   lives = ap (λ (w : ClientView). w.ended) only ∙ is.lives;
   peer = peer;
-  owns = subst (λ (n : Names). IsOwned n mid.owned.linked.surfaces mid.owned.linked.family (kept_of mid.owned.shell) r.owned) (sym (names-counted old.client mid.client only))
+  owns = subst (λ (n : Names). IsOwned n mid.owned.surfaces.states mid.owned.surfaces.family (kept_of mid.owned.shell) r.owned) (sym (names-counted old.client mid.client only))
       (rw same is.owns);
-  frames = subst (λ (o : Lent A). IsFramed o.linked.surfaces.frames mid.client.objects (with_peer (counted r.peer) r)) (sym same)
-      (framed-names old.owned.linked.surfaces.frames old.client.objects mid.client.objects r (with_peer (counted r.peer) r) refl (one-more r.peer.requests) is.frames
+  frames = subst (λ (o : Lent A). IsFramed o.surfaces.states.frames mid.client.objects (with_peer (counted r.peer) r)) (sym same)
+      (framed-names old.owned.surfaces.states.frames old.client.objects mid.client.objects r (with_peer (counted r.peer) r) refl (one-more r.peer.requests) is.frames
       (names-counted old.client mid.client only) refl);
   subsurfaces = subst (λ (n : Names). AreOfSurfaces mid.subsurfaces n.surfaces r.subsurfaces) (sym (names-counted old.client mid.client only)) (rw kept is.subsurfaces);
 }
@@ -358,7 +358,7 @@ changing-same number kept = fun_ext (λ other. at other (other == number) refl)
 
 -- what is owned was left as it was
 pub owns-told : {A : Type 0} (new : Kept A) (owned : Lent A) (names : Names) (o : Owned) → names_of new.client.objects ≡ names → new.owned ≡ owned
-    → IsOwned names owned.linked.surfaces owned.linked.family (kept_of owned.shell) o → IsOwned (names_of new.client.objects) new.owned.linked.surfaces new.owned.linked.family
+    → IsOwned names owned.surfaces.states owned.surfaces.family (kept_of owned.shell) o → IsOwned (names_of new.client.objects) new.owned.surfaces.states new.owned.surfaces.family
     (kept_of new.owned.shell) o
 owns-told new owned names o named same is = rw (named, same) is
 

@@ -75,7 +75,7 @@ commit-stacks old r id number act toplevel judged stacking named e comes top is 
 pub toplevel-out : {A : Type 0} (old : Kept A) (r : Resident) (object number : ℕ) → IsResident old r → IsToplevel old object number
     → StacksSo old r (toplevel_destroyed object (xdg_with object r.owned.shell)) (Out number)
 toplevel-out old r object number is named =
-    let one = toplevel-named (names_of old.client.objects) old.owned.linked.surfaces old.owned.linked.family (kept_of old.owned.shell) r.owned is.owns object number
+    let one = toplevel-named (names_of old.client.objects) old.owned.surfaces.states old.owned.surfaces.family (kept_of old.owned.shell) r.owned is.owns object number
     (roles-named.toplevel old.client.objects object number named) in
     subst (λ (o : Option Xdg). StacksSo old r (toplevel_destroyed object o) (Out number)) (sym one.4)
     (number, one.3.surface, refl)

@@ -30,14 +30,14 @@ pub record AreDismissed {A : Type 0} (names : Names) (xdg : ℕ) (o : Owned) (p 
   pub told : Queues (map done_told (undismissed (go_with xdg o.shell) o.shell)) p q
   pub owns :
       new.client.ended ≡ None
-      → IsOwned names new.owned.linked.surfaces new.owned.linked.family (kept_of new.owned.shell)
+      → IsOwned names new.owned.surfaces.states new.owned.surfaces.family (kept_of new.owned.shell)
       (record o { shell = dismissing (go_with xdg o.shell) o.shell })
 
 -- So it is of a client that lives, whose popups have the order that the shell asks for.
 abbrev pub DismissesWith : {A : Type 0} → ℕ → Kept A → Kept A → Type 0
 DismissesWith surface old new =
     (names : Names) (o : Owned) (xdg : ℕ) (p : Peer)
-    → IsOwned names old.owned.linked.surfaces old.owned.linked.family (kept_of old.owned.shell) o
+    → IsOwned names old.owned.surfaces.states old.owned.surfaces.family (kept_of old.owned.shell) o
     → HasOrder o.shell → names.shell xdg ≡ Some surface → IsPeer old.client p → p.status ≡ None
     → (q : Peer) × AreDismissed names xdg o p q new
 
@@ -49,13 +49,13 @@ pub record GrabsAreReleased {A : Type 0} (names : Names) (o : Owned) (p q : Peer
   pub peer : IsPeer (opened new.client) q
   pub told : QueuesTo (map done_told (undismissed (λ p. p.popup.has_grab) o.shell)) p q new.client.refused
   pub owns :
-      IsOwned names new.owned.linked.surfaces new.owned.linked.family (kept_of new.owned.shell)
+      IsOwned names new.owned.surfaces.states new.owned.surfaces.family (kept_of new.owned.shell)
       (record o { shell = dismissing (λ p. p.popup.has_grab) o.shell })
 
 -- So it is of a client that lives and isn't to end, whose popups have the order that the shell asks for.
 abbrev pub ReleasesGrabs : {A : Type 0} → Kept A → Kept A → Type 0
 ReleasesGrabs old new =
     (names : Names) (o : Owned) (p : Peer)
-    → IsOwned names old.owned.linked.surfaces old.owned.linked.family (kept_of old.owned.shell) o
+    → IsOwned names old.owned.surfaces.states old.owned.surfaces.family (kept_of old.owned.shell) o
     → HasOrder o.shell → IsPeer old.client p → p.status ≡ None → old.client.refused ≡ None
     → (q : Peer) × GrabsAreReleased names o p q new

@@ -34,7 +34,7 @@ names_before v = number_in (targets_in WlSurface v.client.objects)
 -- They rename what the client owns, and what is kept stands for it by them.
 pub record HoldsBy {A : Type 0} (old new : Kept A) (o : Owned) : Type 0 where
   pub renames : RenamesOwned (names_before old) o
-  pub held : IsHeld new.owned.linked.surfaces new.owned.linked.family new.owned.shell (renamed_owned (names_before old) o)
+  pub held : IsHeld new.owned.surfaces.states new.owned.surfaces.family new.owned.shell (renamed_owned (names_before old) o)
 
 -- So it does of what is demanded; of a refusal nothing is said.
 abbrev pub HoldsSo : {A : Type 0} → Result Demand Refusal → ℕ → Resident → Desktop → Kept A → Kept A → Type 0

@@ -25,7 +25,7 @@ freed_in told = freed_of told.applied.freed.items (map buffer_of told.shown.item
 pub record IsLetGo {A : Type 0} (told : Told A) (released : List ℕ) (old new : Kept A) : Type 0 where
   pub stores :
       (r : Resident) (numbers : ById ℕ) → IsPeer old.client r.peer
-      → AreKept numbers old.owned.linked.surfaces old.owned.linked.family r.owned.surfaces → AreOnce told.applied.freed.items
+      → AreKept numbers old.owned.surfaces.states old.owned.surfaces.family r.owned.surfaces → AreOnce told.applied.freed.items
       → IsPeer new.client (letting_go (freed_in told) r).peer
   pub only : new.client ≡ record old.client { stores = new.client.stores }
   pub rising : IsStrictlyIncreasing released

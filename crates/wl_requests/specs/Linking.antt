@@ -41,7 +41,7 @@ IsJudgedBy object (Err e) demand judged = IsJudged (link_refused object e) deman
 -- What is kept stands for a client whose surfaces are in order, and these numbers are those of a child and of a parent.
 pub record AreTwo {A : Type 0} (v : Kept A) (names : Names) (r : Resident) (child below parent above : ℕ) : Type 0 where
   pub orderly : OwnsOrdered r
-  pub owns : IsOwned names v.owned.linked.surfaces v.owned.linked.family (kept_of v.owned.shell) r.owned
+  pub owns : IsOwned names v.owned.surfaces.states v.owned.surfaces.family (kept_of v.owned.shell) r.owned
   pub subsurfaces : AreOfSurfaces v.subsurfaces names.surfaces r.subsurfaces
   pub child_named : names.surfaces child ≡ Some below
   pub parent_named : names.surfaces parent ≡ Some above
@@ -57,7 +57,7 @@ abbrev pub IsLinkMade : {A : Type 0} → ℕ → Kept A → Kept A → ℕ → �
 IsLinkMade id old new below above =
     (names : Names) (r : Resident) (child parent number : ℕ) → AreTwo old names r child below parent above
     → link_at number r.owned.surfaces ≡ None → find (λ s. s.id == id) r.subsurfaces ≡ None
-    → IsOwned names new.owned.linked.surfaces new.owned.linked.family (kept_of new.owned.shell)
+    → IsOwned names new.owned.surfaces.states new.owned.surfaces.family (kept_of new.owned.shell)
     (record r.owned { surfaces = linked number child parent r.owned.surfaces })
     × AreOfSurfaces new.subsurfaces names.surfaces (r.subsurfaces ++ record { id = id; link = number; surface = Some child } ∷ [])
 
@@ -65,9 +65,9 @@ IsLinkMade id old new below above =
 abbrev pub IsChildOf : {A : Type 0} → Kept A → ℕ → Option ℕ → Type 0
 IsChildOf v object None =
     (numbers : ById ℕ) (subsurfaces : List Subsurface) → AreOfSurfaces v.subsurfaces numbers subsurfaces
-    → (child : ℕ) → slice_index_or v.subsurfaces child None ≡ Some object → links_in v.owned.linked.family child ≡ None
+    → (child : ℕ) → slice_index_or v.subsurfaces child None ≡ Some object → links_in v.owned.surfaces.family child ≡ None
 IsChildOf v object (Some child) =
-    (slice_index_or v.subsurfaces child None ≡ Some object) × (is_some (links_in v.owned.linked.family child) ≡ true)
+    (slice_index_or v.subsurfaces child None ≡ Some object) × (is_some (links_in v.owned.surfaces.family child) ≡ true)
 
 -- This is it, and no other surface keeps the id.
 abbrev pub IsOnlyChild : {A : Type 0} → Kept A → ℕ → ℕ → Type 0

@@ -53,12 +53,12 @@ use Rattle.spec_desktop.specs.Framing.{AreFramed}
 
 -- what is kept of the surfaces and of the shell stands for what the client owns
 abbrev pub Owns : {A : Type 0} → Kept A → Resident → Type 0
-Owns v r = IsOwned (names_of v.client.objects) v.owned.linked.surfaces v.owned.linked.family (kept_of v.owned.shell) r.owned
+Owns v r = IsOwned (names_of v.client.objects) v.owned.surfaces.states v.owned.surfaces.family (kept_of v.owned.shell) r.owned
 
 -- the frame callbacks that are kept are those of the client, whose frame requests have numbers up to that of its last request
 abbrev pub KeepsFrames : {A : Type 0} → Kept A → Resident → Type 0
 KeepsFrames v r =
-    AreFramed v.owned.linked.surfaces.frames (by_number (targets_in WlSurface v.client.objects) r.owned.surfaces) (r.peer.requests + 1)
+    AreFramed v.owned.surfaces.states.frames (by_number (targets_in WlSurface v.client.objects) r.owned.surfaces) (r.peer.requests + 1)
     r.callbacks
 
 -- and so are its wl_subsurfaces

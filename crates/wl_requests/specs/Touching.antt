@@ -1,7 +1,7 @@
 -- What a request made of the surfaces of a client that may change what several of them show, and what is told of that (wayland.xml,
 -- wl_surface.commit and destroy; wl_subsurface.set_desync and destroy; xdg-shell.xml, xdg_popup.destroy).
 use Rattle.std.specs.Prelude.{ℕ, ◌≡◌, Option, Some, None, List, []}
-use Rattle.wl_surface.specs.declared.linked.Linked.{Linked}
+use Rattle.wl_surface.specs.declared.surfaces.Surfaces.{Surfaces as Linked}
 use Rattle.wl_surface.specs.Linked.{IsLink, Stand}
 use Rattle.wl_surface.specs.Tree.{IsCommitTold, IsDesyncTold, IsEndTold, IsTold}
 use Rattle.law_desktop.specs.Named.{Makes, MakesBy}
@@ -33,24 +33,24 @@ surface_of (Closes number) = number
 
 -- what it makes of what is kept
 abbrev pub IsMade : {A : Type 0} → Touch → Linked A → Linked A → Type 0
-IsMade (Commits number) old new = Makes old.surfaces old.family new.surfaces new.family (committed_in number)
-IsMade (Destroys number) old new = Makes old.surfaces old.family new.surfaces new.family (destroyed_in number)
+IsMade (Commits number) old new = Makes old.states old.family new.states new.family (committed_in number)
+IsMade (Destroys number) old new = Makes old.states old.family new.states new.family (destroyed_in number)
 IsMade (Parts child) old new =
-    MakesBy child old.surfaces old.family new.surfaces new.family (λ number link those. ended_in those link)
+    MakesBy child old.states old.family new.states new.family (λ number link those. ended_in those link)
 IsMade (Releases child) old new =
-    MakesBy child old.surfaces old.family new.surfaces new.family (λ number link. desynchronised_in number)
+    MakesBy child old.states old.family new.states new.family (λ number link. desynchronised_in number)
 IsMade (Closes number) old new = new ≡ old
 
 -- and what it tells of that
 abbrev pub IsTouchTold : {A : Type 0} → Touch → Linked A → List (Change A) → Type 0
 IsTouchTold (Commits number) old changes =
-    (all : Surfaces) → Stand old.surfaces old.family all → IsCommitTold number all changes
-IsTouchTold (Destroys number) old changes = (all : Surfaces) → Stand old.surfaces old.family all → IsEndTold number all changes
+    (all : Surfaces) → Stand old.states old.family all → IsCommitTold number all changes
+IsTouchTold (Destroys number) old changes = (all : Surfaces) → Stand old.states old.family all → IsEndTold number all changes
 IsTouchTold (Parts child) old changes =
-    (all : Surfaces) (number : ℕ) (link : Link) → IsLink all number child link → Stand old.surfaces old.family all
+    (all : Surfaces) (number : ℕ) (link : Link) → IsLink all number child link → Stand old.states old.family all
     → IsTold child (with_link number ending all) changes
 IsTouchTold (Releases child) old changes =
-    (all : Surfaces) (number : ℕ) (link : Link) → IsLink all number child link → Stand old.surfaces old.family all
+    (all : Surfaces) (number : ℕ) (link : Link) → IsLink all number child link → Stand old.states old.family all
     → IsDesyncTold number child all changes
 IsTouchTold (Closes number) old changes = changes ≡ []
 

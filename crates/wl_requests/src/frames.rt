@@ -19,9 +19,9 @@ impl<A: Allocator + Copy> Resident<A> {
         ensures tells { self.old.client.ended ≡ None → (r : Plain) → IsResident self.old r → OwnsOrdered r
             → (q : Peer) × Queues (frames_told time r) (done_due r).peer q × IsLeft self.old self.new (done_due r) q
             × (self.new.client.ended ≡ None → names_of self.new.client.objects ≡ names_of self.old.client.objects) }
-        ensures places { self.new.owned.linked.surfaces.places ≡ self.old.owned.linked.surfaces.places }
+        ensures places { self.new.owned.surfaces.states.places ≡ self.old.owned.surfaces.states.places }
     {
-        while let Some(callback) = self.owned.linked.surfaces.next_frame() {
+        while let Some(callback) = self.owned.surfaces.states.next_frame() {
             self.client.finish(callback, time);
             if self.client.has_ended() {
                 return;

@@ -134,7 +134,7 @@ impl<A: Allocator + Copy> Resident<A> {
             → (m : Message) → IsKind kind m → entry_of self.old.client.objects object ≡ Some (record { interface = m.interface; version = version; target = target })
             → AnswersPlacedAs (is_some result.applied) given.placing kind object (λ r. demand_of nothing_left_out r object version m) self.old self.new }
         ensures touched { (touch : Touch) → IsTouchOf kind object target self.old touch
-            → IsTouched touch self.old.owned.linked self.new.owned.linked result.applied }
+            → IsTouched touch self.old.owned.surfaces self.new.owned.surfaces result.applied }
         ensures nothing { ((touch : Touch) → IsTouchOf kind object target self.old touch → ⊥) → (numbers : ById ℕ) (subsurfaces : List Subsurface) → AreOfSurfaces self.old.subsurfaces numbers subsurfaces → result.applied ≡ None }
         ensures rest { Leaves self.old self.new }
         ensures room { is_some result.applied ≡ true → given.has_room ≡ true }
@@ -191,7 +191,7 @@ impl<A: Allocator + Copy> Resident<A> {
         ensures takes { IfSome result (λ s. TakesMessage asked placing grabbing self.old self.new s.stacking) }
         ensures decides { IfSome result (λ s. (touch : Touch) → IsTouchOfAsked asked self.old touch → TakesMessageAs (is_some s.applied) asked placing grabbing self.old self.new) }
         ensures touched { IfSome result (λ s. (touch : Touch) → IsTouchOfAsked asked self.old touch
-            → IsTouched touch self.old.owned.linked self.new.owned.linked s.applied) }
+            → IsTouched touch self.old.owned.surfaces self.new.owned.surfaces s.applied) }
         ensures nothing { IfSome result (λ s. ((touch : Touch) → IsTouchOfAsked asked self.old touch → ⊥) → (numbers : ById ℕ) (subsurfaces : List Subsurface) → AreOfSurfaces self.old.subsurfaces numbers subsurfaces → s.applied ≡ None) }
         ensures idle { IfNone result ((self.new ≡ self.old) × IsIdleAt self.old.client.ended self.old.client.rest) }
         ensures less { IfSome result (λ s. length self.new.client.rest < length self.old.client.rest) }
@@ -211,7 +211,7 @@ impl<A: Allocator + Copy> Resident<A> {
             Asked::Own { size, judged } => {
                 let _served = self
                     .client
-                    .serve_own(size, judged, &self.owned.linked.surfaces);
+                    .serve_own(size, judged, &self.owned.surfaces.states);
                 Some(Outcome::of(Stacking::Stays))
             }
             Asked::Request {

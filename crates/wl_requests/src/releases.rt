@@ -73,14 +73,14 @@ impl<A: Allocator + Copy> Resident<A> {
 
     /// Whether no surface has a buffer any more, and its wl_buffer is gone.
     fn is_over(&self, buffer: Attached) -> bool
-        ensures { (r : Plain) (numbers : ById ℕ) → IsPeer self.now.client r.peer → AreKept numbers self.now.owned.linked.surfaces self.now.owned.linked.family r.owned.surfaces → result ≡ is_over r (buffer_of buffer) }
+        ensures { (r : Plain) (numbers : ById ℕ) → IsPeer self.now.client r.peer → AreKept numbers self.now.owned.surfaces.states self.now.owned.surfaces.family r.owned.surfaces → result ≡ is_over r (buffer_of buffer) }
     {
-        !self.is_named(buffer) && !self.owned.linked.surfaces.is_used(buffer.number)
+        !self.is_named(buffer) && !self.owned.surfaces.states.is_used(buffer.number)
     }
 
     /// Lets the store of a buffer go that is over, unless it went before.
     pub(crate) fn let_go_if_over(&mut self, buffer: Option<Attached>, went: bool)
-        ensures stores { (r : Plain) (numbers : ById ℕ) → IsPeer self.old.client r.peer → AreKept numbers self.old.owned.linked.surfaces self.old.owned.linked.family r.owned.surfaces
+        ensures stores { (r : Plain) (numbers : ById ℕ) → IsPeer self.old.client r.peer → AreKept numbers self.old.owned.surfaces.states self.old.owned.surfaces.family r.owned.surfaces
             → self.new.client.stores ≡ let_if (is_over r) went (option_map buffer_of buffer) self.old.client.stores }
         ensures only { self.new.client ≡ record self.old.client { stores = self.new.client.stores } }
         ensures owned { self.new.owned ≡ self.old.owned }
@@ -100,7 +100,7 @@ impl<A: Allocator + Copy> Resident<A> {
         second: Option<Attached>,
         third: Option<Attached>,
     )
-        ensures stores { (r : Plain) (numbers : ById ℕ) → IsPeer self.old.client r.peer → AreKept numbers self.old.owned.linked.surfaces self.old.owned.linked.family r.owned.surfaces
+        ensures stores { (r : Plain) (numbers : ById ℕ) → IsPeer self.old.client r.peer → AreKept numbers self.old.owned.surfaces.states self.old.owned.surfaces.family r.owned.surfaces
             → IsPeer self.new.client (letting_go (listed (option_map buffer_of first) ++ listed (option_map buffer_of second) ++ listed (option_map buffer_of third)) r).peer }
         ensures only { self.new.client ≡ record self.old.client { stores = self.new.client.stores } }
         ensures owned { self.new.owned ≡ self.old.owned }
@@ -113,7 +113,7 @@ impl<A: Allocator + Copy> Resident<A> {
 
     /// Lets the stores of the buffers that a surface had go, of those that are over, each once.
     pub(crate) fn let_go_of(&mut self, had: [Option<Attached>; 3])
-        ensures stores { (r : Plain) (numbers : ById ℕ) → IsPeer self.old.client r.peer → AreKept numbers self.old.owned.linked.surfaces self.old.owned.linked.family r.owned.surfaces
+        ensures stores { (r : Plain) (numbers : ById ℕ) → IsPeer self.old.client r.peer → AreKept numbers self.old.owned.surfaces.states self.old.owned.surfaces.family r.owned.surfaces
             → (at : Option Surface) → map (option_map buffer_of) had ≡ had_at at → IsPeer self.new.client (letting_go (buffers_had (option_map (λ (s : Surface). s.history) at)) r).peer }
         ensures only { self.new.client ≡ record self.old.client { stores = self.new.client.stores } }
         ensures owned { self.new.owned ≡ self.old.owned }
@@ -125,7 +125,7 @@ impl<A: Allocator + Copy> Resident<A> {
 
     /// Lets the stores of those buffers go that are over: of the buffers that were shown, those of these numbers are looked at.
     fn let_go_of_freed(&mut self, freed: &[BufferNo], shown: &[Attached])
-        ensures stores { (r : Plain) (numbers : ById ℕ) → IsPeer self.old.client r.peer → AreKept numbers self.old.owned.linked.surfaces self.old.owned.linked.family r.owned.surfaces
+        ensures stores { (r : Plain) (numbers : ById ℕ) → IsPeer self.old.client r.peer → AreKept numbers self.old.owned.surfaces.states self.old.owned.surfaces.family r.owned.surfaces
             → AreOnce freed.now → IsPeer self.new.client (letting_go (freed_of freed.now (map buffer_of shown.now)) r).peer }
         ensures only { self.new.client ≡ record self.old.client { stores = self.new.client.stores } }
         ensures owned { self.new.owned ≡ self.old.owned }

@@ -108,14 +108,14 @@ impl<A: Allocator + Copy> Resident<A> {
         has_room: bool,
     ) -> Option<Applied<A>>
         ensures does { IsSurface self.old object surface → kept_of self.old.owned.shell surface ≡ None → MeetsTold (λ r. EndSurface object) result self.old self.new }
-        ensures touched { IsTouched (Destroys surface) self.old.owned.linked self.new.owned.linked result }
+        ensures touched { IsTouched (Destroys surface) self.old.owned.surfaces self.new.owned.surfaces result }
         ensures rest { Leaves self.old self.new }
         ensures room { is_some result ≡ true → has_room ≡ true }
         ensures holds { IsSurface self.old object surface → kept_of self.old.owned.shell surface ≡ None → (c : ℕ) (r : Plain) (d : Desktop) → IsResident self.old r
             → OwnsOrdered r → is_some result ≡ true → HoldsBy self.old self.new (changed_for c (EndSurface object) r (unpointed d)).owned }
     {
-        let [pending, _, _] = self.owned.linked.surfaces.buffers(surface);
-        let Ok(told) = self.owned.linked.destroy(surface) else {
+        let [pending, _, _] = self.owned.surfaces.states.buffers(surface);
+        let Ok(told) = self.owned.surfaces.destroy(surface) else {
             self.client.lack_memory();
             return None;
         };
@@ -135,9 +135,9 @@ impl<A: Allocator + Copy> Resident<A> {
         ensures does { (object : ℕ) → IsSurface self.old object surface → Does (λ r. AskSurface object (Attach (buffer_named r buffer) x y)) self.old self.new }
         ensures rest { Leaves self.old self.new }
     {
-        let had = self.owned.linked.surfaces.buffers(surface);
+        let had = self.owned.surfaces.states.buffers(surface);
         let attached = self.attached(buffer);
-        self.owned.linked.surfaces.attach(surface, attached, x, y);
+        self.owned.surfaces.states.attach(surface, attached, x, y);
         self.let_go_of(had);
     }
 
@@ -146,7 +146,7 @@ impl<A: Allocator + Copy> Resident<A> {
         ensures does { (object : ℕ) → IsSurface self.old object surface → Does (λ r. AskSurface object (DamageAsked rect)) self.old self.new }
         ensures rest { Leaves self.old self.new }
     {
-        match self.owned.linked.surfaces.damage(surface, rect) {
+        match self.owned.surfaces.states.damage(surface, rect) {
             Ok(()) => {}
             Err(_) => self.client.lack_memory(),
         }
@@ -157,7 +157,7 @@ impl<A: Allocator + Copy> Resident<A> {
         ensures does { (object : ℕ) → IsSurface self.old object surface → Does (λ r. AskSurface object (BufferDamaged rect)) self.old self.new }
         ensures rest { Leaves self.old self.new }
     {
-        match self.owned.linked.surfaces.damage_buffer(surface, rect) {
+        match self.owned.surfaces.states.damage_buffer(surface, rect) {
             Ok(()) => {}
             Err(_) => self.client.lack_memory(),
         }
@@ -169,7 +169,7 @@ impl<A: Allocator + Copy> Resident<A> {
         ensures rest { Leaves self.old self.new }
     {
         let region = self.client.region(region);
-        match self.owned.linked.surfaces.set_opaque(surface, region) {
+        match self.owned.surfaces.states.set_opaque(surface, region) {
             Ok(()) => {}
             Err(_) => self.client.lack_memory(),
         }
@@ -181,7 +181,7 @@ impl<A: Allocator + Copy> Resident<A> {
         ensures rest { Leaves self.old self.new }
     {
         let region = self.client.region(region);
-        match self.owned.linked.surfaces.set_input(surface, region) {
+        match self.owned.surfaces.states.set_input(surface, region) {
             Ok(()) => {}
             Err(_) => self.client.lack_memory(),
         }
@@ -195,13 +195,13 @@ impl<A: Allocator + Copy> Resident<A> {
             → AnswersPlacedAs (is_some result.applied) given.placing (Kind.Surface Commit) object (λ r. commit_demand r object) self.old self.new }
         ensures stacks { IsSurface self.old object surface
             → Stacks (λ r. commit_demand r object) self.old result.stacking }
-        ensures touched { IsTouched (Commits surface) self.old.owned.linked self.new.owned.linked result.applied }
+        ensures touched { IsTouched (Commits surface) self.old.owned.surfaces self.new.owned.surfaces result.applied }
         ensures rest { Leaves self.old self.new }
         ensures room { is_some result.applied ≡ true → given.has_room ≡ true }
         ensures holds { IsSurface self.old object surface
             → HoldsPlaced (is_some result.applied) given.placing (Kind.Surface Commit) object (λ r. commit_demand r object) self.old self.new }
     {
-        let has_buffer = self.owned.linked.surfaces.pending_buffer(surface).is_some();
+        let has_buffer = self.owned.surfaces.states.pending_buffer(surface).is_some();
         let is_toplevel = self.has_toplevel(surface);
         let serial = self.client.serial();
         match self.owned.shell.on_commit(
@@ -212,7 +212,7 @@ impl<A: Allocator + Copy> Resident<A> {
             serial,
         ) {
             Ok(act) => {
-                if !self.owned.linked.surfaces.is_whole(surface) {
+                if !self.owned.surfaces.states.is_whole(surface) {
                     let refusal = Refusal::of(object, ErrorCode::InvalidBufferSize);
                     self.client.refuse(refusal);
                     return Outcome::of(Stacking::Stays);
@@ -242,24 +242,24 @@ impl<A: Allocator + Copy> Resident<A> {
         has_room: bool,
     ) -> Option<Applied<A>>
         ensures applies { (c : ℕ) (r : Plain) (d : Desktop) (names : Names) (object : ℕ) (kept : ℕ → Option KeptXdg) (bounds : ScreenRect) (at : ℤ × ℤ) → OwnsOrdered r
-            → effect_of_commit r object ≡ effect_by act → r.peer.status ≡ None → IsPeer self.old.client r.peer → IsOwned names self.old.owned.linked.surfaces self.old.owned.linked.family kept r.owned
-            → AreFramed self.old.owned.linked.surfaces.frames (by_number names.surfaces r.owned.surfaces) (r.peer.requests + 1) r.callbacks
+            → effect_of_commit r object ≡ effect_by act → r.peer.status ≡ None → IsPeer self.old.client r.peer → IsOwned names self.old.owned.surfaces.states self.old.owned.surfaces.family kept r.owned
+            → AreFramed self.old.owned.surfaces.states.frames (by_number names.surfaces r.owned.surfaces) (r.peer.requests + 1) r.callbacks
             → AreOfSurfaces self.old.subsurfaces names.surfaces r.subsurfaces
             → names_of self.old.client.objects ≡ names → names.surfaces object ≡ Some surface → bounds ≡ output_rect d.output → IsAtParent at c object r d
             → commit_answer (will_show r object) bounds at (kept surface) ≡ Ok act → serial ≡ r.peer.serial
             → kept_of self.old.owned.shell ≡ changing surface (kept_after r.peer.serial act) kept
             → MeetsAs (is_some result) c (CommitTree object) r d self.old self.new }
-        ensures touched { IsTouched (Commits surface) self.old.owned.linked self.new.owned.linked result }
+        ensures touched { IsTouched (Commits surface) self.old.owned.surfaces self.new.owned.surfaces result }
         ensures rest { Leaves self.old self.new }
         ensures room { is_some result ≡ true → has_room ≡ true }
         ensures holds { (c : ℕ) (r : Plain) (d : Desktop) (names : Names) (object : ℕ) (kept : ℕ → Option KeptXdg) (bounds : ScreenRect) (at : ℤ × ℤ) → OwnsOrdered r
-            → IsOwned names self.old.owned.linked.surfaces self.old.owned.linked.family kept r.owned → names_of self.old.client.objects ≡ names
+            → IsOwned names self.old.owned.surfaces.states self.old.owned.surfaces.family kept r.owned → names_of self.old.client.objects ≡ names
             → names.surfaces object ≡ Some surface → bounds ≡ output_rect d.output → IsAtParent at c object r d
             → commit_answer (will_show r object) bounds at (kept surface) ≡ Ok act
             → kept_of self.old.owned.shell ≡ changing surface (kept_after r.peer.serial act) kept
             → is_some result ≡ true → HoldsBy self.old self.new (changed_for c (CommitTree object) r (unpointed d)).owned }
     {
-        let Ok(told) = self.owned.linked.commit(surface) else {
+        let Ok(told) = self.owned.surfaces.commit(surface) else {
             self.client.lack_memory();
             return None;
         };
@@ -277,7 +277,7 @@ impl<A: Allocator + Copy> Resident<A> {
             → Does (λ r. AskSurface object (SetBufferTransform (unsigned_abs transform))) self.old self.new }
         ensures rest { Leaves self.old self.new }
     {
-        match self.owned.linked.surfaces.set_transform(surface, transform) {
+        match self.owned.surfaces.states.set_transform(surface, transform) {
             Ok(()) => {}
             Err(_) => self.client.lack_memory(),
         }
@@ -289,7 +289,7 @@ impl<A: Allocator + Copy> Resident<A> {
             → Does (λ r. AskSurface object (SetBufferScale (unsigned_abs scale))) self.old self.new }
         ensures rest { Leaves self.old self.new }
     {
-        match self.owned.linked.surfaces.set_scale(surface, scale) {
+        match self.owned.surfaces.states.set_scale(surface, scale) {
             Ok(()) => {}
             Err(_) => self.client.lack_memory(),
         }
@@ -309,7 +309,7 @@ impl<A: Allocator + Copy> Resident<A> {
     fn destroy(&mut self, object: u32, surface: SurfaceNo, has_room: bool) -> Outcome<A>
         ensures answers { IsSurface self.old object surface
             → AnswersDemandAs (is_some result.applied) (λ r. surface_destroyed r object) self.old self.new }
-        ensures touched { IsTouched (Destroys surface) self.old.owned.linked self.new.owned.linked result.applied }
+        ensures touched { IsTouched (Destroys surface) self.old.owned.surfaces self.new.owned.surfaces result.applied }
         ensures stays { result.stacking ≡ Stacking.Stays }
         ensures rest { Leaves self.old self.new }
         ensures room { is_some result.applied ≡ true → has_room ≡ true }
@@ -363,7 +363,7 @@ impl<A: Allocator + Copy> Resident<A> {
         ensures rest { Leaves self.old self.new }
     {
         self.client.count();
-        match self.owned.linked.surfaces.frame(surface, callback) {
+        match self.owned.surfaces.states.frame(surface, callback) {
             Ok(()) => {
                 let entry = Entry {
                     interface: Interface::WlCallback,
@@ -445,7 +445,7 @@ impl<A: Allocator + Copy> Resident<A> {
         ensures decides { (touch : Touch) → IsTouchOf (Kind.Surface request.now) object surface self.old touch → IsSurface self.old object surface
             → AnswersPlacedAs (is_some result.applied) given.placing (Kind.Surface request.now) object (λ r. demand_of nothing_left_out r object version (wl_surface_request request.now)) self.old self.new }
         ensures touched { (touch : Touch) → IsTouchOf (Kind.Surface request.now) object surface self.old touch
-            → IsTouched touch self.old.owned.linked self.new.owned.linked result.applied }
+            → IsTouched touch self.old.owned.surfaces self.new.owned.surfaces result.applied }
         ensures nothing { ((touch : Touch) → IsTouchOf (Kind.Surface request.now) object surface self.old touch → ⊥) → result.applied ≡ None }
         ensures rest { Leaves self.old self.new }
         ensures room { is_some result.applied ≡ true → given.has_room ≡ true }

@@ -45,15 +45,15 @@ impl<A: Allocator + Copy> Resident<A> {
         ensures made { OnOk result (IsLinkMade id self.old self.new child parent) }
         ensures client { self.new.client ≡ self.old.client }
         ensures shell { self.new.owned.shell ≡ self.old.owned.shell }
-        ensures frames { self.new.owned.linked.surfaces.frames ≡ self.old.owned.linked.surfaces.frames }
+        ensures frames { self.new.owned.surfaces.states.frames ≡ self.old.owned.surfaces.states.frames }
     {
-        if self.owned.linked.family.is_too_deep(child, parent) {
+        if self.owned.surfaces.family.is_too_deep(child, parent) {
             return Err(SurfaceError::TooDeep);
         }
         if self.subsurfaces.get(child).is_some() || self.owned.shell.get(child).is_some() {
             return Err(SurfaceError::Role);
         }
-        self.owned.linked.subsurface(child, parent)?;
+        self.owned.surfaces.subsurface(child, parent)?;
         self.subsurfaces.set(child, id)?;
         Ok(())
     }

@@ -30,7 +30,7 @@ impl<A: Allocator + Copy> Resident<A> {
         ensures { IsChildOf self.now object result }
     {
         let child = self.subsurfaces.surface_of(object)?;
-        match self.owned.linked.family.link(child) {
+        match self.owned.surfaces.family.link(child) {
             Some(_) => Some(child),
             None => None,
         }
@@ -45,7 +45,7 @@ impl<A: Allocator + Copy> Resident<A> {
         let Some(child) = self.child_of(object) else {
             return;
         };
-        match self.owned.linked.set_position(child, x, y) {
+        match self.owned.surfaces.set_position(child, x, y) {
             Ok(()) => {}
             Err(_) => self.client.lack_memory(),
         }
@@ -80,7 +80,7 @@ impl<A: Allocator + Copy> Resident<A> {
             self.client.count();
             return;
         };
-        match self.owned.linked.place(child, sibling, side) {
+        match self.owned.surfaces.place(child, sibling, side) {
             Ok(()) => self.client.count(),
             Err(error) => self.refuse_place(object, error),
         }
@@ -93,7 +93,7 @@ impl<A: Allocator + Copy> Resident<A> {
     {
         self.client.count();
         if let Some(child) = self.child_of(object) {
-            self.owned.linked.set_sync(child);
+            self.owned.surfaces.set_sync(child);
         }
     }
 
@@ -104,7 +104,7 @@ impl<A: Allocator + Copy> Resident<A> {
         ensures decides { (child : ℕ) → IsOnlyChild self.old object child → IsSubsurface self.old object
             → AnswersDemandAs (is_some result) (λ r. subsurface_demand r object SetDesync) self.old self.new }
         ensures touched { (child : ℕ) → IsOnlyChild self.old object child
-            → IsTouched (Releases child) self.old.owned.linked self.new.owned.linked result }
+            → IsTouched (Releases child) self.old.owned.surfaces self.new.owned.surfaces result }
         ensures nothing { ((child : ℕ) → IsOnlyChild self.old object child → ⊥) → (numbers : ById ℕ) (subsurfaces : List Subsurface) → AreOfSurfaces self.old.subsurfaces numbers subsurfaces → result ≡ None }
         ensures rest { Leaves self.old self.new }
         ensures room { is_some result ≡ true → has_room ≡ true }
@@ -113,7 +113,7 @@ impl<A: Allocator + Copy> Resident<A> {
     {
         self.client.count();
         let child = self.child_of(object)?;
-        let Ok(told) = self.owned.linked.set_desync(child) else {
+        let Ok(told) = self.owned.surfaces.set_desync(child) else {
             self.client.lack_memory();
             return None;
         };
@@ -143,7 +143,7 @@ impl<A: Allocator + Copy> Resident<A> {
         ensures decides { (child : ℕ) → IsOnlyChild self.old object child → IsSubsurface self.old object
             → AnswersDemandAs (is_some result) (λ r. subsurface_demand r object Destroy) self.old self.new }
         ensures touched { (child : ℕ) → IsOnlyChild self.old object child
-            → IsTouched (Parts child) self.old.owned.linked self.new.owned.linked result }
+            → IsTouched (Parts child) self.old.owned.surfaces self.new.owned.surfaces result }
         ensures nothing { ((child : ℕ) → IsOnlyChild self.old object child → ⊥) → (numbers : ById ℕ) (subsurfaces : List Subsurface) → AreOfSurfaces self.old.subsurfaces numbers subsurfaces → result ≡ None }
         ensures rest { Leaves self.old self.new }
         ensures room { is_some result ≡ true → has_room ≡ true }
@@ -156,7 +156,7 @@ impl<A: Allocator + Copy> Resident<A> {
             self.client.remove(object);
             return None;
         };
-        let Ok(told) = self.owned.linked.remove_subsurface(child) else {
+        let Ok(told) = self.owned.surfaces.remove_subsurface(child) else {
             self.client.lack_memory();
             return None;
         };
@@ -181,7 +181,7 @@ impl<A: Allocator + Copy> Resident<A> {
         ensures decides { (version target : ℕ) (touch : Touch) → IsTouchOf (Kind.Subsurface request.now) object target self.old touch → IsSubsurface self.old object
             → AnswersDemandAs (is_some result.applied) (λ r. demand_of nothing_left_out r object version (wl_subsurface_request request.now)) self.old self.new }
         ensures touched { (target : ℕ) (touch : Touch) → IsTouchOf (Kind.Subsurface request.now) object target self.old touch
-            → IsTouched touch self.old.owned.linked self.new.owned.linked result.applied }
+            → IsTouched touch self.old.owned.surfaces self.new.owned.surfaces result.applied }
         ensures nothing { (target : ℕ) → ((touch : Touch) → IsTouchOf (Kind.Subsurface request.now) object target self.old touch → ⊥) → (numbers : ById ℕ) (subsurfaces : List Subsurface) → AreOfSurfaces self.old.subsurfaces numbers subsurfaces → result.applied ≡ None }
         ensures stays { result.stacking ≡ Stacking.Stays }
         ensures rest { Leaves self.old self.new }

@@ -63,7 +63,7 @@ impl<A: Allocator + Copy> Resident<A> {
         ensures told { IfSome result (λ applied. applied.changes.items ≡ []) }
         ensures room { is_some result ≡ true → has_room ≡ true }
         ensures rest { Leaves self.old self.new }
-        ensures surfaces { self.new.owned.linked ≡ self.old.owned.linked }
+        ensures surfaces { self.new.owned.surfaces ≡ self.old.owned.surfaces }
         ensures holds { IsPopup self.old object surface → HoldsAs (is_some result) (λ r. popup_asked r object (xdg_with object r.owned.shell) Destroy) self.old self.new }
     {
         self.owned.shell.are_found();
@@ -146,7 +146,7 @@ impl<A: Allocator + Copy> Resident<A> {
         ensures answers { (version : ℕ) → IsPopup self.old object surface → AnswersGiven given.placing given.grabbing (Kind.Popup request.now) object (λ r. demand_of nothing_left_out r object version (xdg_popup_request request.now)) self.old self.new }
         ensures decides { (version : ℕ) (touch : Touch) → IsTouchOf (Kind.Popup request.now) object surface self.old touch → IsPopup self.old object surface
             → AnswersDemandAs (is_some result.applied) (λ r. demand_of nothing_left_out r object version (xdg_popup_request request.now)) self.old self.new }
-        ensures touched { (touch : Touch) → IsTouchOf (Kind.Popup request.now) object surface self.old touch → IsTouched touch self.old.owned.linked self.new.owned.linked result.applied }
+        ensures touched { (touch : Touch) → IsTouchOf (Kind.Popup request.now) object surface self.old touch → IsTouched touch self.old.owned.surfaces self.new.owned.surfaces result.applied }
         ensures nothing { ((touch : Touch) → IsTouchOf (Kind.Popup request.now) object surface self.old touch → ⊥) → result.applied ≡ None }
         ensures stays { result.stacking ≡ Stacking.Stays }
         ensures rest { Leaves self.old self.new }

@@ -104,7 +104,7 @@ impl<A: Allocator + Copy> Resident<A> {
         ensures errs { (p : Peer) → IsPeer self.old.client p
             → (q : Peer) × Errs (shell_refusal (kept_base (kept_of self.old.owned.shell surface)) object object error) p q × IsPeer self.new.client q }
         ensures rest { Leaves self.old self.new }
-        ensures surfaces { self.new.owned.linked ≡ self.old.owned.linked }
+        ensures surfaces { self.new.owned.surfaces ≡ self.old.owned.surfaces }
     {
         let refusal = refusal_of(self.base_of(surface), object, object, error);
         self.client.refuse(refusal);
@@ -130,13 +130,13 @@ impl<A: Allocator + Copy> Resident<A> {
             → AnswersDemand (λ r. demand_of nothing_left_out r object version (xdg_surface_request (GetToplevel id))) self.old self.new }
         ensures rest { Leaves self.old self.new }
     {
-        let has_other_role = is_other_role(self.owned.linked.surfaces.role(surface));
+        let has_other_role = is_other_role(self.owned.surfaces.states.role(surface));
         match self.owned.shell.get_toplevel(surface, id, has_other_role) {
             Ok(()) => {
                 let _given = self
                     .owned
-                    .linked
                     .surfaces
+                    .states
                     .give_role(surface, Role::Toplevel);
                 let entry = Entry {
                     interface: Interface::XdgToplevel,
@@ -210,7 +210,7 @@ impl<A: Allocator + Copy> Resident<A> {
             → AnswersDemand (λ r. demand_of nothing_left_out r object version (xdg_surface_request (GetPopup asked.now.id asked.now.parent asked.now.positioner))) self.old self.new }
         ensures rest { Leaves self.old self.new }
     {
-        let has_other_role = is_not_of_popup(self.owned.linked.surfaces.role(surface));
+        let has_other_role = is_not_of_popup(self.owned.surfaces.states.role(surface));
         let number = self.request_number();
         let positioner = self.positioner_of(asked.positioner);
         let popup = NewPopup {
@@ -229,7 +229,7 @@ impl<A: Allocator + Copy> Resident<A> {
                     self.client.lack_memory();
                     return;
                 }
-                let _given = self.owned.linked.surfaces.give_role(surface, Role::Popup);
+                let _given = self.owned.surfaces.states.give_role(surface, Role::Popup);
                 let entry = Entry {
                     interface: Interface::XdgPopup,
                     version,

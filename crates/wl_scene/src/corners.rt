@@ -18,7 +18,7 @@ use crate::{Owned, Scene, Surface};
 use std::alloc::Allocator;
 use wl_geom::Rect;
 use wl_shell::{Placed, Shell, XdgSurface};
-use wl_surface::{Linked, SurfaceNo};
+use wl_surface::{SurfaceNo, Surfaces};
 
 /// The coordinates of a surface are held within -16,777,216 to 16,777,216 pixels.
 const BOUND: i64 = 16_777_216;
@@ -118,11 +118,11 @@ pub(crate) fn popup_place(at: Point, placement: Option<Placed>, geometry: Option
 }
 
 /// The corner of a surface that is placed there: its place plus its offset.
-fn corner_of<A: Allocator + Copy>(linked: &Linked<A>, surface: SurfaceNo, place: Point) -> Point
-    ensures { (all : Asked) → Stand linked.now.surfaces linked.now.family all
+fn corner_of<A: Allocator + Copy>(surfaces: &Surfaces<A>, surface: SurfaceNo, place: Point) -> Point
+    ensures { (all : Asked) → Stand surfaces.now.states surfaces.now.family all
         → place_of result ≡ corner_or (place_of place) (history_in surface all) }
 {
-    match linked.surfaces.current(surface) {
+    match surfaces.states.current(surface) {
         None => place,
         Some(current) => moved(place, current.offset.x, current.offset.y),
     }
@@ -130,15 +130,15 @@ fn corner_of<A: Allocator + Copy>(linked: &Linked<A>, surface: SurfaceNo, place:
 
 /// The corner of this window geometry of a surface that is placed there.
 pub(crate) fn geometry_at<A: Allocator + Copy>(
-    linked: &Linked<A>,
+    surfaces: &Surfaces<A>,
     surface: SurfaceNo,
     place: Point,
     geometry: Option<Rect>,
 ) -> Point
-    ensures { (all : Asked) → Stand linked.now.surfaces linked.now.family all
+    ensures { (all : Asked) → Stand surfaces.now.states surfaces.now.family all
         → place_of result ≡ geometry_corner (corner_or (place_of place) (history_in surface all)) geometry }
 {
-    let corner = corner_of(linked, surface, place);
+    let corner = corner_of(surfaces, surface, place);
     geometry_corner(corner, geometry)
 }
 
@@ -167,13 +167,18 @@ fn toplevel_corner<A: Allocator + Copy>(
     surface: SurfaceNo,
     xdg_surface: &XdgSurface,
 ) -> Point
-    ensures { (o : Owns) (x : Xdg) (next : ℕ → Place) → IsHeld owned.now.linked.surfaces owned.now.linked.family owned.now.shell o
+    ensures { (o : Owns) (x : Xdg) (next : ℕ → Place) → IsHeld owned.now.surfaces.states owned.now.surfaces.family owned.now.shell o
         → kept_of owned.now.shell surface ≡ Some xdg_surface.now → popup_in xdg_surface.now.role ≡ None → xdg_of surface o.shell ≡ Some x
         → place_of result ≡ corner_of_xdg next (standing_place scene.now.standing client) o (Some x) }
 {
     if xdg_surface.has_role() {
         let place = toplevel_place(scene, Surface { client, surface });
-        return geometry_at(&owned.linked, surface, place, xdg_surface.window_geometry());
+        return geometry_at(
+            &owned.surfaces,
+            surface,
+            place,
+            xdg_surface.window_geometry(),
+        );
     }
     origin()
 }
@@ -187,7 +192,7 @@ fn surface_corner<A: Allocator + Copy>(
     levels: u32,
     surface: SurfaceNo,
 ) -> Point
-    ensures { (o : Owns) (x : Xdg) → IsHeld owned.now.linked.surfaces owned.now.linked.family owned.now.shell o → xdg_of surface o.shell ≡ Some x
+    ensures { (o : Owns) (x : Xdg) → IsHeld owned.now.surfaces.states owned.now.surfaces.family owned.now.shell o → xdg_of surface o.shell ≡ Some x
         → place_of result ≡ corner_of_xdg (λ parent. geometry_corner_at levels (standing_place scene.now.standing client) o parent)
         (standing_place scene.now.standing client) o (Some x) }
 {
@@ -199,7 +204,12 @@ fn surface_corner<A: Allocator + Copy>(
     };
     let at = corner_at_parent(scene, client, owned, levels, popup.parent());
     let place = popup_place(at, popup.placement(), xdg_surface.window_geometry());
-    geometry_at(&owned.linked, surface, place, xdg_surface.window_geometry())
+    geometry_at(
+        &owned.surfaces,
+        surface,
+        place,
+        xdg_surface.window_geometry(),
+    )
 }
 
 /// The corner of the window geometry of the xdg_surface of this id, down a chain of so many.
@@ -211,7 +221,7 @@ fn xdg_corner<A: Allocator + Copy>(
     levels: u32,
     xdg_surface: u32,
 ) -> Point
-    ensures { (o : Owns) → IsHeld owned.now.linked.surfaces owned.now.linked.family owned.now.shell o
+    ensures { (o : Owns) → IsHeld owned.now.surfaces.states owned.now.surfaces.family owned.now.shell o
         → place_of result ≡ geometry_corner_at levels (standing_place scene.now.standing client) o xdg_surface }
 {
     if levels == 0 {
@@ -232,7 +242,7 @@ fn corner_at_parent<A: Allocator + Copy>(
     levels: u32,
     parent: Option<u32>,
 ) -> Point
-    ensures { (o : Owns) → IsHeld owned.now.linked.surfaces owned.now.linked.family owned.now.shell o
+    ensures { (o : Owns) → IsHeld owned.now.surfaces.states owned.now.surfaces.family owned.now.shell o
         → place_of result ≡ corner_at_parent (geometry_corner_at levels (standing_place scene.now.standing client) o) parent }
 {
     match parent {
@@ -250,7 +260,7 @@ pub fn parent_corner<A: Allocator + Copy>(
     owned: &Owned<A>,
     parent: Option<u32>,
 ) -> (i32, i32)
-    ensures { (o : Owns) → IsHeld owned.now.linked.surfaces owned.now.linked.family owned.now.shell o
+    ensures { (o : Owns) → IsHeld owned.now.surfaces.states owned.now.surfaces.family owned.now.shell o
         → record { x = result.0; y = result.1 } ≡ parent_corner scene.now.standing client o parent }
 {
     let corner = corner_at_parent(scene, client, owned, MOST_SURFACES, parent);

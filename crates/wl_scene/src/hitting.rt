@@ -24,7 +24,7 @@ use crate::stacked::Stacked;
 use crate::tree_window::TreeWindow;
 use std::alloc::Allocator;
 use wl_geom::Region;
-use wl_surface::{Current, SurfaceNo, Surfaces};
+use wl_surface::{Current, SurfaceNo, SurfaceStates};
 
 /// The surfaces of the clients.
 pub trait Surfaced {
@@ -34,13 +34,13 @@ pub trait Surfaced {
     ghost slots: { Self → ℕ → Slots };
 
     /// The surfaces of the client of this number, if it is there.
-    fn surfaces(&self, client: u32) -> Option<&Surfaces<Self::Heap>>
+    fn surfaces(&self, client: u32) -> Option<&SurfaceStates<Self::Heap>>
         ensures { slots_or_none (option_copied result) ≡ slots self.now client };
 }
 
 /// What counts of a surface, if it is there.
 pub fn current_of<A: Allocator>(
-    surfaces: Option<&Surfaces<A>>,
+    surfaces: Option<&SurfaceStates<A>>,
     surface: SurfaceNo,
 ) -> Option<Current<'_, A>>
     ensures { option_map counting_in result ≡ option_map counting_of (kept_at (slots_or_none (option_copied surfaces.entry)) surface) }
@@ -92,7 +92,7 @@ fn between(from: i32, to: i32) -> i64
 
 /// Whether the applied input region of the window's surface holds the point.
 fn surface_takes<A: Allocator>(
-    surfaces: Option<&Surfaces<A>>,
+    surfaces: Option<&SurfaceStates<A>>,
     window: &TreeWindow,
     x: i32,
     y: i32,
@@ -112,7 +112,7 @@ fn surface_takes<A: Allocator>(
 /// window, and its surface's applied input region holds it (wayland.xml, wl_surface.set_input_region).
 pub fn takes_input<A: Allocator>(
     stacked: &Stacked,
-    surfaces: Option<&Surfaces<A>>,
+    surfaces: Option<&SurfaceStates<A>>,
     x: i32,
     y: i32,
 ) -> bool

@@ -2,12 +2,12 @@
 
 use std::alloc::Allocator;
 use wl_shell::Shell;
-use wl_surface::Linked;
+use wl_surface::Surfaces;
 
 /// What a client owns of the scene: its surfaces with the links between them (wayland.xml, wl_surface and wl_subsurface), and its xdg_surfaces
 /// (xdg-shell.xml, xdg_surface).
 #[derive(Drop)]
 pub struct Owned<A: Allocator> {
-    pub linked: Linked<A>,
+    pub surfaces: Surfaces<A>,
     pub shell: Shell<A>,
 }

@@ -38,7 +38,7 @@ fn find_root(roots: &[RootPlace], surface: SurfaceNo) -> Option<&RootPlace>
 
 /// The corner of the window geometry of a root.
 fn root_corner<A: Allocator + Copy>(owned: &Owned<A>, root: &RootPlace) -> Point
-    ensures { (o : Owns) (r : Root) → IsHeld owned.now.linked.surfaces owned.now.linked.family owned.now.shell o
+    ensures { (o : Owns) (r : Root) → IsHeld owned.now.surfaces.states owned.now.surfaces.family owned.now.shell o
         → root.now ≡ told_root r → r.geometry ≡ kept_geometry owned.now.shell r.surface
         → place_of result ≡ geometry_corner (corner_in o.surfaces r) r.geometry }
 {
@@ -47,7 +47,7 @@ fn root_corner<A: Allocator + Copy>(owned: &Owned<A>, root: &RootPlace) -> Point
         x: root.x,
         y: root.y,
     };
-    geometry_at(&owned.linked, root.surface, place, geometry)
+    geometry_at(&owned.surfaces, root.surface, place, geometry)
 }
 
 /// Its surface is mapped.
@@ -111,7 +111,7 @@ fn root_on<A: Allocator + Copy>(
     xdg_surface: &XdgSurface,
     popup: &Popup,
 ) -> RootPlace
-    ensures { (o : Owns) (p : StackedPopup) (r : Root) → IsHeld owned.now.linked.surfaces owned.now.linked.family owned.now.shell o
+    ensures { (o : Owns) (p : StackedPopup) (r : Root) → IsHeld owned.now.surfaces.states owned.now.surfaces.family owned.now.shell o
         → p.surface ≡ surface → p.placement ≡ placement_of popup.now.placement → p.geometry ≡ xdg_surface.now.applied
         → parent.now ≡ told_root r → r.geometry ≡ kept_geometry owned.now.shell r.surface
         → result ≡ told_root (root_on o.surfaces r p) }
@@ -133,7 +133,7 @@ fn popup_root<A: Allocator + Copy>(
     xdg_surface: &XdgSurface,
     popup: &Popup,
 ) -> Option<RootPlace>
-    ensures { (o : Owns) (p : StackedPopup) (rs : List Root) → IsHeld owned.now.linked.surfaces owned.now.linked.family owned.now.shell o
+    ensures { (o : Owns) (p : StackedPopup) (rs : List Root) → IsHeld owned.now.surfaces.states owned.now.surfaces.family owned.now.shell o
         → IsStackedAs o surface xdg_surface.now popup.now p → AreAt owned.now.shell rs → roots.now ≡ map told_root rs
         → listed result ≡ map told_root (stacked_on o.surfaces p rs) }
 {
@@ -150,7 +150,7 @@ fn shown_root<A: Allocator + Copy>(
     surface: SurfaceNo,
     xdg_surface: &XdgSurface,
 ) -> Option<RootPlace>
-    ensures { (o : Owns) (p : Popped) (rs : List Root) → IsHeld owned.now.linked.surfaces owned.now.linked.family owned.now.shell o
+    ensures { (o : Owns) (p : Popped) (rs : List Root) → IsHeld owned.now.surfaces.states owned.now.surfaces.family owned.now.shell o
         → IsOnly o.shell surface p → kept_of owned.now.shell surface ≡ Some xdg_surface.now → AreAt owned.now.shell rs
         → roots.now ≡ map told_root rs → listed result ≡ map told_root (stacked_on o.surfaces (stacked_popup o p) rs) }
 {
@@ -169,7 +169,7 @@ fn stacked_root<A: Allocator + Copy>(
     roots: &[RootPlace],
     surface: SurfaceNo,
 ) -> Option<RootPlace>
-    ensures { (o : Owns) (p : Popped) (rs : List Root) → IsHeld owned.now.linked.surfaces owned.now.linked.family owned.now.shell o
+    ensures { (o : Owns) (p : Popped) (rs : List Root) → IsHeld owned.now.surfaces.states owned.now.surfaces.family owned.now.shell o
         → IsOnly o.shell surface p → AreAt owned.now.shell rs → roots.now ≡ map told_root rs
         → listed result ≡ map told_root (stacked_on o.surfaces (stacked_popup o p) rs) }
 {
@@ -203,12 +203,12 @@ fn add_popup<A: Allocator + Copy>(
 ) -> Result<(), AllocError>
     requires { before ≤ vec_len roots.old }
     ensures ok { OnOk result ((o : Owns) (p : Popped) (rs : List Root) (had : List RootPlace)
-        → IsHeld owned.now.linked.surfaces owned.now.linked.family owned.now.shell o → IsOnly o.shell surface p → AreAt owned.now.shell rs
+        → IsHeld owned.now.surfaces.states owned.now.surfaces.family owned.now.shell o → IsOnly o.shell surface p → AreAt owned.now.shell rs
         → length had ≡ before → roots.old.items ≡ had ++ map told_root rs
         → roots.new.items ≡ had ++ map told_root (stacked o.surfaces rs (stacked_popup o p))) }
     ensures more { Continues roots.old.items roots.new.items }
     ensures succeeds { (o : Owns) (p : Popped) (rs : List Root) (had : List RootPlace)
-        → IsHeld owned.now.linked.surfaces owned.now.linked.family owned.now.shell o → IsOnly o.shell surface p → AreAt owned.now.shell rs
+        → IsHeld owned.now.surfaces.states owned.now.surfaces.family owned.now.shell o → IsOnly o.shell surface p → AreAt owned.now.shell rs
         → length had ≡ before → roots.old.items ≡ had ++ map told_root rs
         → length had + length (stacked o.surfaces rs (stacked_popup o p)) ≤ vec_capacity roots.old → IsOk result }
     ensures capacity { vec_capacity roots.old ≤ vec_capacity roots.new }
@@ -248,12 +248,12 @@ fn add_popups<A: Allocator + Copy>(
 ) -> Result<(), AllocError>
     requires { before ≤ vec_len roots.old }
     ensures ok { OnOk result ((o : Owns) (toplevel : Root) (had : List RootPlace)
-        → IsHeld owned.now.linked.surfaces owned.now.linked.family owned.now.shell o → AreRising (popups_of o.shell)
+        → IsHeld owned.now.surfaces.states owned.now.surfaces.family owned.now.shell o → AreRising (popups_of o.shell)
         → AreAt owned.now.shell (toplevel ∷ []) → length had ≡ before → roots.old.items ≡ had ++ told_root toplevel ∷ []
         → roots.new.items ≡ had ++ map told_root (roots_of o.surfaces toplevel (stacked_popups o))) }
     ensures more { Continues roots.old.items roots.new.items }
     ensures succeeds { (o : Owns) (toplevel : Root) (had : List RootPlace)
-        → IsHeld owned.now.linked.surfaces owned.now.linked.family owned.now.shell o → AreRising (popups_of o.shell)
+        → IsHeld owned.now.surfaces.states owned.now.surfaces.family owned.now.shell o → AreRising (popups_of o.shell)
         → AreAt owned.now.shell (toplevel ∷ []) → length had ≡ before → roots.old.items ≡ had ++ told_root toplevel ∷ []
         → length had + length (roots_of o.surfaces toplevel (stacked_popups o)) ≤ vec_capacity roots.old → IsOk result }
     ensures capacity { vec_capacity roots.old ≤ vec_capacity roots.new }
@@ -272,11 +272,11 @@ fn add_all<A: Allocator + Copy>(
     toplevel: RootPlace,
     roots: &mut Vec<RootPlace, A>,
 ) -> Result<(), AllocError>
-    ensures ok { OnOk result ((o : Owns) (r : Root) → IsHeld owned.now.linked.surfaces owned.now.linked.family owned.now.shell o
+    ensures ok { OnOk result ((o : Owns) (r : Root) → IsHeld owned.now.surfaces.states owned.now.surfaces.family owned.now.shell o
         → AreRising (popups_of o.shell) → AreAt owned.now.shell (r ∷ []) → toplevel ≡ told_root r
         → roots.new.items ≡ roots.old.items ++ map told_root (roots_of o.surfaces r (stacked_popups o))) }
     ensures more { Continues roots.old.items roots.new.items }
-    ensures succeeds { (o : Owns) (r : Root) → IsHeld owned.now.linked.surfaces owned.now.linked.family owned.now.shell o
+    ensures succeeds { (o : Owns) (r : Root) → IsHeld owned.now.surfaces.states owned.now.surfaces.family owned.now.shell o
         → AreRising (popups_of o.shell) → AreAt owned.now.shell (r ∷ []) → toplevel ≡ told_root r
         → vec_len roots.old + length (roots_of o.surfaces r (stacked_popups o)) ≤ vec_capacity roots.old → IsOk result }
     ensures capacity { vec_capacity roots.old ≤ vec_capacity roots.new }
@@ -300,12 +300,12 @@ pub fn add_roots<A: Allocator + Copy>(
     y: i32,
     roots: &mut Vec<RootPlace, A>,
 ) -> Result<(), AllocError>
-    ensures ok { OnOk result ((o : Owns) (client : ℕ) → IsHeld owned.now.linked.surfaces owned.now.linked.family owned.now.shell o
+    ensures ok { OnOk result ((o : Owns) (client : ℕ) → IsHeld owned.now.surfaces.states owned.now.surfaces.family owned.now.shell o
         → AreRising (popups_of o.shell) → HasRole owned.now.shell toplevel
         → roots.new.items ≡ roots.old.items
         ++ map told_root (roots_of o.surfaces (root_of (λ _. o) (standing_at client toplevel x y)) (stacked_popups o))) }
     ensures err { OnErr result (roots.new.items ≡ roots.old.items) }
-    ensures succeeds { (o : Owns) (client : ℕ) → IsHeld owned.now.linked.surfaces owned.now.linked.family owned.now.shell o
+    ensures succeeds { (o : Owns) (client : ℕ) → IsHeld owned.now.surfaces.states owned.now.surfaces.family owned.now.shell o
         → AreRising (popups_of o.shell) → HasRole owned.now.shell toplevel
         → vec_len roots.old + length (roots_of o.surfaces (root_of (λ _. o) (standing_at client toplevel x y)) (stacked_popups o))
         ≤ vec_capacity roots.old → IsOk result }

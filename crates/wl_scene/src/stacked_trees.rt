@@ -10,21 +10,21 @@ use crate::roots::RootPlace;
 use crate::tree_window::TreeWindow;
 use crate::tree_windows::add_windows;
 use std::alloc::{AllocError, Allocator};
-use wl_surface::Linked;
+use wl_surface::Surfaces;
 
 /// Adds the windows of the tree of this root behind the others, from bottom to top where it is placed.
 fn add_root<A: Allocator + Copy>(
-    linked: &Linked<A>,
+    surfaces: &Surfaces<A>,
     root: &RootPlace,
     windows: &mut Vec<TreeWindow, A>,
 ) -> Result<(), AllocError>
-    ensures ok { OnOk result ((all : Asked) (owner : Owner) → Stand linked.now.surfaces linked.now.family all
+    ensures ok { OnOk result ((all : Asked) (owner : Owner) → Stand surfaces.now.states surfaces.now.family all
         → windows.new.items ≡ windows.old.items ++ told_at owner all root.now) }
-    ensures succeeds { (all : Asked) (owner : Owner) → Stand linked.now.surfaces linked.now.family all
+    ensures succeeds { (all : Asked) (owner : Owner) → Stand surfaces.now.states surfaces.now.family all
         → vec_len windows.old + length (told_at owner all root.now) ≤ vec_capacity windows.old → IsOk result }
     ensures capacity { vec_capacity windows.old ≤ vec_capacity windows.new }
 {
-    add_windows(linked, root.surface, root.x, root.y, windows)
+    add_windows(surfaces, root.surface, root.x, root.y, windows)
 }
 
 /// Adds the windows of the trees of these roots behind the others, tree after tree, each from bottom to top where its root is placed.
@@ -33,18 +33,18 @@ fn add_root<A: Allocator + Copy>(
 ///
 /// An `Err` is for want of memory: then those of the first roots alone may have come. There is none where there is room for all of them already.
 pub fn add_trees<A: Allocator + Copy>(
-    linked: &Linked<A>,
+    surfaces: &Surfaces<A>,
     roots: &[RootPlace],
     windows: &mut Vec<TreeWindow, A>,
 ) -> Result<(), AllocError>
-    ensures ok { OnOk result ((all : Asked) (owner : Owner) → Stand linked.now.surfaces linked.now.family all
+    ensures ok { OnOk result ((all : Asked) (owner : Owner) → Stand surfaces.now.states surfaces.now.family all
         → windows.new.items ≡ windows.old.items ++ told_trees owner all roots.now) }
-    ensures succeeds { (all : Asked) (owner : Owner) → Stand linked.now.surfaces linked.now.family all
+    ensures succeeds { (all : Asked) (owner : Owner) → Stand surfaces.now.states surfaces.now.family all
         → vec_len windows.old + length (told_trees owner all roots.now) ≤ vec_capacity windows.old → IsOk result }
     ensures capacity { vec_capacity windows.old ≤ vec_capacity windows.new }
 {
     for root in roots {
-        add_root(linked, root, windows)?;
+        add_root(surfaces, root, windows)?;
     }
     Ok(())
 }

@@ -15,7 +15,7 @@ use crate::stacked_trees::add_trees;
 use crate::tree_window::TreeWindow;
 use std::alloc::{AllocError, Allocator};
 use std::marker::Model;
-use wl_surface::{Linked, SurfaceNo};
+use wl_surface::{SurfaceNo, Surfaces};
 
 /// The windows of all mapped toplevels from bottom to top: of each toplevel those that are stacked with it together, which are those of its
 /// tree and of the trees of its popups (xdg-shell.xml, xdg_surface and xdg_popup; wayland.xml, wl_subsurface). They are seen as that list, and
@@ -54,16 +54,16 @@ impl<A: Allocator + Copy> StackedWindows<A> {
         &mut self,
         client: u32,
         toplevel: SurfaceNo,
-        linked: &Linked<A>,
+        surfaces: &Surfaces<A>,
         roots: &[RootPlace],
     )
-        ensures windows { (all : Asked) (owner : Owner) → Stand linked.now.surfaces linked.now.family all
+        ensures windows { (all : Asked) (owner : Owner) → Stand surfaces.now.states surfaces.now.family all
             → length (told_trees owner all roots.now) ≡ length (run_of client toplevel self.old.windows)
             → self.new.windows ≡ replaced client toplevel (told_trees owner all roots.now) self.old.windows }
         ensures room { self.old.room ≤ self.new.room }
     {
         self.spare.clear();
-        if add_trees(linked, roots, &mut self.spare).is_ok() {
+        if add_trees(surfaces, roots, &mut self.spare).is_ok() {
             move_in(&mut self.windows, client, toplevel, &self.spare);
         }
     }

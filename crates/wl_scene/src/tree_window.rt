@@ -8,7 +8,7 @@ ghost use Rattle.wl_scene.specs.TreeWindows.{place_beside, window_at};
 
 use std::alloc::Allocator;
 use wl_store::Transform;
-use wl_surface::{Linked, SurfaceNo};
+use wl_surface::{SurfaceNo, Surfaces};
 
 /// The coordinates of a surface are held within -16,777,216 to 16,777,216 pixels.
 const BOUND: i64 = 16_777_216;
@@ -65,14 +65,14 @@ fn held_sum(corner: i32, position: i32, offset: i32) -> i32
 /// The window of a surface that is placed there, as a child is at its position from the corner of its parent (wayland.xml,
 /// wl_subsurface.set_position): its corner is there plus its own offset. `None` where it shows no buffer, or isn't there.
 pub(crate) fn window_of<A: Allocator + Copy>(
-    linked: &Linked<A>,
+    surfaces: &Surfaces<A>,
     surface: SurfaceNo,
     spot: &Spot,
 ) -> Option<TreeWindow>
-    ensures { (all : Asked) → Stand linked.now.surfaces linked.now.family all
+    ensures { (all : Asked) → Stand surfaces.now.states surfaces.now.family all
         → result ≡ window_at all spot.now.root surface (place_beside spot.now) }
 {
-    let current = linked.surfaces.current(surface)?;
+    let current = surfaces.states.current(surface)?;
     match current.buffer {
         None => None,
         Some(_) => {

@@ -9,7 +9,7 @@ ghost use Rattle.wl_scene.specs.TreeWindows.{Continues, place_beside, placed_win
 use crate::tree_window::{Point, Spot, TreeWindow, window_of};
 use std::alloc::{AllocError, Allocator};
 use wl_links::{Member, Placed};
-use wl_surface::{Linked, SurfaceNo};
+use wl_surface::{SurfaceNo, Surfaces};
 
 /// The levels of a tree: subsurfaces stand at most 16 levels below their root.
 const LEVELS: u8 = 17;
@@ -18,17 +18,17 @@ const LEVELS: u8 = 17;
 /// levels.
 #[cycle(tree)]
 fn add_placed<A: Allocator + Copy>(
-    linked: &Linked<A>,
+    surfaces: &Surfaces<A>,
     levels: u8,
     window: &TreeWindow,
     placed: &Placed,
     windows: &mut Vec<TreeWindow, A>,
 ) -> Result<(), AllocError>
-    ensures ok { OnOk result ((all : Asked) (owner : Owner) → Stand linked.now.surfaces linked.now.family all
+    ensures ok { OnOk result ((all : Asked) (owner : Owner) → Stand surfaces.now.states surfaces.now.family all
         → windows.new.items
         ≡ windows.old.items ++ placed_windows (told_tree levels (rooted window.now.root owner) all) window.now placed.now) }
     ensures more { Continues windows.old.items windows.new.items }
-    ensures succeeds { (all : Asked) (owner : Owner) → Stand linked.now.surfaces linked.now.family all
+    ensures succeeds { (all : Asked) (owner : Owner) → Stand surfaces.now.states surfaces.now.family all
         → vec_len windows.old + length (placed_windows (told_tree levels (rooted window.now.root owner) all) window.now placed.now)
         ≤ vec_capacity windows.old → IsOk result }
     ensures capacity { vec_capacity windows.old ≤ vec_capacity windows.new }
@@ -47,7 +47,7 @@ fn add_placed<A: Allocator + Copy>(
                     y: placed.y,
                 },
             };
-            add_tree(linked, levels, child, &spot, windows)?;
+            add_tree(surfaces, levels, child, &spot, windows)?;
         }
     }
     Ok(())
@@ -56,24 +56,24 @@ fn add_placed<A: Allocator + Copy>(
 /// Adds what stands in the stack of a surface with this window, from below, down to so many levels.
 #[cycle(tree)]
 fn add_stack<A: Allocator + Copy>(
-    linked: &Linked<A>,
+    surfaces: &Surfaces<A>,
     levels: u8,
     window: &TreeWindow,
     stack: &[Placed],
     windows: &mut Vec<TreeWindow, A>,
 ) -> Result<(), AllocError>
-    ensures ok { OnOk result ((all : Asked) (owner : Owner) → Stand linked.now.surfaces linked.now.family all
+    ensures ok { OnOk result ((all : Asked) (owner : Owner) → Stand surfaces.now.states surfaces.now.family all
         → windows.new.items
         ≡ windows.old.items ++ flat_map (placed_windows (told_tree levels (rooted window.now.root owner) all) window.now) stack.now) }
     ensures more { Continues windows.old.items windows.new.items }
-    ensures succeeds { (all : Asked) (owner : Owner) → Stand linked.now.surfaces linked.now.family all
+    ensures succeeds { (all : Asked) (owner : Owner) → Stand surfaces.now.states surfaces.now.family all
         → vec_len windows.old
         + length (flat_map (placed_windows (told_tree levels (rooted window.now.root owner) all) window.now) stack.now)
         ≤ vec_capacity windows.old → IsOk result }
     ensures capacity { vec_capacity windows.old ≤ vec_capacity windows.new }
 {
     for placed in stack {
-        add_placed(linked, levels, window, placed, windows)?;
+        add_placed(surfaces, levels, window, placed, windows)?;
     }
     Ok(())
 }
@@ -81,16 +81,16 @@ fn add_stack<A: Allocator + Copy>(
 /// Adds the windows of the tree of a surface that is placed there, down to so many levels.
 #[cycle(tree)]
 fn add_tree<A: Allocator + Copy>(
-    linked: &Linked<A>,
+    surfaces: &Surfaces<A>,
     levels: u8,
     surface: SurfaceNo,
     spot: &Spot,
     windows: &mut Vec<TreeWindow, A>,
 ) -> Result<(), AllocError>
-    ensures ok { OnOk result ((all : Asked) (owner : Owner) → Stand linked.now.surfaces linked.now.family all
+    ensures ok { OnOk result ((all : Asked) (owner : Owner) → Stand surfaces.now.states surfaces.now.family all
         → windows.new.items ≡ windows.old.items ++ told_tree levels (rooted spot.now.root owner) all surface (place_beside spot.now)) }
     ensures more { Continues windows.old.items windows.new.items }
-    ensures succeeds { (all : Asked) (owner : Owner) → Stand linked.now.surfaces linked.now.family all
+    ensures succeeds { (all : Asked) (owner : Owner) → Stand surfaces.now.states surfaces.now.family all
         → vec_len windows.old + length (told_tree levels (rooted spot.now.root owner) all surface (place_beside spot.now))
         ≤ vec_capacity windows.old → IsOk result }
     ensures capacity { vec_capacity windows.old ≤ vec_capacity windows.new }
@@ -98,15 +98,15 @@ fn add_tree<A: Allocator + Copy>(
     if levels == 0 {
         return Ok(());
     }
-    let Some(window) = window_of(linked, surface, spot) else {
+    let Some(window) = window_of(surfaces, surface, spot) else {
         return Ok(());
     };
-    let stack = linked.family.stack(surface);
+    let stack = surfaces.family.stack(surface);
     if stack.is_empty() {
         windows.push(window)?;
         return Ok(());
     }
-    add_stack(linked, levels - 1, &window, stack, windows)
+    add_stack(surfaces, levels - 1, &window, stack, windows)
 }
 
 /// Adds the windows of the tree of a root that is placed there on the output, in pixels, behind the others, from bottom to top: of each
@@ -117,16 +117,16 @@ fn add_tree<A: Allocator + Copy>(
 ///
 /// An `Err` is for want of memory, and adds nothing. There is none where there is room for the windows already.
 pub fn add_windows<A: Allocator + Copy>(
-    linked: &Linked<A>,
+    surfaces: &Surfaces<A>,
     root: SurfaceNo,
     x: i32,
     y: i32,
     windows: &mut Vec<TreeWindow, A>,
 ) -> Result<(), AllocError>
-    ensures ok { OnOk result ((all : Asked) (owner : Owner) → Stand linked.now.surfaces linked.now.family all
+    ensures ok { OnOk result ((all : Asked) (owner : Owner) → Stand surfaces.now.states surfaces.now.family all
         → windows.new.items ≡ windows.old.items ++ map told_of (tree 17 (rooted root owner) all root (record { x = x; y = y }))) }
     ensures err { OnErr result (windows.new.items ≡ windows.old.items) }
-    ensures succeeds { (all : Asked) (owner : Owner) → Stand linked.now.surfaces linked.now.family all
+    ensures succeeds { (all : Asked) (owner : Owner) → Stand surfaces.now.states surfaces.now.family all
         → vec_len windows.old + length (tree 17 (rooted root owner) all root (record { x = x; y = y }))
         ≤ vec_capacity windows.old → IsOk result }
     ensures capacity { vec_capacity windows.old ≤ vec_capacity windows.new }
@@ -137,7 +137,7 @@ pub fn add_windows<A: Allocator + Copy>(
         corner: Point { x, y },
         position: Point { x: 0, y: 0 },
     };
-    let added = add_tree(linked, LEVELS, root, &spot, windows);
+    let added = add_tree(surfaces, LEVELS, root, &spot, windows);
     if added.is_err() {
         windows.truncate(before);
     }

@@ -6,7 +6,7 @@ ghost use Rattle.wl_surface.specs.Applied.{IsApplied};
 
 use crate::content::BufferNo;
 use crate::state::SurfaceState;
-use crate::surfaces::SurfaceNo;
+use crate::states::SurfaceNo;
 use std::alloc::Allocator;
 use wl_geom::Rect;
 

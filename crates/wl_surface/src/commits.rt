@@ -18,8 +18,8 @@ ghost use Rattle.wl_links.specs.Trees.{is_under};
 use crate::applied::{Applied, Change};
 use crate::content::{Attached, BufferNo};
 use crate::error::SurfaceError;
-use crate::linked::Linked;
-use crate::surfaces::SurfaceNo;
+use crate::states::SurfaceNo;
+use crate::surfaces::Surfaces;
 use crate::tree::{add_freed, apply_each, below, shown_of};
 use std::alloc::{AllocError, Allocator};
 
@@ -41,7 +41,7 @@ pub(crate) struct Room<A: Allocator> {
     pub(crate) freed: Vec<BufferNo, A>,
 }
 
-impl<A: Allocator + Copy> Linked<A> {
+impl<A: Allocator + Copy> Surfaces<A> {
     /// wl_surface.commit: what is pending is held and, unless the surface behaves synchronised, applied with what descends from it. What that
     /// changes is told, and which buffers were shown before.
     ///
@@ -49,20 +49,20 @@ impl<A: Allocator + Copy> Linked<A> {
     ///
     /// `Size` where the sides of the buffer that it would show are no multiples of the scale, and else `Memory`. Nothing changes then.
     pub fn commit(&mut self, surface: SurfaceNo) -> Result<Told<A>, SurfaceError>
-        ensures ok { OnOk result ((all : Asked) → Stand self.old.surfaces self.old.family all → Stand self.new.surfaces self.new.family (committed_in surface all)) }
-        ensures waits { OnOk result ((all : Asked) (cs : List Callback) → Stand self.old.surfaces self.old.family all → AreWaiting self.old.surfaces.frames (numbered all) cs
-            → AreWaiting self.new.surfaces.frames (numbered (committed_in surface all)) cs) }
-        ensures changes { IfOk result (λ told. (all : Asked) → Stand self.old.surfaces self.old.family all → IsCommitTold surface all told.applied.changes.items) }
-        ensures freed { IfOk result (λ told. (all : Asked) → Stand self.old.surfaces self.old.family all
+        ensures ok { OnOk result ((all : Asked) → Stand self.old.states self.old.family all → Stand self.new.states self.new.family (committed_in surface all)) }
+        ensures waits { OnOk result ((all : Asked) (cs : List Callback) → Stand self.old.states self.old.family all → AreWaiting self.old.states.frames (numbered all) cs
+            → AreWaiting self.new.states.frames (numbered (committed_in surface all)) cs) }
+        ensures changes { IfOk result (λ told. (all : Asked) → Stand self.old.states self.old.family all → IsCommitTold surface all told.applied.changes.items) }
+        ensures freed { IfOk result (λ told. (all : Asked) → Stand self.old.states self.old.family all
             → AreFreed told.applied.freed.items (numbered all) (numbered (committed_in surface all))) }
-        ensures shown { IfOk result (λ told. (all : Asked) → Stand self.old.surfaces self.old.family all
+        ensures shown { IfOk result (λ told. (all : Asked) → Stand self.old.states self.old.family all
             → AreShown (is_committed surface all) all (map buffer_of told.shown.items)) }
         ensures among { IfOk result (λ told. AreAmong told.applied.freed.items (map buffer_of told.shown.items)) }
         ensures callbacks { IfOk result (λ told. told.applied.callbacks.items ≡ []) }
         ensures err { OnErr result (self.new ≡ self.old) }
-        ensures cause { (all : Asked) → Stand self.old.surfaces self.old.family all → MatchBool (is_whole_at (surface_at surface all)) (IfErr result (λ e. e ≡ SurfaceError.Memory)) (result ≡ Err SurfaceError.Size) }
+        ensures cause { (all : Asked) → Stand self.old.states self.old.family all → MatchBool (is_whole_at (surface_at surface all)) (IfErr result (λ e. e ≡ SurfaceError.Memory)) (result ≡ Err SurfaceError.Size) }
     {
-        if !self.surfaces.is_whole(surface) {
+        if !self.states.is_whole(surface) {
             return Err(SurfaceError::Size);
         }
         if self.family.behaves_synchronised(surface) {
@@ -73,24 +73,24 @@ impl<A: Allocator + Copy> Linked<A> {
 
     /// A commit of a surface that behaves synchronised.
     fn hold(&mut self, surface: SurfaceNo) -> Result<Told<A>, SurfaceError>
-        ensures ok { OnOk result ((all : Asked) → Stand self.old.surfaces self.old.family all → Stand self.new.surfaces self.new.family (with_change surface (asking Commit) all)) }
-        ensures waits { OnOk result ((all : Asked) (cs : List Callback) → Stand self.old.surfaces self.old.family all → AreWaiting self.old.surfaces.frames (numbered all) cs
-            → AreWaiting self.new.surfaces.frames (numbered (with_change surface (asking Commit) all)) cs) }
+        ensures ok { OnOk result ((all : Asked) → Stand self.old.states self.old.family all → Stand self.new.states self.new.family (with_change surface (asking Commit) all)) }
+        ensures waits { OnOk result ((all : Asked) (cs : List Callback) → Stand self.old.states self.old.family all → AreWaiting self.old.states.frames (numbered all) cs
+            → AreWaiting self.new.states.frames (numbered (with_change surface (asking Commit) all)) cs) }
         ensures changes { IfOk result (λ told. told.applied.changes.items ≡ []) }
-        ensures freed { IfOk result (λ told. (all : Asked) → Stand self.old.surfaces self.old.family all
+        ensures freed { IfOk result (λ told. (all : Asked) → Stand self.old.states self.old.family all
             → AreFreed told.applied.freed.items (numbered all) (numbered (with_change surface (asking Commit) all))) }
-        ensures shown { IfOk result (λ told. (all : Asked) → Stand self.old.surfaces self.old.family all → AreShown (λ n. n == surface) all (map buffer_of told.shown.items)) }
+        ensures shown { IfOk result (λ told. (all : Asked) → Stand self.old.states self.old.family all → AreShown (λ n. n == surface) all (map buffer_of told.shown.items)) }
         ensures among { IfOk result (λ told. AreAmong told.applied.freed.items (map buffer_of told.shown.items)) }
         ensures callbacks { IfOk result (λ told. told.applied.callbacks.items ≡ []) }
         ensures err { OnErr result (self.new ≡ self.old) }
         ensures cause { IfErr result (λ e. e ≡ SurfaceError.Memory) }
     {
         let alloc = self.alloc;
-        let shown = shown_of(&self.surfaces, &[surface], alloc)?;
+        let shown = shown_of(&self.states, &[surface], alloc)?;
         let mut freed = Vec::with_capacity(alloc, shown.len())?;
-        self.surfaces.hold(surface)?;
+        self.states.hold(surface)?;
         self.family.hold(surface);
-        add_freed(&self.surfaces, &shown, &mut freed);
+        add_freed(&self.states, &shown, &mut freed);
         let applied = Applied {
             changes: Vec::new(alloc),
             freed,
@@ -101,15 +101,15 @@ impl<A: Allocator + Copy> Linked<A> {
 
     /// A commit of a surface that doesn't.
     fn commit_now(&mut self, surface: SurfaceNo) -> Result<Told<A>, SurfaceError>
-        ensures ok { OnOk result ((all : Asked) → Stand self.old.surfaces self.old.family all
-            → Stand self.new.surfaces self.new.family (applied_tree levels surface (with_change surface (asking Commit) all))) }
-        ensures waits { OnOk result ((all : Asked) (cs : List Callback) → Stand self.old.surfaces self.old.family all → AreWaiting self.old.surfaces.frames (numbered all) cs
-            → AreWaiting self.new.surfaces.frames (numbered (applied_tree levels surface (with_change surface (asking Commit) all))) cs) }
-        ensures changes { IfOk result (λ told. (all : Asked) → Stand self.old.surfaces self.old.family all
+        ensures ok { OnOk result ((all : Asked) → Stand self.old.states self.old.family all
+            → Stand self.new.states self.new.family (applied_tree levels surface (with_change surface (asking Commit) all))) }
+        ensures waits { OnOk result ((all : Asked) (cs : List Callback) → Stand self.old.states self.old.family all → AreWaiting self.old.states.frames (numbered all) cs
+            → AreWaiting self.new.states.frames (numbered (applied_tree levels surface (with_change surface (asking Commit) all))) cs) }
+        ensures changes { IfOk result (λ told. (all : Asked) → Stand self.old.states self.old.family all
             → IsTold surface (with_change surface (asking Commit) all) told.applied.changes.items) }
-        ensures freed { IfOk result (λ told. (all : Asked) → Stand self.old.surfaces self.old.family all
+        ensures freed { IfOk result (λ told. (all : Asked) → Stand self.old.states self.old.family all
             → AreFreed told.applied.freed.items (numbered all) (numbered (applied_tree levels surface (with_change surface (asking Commit) all)))) }
-        ensures shown { IfOk result (λ told. (all : Asked) → Stand self.old.surfaces self.old.family all
+        ensures shown { IfOk result (λ told. (all : Asked) → Stand self.old.states self.old.family all
             → AreShown (descends_from 16 all surface) all (map buffer_of told.shown.items)) }
         ensures among { IfOk result (λ told. AreAmong told.applied.freed.items (map buffer_of told.shown.items)) }
         ensures callbacks { IfOk result (λ told. told.applied.callbacks.items ≡ []) }
@@ -117,7 +117,7 @@ impl<A: Allocator + Copy> Linked<A> {
         ensures cause { IfErr result (λ e. e ≡ SurfaceError.Memory) }
     {
         let room = self.room(surface, Vec::new(self.alloc))?;
-        self.surfaces.hold(surface)?;
+        self.states.hold(surface)?;
         self.family.hold(surface);
         Ok(self.apply_tree(room))
     }
@@ -125,15 +125,15 @@ impl<A: Allocator + Copy> Linked<A> {
     /// wl_subsurface.set_desync: the child's commits are applied at once, unless a surface above it is synchronised. What was held is applied
     /// where it behaved synchronised and doesn't any more. Nothing changes where it has no link, nor without memory.
     pub fn set_desync(&mut self, child: SurfaceNo) -> Result<Told<A>, SurfaceError>
-        ensures ok { OnOk result ((all : Asked) (number : ℕ) (link : Link) → IsLink all number child link → Stand self.old.surfaces self.old.family all
-            → Stand self.new.surfaces self.new.family (desynchronised_in number all)) }
-        ensures waits { OnOk result ((all : Asked) (number : ℕ) (link : Link) (cs : List Callback) → IsLink all number child link → Stand self.old.surfaces self.old.family all
-            → AreWaiting self.old.surfaces.frames (numbered all) cs → AreWaiting self.new.surfaces.frames (numbered (desynchronised_in number all)) cs) }
-        ensures changes { IfOk result (λ told. (all : Asked) (number : ℕ) (link : Link) → IsLink all number child link → Stand self.old.surfaces self.old.family all
+        ensures ok { OnOk result ((all : Asked) (number : ℕ) (link : Link) → IsLink all number child link → Stand self.old.states self.old.family all
+            → Stand self.new.states self.new.family (desynchronised_in number all)) }
+        ensures waits { OnOk result ((all : Asked) (number : ℕ) (link : Link) (cs : List Callback) → IsLink all number child link → Stand self.old.states self.old.family all
+            → AreWaiting self.old.states.frames (numbered all) cs → AreWaiting self.new.states.frames (numbered (desynchronised_in number all)) cs) }
+        ensures changes { IfOk result (λ told. (all : Asked) (number : ℕ) (link : Link) → IsLink all number child link → Stand self.old.states self.old.family all
             → IsDesyncTold number child all told.applied.changes.items) }
-        ensures freed { IfOk result (λ told. (all : Asked) (number : ℕ) (link : Link) → IsLink all number child link → Stand self.old.surfaces self.old.family all
+        ensures freed { IfOk result (λ told. (all : Asked) (number : ℕ) (link : Link) → IsLink all number child link → Stand self.old.states self.old.family all
             → AreFreed told.applied.freed.items (numbered all) (numbered (desynchronised_in number all))) }
-        ensures shown { IfOk result (λ told. (all : Asked) (number : ℕ) (link : Link) → IsLink all number child link → Stand self.old.surfaces self.old.family all
+        ensures shown { IfOk result (λ told. (all : Asked) (number : ℕ) (link : Link) → IsLink all number child link → Stand self.old.states self.old.family all
             → AreShown (is_released number child all) all (map buffer_of told.shown.items)) }
         ensures among { IfOk result (λ told. AreAmong told.applied.freed.items (map buffer_of told.shown.items)) }
         ensures callbacks { IfOk result (λ told. told.applied.callbacks.items ≡ []) }
@@ -157,15 +157,15 @@ impl<A: Allocator + Copy> Linked<A> {
     /// wl_subsurface.destroy: the link of the child ends, which is applied with what descends from it. Nothing changes where it has no link,
     /// nor without memory.
     pub fn remove_subsurface(&mut self, child: SurfaceNo) -> Result<Told<A>, SurfaceError>
-        ensures ok { OnOk result ((all : Asked) (number : ℕ) (link : Link) → IsLink all number child link → Stand self.old.surfaces self.old.family all
-            → Stand self.new.surfaces self.new.family (ended_in all link)) }
-        ensures waits { OnOk result ((all : Asked) (number : ℕ) (link : Link) (cs : List Callback) → IsLink all number child link → Stand self.old.surfaces self.old.family all
-            → AreWaiting self.old.surfaces.frames (numbered all) cs → AreWaiting self.new.surfaces.frames (numbered (ended_in all link)) cs) }
-        ensures changes { IfOk result (λ told. (all : Asked) (number : ℕ) (link : Link) → IsLink all number child link → Stand self.old.surfaces self.old.family all
+        ensures ok { OnOk result ((all : Asked) (number : ℕ) (link : Link) → IsLink all number child link → Stand self.old.states self.old.family all
+            → Stand self.new.states self.new.family (ended_in all link)) }
+        ensures waits { OnOk result ((all : Asked) (number : ℕ) (link : Link) (cs : List Callback) → IsLink all number child link → Stand self.old.states self.old.family all
+            → AreWaiting self.old.states.frames (numbered all) cs → AreWaiting self.new.states.frames (numbered (ended_in all link)) cs) }
+        ensures changes { IfOk result (λ told. (all : Asked) (number : ℕ) (link : Link) → IsLink all number child link → Stand self.old.states self.old.family all
             → IsTold child (with_link number ending all) told.applied.changes.items) }
-        ensures freed { IfOk result (λ told. (all : Asked) (number : ℕ) (link : Link) → IsLink all number child link → Stand self.old.surfaces self.old.family all
+        ensures freed { IfOk result (λ told. (all : Asked) (number : ℕ) (link : Link) → IsLink all number child link → Stand self.old.states self.old.family all
             → AreFreed told.applied.freed.items (numbered all) (numbered (ended_in all link))) }
-        ensures shown { IfOk result (λ told. (all : Asked) (number : ℕ) (link : Link) → IsLink all number child link → Stand self.old.surfaces self.old.family all
+        ensures shown { IfOk result (λ told. (all : Asked) (number : ℕ) (link : Link) → IsLink all number child link → Stand self.old.states self.old.family all
             → AreShown (descends_from 16 all child) all (map buffer_of told.shown.items)) }
         ensures among { IfOk result (λ told. AreAmong told.applied.freed.items (map buffer_of told.shown.items)) }
         ensures callbacks { IfOk result (λ told. told.applied.callbacks.items ≡ []) }
@@ -184,23 +184,23 @@ impl<A: Allocator + Copy> Linked<A> {
     /// wl_surface.destroy: the surface is gone with its frame requests, and its links end, that to its parent and those to its children. What
     /// descended from it is applied. Nothing changes without memory.
     pub fn destroy(&mut self, surface: SurfaceNo) -> Result<Told<A>, SurfaceError>
-        ensures ok { OnOk result ((all : Asked) → Stand self.old.surfaces self.old.family all → Stand self.new.surfaces self.new.family (destroyed_in surface all)) }
-        ensures waits { OnOk result ((all : Asked) (cs : List Callback) → Stand self.old.surfaces self.old.family all → AreWaiting self.old.surfaces.frames (numbered all) cs
-            → AreWaiting self.new.surfaces.frames (numbered (destroyed_in surface all)) (filter (λ c. not (is_in (frames_at (surface_at surface all)) c)) cs)) }
-        ensures changes { IfOk result (λ told. (all : Asked) → Stand self.old.surfaces self.old.family all → IsEndTold surface all told.applied.changes.items) }
-        ensures freed { IfOk result (λ told. (all : Asked) → Stand self.old.surfaces self.old.family all
+        ensures ok { OnOk result ((all : Asked) → Stand self.old.states self.old.family all → Stand self.new.states self.new.family (destroyed_in surface all)) }
+        ensures waits { OnOk result ((all : Asked) (cs : List Callback) → Stand self.old.states self.old.family all → AreWaiting self.old.states.frames (numbered all) cs
+            → AreWaiting self.new.states.frames (numbered (destroyed_in surface all)) (filter (λ c. not (is_in (frames_at (surface_at surface all)) c)) cs)) }
+        ensures changes { IfOk result (λ told. (all : Asked) → Stand self.old.states self.old.family all → IsEndTold surface all told.applied.changes.items) }
+        ensures freed { IfOk result (λ told. (all : Asked) → Stand self.old.states self.old.family all
             → AreFreed told.applied.freed.items (numbered all) (numbered (destroyed_in surface all))) }
-        ensures shown { IfOk result (λ told. (all : Asked) → Stand self.old.surfaces self.old.family all
+        ensures shown { IfOk result (λ told. (all : Asked) → Stand self.old.states self.old.family all
             → AreShown (descends_from 16 all surface) all (map buffer_of told.shown.items)) }
         ensures among { IfOk result (λ told. AreAmong told.applied.freed.items (map buffer_of told.shown.items)) }
-        ensures callbacks { IfOk result (λ told. (all : Asked) (cs : List Callback) → AreWaiting self.old.surfaces.frames (numbered all) cs
+        ensures callbacks { IfOk result (λ told. (all : Asked) (cs : List Callback) → AreWaiting self.old.states.frames (numbered all) cs
             → told.applied.callbacks.items ≡ map (λ (c : Callback). c.id) (filter (is_in (frames_at (surface_at surface all))) cs)) }
         ensures err { OnErr result (self.new ≡ self.old) }
         ensures cause { IfErr result (λ e. e ≡ SurfaceError.Memory) }
     {
         let own = self.own_end(surface)?;
         let room = self.room(surface, own)?;
-        let callbacks = self.surfaces.destroy(surface)?;
+        let callbacks = self.states.destroy(surface)?;
         self.family.remove(surface);
         let Told { applied, shown } = self.apply_tree(room);
         let applied = Applied {
@@ -231,9 +231,9 @@ impl<A: Allocator + Copy> Linked<A> {
 
     /// Whether a surface shows a buffer.
     fn is_shown(&self, surface: SurfaceNo) -> bool
-        ensures { (all : Numbered) → StandForAll self.now.surfaces all → result ≡ is_shown_at (all surface) }
+        ensures { (all : Numbered) → StandForAll self.now.states all → result ≡ is_shown_at (all surface) }
     {
-        match self.surfaces.current(surface) {
+        match self.states.current(surface) {
             Some(current) => current.buffer.is_some(),
             None => false,
         }
@@ -241,7 +241,7 @@ impl<A: Allocator + Copy> Linked<A> {
 
     /// What it changes that a surface goes: that it shows no buffer any more.
     fn own_end(&self, surface: SurfaceNo) -> Result<Vec<Change<A>, A>, AllocError>
-        ensures { IfOk result (λ changes. (all : Numbered) → StandForAll self.now.surfaces all → AreGone surface (all surface) changes.items) }
+        ensures { IfOk result (λ changes. (all : Numbered) → StandForAll self.now.states all → AreGone surface (all surface) changes.items) }
     {
         let mut changes = Vec::new(self.alloc);
         if self.is_shown(surface) {
@@ -257,13 +257,13 @@ impl<A: Allocator + Copy> Linked<A> {
     fn room(&self, surface: SurfaceNo, told: Vec<Change<A>, A>) -> Result<Room<A>, AllocError>
         ensures those { IfOk result (λ room. (number : ℕ) → is_among room.below.items number ≡ is_under 16 (parents_of (links_in self.now.family)) surface number) }
         ensures once { IfOk result (λ room. AreOnce room.below.items) }
-        ensures shown { IfOk result (λ room. (all : Numbered) → StandForAll self.now.surfaces all → map buffer_of room.shown.items ≡ shown_by room.below.items all) }
+        ensures shown { IfOk result (λ room. (all : Numbered) → StandForAll self.now.states all → map buffer_of room.shown.items ≡ shown_by room.below.items all) }
         ensures told { IfOk result (λ room. room.changes.items ≡ told.items) }
         ensures room { IfOk result HasRoom }
         ensures hang { HangTogether self.now.family }
     {
         let below = below(&self.family, surface, self.alloc)?;
-        let shown = shown_of(&self.surfaces, &below, self.alloc)?;
+        let shown = shown_of(&self.states, &below, self.alloc)?;
         let mut changes = told;
         changes.reserve(below.len())?;
         let freed = Vec::with_capacity(self.alloc, shown.len())?;
@@ -278,11 +278,11 @@ impl<A: Allocator + Copy> Linked<A> {
     /// Applies these surfaces, and tells what that changes.
     fn apply_tree(&mut self, room: Room<A>) -> Told<A>
         requires room { HasRoom room }
-        ensures stand { (all : Numbered) → StandForAll self.old.surfaces all → StandForAll self.new.surfaces (applied_among room.below.items all) }
-        ensures waits { (all : Numbered) (cs : List Callback) → AreWaiting self.old.surfaces.frames all cs
-            → AreWaiting self.new.surfaces.frames (applied_among room.below.items all) cs }
-        ensures told { (all : Numbered) → StandForAll self.old.surfaces all → AreOnce room.below.items → AreToldAfter room.changes.items room.below.items all result.applied.changes.items }
-        ensures freed { (all : Numbered) → StandForAll self.new.surfaces all → (buffer : ℕ) (is : Bool) → IsAny (shows_at buffer) all is
+        ensures stand { (all : Numbered) → StandForAll self.old.states all → StandForAll self.new.states (applied_among room.below.items all) }
+        ensures waits { (all : Numbered) (cs : List Callback) → AreWaiting self.old.states.frames all cs
+            → AreWaiting self.new.states.frames (applied_among room.below.items all) cs }
+        ensures told { (all : Numbered) → StandForAll self.old.states all → AreOnce room.below.items → AreToldAfter room.changes.items room.below.items all result.applied.changes.items }
+        ensures freed { (all : Numbered) → StandForAll self.new.states all → (buffer : ℕ) (is : Bool) → IsAny (shows_at buffer) all is
             → count_by (λ n. n == buffer) result.applied.freed.items ≡ cond (is_among (numbers_of (map buffer_of room.shown.items)) buffer && not is) 1 0 }
         ensures shown { result.shown.items ≡ room.shown.items }
         ensures among { AreAmong result.applied.freed.items (map buffer_of result.shown.items) }
@@ -294,12 +294,12 @@ impl<A: Allocator + Copy> Linked<A> {
         let mut changes = room.changes;
         let mut freed = room.freed;
         apply_each(
-            &mut self.surfaces,
+            &mut self.states,
             &mut self.family,
             &room.below,
             &mut changes,
         );
-        add_freed(&self.surfaces, &room.shown, &mut freed);
+        add_freed(&self.states, &room.shown, &mut freed);
         let applied = Applied {
             changes,
             freed,

@@ -4,7 +4,7 @@ ghost use Rattle.std.specs.Prelude.{◌≡◌, IfOk, map};
 ghost use Rattle.std.specs.List.{position};
 ghost use Rattle.wl_surface.specs.Waiting.{applied_by, callbacks_of as those_of, held_by};
 
-use crate::surfaces::SurfaceNo;
+use crate::states::SurfaceNo;
 use std::alloc::{AllocError, Allocator};
 
 /// A callback that waits (wayland.xml, wl_surface.frame): the surface that it was requested of, and its id. It is held once a commit of its

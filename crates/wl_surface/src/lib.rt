@@ -11,10 +11,10 @@ mod damage;
 mod error;
 mod frames;
 mod held_damage;
-mod linked;
 mod role;
 mod shape;
 mod state;
+mod states;
 mod surfaces;
 mod tree;
 pub mod tree_laws;
@@ -23,10 +23,10 @@ pub use applied::{Applied, Change};
 pub use commits::Told;
 pub use content::{Attached, BufferNo, Offset, bounded_sum, held};
 pub use error::SurfaceError;
-pub use linked::Linked;
 pub use role::Role;
 pub use state::{Current, SurfaceState};
-pub use surfaces::{MAX_SURFACES, SurfaceNo, Surfaces};
+pub use states::{MAX_SURFACES, SurfaceNo, SurfaceStates};
+pub use surfaces::Surfaces;
 pub use wl_links::Side;
 
 /// After a commit what is held is what was pending, and once the surface is applied that is what counts.

@@ -1,478 +1,186 @@
-//! The surfaces of a client.
+//! The surfaces of a client with the links between them.
 
-ghost use Rattle.std.specs.Prelude.{ℕ, [], ◌≡◌, ◌≢◌, ◌+◌, ◌<◌, ◌↔◌, List, map, Option, Some, None, IfOk, OnOk, OnErr, IfErr, IfNone, IfSome, IsErr, IsOk, MatchBool, OnSome, if◌then◌else◌, is_some, ◌++◌, ◌∷◌, nat_le, length, unsigned_abs, option_copied, true, false, filter, not};
-ghost use Rattle.std.specs.List.{list_any};
-ghost use Rattle.std.specs.Option.{option_map};
-ghost use Rattle.slab.specs.Slab.{entries};
-ghost use Rattle.wl_geom.specs.Region.{Change as RegionChange, Stands as Covers};
-ghost use Rattle.wl_surface.specs.Applied.{AreApplied};
-ghost use Rattle.wl_surface.specs.Kept.{buffer_of, counting_in, counting_of, kept_has, kept_shows};
-ghost use Rattle.wl_surface.specs.Slots.{Changes, IsAny, changed_at, IsCopied, IsCurrentAt, kept_at, one_if_kept, Numbered, StandForAll, content_at, count, had_at, has_at, is_scale, is_transform, is_whole_at, nobody, pending_at, role_at, shows_at, with_at};
-ghost use Rattle.wl_surface.specs.Request.{Attach, Commit, Damage, DamageBuffer, Frame, SetBufferScale, SetBufferTransform, SetInputRegion, SetOpaqueRegion};
-ghost use Rattle.wl_surface.specs.Surface.{applying, asking, new_surface, with_role};
-ghost use Rattle.wl_surface.specs.Waiting.{AreUndue, AreWaiting, Callback, IsNewNumber, IsNextDue, applied_by, frames_at, held_by, is_in, callbacks_of as those_of, next_of, without_next, without_those_of};
+ghost use Rattle.std.specs.Prelude.{ℕ, [], ◌≡◌, true, false, is_some, IfErr, OnErr, OnOk, Option, Some, None, Err};
+ghost use Rattle.wl_links.specs.Family.{is_bad_sibling, links_in, member_of};
+ghost use Rattle.wl_surface.specs.Linked.{IsLink, IsRefused, Stand, is_other_role, is_taken, link_refusal, surface_error};
+ghost use Rattle.wl_surface.specs.Request.{Member, PlaceAbove, PlaceBelow, SetPosition};
+ghost use Rattle.wl_surface.specs.Surface.{asking};
+ghost use Rattle.wl_surface.specs.Surfaces.{Link, Surfaces as Asked, link_at, no_surfaces, surface_at, with_change};
+ghost use Rattle.wl_surface.specs.Trees.{linked, synchronised_in};
+ghost use Rattle.wl_surface.specs.Hanging.{kids_of};
+ghost use Rattle.wl_surface.specs.Stacks.{IsKept, place_request};
 
-use crate::applied::{Change, apply_change};
-use crate::content::{Attached, BufferNo};
 use crate::error::SurfaceError;
-use crate::frames::{Waiting, apply_all, callbacks_of, hold_all, next_place};
 use crate::role::Role;
-use crate::state::{Current, SurfaceState};
-use slab::Slab;
+use crate::states::{SurfaceNo, SurfaceStates};
 use std::alloc::Allocator;
-use std::marker::Model;
-use wl_geom::{Rect, Region};
-use wl_store::{Scale, Transform};
+use wl_links::{Family, PlaceError, Side};
 
-/// A surface's number among its client's.
-pub type SurfaceNo = usize;
-
-/// How many surfaces a client may have.
-pub const MAX_SURFACES: usize = 256;
-
-/// The surfaces of a client by their numbers, and the frame requests that wait, in the order of the requests. They are seen as what is kept
-/// of each.
+/// The surfaces of a client, and how they hang together. What is asked of one surface by itself is asked of `states`; what is asked of a
+/// link, and what applies a tree, of both.
 #[derive(Drop)]
 pub struct Surfaces<A: Allocator> {
-    slots: Slab<SurfaceState<A>, A>,
-    frames: Vec<Waiting, A>,
-    alloc: A,
+    pub states: SurfaceStates<A>,
+    pub family: Family<A>,
+    pub(crate) alloc: A,
 }
 
-impl<A: Allocator> Model for Surfaces<A> {
-    ghost use Rattle.wl_surface.specs.Slots.{Slots};
-
-    ghost Value = { Slots };
-
-    ghost view = { λ surfaces. record { places = surfaces.slots.slots; frames = surfaces.frames.items } };
-}
-
-/// Whether one of the surfaces has the buffer held or applied.
-fn any_shows<A: Allocator>(slots: &Slab<SurfaceState<A>, A>, buffer: BufferNo) -> bool
-    ensures { result ≡ list_any (λ e. kept_shows buffer e.1) (entries slots.now) }
+/// Why a child isn't placed, among the errors of surfaces.
+fn place_error(error: PlaceError) -> SurfaceError
+    ensures { result ≡ surface_error error }
 {
-    for (_, kept) in slots.iter() {
-        if kept.shows(buffer) {
-            return true;
-        }
+    match error {
+        PlaceError::BadSurface => SurfaceError::NotSibling,
+        PlaceError::Memory => SurfaceError::Memory,
     }
-    false
 }
 
-/// Whether one of the surfaces has the buffer pending, held or applied.
-fn any_has<A: Allocator>(slots: &Slab<SurfaceState<A>, A>, buffer: BufferNo) -> bool
-    ensures { result ≡ list_any (λ e. kept_has buffer e.1) (entries slots.now) }
+/// Whether a role isn't that of a subsurface.
+fn is_other_role(role: Option<Role>) -> bool
+    ensures { result ≡ is_other_role role }
 {
-    for (_, kept) in slots.iter() {
-        if kept.has(buffer) {
-            return true;
-        }
-    }
-    false
-}
-
-/// A copy of the region, as it is set.
-fn copy_of<A: Allocator + Copy>(region: &Region<A>) -> Result<Region<A>, SurfaceError>
-    ensures ok { IfOk result (λ copy. copy ≡ region.now) }
-    ensures err { IfErr result (λ e. e ≡ SurfaceError.Memory) }
-{
-    match region.copy() {
-        Ok(copy) => Ok(copy),
-        Err(_) => Err(SurfaceError::Memory),
+    match role {
+        None | Some(Role::Subsurface) => false,
+        Some(Role::Toplevel | Role::Popup | Role::Cursor) => true,
     }
 }
 
 impl<A: Allocator + Copy> Surfaces<A> {
-    /// No surfaces.
+    /// No surfaces, and no links.
     pub fn new(alloc: A) -> Self
-        ensures stand { StandForAll result nobody }
-        ensures count { count result ≡ 0 }
-        ensures frames { result.frames ≡ [] }
+        ensures stand { Stand result.states result.family no_surfaces }
+        ensures frames { result.states.frames ≡ [] }
     {
         Surfaces {
-            slots: Slab::new(alloc),
-            frames: Vec::new(alloc),
+            states: SurfaceStates::new(alloc),
+            family: Family::new(alloc),
             alloc,
         }
     }
 
-    /// How many surfaces there are.
-    pub fn len(&self) -> usize
-        ensures { result ≡ count self.now }
+    /// wl_subcompositor.get_subsurface: a link from a child to its parent. The child is a subsurface from now on, synchronised at first, and
+    /// topmost, at (0, 0), once the parent is committed and applied.
+    ///
+    /// # Errors
+    ///
+    /// In this order: `TooDeep` where there would be more than 16 levels below a root, `Role` where the child has another role or a link that
+    /// lives, `BadParent` where the parent is the child or descends from it, `Memory`. The first three change nothing. Without memory the
+    /// surfaces and links are the same; a place for either surface may stay in the family.
+    pub fn subsurface(&mut self, child: SurfaceNo, parent: SurfaceNo) -> Result<(), SurfaceError>
+        ensures ok { OnOk result ((all : Asked) (number : ℕ) → Stand self.old.states self.old.family all → link_at number all ≡ None
+            → is_some (surface_at child all) ≡ true → is_some (surface_at parent all) ≡ true
+            → Stand self.new.states self.new.family (linked number child parent all)) }
+        ensures refused { (all : Asked) → Stand self.old.states self.old.family all → IsRefused (link_refusal all child parent) result }
+        ensures err { OnErr result ((all : Asked) → Stand self.old.states self.old.family all
+            → is_some (surface_at child all) ≡ true → is_some (surface_at parent all) ≡ true → Stand self.new.states self.new.family all) }
+        ensures frames { self.new.states.frames ≡ self.old.states.frames }
     {
-        self.slots.len()
-    }
-
-    /// wl_compositor.create_surface: a surface of which nothing was asked, under a number that no other has. A client may have 256 surfaces.
-    /// On an error nothing changes.
-    pub fn create(&mut self) -> Result<SurfaceNo, SurfaceError>
-        ensures ok { IfOk result (λ number. (all : Numbered) (id : ℕ) → StandForAll self.old all
-            → (all number ≡ None) × StandForAll self.new (with_at number (Some (new_surface id)) all)) }
-        ensures count { OnOk result (count self.new ≡ count self.old + 1) }
-        ensures room { OnOk result (count self.old < 256) }
-        ensures err { OnErr result (self.new ≡ self.old) }
-        ensures cause { IfErr result (λ e. MatchBool (nat_le 256 (count self.old)) (e ≡ SurfaceError.TooMany) (e ≡ SurfaceError.Memory)) }
-        ensures frames { self.new.frames ≡ self.old.frames }
-    {
-        if MAX_SURFACES <= self.slots.len() {
-            return Err(SurfaceError::TooMany);
+        if self.family.is_too_deep(child, parent) {
+            return Err(SurfaceError::TooDeep);
         }
-        let alloc = self.alloc;
-        let number = self.slots.insert(SurfaceState::new(alloc))?;
-        Ok(number)
-    }
-
-    /// wl_surface.set_opaque_region of a copy of the region, in surface pixels, or of none: then no point is said to be opaque. Without memory
-    /// nothing changes.
-    pub fn set_opaque(
-        &mut self,
-        surface: SurfaceNo,
-        region: Option<&Region<A>>,
-    ) -> Result<(), SurfaceError>
-        ensures ok { OnOk result ((changes : Option (List RegionChange)) → IsCopied (option_copied region.entry) changes → Changes self.old self.new surface (asking (SetOpaqueRegion changes))) }
-        ensures frames { self.new.frames ≡ self.old.frames }
-        ensures err { OnErr result (self.new ≡ self.old) }
-        ensures cause { IfErr result (λ e. e ≡ SurfaceError.Memory) }
-    {
-        match region {
-            Some(region) => self.set_opaque_to(surface, copy_of(region)?),
-            None => self.clear_opaque(surface),
+        if self.is_taken(child) {
+            return Err(SurfaceError::Role);
         }
-        Ok(())
+        if self.family.is_under(child, parent) {
+            return Err(SurfaceError::BadParent);
+        }
+        self.family.join(child, parent)?;
+        self.states.give_role(child, Role::Subsurface)
     }
 
-    /// wl_surface.set_input_region of a copy of the region, in surface pixels, or of none: then each point takes input. Without memory
-    /// nothing changes.
-    pub fn set_input(
-        &mut self,
-        surface: SurfaceNo,
-        region: Option<&Region<A>>,
-    ) -> Result<(), SurfaceError>
-        ensures ok { OnOk result ((changes : Option (List RegionChange)) → IsCopied (option_copied region.entry) changes → Changes self.old self.new surface (asking (SetInputRegion changes))) }
-        ensures frames { self.new.frames ≡ self.old.frames }
+    /// Whether a surface has another role than that of a subsurface, or a link that lives.
+    fn is_taken(&self, child: SurfaceNo) -> bool
+        ensures taken { (all : Asked) → Stand self.now.states self.now.family all → result ≡ is_taken all child }
+        ensures free { result ≡ false → links_in self.now.family child ≡ None }
+    {
+        is_other_role(self.states.role(child)) || self.family.link(child).is_some()
+    }
+
+    /// wl_subsurface.set_position: once the parent is committed and applied, the child's upper left corner is so many pixels right and down
+    /// from the parent's. Nothing changes where the child has no link, nor without memory.
+    pub fn set_position(&mut self, child: SurfaceNo, x: i32, y: i32) -> Result<(), SurfaceError>
+        ensures ok { OnOk result ((all : Asked) (number : ℕ) (link : Link) → IsLink all number child link → Stand self.old.states self.old.family all
+            → Stand self.new.states self.new.family (with_change link.parent (asking (SetPosition number x y)) all)) }
+        ensures none { links_in self.old.family child ≡ None → OnOk result (self.new ≡ self.old) }
+        ensures surfaces { self.new.states ≡ self.old.states }
         ensures err { OnErr result (self.new ≡ self.old) }
         ensures cause { IfErr result (λ e. e ≡ SurfaceError.Memory) }
     {
-        match region {
-            Some(region) => self.set_input_to(surface, copy_of(region)?),
-            None => self.clear_input(surface),
-        }
-        Ok(())
-    }
-
-    /// The surface is applied: what is held of it counts, its frame requests among that, and what that changes is told. Nothing is told where
-    /// there is none of this number.
-    pub fn apply(&mut self, surface: SurfaceNo) -> Option<Change<A>>
-        ensures stand { Changes self.old self.new surface applying }
-        ensures frames { self.new.frames ≡ map (applied_by surface) self.old.frames }
-        ensures waits { (all : Numbered) (cs : List Callback) → AreWaiting self.old.frames all cs
-            → AreWaiting self.new.frames (changed_at surface applying all) cs }
-        ensures change { (all : Numbered) → StandForAll self.old all → AreApplied surface (all surface) result }
-    {
-        apply_all(&mut self.frames, surface);
-        let alloc = self.alloc;
-        match self.slots.get_mut(surface) {
-            Some(kept) => Some(apply_change(kept, surface, alloc)),
-            None => None,
-        }
-    }
-
-    /// wl_surface.destroy: the surface is gone, and its frame requests with it, whose callbacks are told. Nothing changes where there is none of
-    /// this number, nor without memory.
-    pub fn destroy(&mut self, surface: SurfaceNo) -> Result<Vec<u32, A>, SurfaceError>
-        ensures ok { OnOk result ((all : Numbered) → StandForAll self.old all → StandForAll self.new (with_at surface None all)) }
-        ensures count { OnOk result (count self.new + one_if_kept (kept_at self.old surface) ≡ count self.old) }
-        ensures callbacks { IfOk result (λ callbacks. callbacks.items ≡ those_of surface self.old.frames) }
-        ensures frames { OnOk result (self.new.frames ≡ without_those_of surface self.old.frames) }
-        ensures ids { IfOk result (λ callbacks. (all : Numbered) (cs : List Callback) → AreWaiting self.old.frames all cs
-            → callbacks.items ≡ map (λ (c : Callback). c.id) (filter (is_in (frames_at (all surface))) cs)) }
-        ensures waits { OnOk result ((all : Numbered) (cs : List Callback) → AreWaiting self.old.frames all cs
-            → AreWaiting self.new.frames (with_at surface None all) (filter (λ c. not (is_in (frames_at (all surface)) c)) cs)) }
-        ensures err { OnErr result (self.new ≡ self.old) }
-        ensures cause { IfErr result (λ e. e ≡ SurfaceError.Memory) }
-    {
-        let callbacks = callbacks_of(&self.frames, surface, self.alloc)?;
-        self.remove(surface);
-        Ok(callbacks)
-    }
-
-    fn clear_opaque(&mut self, surface: SurfaceNo)
-        ensures changes { Changes self.old self.new surface (asking (SetOpaqueRegion None)) }
-        ensures frames { self.new.frames ≡ self.old.frames }
-    {
-        if let Some(kept) = self.slots.get_mut(surface) {
-            kept.clear_opaque();
-        }
-    }
-}
-
-impl<A: Allocator> Surfaces<A> {
-    /// wl_surface.frame: a callback that waits until a commit applies it and a frame is shown. Without memory nothing changes.
-    pub fn frame(&mut self, surface: SurfaceNo, callback: u32) -> Result<(), SurfaceError>
-        ensures ok { OnOk result ((n : ℕ) → Changes self.old self.new surface (asking (Frame n))) }
-        ensures frames { OnOk result (self.new.frames ≡ (if is_some (kept_at self.old surface) then self.old.frames ++ record { surface = surface; callback = callback; is_held = false; is_applied = false } ∷ [] else self.old.frames)) }
-        ensures waits { OnOk result ((all : Numbered) (cs : List Callback) → StandForAll self.old all → AreWaiting self.old.frames all cs → is_some (all surface) ≡ true → (n : ℕ) → IsNewNumber n all cs
-            → AreWaiting self.new.frames (changed_at surface (asking (Frame n)) all) (cs ++ record { number = n; id = callback } ∷ [])) }
-        ensures err { OnErr result (self.new ≡ self.old) }
-        ensures cause { IfErr result (λ e. e ≡ SurfaceError.Memory) }
-    {
-        if self.slots.get(surface).is_none() {
+        if self.family.link(child).is_none() {
             return Ok(());
         }
-        self.frames.push(Waiting {
-            surface,
-            callback,
-            is_held: false,
-            is_applied: false,
-        })?;
+        self.family.set_position(child, x, y)?;
         Ok(())
     }
 
-    /// wl_surface.commit: what is pending is held, the surface's frame requests with it, and counts once the surface is applied: at once, unless
-    /// it behaves synchronised (wayland.xml, wl_subsurface). Without memory nothing changes.
-    pub fn hold(&mut self, surface: SurfaceNo) -> Result<(), SurfaceError>
-        ensures ok { OnOk result (Changes self.old self.new surface (asking Commit)) }
-        ensures frames { OnOk result (self.new.frames ≡ map (held_by surface) self.old.frames) }
-        ensures waits { OnOk result ((all : Numbered) (cs : List Callback) → StandForAll self.old all → AreWaiting self.old.frames all cs
-            → AreWaiting self.new.frames (changed_at surface (asking Commit) all) cs) }
+    /// wl_subsurface.place_above and place_below: once the parent is committed and applied, the child stands right above or right below a
+    /// sibling, or the parent. Nothing changes where the child has no link.
+    ///
+    /// # Errors
+    ///
+    /// `NotSibling` where the other surface is neither the parent nor another child of it, or else `Memory`. Neither changes anything.
+    pub fn place(
+        &mut self,
+        child: SurfaceNo,
+        sibling: SurfaceNo,
+        side: Side,
+    ) -> Result<(), SurfaceError>
+        ensures ok { OnOk result ((all : Asked) (number : ℕ) (link : Link) (at : Member) → IsLink all number child link
+            → IsKept (kids_of all) at (member_of link.parent sibling) → Stand self.old.states self.old.family all
+            → Stand self.new.states self.new.family (with_change link.parent (asking (place_request side number at)) all)) }
+        ensures none { links_in self.old.family child ≡ None → OnOk result (self.new ≡ self.old) }
+        ensures bad { is_bad_sibling child sibling (links_in self.old.family) ≡ true → result ≡ Err SurfaceError.NotSibling }
+        ensures cause { is_bad_sibling child sibling (links_in self.old.family) ≡ false → IfErr result (λ e. e ≡ SurfaceError.Memory) }
+        ensures surfaces { self.new.states ≡ self.old.states }
         ensures err { OnErr result (self.new ≡ self.old) }
-        ensures cause { IfErr result (λ e. e ≡ SurfaceError.Memory) }
     {
-        if let Some(kept) = self.slots.get_mut(surface) {
-            kept.hold()?;
+        if self.family.link(child).is_none() {
+            return Ok(());
         }
-        hold_all(&mut self.frames, surface);
-        Ok(())
-    }
-
-    /// Takes out the applied callback that was requested first, if there is one: it is answered at the next frame that is shown
-    /// (wayland.xml, wl_surface.frame).
-    pub fn next_frame(&mut self) -> Option<u32>
-        ensures next { result ≡ next_of self.old.frames }
-        ensures frames { self.new.frames ≡ without_next self.old.frames }
-        ensures places { self.new.places ≡ self.old.places }
-        ensures less { OnSome result (length self.new.frames < length self.old.frames) }
-        ensures due { IfSome result (λ id. (all : Numbered) (cs : List Callback) → AreWaiting self.old.frames all cs → IsNextDue id all cs self.new.frames) }
-        ensures none { IfNone result ((self.new ≡ self.old) × ((all : Numbered) (cs : List Callback) → AreWaiting self.old.frames all cs → AreUndue all cs)) }
-    {
-        let Some(place) = next_place(&self.frames) else {
-            return None;
-        };
-        Some(self.frames.remove(place).callback)
-    }
-
-    /// wl_surface.attach of a buffer, or of none, at this offset in pixels. It is pending until the next commit.
-    pub fn attach(&mut self, surface: SurfaceNo, buffer: Option<Attached>, x: i32, y: i32)
-        ensures changes { Changes self.old self.new surface (asking (Attach (option_map buffer_of buffer) x y)) }
-        ensures frames { self.new.frames ≡ self.old.frames }
-    {
-        if let Some(kept) = self.slots.get_mut(surface) {
-            kept.attach(buffer, x, y);
+        match self.family.place(child, sibling, side) {
+            Ok(()) => Ok(()),
+            Err(error) => Err(place_error(error)),
         }
     }
 
-    /// wl_surface.damage of a rectangle in surface pixels. Without memory nothing changes.
-    pub fn damage(&mut self, surface: SurfaceNo, rect: Rect) -> Result<(), SurfaceError>
-        ensures ok { OnOk result (Changes self.old self.new surface (asking (Damage rect))) }
-        ensures frames { self.new.frames ≡ self.old.frames }
+    /// wl_subsurface.place_above: [`Surfaces::place`] right above the sibling.
+    pub fn place_above(&mut self, child: SurfaceNo, sibling: SurfaceNo) -> Result<(), SurfaceError>
+        ensures ok { OnOk result ((all : Asked) (number : ℕ) (link : Link) (at : Member) → IsLink all number child link
+            → IsKept (kids_of all) at (member_of link.parent sibling) → Stand self.old.states self.old.family all
+            → Stand self.new.states self.new.family (with_change link.parent (asking (PlaceAbove number at)) all)) }
+        ensures none { links_in self.old.family child ≡ None → OnOk result (self.new ≡ self.old) }
+        ensures bad { is_bad_sibling child sibling (links_in self.old.family) ≡ true → result ≡ Err SurfaceError.NotSibling }
+        ensures cause { is_bad_sibling child sibling (links_in self.old.family) ≡ false → IfErr result (λ e. e ≡ SurfaceError.Memory) }
+        ensures surfaces { self.new.states ≡ self.old.states }
         ensures err { OnErr result (self.new ≡ self.old) }
-        ensures cause { IfErr result (λ e. e ≡ SurfaceError.Memory) }
     {
-        if let Some(kept) = self.slots.get_mut(surface) {
-            kept.damage(rect)?;
-        }
-        Ok(())
+        self.place(child, sibling, Side::Above)
     }
 
-    /// wl_surface.damage_buffer of a rectangle in pixels of the buffer. Without memory nothing changes.
-    pub fn damage_buffer(&mut self, surface: SurfaceNo, rect: Rect) -> Result<(), SurfaceError>
-        ensures ok { OnOk result (Changes self.old self.new surface (asking (DamageBuffer rect))) }
-        ensures frames { self.new.frames ≡ self.old.frames }
+    /// wl_subsurface.place_below: [`Surfaces::place`] right below the sibling.
+    pub fn place_below(&mut self, child: SurfaceNo, sibling: SurfaceNo) -> Result<(), SurfaceError>
+        ensures ok { OnOk result ((all : Asked) (number : ℕ) (link : Link) (at : Member) → IsLink all number child link
+            → IsKept (kids_of all) at (member_of link.parent sibling) → Stand self.old.states self.old.family all
+            → Stand self.new.states self.new.family (with_change link.parent (asking (PlaceBelow number at)) all)) }
+        ensures none { links_in self.old.family child ≡ None → OnOk result (self.new ≡ self.old) }
+        ensures bad { is_bad_sibling child sibling (links_in self.old.family) ≡ true → result ≡ Err SurfaceError.NotSibling }
+        ensures cause { is_bad_sibling child sibling (links_in self.old.family) ≡ false → IfErr result (λ e. e ≡ SurfaceError.Memory) }
+        ensures surfaces { self.new.states ≡ self.old.states }
         ensures err { OnErr result (self.new ≡ self.old) }
-        ensures cause { IfErr result (λ e. e ≡ SurfaceError.Memory) }
     {
-        if let Some(kept) = self.slots.get_mut(surface) {
-            kept.damage_buffer(rect)?;
+        self.place(child, sibling, Side::Below)
+    }
+
+    /// wl_subsurface.set_sync: the child's commits are held until its parent is applied. Nothing changes where it has no link.
+    pub fn set_sync(&mut self, child: SurfaceNo)
+        ensures stand { (all : Asked) (number : ℕ) (link : Link) → IsLink all number child link → Stand self.old.states self.old.family all
+            → Stand self.new.states self.new.family (synchronised_in number all) }
+        ensures none { links_in self.old.family child ≡ None → self.new ≡ self.old }
+        ensures surfaces { self.new.states ≡ self.old.states }
+    {
+        if self.family.link(child).is_none() {
+            return;
         }
-        Ok(())
-    }
-
-    fn set_opaque_to(&mut self, surface: SurfaceNo, region: Region<A>)
-        ensures changes { (changes : List RegionChange) → Covers region changes → Changes self.old self.new surface (asking (SetOpaqueRegion (Some changes))) }
-        ensures frames { self.new.frames ≡ self.old.frames }
-    {
-        if let Some(kept) = self.slots.get_mut(surface) {
-            kept.set_opaque(region);
-        }
-    }
-
-    fn set_input_to(&mut self, surface: SurfaceNo, region: Region<A>)
-        ensures changes { (changes : List RegionChange) → Covers region changes → Changes self.old self.new surface (asking (SetInputRegion (Some changes))) }
-        ensures frames { self.new.frames ≡ self.old.frames }
-    {
-        if let Some(kept) = self.slots.get_mut(surface) {
-            kept.set_input(region);
-        }
-    }
-
-    fn clear_input(&mut self, surface: SurfaceNo)
-        ensures changes { Changes self.old self.new surface (asking (SetInputRegion None)) }
-        ensures frames { self.new.frames ≡ self.old.frames }
-    {
-        if let Some(kept) = self.slots.get_mut(surface) {
-            kept.clear_input();
-        }
-    }
-
-    fn turn(&mut self, surface: SurfaceNo, number: u32)
-        requires { number < 8 }
-        ensures changes { Changes self.old self.new surface (asking (SetBufferTransform number)) }
-        ensures frames { self.new.frames ≡ self.old.frames }
-    {
-        if let Some(kept) = self.slots.get_mut(surface) {
-            kept.set_transform(Transform::from_number(number));
-        }
-    }
-
-    /// wl_surface.set_buffer_transform to one of the eight transforms. `Transform` is refused for any other number, and nothing changes then.
-    pub fn set_transform(&mut self, surface: SurfaceNo, transform: i32) -> Result<(), SurfaceError>
-        ensures ok { OnOk result (Changes self.old self.new surface (asking (SetBufferTransform (unsigned_abs transform)))) }
-        ensures frames { self.new.frames ≡ self.old.frames }
-        ensures valid { IsOk result ↔ (is_transform transform ≡ true) }
-        ensures err { OnErr result (self.new ≡ self.old) }
-        ensures cause { IfErr result (λ e. e ≡ SurfaceError.Transform) }
-    {
-        if !(0..=7).contains(&transform) {
-            return Err(SurfaceError::Transform);
-        }
-        self.turn(surface, transform.unsigned_abs());
-        Ok(())
-    }
-
-    fn show_scaled(&mut self, surface: SurfaceNo, scale: Scale)
-        ensures changes { Changes self.old self.new surface (asking (SetBufferScale scale.number)) }
-        ensures frames { self.new.frames ≡ self.old.frames }
-    {
-        if let Some(kept) = self.slots.get_mut(surface) {
-            kept.set_scale(scale);
-        }
-    }
-
-    /// wl_surface.set_buffer_scale: so many pixels of the buffer, to the right and down, are one of the surface. `Scale` is refused for a number
-    /// below 1, and nothing changes then.
-    pub fn set_scale(&mut self, surface: SurfaceNo, scale: i32) -> Result<(), SurfaceError>
-        ensures ok { OnOk result (Changes self.old self.new surface (asking (SetBufferScale (unsigned_abs scale)))) }
-        ensures frames { self.new.frames ≡ self.old.frames }
-        ensures valid { IsOk result ↔ (is_scale scale ≡ true) }
-        ensures err { OnErr result (self.new ≡ self.old) }
-        ensures cause { IfErr result (λ e. e ≡ SurfaceError.Scale) }
-    {
-        if scale < 1 {
-            return Err(SurfaceError::Scale);
-        }
-        let number = scale.unsigned_abs();
-        self.show_scaled(surface, Scale { number });
-        Ok(())
-    }
-
-    /// Gives a surface its role, for life. `Role` is refused exactly where it has another one, and nothing changes then.
-    pub fn give_role(&mut self, surface: SurfaceNo, role: Role) -> Result<(), SurfaceError>
-        ensures ok { OnOk result (Changes self.old self.new surface (with_role role)) }
-        ensures frames { self.new.frames ≡ self.old.frames }
-        ensures err { OnErr result (self.new ≡ self.old) }
-        ensures refused { (all : Numbered) → StandForAll self.old all → (IsErr result) ↔ ((other : Role) × (role_at (all surface) ≡ Some other) × (other ≢ role)) }
-        ensures cause { IfErr result (λ e. e ≡ SurfaceError.Role) }
-    {
-        if let Some(kept) = self.slots.get_mut(surface) {
-            if !kept.give_role(role) {
-                return Err(SurfaceError::Role);
-            }
-        }
-        Ok(())
-    }
-
-    /// Whether a surface has the buffer held or applied: it is busy, and its client may not write to it (wayland.xml, wl_buffer.release).
-    pub fn is_busy(&self, buffer: BufferNo) -> bool
-        ensures { (all : Numbered) → StandForAll self.now all → IsAny (shows_at buffer) all result }
-    {
-        any_shows(&self.slots, buffer)
-    }
-
-    /// Whether a surface has the buffer pending, held or applied.
-    pub fn is_used(&self, buffer: BufferNo) -> bool
-        ensures { (all : Numbered) → StandForAll self.now all → IsAny (has_at buffer) all result }
-    {
-        any_has(&self.slots, buffer)
-    }
-
-    /// The buffer that the next commit would show.
-    pub fn pending_buffer(&self, surface: SurfaceNo) -> Option<Attached>
-        ensures { (all : Numbered) → StandForAll self.now all → option_map buffer_of result ≡ pending_at (all surface) }
-    {
-        match self.slots.get(surface) {
-            Some(kept) => kept.pending_buffer(),
-            None => None,
-        }
-    }
-
-    /// Whether the sides of the buffer that the next commit would show are multiples of the scale that it would have. They are without a buffer, and
-    /// where there is no surface of this number.
-    pub fn is_whole(&self, surface: SurfaceNo) -> bool
-        ensures { (all : Numbered) → StandForAll self.now all → result ≡ is_whole_at (all surface) }
-    {
-        match self.slots.get(surface) {
-            Some(kept) => kept.is_whole(),
-            None => true,
-        }
-    }
-
-    /// The buffers that a surface has pending, held and applied.
-    pub fn buffers(&self, surface: SurfaceNo) -> [Option<Attached>; 3]
-        ensures { (all : Numbered) → StandForAll self.now all → map (option_map buffer_of) result ≡ had_at (all surface) }
-    {
-        match self.slots.get(surface) {
-            Some(kept) => kept.buffers(),
-            None => [None, None, None],
-        }
-    }
-
-    /// Whether a surface has a buffer pending, held or applied.
-    pub fn has_content(&self, surface: SurfaceNo) -> bool
-        ensures { (all : Numbered) → StandForAll self.now all → result ≡ content_at (all surface) }
-    {
-        match self.slots.get(surface) {
-            Some(kept) => kept.has_content(),
-            None => false,
-        }
-    }
-
-    fn remove(&mut self, surface: SurfaceNo)
-        ensures stand { (all : Numbered) → StandForAll self.old all → StandForAll self.new (with_at surface None all) }
-        ensures count { count self.new + one_if_kept (kept_at self.old surface) ≡ count self.old }
-        ensures frames { self.new.frames ≡ without_those_of surface self.old.frames }
-    {
-        self.slots.try_remove(surface);
-        self.frames.retain(|waiting| waiting.surface != surface);
-    }
-
-    /// What counts of a surface, if there is such a one.
-    pub fn current(&self, surface: SurfaceNo) -> Option<Current<'_, A>>
-        ensures stands { (all : Numbered) → StandForAll self.now all → IsCurrentAt result (all surface) }
-        ensures kept { option_map counting_in result ≡ option_map counting_of (kept_at self.now surface) }
-    {
-        match self.slots.get(surface) {
-            Some(kept) => Some(kept.current()),
-            None => None,
-        }
-    }
-
-    /// The role of a surface, if it has one.
-    pub fn role(&self, surface: SurfaceNo) -> Option<Role>
-        ensures { (all : Numbered) → StandForAll self.now all → result ≡ role_at (all surface) }
-    {
-        match self.slots.get(surface) {
-            Some(kept) => kept.role(),
-            None => None,
-        }
+        self.family.set_synchronised(child, true);
     }
 }

@@ -10,7 +10,7 @@ ghost use Rattle.wl_links.specs.Trees.{is_under};
 
 use crate::applied::Change;
 use crate::content::{Attached, BufferNo};
-use crate::surfaces::{SurfaceNo, Surfaces};
+use crate::states::{SurfaceNo, SurfaceStates};
 use std::alloc::{AllocError, Allocator};
 use wl_links::Family;
 
@@ -52,7 +52,7 @@ fn add_buffer<A: Allocator>(
 
 /// The buffers that these surfaces have applied and held, as they were attached.
 pub(crate) fn shown_of<A: Allocator + Copy>(
-    surfaces: &Surfaces<A>,
+    surfaces: &SurfaceStates<A>,
     numbers: &[SurfaceNo],
     alloc: A,
 ) -> Result<Vec<Attached, A>, AllocError>
@@ -76,7 +76,7 @@ fn has_number(numbers: &[BufferNo], number: BufferNo) -> bool
 
 /// Adds those of these buffers that aren't busy, each once. There is room for them.
 pub(crate) fn add_freed<A: Allocator>(
-    surfaces: &Surfaces<A>,
+    surfaces: &SurfaceStates<A>,
     shown: &[Attached],
     freed: &mut Vec<BufferNo, A>,
 )
@@ -96,7 +96,7 @@ pub(crate) fn add_freed<A: Allocator>(
 
 /// Applies these surfaces in turn, and adds what that changes. There is room for it.
 pub(crate) fn apply_each<A: Allocator + Copy>(
-    surfaces: &mut Surfaces<A>,
+    surfaces: &mut SurfaceStates<A>,
     family: &mut Family<A>,
     numbers: &[SurfaceNo],
     changes: &mut Vec<Change<A>, A>,

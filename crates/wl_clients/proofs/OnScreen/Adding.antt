@@ -22,10 +22,10 @@ so (Err e) P on is = absurd (cc)
 -- By what is known of the toplevel that stands, of its roots, and of their trees.
 pub run-added : {A X Y : Type 0} (v : Kept A) (c surface : ℕ) (toplevel : Option ℕ) (t : Standing) (standing : List Standing) (places : List RootPlace) (result : Result X Y) (was is : List TreeWindow)
     (count capacity : ℕ) → toplevel ≡ Some surface → Some t ≡ find (is_of c surface) standing
-    → ((o : Owned) (client : ℕ) → IsHeld v.owned.linked.surfaces v.owned.linked.family v.owned.shell o → AreRising (popups_of o.shell) → HasRole v.owned.shell surface → length o.shell ≤ 256
+    → ((o : Owned) (client : ℕ) → IsHeld v.owned.surfaces.states v.owned.surfaces.family v.owned.shell o → AreRising (popups_of o.shell) → HasRole v.owned.shell surface → length o.shell ≤ 256
     → places ≡ map told_root (roots_of o.surfaces (root_of (λ _. o) (standing_at client surface t.place.x t.place.y)) (stacked_popups o)))
-    → OnOk result ((all : Surfaces) (owner : Owner) → Stand v.owned.linked.surfaces v.owned.linked.family all → is ≡ was ++ told_trees owner all places)
-    → ((all : Surfaces) (owner : Owner) → Stand v.owned.linked.surfaces v.owned.linked.family all → count + length (told_trees owner all places) ≤ capacity → IsOk result)
+    → OnOk result ((all : Surfaces) (owner : Owner) → Stand v.owned.surfaces.states v.owned.surfaces.family all → is ≡ was ++ told_trees owner all places)
+    → ((all : Surfaces) (owner : Owner) → Stand v.owned.surfaces.states v.owned.surfaces.family all → count + length (told_trees owner all places) ≤ capacity → IsOk result)
     → (o : Owned) (owner : Owner) → IsRunHeldIf c v toplevel standing o → count + length (run_on c owner o toplevel standing) ≤ capacity
     → is ≡ was ++ run_on c owner o toplevel standing
 run-added v c surface toplevel t standing places result was is count capacity there stands finds ok succeeds o owner held fits =

@@ -63,7 +63,7 @@ toplevel-there c toplevel e trees stands = has-history toplevel (owned_in e c).s
 -- What is kept stands by these names for what a client owns, whose popups are in order.
 pub record HoldsAs {A : Type 0} (f : ℕ → ℕ) (v : Kept A) (o : Owned) : Type 0 where
   pub renames : RenamesOwned f o
-  pub held : IsHeld v.owned.linked.surfaces v.owned.linked.family v.owned.shell (renamed_owned f o)
+  pub held : IsHeld v.owned.surfaces.states v.owned.surfaces.family v.owned.shell (renamed_owned f o)
   pub rising : AreRising (popups_of (renamed_shell f o.shell))
   pub few : length o.shell ≤ 256
 

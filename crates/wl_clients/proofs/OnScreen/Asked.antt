@@ -38,7 +38,7 @@ applied-value (Some x) some = (x, refl)
 module _ {A : Type 0} (old mid : Kept A) (r : Resident) (p : Peer) (c : ℕ) (d : Desktop) (resident : IsResident old r) (owns : OwnsOrdered r) (asked : Asked) (asks : IsAsked old.client asked)
     (surface : ℕ) (by : IsTouchedBy old asked (Some surface)) (demand : Demand) (demanded : IsDemanded nothing_left_out (split_of r.peer.rest) r demand) (stacking : Stacking)
     (stacks : StacksFor old r demand stacking) (applied : Option (Applied A))
-    (touched_so : (touch : Touch) → IsTouchOfAsked asked old touch → IsTouched touch old.owned.linked mid.owned.linked applied)
+    (touched_so : (touch : Touch) → IsTouchOfAsked asked old touch → IsTouched touch old.owned.surfaces mid.owned.surfaces applied)
     (some_applied : (touch : Touch) → IsTouchOfAsked asked old touch → is_some applied ≡ true) where
   abbrev Its : ℕ → Type 0
   Its id = (touched_by demand r ≡ Some id) × (numbers old id ≡ Some surface)
@@ -64,7 +64,7 @@ module _ {A : Type 0} (old mid : Kept A) (r : Resident) (p : Peer) (c : ℕ) (d 
         list = a.changes.items;
         tells =
             touch-told old mid r p c d asked demand touch a resident owns asks demanded it
-            (subst (λ (o : Option (Applied A)). IsTouched touch old.owned.linked mid.owned.linked o) is (touched_so touch it));
+            (subst (λ (o : Option (Applied A)). IsTouched touch old.owned.surfaces mid.owned.surfaces o) is (touched_so touch it));
         stays = λ never. (ap (λ (o : Option (Applied A)). is_some o) is, sym (ap (λ (o : Option (Applied A)). changes_in o) is));
       }
 

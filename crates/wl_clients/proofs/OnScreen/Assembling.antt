@@ -97,20 +97,20 @@ pub record Asks {A : Type 0} (c : ℕ) (r : Resident) (d : Desktop) (old mid : K
   pub lives : old.client.ended ≡ None
   pub asks : IsAsked old.client asked
   pub by : IsTouchedBy old asked (Some surface)
-  pub root_is : root ≡ root_by 16 (parents_of (links_in old.owned.linked.family)) surface
-  pub top : links_in old.owned.linked.family root ≡ None
+  pub root_is : root ≡ root_by 16 (parents_of (links_in old.owned.surfaces.family)) surface
+  pub top : links_in old.owned.surfaces.family root ≡ None
   pub found_is :
       (o : Owned) (histories : ℕ → Option History) → IsShell (kept_of old.owned.shell) histories o.shell
       → found ≡ found_by c root (parent_by o (popup_in_shell old.owned.shell root)) was.stacked.windows
   pub placed : IsPlacedBy was c old asked placing
   pub takes : TakesGiven asked placing c r d old mid stacking
   pub decides : (touch : Touch) → IsTouchOfAsked asked old touch → TakesGivenAs (is_some applied) asked placing c r d old mid
-  pub touched_so : (touch : Touch) → IsTouchOfAsked asked old touch → IsTouched touch old.owned.linked mid.owned.linked applied
+  pub touched_so : (touch : Touch) → IsTouchOfAsked asked old touch → IsTouched touch old.owned.surfaces mid.owned.surfaces applied
   pub holds : (touch : Touch) → IsTouchOfAsked asked old touch → is_some applied ≡ true → HoldsGiven asked placing c r d old mid
   pub nothing : ((touch : Touch) → IsTouchOfAsked asked old touch → ⊥) → applied ≡ None
   pub same : IsSameScreen was ready
   pub kept : is_some applied ≡ true → ready.spare.was.items ≡ run_kept c found was.stacked.windows
-  pub room : is_some applied ≡ true → HasRoom (count old.owned.linked.surfaces) ready
+  pub room : is_some applied ≡ true → HasRoom (count old.owned.surfaces.states) ready
   pub empty : ready.spare.is.items ≡ []
 
 within-output : (width height x y : ℕ) → x < width → y < height → in_output width height (pos x) (pos y) ≡ true
@@ -187,7 +187,7 @@ module _ {A : Type 0} (laws : MessageLaws) (c : ℕ) (others : ℕ → ById ℕ)
     m = (taken mid new settled).0
 
     filled : is_some applied ≡ true → (o : Owned) (owner : Owner) → IsRunHeldIf c mid found new.scene.standing o
-        → length (run_on c owner o found new.scene.standing) ≤ count old.owned.linked.surfaces → f.is ≡ run_on c owner o found new.scene.standing
+        → length (run_on c owner o found new.scene.standing) ≤ count old.owned.surfaces.states → f.is ≡ run_on c owner o found new.scene.standing
     filled some o owner held fits =
         f.told o owner held (fits-so _ _ _ _ (a.room some).run fits) ∙ ap (λ (ws : List TreeWindow). ws ++ run_on c owner o found new.scene.standing) a.empty
 

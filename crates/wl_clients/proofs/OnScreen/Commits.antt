@@ -39,16 +39,16 @@ module _ {A : Type 0} (v : Kept A) (numbers : ById ℕ) (subsurfaces : List Subs
   only-child object = at (child_of object subsurfaces) refl
     where
       by : (child : ℕ) → slice_index_or v.subsurfaces child None ≡ Some object → ((other : ℕ) → slice_index_or v.subsurfaces other None ≡ Some object → other ≡ child) → (b : Bool)
-          → is_some (links_in v.owned.linked.family child) ≡ b → Decided (λ child. IsOnlyChild v object child)
+          → is_some (links_in v.owned.surfaces.family child) ≡ b → Decided (λ child. IsOnlyChild v object child)
       by child there same true lives = inl (child, ((there, lives), same))
       by child there same false ended =
-          inr (λ other only. differ (sym (subst (λ (n : ℕ). is_some (links_in v.owned.linked.family n) ≡ true) (same other only.0.0) only.0.1) ∙ ended))
+          inr (λ other only. differ (sym (subst (λ (n : ℕ). is_some (links_in v.owned.surfaces.family n) ≡ true) (same other only.0.0) only.0.1) ∙ ended))
 
       at : (o : Option ℕ) → child_of object subsurfaces ≡ o → Decided (λ child. IsOnlyChild v object child)
       at None e = inr (λ child only. let k = are.known child object only.0.0 in none-some k.0 (sym e ∙ k.2))
       at (Some id) e =
           let here = are.named object id e in
-          by here.0 here.2 (λ other there. only-number v.subsurfaces numbers subsurfaces object other here.0 are there here.2) (is_some (links_in v.owned.linked.family here.0)) refl
+          by here.0 here.2 (λ other there. only-number v.subsurfaces numbers subsurfaces object other here.0 are there here.2) (is_some (links_in v.owned.surfaces.family here.0)) refl
 
   child-touches : (touches : ℕ → Touch) (object : ℕ) → Decided (λ touch. (child : ℕ) × IsOnlyChild v object child × (touch ≡ touches child))
   child-touches touches object = at (only-child object)

@@ -105,7 +105,7 @@ none-kept book number e = rw e refl
 none-counted : (slots : Slots) → StandForAll slots nobody → count_kept slots ≡ 0
 none-counted slots stand = count-same slots.places [] (λ n. is-kept (kept_at slots n) None (stand n) ∙ sym (ap is_some (nothing-at n)))
 
-pub owns-nothing : {A : Type 0} (held : Held) (owned : Owned A) → AreNameless held → IsBare owned → IsOwned (names_of held) owned.linked.surfaces owned.linked.family (kept_of owned.shell)
+pub owns-nothing : {A : Type 0} (held : Held) (owned : Owned A) → AreNameless held → IsBare owned → IsOwned (names_of held) owned.surfaces.states owned.surfaces.family (kept_of owned.shell)
     nothing_owned
 owns-nothing held owned none bare =
     record {
@@ -115,7 +115,7 @@ owns-nothing held owned none bare =
         once = λ a b number e f. absurd (no-some number (sym (none.surfaces a) ∙ e));
         apart = tt;
         stand = bare.surfaces.surfaces;
-        count = none-counted owned.linked.surfaces bare.surfaces.surfaces;
+        count = none-counted owned.surfaces.states bare.surfaces.surfaces;
         hang = bare.surfaces.hang;
         there = λ number here. absurd (differ (sym (bare.surfaces.there number here)));
       };
@@ -199,8 +199,8 @@ nameless-seat v o r seat gone =
       roles = λ id. owns.toplevels id;
     }
   where
-    owns : IsOwned (names_of v.objects) o.surfaces o.family (kept_of o.shell) nothing_owned
-    owns = subst (λ (x : Resident). IsOwned (names_of v.objects) o.surfaces o.family (kept_of o.shell) x.owned) (seat.ended gone) seat.owns
+    owns : IsOwned (names_of v.objects) o.states o.family (kept_of o.shell) nothing_owned
+    owns = subst (λ (x : Resident). IsOwned (names_of v.objects) o.states o.family (kept_of o.shell) x.owned) (seat.ended gone) seat.owns
 
     none-there : (n : Option ℕ) → is_some n ≡ false → n ≡ None
     none-there None e = refl

@@ -40,8 +40,8 @@ pub record OrderLaws : Type 0 where
 
 module _ {A : Type 0} (laws : OrderLaws) (c : ℕ) (old mid : Kept A) (r s : Resident) (d e : Desktop) (owns : Owns mid s) (ordered : OwnsOrdered s) (here : owned_in d c ≡ r.owned)
     (there : owned_in e c ≡ s.owned) where
-  own : IsKeptByNumbers (names_of mid.client.objects) mid.owned.linked.surfaces mid.owned.linked.family (kept_of mid.owned.shell) s.owned
-  own = kept-by-numbers (names_of mid.client.objects) mid.owned.linked.surfaces mid.owned.linked.family (kept_of mid.owned.shell) s.owned owns
+  own : IsKeptByNumbers (names_of mid.client.objects) mid.owned.surfaces.states mid.owned.surfaces.family (kept_of mid.owned.shell) s.owned
+  own = kept-by-numbers (names_of mid.client.objects) mid.owned.surfaces.states mid.owned.surfaces.family (kept_of mid.owned.shell) s.owned owns
 
   pub holds-now : HoldsAs (named_by mid) mid (owned_in e c)
   holds-now =
@@ -53,7 +53,7 @@ module _ {A : Type 0} (laws : OrderLaws) (c : ℕ) (old mid : Kept A) (r s : Res
       })
 
   -- The surfaces that were there and are there still have their numbers.
-  pub names-agree : IsOwned (names_of old.client.objects) old.owned.linked.surfaces old.owned.linked.family (kept_of old.owned.shell) r.owned
+  pub names-agree : IsOwned (names_of old.client.objects) old.owned.surfaces.states old.owned.surfaces.family (kept_of old.owned.shell) r.owned
       → KeepsNumbers old.client.objects mid.client.objects
       → ((id : ℕ) → has_surface id (owned_in e c).surfaces ≡ true → has_surface id (owned_in d c).surfaces ≡ true)
       → (id : ℕ) → has_surface id (owned_in e c).surfaces ≡ true → named_by mid id ≡ named_by old id

@@ -47,13 +47,13 @@ module _ {A : Type 0} (c : ℕ) (others : ℕ → ById ℕ) (base d : Desktop) (
       ap (λ (n : ById ℕ). n surface) nums-own ∙ has-number surface (subst (λ (o : Owned). has_surface surface o.surfaces ≡ true) owned-here there)
 
   -- What is kept stands for what the client owns by numbers.
-  pub by-numbers : IsKeptByNumbers (names_of old.client.objects) old.owned.linked.surfaces old.owned.linked.family (kept_of old.owned.shell) r.owned
-  by-numbers = kept-by-numbers (names_of old.client.objects) old.owned.linked.surfaces old.owned.linked.family (kept_of old.owned.shell) r.owned before.seat.owns
+  pub by-numbers : IsKeptByNumbers (names_of old.client.objects) old.owned.surfaces.states old.owned.surfaces.family (kept_of old.owned.shell) r.owned
+  by-numbers = kept-by-numbers (names_of old.client.objects) old.owned.surfaces.states old.owned.surfaces.family (kept_of old.owned.shell) r.owned before.seat.owns
 
   abbrev pub its : Owned
   its = by_numbers (names_of old.client.objects) r.owned
 
-  pub held : IsHeld old.owned.linked.surfaces old.owned.linked.family old.owned.shell its
+  pub held : IsHeld old.owned.surfaces.states old.owned.surfaces.family old.owned.shell its
   held = record { surfaces = by-numbers.surfaces; shell = by-numbers.shell }
 
   pub renames : RenamesOwned (named_by old) r.owned

@@ -120,7 +120,7 @@ module _ {A : Type 0} (laws : MessageLaws) (c : ℕ) (others : ℕ → ById ℕ)
       at (Some applied) none h = absurd (differ none)
 
   filled : is_some applied ≡ true → (o : Owned) (owner : Owner) → IsRunHeldIf c mid found p.between.standing o
-      → length (run_on c owner o found p.between.standing) ≤ count old.owned.linked.surfaces → p.is ≡ run_on c owner o found p.between.standing
+      → length (run_on c owner o found p.between.standing) ≤ count old.owned.surfaces.states → p.is ≡ run_on c owner o found p.between.standing
   filled some o owner held fits =
       at applied some p.told ∙ ap (λ (ws : List TreeWindow). ws ++ run_on c owner o found p.between.standing) a.empty
     where
@@ -140,8 +140,8 @@ module _ {A : Type 0} (laws : MessageLaws) (c : ℕ) (others : ℕ → ById ℕ)
       at None is = none-told (ap (λ (o : Option (Applied A)). is_some o) is)
       at (Some applied) is =
           subst (λ (o : Option ℕ). (owned : Owned) (owner : Owner) → IsRunHeldIf c mid o p.between.standing owned
-          → length (run_on c owner owned o p.between.standing) ≤ count old.owned.linked.surfaces → p.is ≡ run_on c owner owned o p.between.standing) none
-          (filled (ap (λ (o : Option (Applied A)). is_some o) is)) r.owned owner tt (none-fit (count old.owned.linked.surfaces))
+          → length (run_on c owner owned o p.between.standing) ≤ count old.owned.surfaces.states → p.is ≡ run_on c owner owned o p.between.standing) none
+          (filled (ap (λ (o : Option (Applied A)). is_some o) is)) r.owned owner tt (none-fit (count old.owned.surfaces.states))
 
   abbrev its-owns : OwnsOrdered r
   its-owns = owns laws c others base d r old mid was ready before ordered asked placing surface root found stacking applied a width height

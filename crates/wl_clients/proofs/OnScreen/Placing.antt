@@ -123,7 +123,7 @@ module _ {A : Type 0} (c : ℕ) (others : ℕ → ById ℕ) (base d : Desktop) (
     anew-placing : (object target : ℕ) → roles_in old.client.objects object ≡ Some target → IsPlacedAt (popup_in_shell old.owned.shell target)
         → IsPlacing placing c (popup_with object r.owned.shell) r d
     anew-placing object target named =
-        let its = toplevel-named (names_of old.client.objects) old.owned.linked.surfaces old.owned.linked.family (kept_of old.owned.shell) r.owned before.seat.owns object target named in
+        let its = toplevel-named (names_of old.client.objects) old.owned.surfaces.states old.owned.surfaces.family (kept_of old.owned.shell) r.owned before.seat.owns object target named in
         popup-placing (popup_in_shell old.owned.shell target) (popup_with object r.owned.shell)
         (ap (option_and_then (λ (k : KeptXdg). popup_in k.role)) its.3.here
         ∙ (ap popup_in its.3.stands.role ∙ sym (ap (option_and_then (λ (x : XdgSurface). popup_in x.role)) its.4)))

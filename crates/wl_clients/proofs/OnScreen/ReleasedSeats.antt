@@ -11,7 +11,7 @@ use Rattle.law_desktop.proofs.Lists.Keys.{differ}
 use Rattle.wl_scene.specs.StackedAgreement.{AreStacked, IsStacked}
 use Rattle.wl_scene.proofs.Standing.{any-same}
 use Rattle.law_desktop.specs.Ordered.{Ordered, OwnsOrdered}
-use Rattle.wl_surface.specs.declared.linked.Linked.{Linked}
+use Rattle.wl_surface.specs.declared.surfaces.Surfaces.{Surfaces as Linked}
 use Rattle.law_desktop.specs.Owning.{IsOwned, by_number, targets_in}
 use Rattle.law_desktop.specs.RoleNames.{names_of}
 use Rattle.law_desktop.specs.Subsurfaces.{AreOfSurfaces}
@@ -177,7 +177,7 @@ module _ {A : Type 0} (laws : ReleaseLaws) (c : ℕ) (others : ℕ → ById ℕ)
         ∙ ap (λ b. b && list_any (λ w. contains w (pos x) (pos y) && is_of_dismissed c e w) (all_windows d)) (inside-so d old width height x y wide high)))
 
   -- told of each
-  module _ (same : new.client ≡ record old.client { unsent = new.client.unsent; refused = new.client.refused }) (linked : new.owned.linked ≡ old.owned.linked)
+  module _ (same : new.client ≡ record old.client { unsent = new.client.unsent; refused = new.client.refused }) (linked : new.owned.surfaces ≡ old.owned.surfaces)
       (subsurfaces : new.subsurfaces ≡ old.subsurfaces) where
     objects : new.client.objects ≡ old.client.objects
     objects = ap (λ (v : ClientView). v.objects) same
@@ -185,22 +185,22 @@ module _ {A : Type 0} (laws : ReleaseLaws) (c : ℕ) (others : ℕ → ById ℕ)
     queues : QueuesTo (popups_done r (without_grabs r)) (without_grabs r).peer released.0 new.client.refused
     queues =
         subst (λ (es : List Said). QueuesTo es r.peer released.0 new.client.refused)
-        (sym (released-done (names_of old.client.objects) old.owned.linked.surfaces old.owned.linked.family (kept_of old.owned.shell) r before.seat.owns)) released.1.told
+        (sym (released-done (names_of old.client.objects) old.owned.surfaces.states old.owned.surfaces.family (kept_of old.owned.shell) r before.seat.owns)) released.1.told
 
     stays : (released.0.status ≡ r.peer.status) × (released.0.requests ≡ r.peer.requests)
     stays = queues-so (popups_done r (without_grabs r)) r.peer released.0 new.client.refused queues
 
-    framed : AreFramed new.owned.linked.surfaces.frames (by_number (targets_in WlSurface new.client.objects) r.owned.surfaces) (released.0.requests + 1) r.callbacks
+    framed : AreFramed new.owned.surfaces.states.frames (by_number (targets_in WlSurface new.client.objects) r.owned.surfaces) (released.0.requests + 1) r.callbacks
     framed =
-        subst (λ (held : Held). AreFramed new.owned.linked.surfaces.frames (by_number (targets_in WlSurface held) r.owned.surfaces) (released.0.requests + 1) r.callbacks) (sym objects)
-        (subst (λ (n : ℕ). AreFramed new.owned.linked.surfaces.frames (by_number (targets_in WlSurface old.client.objects) r.owned.surfaces) (n + 1) r.callbacks) (sym stays.1)
-        (subst (λ (l : Linked A). AreFramed l.surfaces.frames (by_number (targets_in WlSurface old.client.objects) r.owned.surfaces) (r.peer.requests + 1) r.callbacks) (sym linked)
+        subst (λ (held : Held). AreFramed new.owned.surfaces.states.frames (by_number (targets_in WlSurface held) r.owned.surfaces) (released.0.requests + 1) r.callbacks) (sym objects)
+        (subst (λ (n : ℕ). AreFramed new.owned.surfaces.states.frames (by_number (targets_in WlSurface old.client.objects) r.owned.surfaces) (n + 1) r.callbacks) (sym stays.1)
+        (subst (λ (l : Linked A). AreFramed l.states.frames (by_number (targets_in WlSurface old.client.objects) r.owned.surfaces) (r.peer.requests + 1) r.callbacks) (sym linked)
         before.seat.frames))
 
     sits : IsSeat (opened new.client) (owned_view (opened_kept new)) (released_as released.0 r)
     sits = record {
       peer = released.1.peer;
-      owns = subst (λ (held : Held). IsOwned (names_of held) new.owned.linked.surfaces new.owned.linked.family (kept_of new.owned.shell) (released_as released.0 r).owned) (sym objects)
+      owns = subst (λ (held : Held). IsOwned (names_of held) new.owned.surfaces.states new.owned.surfaces.family (kept_of new.owned.shell) (released_as released.0 r).owned) (sym objects)
           released.1.owns;
       frames = framed;
       subsurfaces = subst (λ (held : Held). AreOfSurfaces new.subsurfaces (targets_in WlSurface held) r.subsurfaces) (sym objects)

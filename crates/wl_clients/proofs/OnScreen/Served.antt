@@ -40,15 +40,15 @@ prepared-so (Err e) P ok h = absurd (differ (sym ok))
 pub asks-so : {A : Type 0} (c : ℕ) (r : Resident) (d : Desktop) (v mid : Kept A) (b : Bool) (was ready : Screen A)
     (asked : Asked) (placing : Placing) (surface root : ℕ) (found : Option ℕ) (stacking : Stacking)
     (applied : Option (Applied A)) (result : Result (Unit {0}) AllocError) (surfaces : ℕ)
-    → v.client.ended ≡ None → IsAsked v.client asked → IsTouchedBy v asked (Some surface) → root_in v (Some surface) ≡ Some root → links_in v.owned.linked.family root ≡ None
+    → v.client.ended ≡ None → IsAsked v.client asked → IsTouchedBy v asked (Some surface) → root_in v (Some surface) ≡ Some root → links_in v.owned.surfaces.family root ≡ None
     → ((o : Owned) (histories : ℕ → Option History) → IsShell (kept_of v.owned.shell) histories o.shell
     → found ≡ found_by c root (parent_by o (popup_in_shell v.owned.shell root)) was.stacked.windows)
     → IsPlacedBy was c v asked placing → TakesGiven asked placing c r d v mid stacking
     → ((touch : Touch) → IsTouchOfAsked asked v touch → TakesGivenAs (is_some applied) asked placing c r d v mid)
-    → ((touch : Touch) → IsTouchOfAsked asked v touch → IsTouched touch v.owned.linked mid.owned.linked applied)
+    → ((touch : Touch) → IsTouchOfAsked asked v touch → IsTouched touch v.owned.surfaces mid.owned.surfaces applied)
     → ((touch : Touch) → IsTouchOfAsked asked v touch → is_some applied ≡ true → HoldsGiven asked placing c r d v mid)
     → (((touch : Touch) → IsTouchOfAsked asked v touch → ⊥) → (numbers : ById ℕ) (subsurfaces : List Subsurface) → AreOfSurfaces v.subsurfaces numbers subsurfaces → applied ≡ None)
-    → (is_some applied ≡ true → b ≡ true) → b ≡ is_ok result → surfaces ≡ count v.owned.linked.surfaces → IsSameScreen was ready
+    → (is_some applied ≡ true → b ≡ true) → b ≡ is_ok result → surfaces ≡ count v.owned.surfaces.states → IsSameScreen was ready
     → OnOk result (ready.spare.was.items ≡ run_kept c found was.stacked.windows) → OnOk result (HasRoom surfaces ready)
     → ready.spare.is.items ≡ [] → (numbers : ById ℕ) (subsurfaces : List Subsurface) → AreOfSurfaces v.subsurfaces numbers subsurfaces
     → Asks c r d v mid was ready asked placing surface root found stacking applied
@@ -58,7 +58,7 @@ asks-so c r d v mid b was ready asked placing surface root found stacking applie
       lives = lives;
       asks = asks;
       by = by;
-      root_is = sym (some-same (root_by 16 (parents_of (links_in v.owned.linked.family)) surface) root root_is);
+      root_is = sym (some-same (root_by 16 (parents_of (links_in v.owned.surfaces.family)) surface) root root_is);
       top = top;
       found_is = found_is;
       placed = placed;

@@ -115,13 +115,13 @@ pub record IsTold {A : Type 0} (c : ℕ) (old : Kept A) (r : Resident) (d : Desk
 module _ {A : Type 0} (between : MarksByTreesBetween) (c : ℕ) (others : ℕ → ById ℕ) (base d : Desktop) (r : Resident) (old mid : Kept A) (pile : Pile) (before : IsSeated c others base old pile d r)
     (trees : HasTrees d) (owns : OwnsOrdered r) (demand : Demand) (p : Peer) (e : Desktop) (meant : IsMeant demand r) (did : turning.WasDid c demand p r d e) (after : HasTrees e) (shown : ShownStand e)
     (stacking : Stacking) (stacks : StacksFor old r demand stacking) (applied : Option (Applied A)) (surface root : ℕ)
-    (told : IsTold c old r d demand p surface stacking applied) (root_is : root ≡ root_by 16 (parents_of (links_in old.owned.linked.family)) surface)
-    (top : links_in old.owned.linked.family root ≡ None) (g : ℕ → ℕ) (holds : is_some applied ≡ true → HoldsAs g mid (owned_in e c))
+    (told : IsTold c old r d demand p surface stacking applied) (root_is : root ≡ root_by 16 (parents_of (links_in old.owned.surfaces.family)) surface)
+    (top : links_in old.owned.surfaces.family root ≡ None) (g : ℕ → ℕ) (holds : is_some applied ≡ true → HoldsAs g mid (owned_in e c))
     (agree : (id : ℕ) → has_surface id (owned_in e c).surfaces ≡ true → g id ≡ seat.named_by old id)
     (found : Option ℕ) (found_is : found ≡ found_by c root (parent_by (seat.its c others base d r old pile before) (popup_in_shell old.owned.shell root)) pile.windows)
     (now : Stack) (done : is_some applied ≡ true → IsRestacked c stacking pile.scene now) (is : List TreeWindow)
     (filled : is_some applied ≡ true → (o : Owned) (owner : Owner) → IsRunHeldIf c mid found now.standing o
-    → length (run_on c owner o found now.standing) ≤ count old.owned.linked.surfaces → is ≡ run_on c owner o found now.standing) where
+    → length (run_on c owner o found now.standing) ≤ count old.owned.surfaces.states → is ≡ run_on c owner o found now.standing) where
   abbrev f : ℕ → ℕ
   f = seat.named_by old
 
@@ -129,10 +129,10 @@ module _ {A : Type 0} (between : MarksByTreesBetween) (c : ℕ) (others : ℕ �
   nums = seat.nums c others base d r old pile before
 
   abbrev k : ℕ
-  k = root_by 16 (parents_of (links_in old.owned.linked.family)) surface
+  k = root_by 16 (parents_of (links_in old.owned.surfaces.family)) surface
 
-  pub top-k : links_in old.owned.linked.family k ≡ None
-  top-k = subst (λ (n : ℕ). links_in old.owned.linked.family n ≡ None) root_is top
+  pub top-k : links_in old.owned.surfaces.family k ≡ None
+  top-k = subst (λ (n : ℕ). links_in old.owned.surfaces.family n ≡ None) root_is top
 
   abbrev pub own_root : ℕ
   own_root = turning.root c others base d r old pile before trees owns demand p e meant did after shown told.id surface told.touches told.named top-k
@@ -181,7 +181,7 @@ module _ {A : Type 0} (between : MarksByTreesBetween) (c : ℕ) (others : ℕ �
     -- What is told of them tells those that it has, where something was applied.
     pub is-told : is_some applied ≡ true → is ≡ map (told_by f) step.is
     is-told some =
-        subst (λ (o : Option ℕ). (o' : Owned) (owner : Owner) → IsRunHeldIf c mid o now.standing o' → length (run_on c owner o' o now.standing) ≤ count old.owned.linked.surfaces
+        subst (λ (o : Option ℕ). (o' : Owned) (owner : Owner) → IsRunHeldIf c mid o now.standing o' → length (run_on c owner o' o now.standing) ≤ count old.owned.surfaces.states
         → is ≡ run_on c owner o' o now.standing) t.is_found (filled some) (renamed_owned g (owned_in e c)) owner
         (run-held f g c t.toplevel t.number mid e after (holds some) agree number-is nums once t.named now.standing (stack some)) fits
         ∙ tells
@@ -190,12 +190,12 @@ module _ {A : Type 0} (between : MarksByTreesBetween) (c : ℕ) (others : ℕ �
         tells =
             run-is f g c t.toplevel t.number mid e after (holds some) agree number-is nums once t.named now.standing (stack some) owner ∙ ap (map (told_by f)) (sym step.is_of)
 
-        counted : length (owned_in d c).surfaces.surfaces ≡ count old.owned.linked.surfaces
+        counted : length (owned_in d c).surfaces.surfaces ≡ count old.owned.surfaces.states
         counted = ap (λ (o : Owned). length o.surfaces.surfaces) (seat.owned-here c others base d r old pile before) ∙ sym before.seat.owns.surfaces.count
 
-        fits : length (run_on c owner (renamed_owned g (owned_in e c)) (Some t.number) now.standing) ≤ count old.owned.linked.surfaces
+        fits : length (run_on c owner (renamed_owned g (owned_in e c)) (Some t.number) now.standing) ≤ count old.owned.surfaces.states
         fits =
-            subst (λ (n : ℕ). n ≤ count old.owned.linked.surfaces) (sym (ap (λ (ws : List TreeWindow). length ws) tells ∙ length-map step.is (told_by f)))
+            subst (λ (n : ℕ). n ≤ count old.owned.surfaces.states) (sym (ap (λ (ws : List TreeWindow). length ws) tells ∙ length-map step.is (told_by f)))
             (subst (λ (n : ℕ). length step.is ≤ n) counted
             (run-fits c t.toplevel d e step
             (turning.comes c others base d r old pile before trees owns demand p e meant did after shown told.id surface told.touches told.named top-k)))
@@ -257,12 +257,12 @@ module _ {A : Type 0} (between : MarksByTreesBetween) (c : ℕ) (others : ℕ �
   -- ---- whichever is found
 
   -- the windows that are told have room
-  pub told-fit : (space : ℕ) → (is_some applied ≡ true → count old.owned.linked.surfaces ≤ space) → ((n : ℕ) → stacking ≡ on.Out n → ⊥) → TurnsRun c (nums c) f told.list own_root found d e
+  pub told-fit : (space : ℕ) → (is_some applied ≡ true → count old.owned.surfaces.states ≤ space) → ((n : ℕ) → stacking ≡ on.Out n → ⊥) → TurnsRun c (nums c) f told.list own_root found d e
       → length is ≤ space
   told-fit space has_space never t =
       let some = (told.stays never).0 in
-      through-count (length is) (count old.owned.linked.surfaces) space
-      (subst (λ (n : ℕ). n ≤ count old.owned.linked.surfaces) (sym (ap (λ (ws : List TreeWindow). length ws) (is-told t some) ∙ length-map t.changes.step.is (told_by f)))
+      through-count (length is) (count old.owned.surfaces.states) space
+      (subst (λ (n : ℕ). n ≤ count old.owned.surfaces.states) (sym (ap (λ (ws : List TreeWindow). length ws) (is-told t some) ∙ length-map t.changes.step.is (told_by f)))
       (subst (λ (n : ℕ). length t.changes.step.is ≤ n)
       (ap (λ (o : Owned). length o.surfaces.surfaces) (seat.owned-here c others base d r old pile before) ∙ sym before.seat.owns.surfaces.count)
       (run-fits c t.toplevel d e t.changes.step

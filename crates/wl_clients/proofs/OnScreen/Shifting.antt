@@ -179,7 +179,7 @@ module _ {A : Type 0} (marked : MovesAreMarked A) (c : ℕ) (others : ℕ → By
 
     -- It is put at this place, which is where it comes to, and so are its windows.
     module _ (at : Place) (here : at ≡ moved t.place x y) (now : Pile) (scene : now.scene.standing ≡ moved_to c k at pile.scene.standing) (next : now.scene.next ≡ pile.scene.next)
-        (puts : (o : Owned) (owner : Owner) → IsHeld v.owned.linked.surfaces v.owned.linked.family v.owned.shell o → AreRising (popups_of o.shell) → HasRole v.owned.shell k
+        (puts : (o : Owned) (owner : Owner) → IsHeld v.owned.surfaces.states v.owned.surfaces.family v.owned.shell o → AreRising (popups_of o.shell) → HasRole v.owned.shell k
         → length o.shell ≤ 256 → length (trees_at o owner c k at.x at.y) ≡ length (run_of c k pile.windows) → now.windows ≡ replaced c k (trees_at o owner c k at.x at.y) pile.windows) where
       at-is : at ≡ moved (standing_place d.standing c surface) x y
       at-is = here ∙ to-is
@@ -193,7 +193,7 @@ module _ {A : Type 0} (marked : MovesAreMarked A) (c : ℕ) (others : ℕ → By
               (stack-moved nums c surface k at once-own nums-named pile.scene.standing d.standing before.scene.standing);
           next = next ∙ before.scene.next;
         };
-        windows = shifting.stacked-put A marked (names_of v.client.objects) v.owned.linked.surfaces v.owned.linked.family v.owned.shell pile.windows nums c surface k at d r owned-here
+        windows = shifting.stacked-put A marked (names_of v.client.objects) v.owned.surfaces.states v.owned.surfaces.family v.owned.shell pile.windows nums c surface k at d r owned-here
             before.seat.owns own named before.windows whole (in-order r owns) owns.surfaces there.0 there.1 now.windows puts;
         mapped = ((stays-whole c surface at d whole).1).shown;
       }
@@ -206,11 +206,11 @@ module _ {A : Type 0} (marked : MovesAreMarked A) (c : ℕ) (others : ℕ → By
         pub marks-put : MarksAtLeast d (with_moved c surface x y d) old new
         marks-put =
             subst (λ (p : Place). MarksAtLeast d (shifted c surface p d) old new) at-is
-            (shifting.least-put A marked (names_of v.client.objects) v.owned.linked.surfaces v.owned.linked.family v.owned.shell pile.windows nums c surface k at d r owned-here
+            (shifting.least-put A marked (names_of v.client.objects) v.owned.surfaces.states v.owned.surfaces.family v.owned.shell pile.windows nums c surface k at d r owned-here
             before.seat.owns own named before.windows whole (in-order r owns) owns.surfaces there.0 there.1 now.windows puts old new points)
 
         pub most-put : old.width ≡ d.output.width → old.height ≡ d.output.height → MarksMost d (with_moved c surface x y d) old new
         most-put width height =
             subst (λ (p : Place). MarksMost d (shifted c surface p d) old new) at-is
-            (shifting.most-put A marked (names_of v.client.objects) v.owned.linked.surfaces v.owned.linked.family v.owned.shell pile.windows nums c surface k at d r owned-here
+            (shifting.most-put A marked (names_of v.client.objects) v.owned.surfaces.states v.owned.surfaces.family v.owned.shell pile.windows nums c surface k at d r owned-here
             before.seat.owns own named before.windows whole (in-order r owns) owns.surfaces there.0 there.1 now.windows puts old new points (inside-so d old width height))

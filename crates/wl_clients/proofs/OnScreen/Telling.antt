@@ -109,10 +109,10 @@ module _ {A : Type 0} (c : ℕ) (others : ℕ → ById ℕ) (base d : Desktop) (
       kept : (become_by q.status c r q d ≡ become_by None c r q d) × (left_by q.status r q ≡ record r { peer = q })
       kept = become-kept q.status c r q d is.based.there is.mapped nothing
 
-      owns : IsOwned (names_of mid.client.objects) mid.owned.linked.surfaces mid.owned.linked.family (kept_of mid.owned.shell) r.owned
+      owns : IsOwned (names_of mid.client.objects) mid.owned.surfaces.states mid.owned.surfaces.family (kept_of mid.owned.shell) r.owned
       owns =
-          subst (λ (held : Held). IsOwned (names_of held) mid.owned.linked.surfaces mid.owned.linked.family (kept_of mid.owned.shell) r.owned) (sym table)
-          (subst (λ (o : Keeps A). IsOwned (names_of old.client.objects) o.linked.surfaces o.linked.family (kept_of o.shell) r.owned) (sym owned) is.seat.owns)
+          subst (λ (held : Held). IsOwned (names_of held) mid.owned.surfaces.states mid.owned.surfaces.family (kept_of mid.owned.shell) r.owned) (sym table)
+          (subst (λ (o : Keeps A). IsOwned (names_of old.client.objects) o.surfaces.states o.surfaces.family (kept_of o.shell) r.owned) (sym owned) is.seat.owns)
 
 pub sent-so : (n : ℕ) (p : Peer) → ((sent_by n p).status ≡ p.status) × ((sent_by n p).requests ≡ p.requests)
 sent-so n p = at (nat_le n (length p.unsent))

@@ -62,11 +62,11 @@ module _ {A : Type 0} (v : Kept A) (r : Resident) (p : Peer) (c : ℕ) (d : Desk
   abbrev all : Surfaces
   all = r.owned.surfaces
 
-  by-names : StandBy names v.owned.linked.surfaces v.owned.linked.family all
-  by-names = stand-by (kept_numbers v) v.owned.linked.surfaces v.owned.linked.family all is.owns.surfaces
+  by-names : StandBy names v.owned.surfaces.states v.owned.surfaces.family all
+  by-names = stand-by (kept_numbers v) v.owned.surfaces.states v.owned.surfaces.family all is.owns.surfaces
 
   here : (id number : ℕ) → kept_numbers v id ≡ Some number → has_surface id all ≡ true
-  here id number named = present (kept_numbers v) v.owned.linked.surfaces v.owned.linked.family all is.owns.surfaces id number named
+  here id number named = present (kept_numbers v) v.owned.surfaces.states v.owned.surfaces.family all is.owns.surfaces id number named
 
   its-link : (object child : ℕ) (its : IsLinkOf v r object child) → IsLink (renamed names all) its.link.number child (renamed_link names its.link)
   its-link object child its =
@@ -74,7 +74,7 @@ module _ {A : Type 0} (v : Kept A) (r : Resident) (p : Peer) (c : ℕ) (d : Desk
       (link-named names all its.link.number its.link its.here its.lives)
 
   -- what is told of such a request, which demands this
-  told-by : (touch : Touch) (demand : Demand) → IsDemandOf v r touch demand → IsTouchTold touch v.owned.linked changes
+  told-by : (touch : Touch) (demand : Demand) → IsDemandOf v r touch demand → IsTouchTold touch v.owned.surfaces changes
       → TellsTrees names changes all (changed_for c demand (with_peer p r) d).owned.surfaces
   told-by (Commits number) demand (id, e, named) told =
       subst (λ (x : Demand). TellsTrees names changes all (changed_for c x (with_peer p r) d).owned.surfaces) (sym e)
@@ -105,7 +105,7 @@ module _ {A : Type 0} (v : Kept A) (r : Resident) (p : Peer) (c : ℕ) (d : Desk
 
 -- What is told of a request that may change what several surfaces show is the damage that is applied to the windows of their trees.
 pub touch-told : {A : Type 0} (v mid : Kept A) (r : Resident) (p : Peer) (c : ℕ) (d : Desktop) (a : Asked) (demand : Demand) (touch : Touch) (applied : Applied A) → IsResident v r → OwnsOrdered r
-    → IsAsked v.client a → IsDemanded nothing_left_out (split_of r.peer.rest) r demand → IsTouchOfAsked a v touch → IsTouched touch v.owned.linked mid.owned.linked (Some applied)
+    → IsAsked v.client a → IsDemanded nothing_left_out (split_of r.peer.rest) r demand → IsTouchOfAsked a v touch → IsTouched touch v.owned.surfaces mid.owned.surfaces (Some applied)
     → TellsTrees (named_by v) applied.changes.items r.owned.surfaces (changed_for c demand (with_peer p r) d).owned.surfaces
 touch-told v mid r p c d a demand touch applied is orderly asks demanded it touched =
     told-by v r p c d is orderly applied.changes.items touch demand (touch-demands v r a demand touch is orderly asks demanded it) touched.1

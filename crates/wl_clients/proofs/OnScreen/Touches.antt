@@ -493,7 +493,7 @@ module _ {A : Type 0} (v : Kept A) (r : Resident) (is : IsResident v r) (orderly
         let named : targets_in XdgToplevel v.client.objects object ≡ Some target =
         ap (option_and_then (target_as XdgToplevel)) passes.entry ∙ ap (λ (n : Interface). target_as XdgToplevel (record { interface = n; version = version; target = target })) i in
         let its =
-        toplevel-named (names_of v.client.objects) v.owned.linked.surfaces v.owned.linked.family (kept_of v.owned.shell) r.owned is.owns object target
+        toplevel-named (names_of v.client.objects) v.owned.surfaces.states v.owned.surfaces.family (kept_of v.owned.shell) r.owned is.owns object target
         (roles-named.toplevel v.client.objects object target named) in
         let e : demand ≡ EndToplevel object its.1.id its.1.surface =
         is-only (EndToplevel object its.1.id its.1.surface) demand (Ok (EndToplevel object its.1.id its.1.surface)) refl
@@ -514,7 +514,7 @@ module _ {A : Type 0} (v : Kept A) (r : Resident) (is : IsResident v r) (orderly
         ap (option_and_then (target_as XdgPopup)) passes.entry
         ∙ ap (λ (n : Message). target_as XdgPopup (record { interface = n.interface; version = version; target = target })) is_it in
         let its =
-        toplevel-named (names_of v.client.objects) v.owned.linked.surfaces v.owned.linked.family (kept_of v.owned.shell) r.owned is.owns object target
+        toplevel-named (names_of v.client.objects) v.owned.surfaces.states v.owned.surfaces.family (kept_of v.owned.shell) r.owned is.owns object target
         (roles-named.popup v.client.objects object target named) in
         let asks : popup_asked left object (xdg_with object r.owned.shell) popup.Destroy ≡ Ok demand =
         subst (λ (n : Message). demand_of nothing_left_out left object version n ≡ Ok demand) is_it judged in

@@ -92,13 +92,13 @@ module _ {A : Type 0} (c : ℕ) (others : ℕ → ById ℕ) (base d : Desktop) (
 
   -- a surface
   module _ (id number : ℕ) (touched : touched_by demand r ≡ Some id) (named : numbers old id ≡ Some number)
-      (none : links_in old.owned.linked.family (root_by 16 (parents_of (links_in old.owned.linked.family)) number) ≡ None) where
+      (none : links_in old.owned.surfaces.family (root_by 16 (parents_of (links_in old.owned.surfaces.family)) number) ≡ None) where
     abbrev pub k : ℕ
-    k = root_by 16 (parents_of (links_in old.owned.linked.family)) number
+    k = root_by 16 (parents_of (links_in old.owned.surfaces.family)) number
 
     pub found-root : (root : ℕ) × IsRootOf r.owned.surfaces id root × (numbers old root ≡ Some k)
     found-root =
-        root-is-named (numbers old) old.owned.linked.surfaces old.owned.linked.family r.owned.surfaces before.seat.owns.surfaces owns.order.trees owns.order.numbered id number named none
+        root-is-named (numbers old) old.owned.surfaces.states old.owned.surfaces.family r.owned.surfaces before.seat.owns.surfaces owns.order.trees owns.order.numbered id number named none
 
     abbrev pub root : ℕ
     root = found-root.0

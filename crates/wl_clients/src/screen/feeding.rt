@@ -32,14 +32,14 @@ use wl_links::Subsurfaces;
 use wl_requests::{Asked, Grabbing, Outcome, Placing, PointerAsked, Resident};
 use wl_scene::{Owned, parent_corner};
 use wl_shell::Shell;
-use wl_surface::{Linked, SurfaceNo};
+use wl_surface::{SurfaceNo, Surfaces};
 
 /// Nothing is owned.
 pub fn bare<A: Allocator + Copy>(alloc: A) -> Owned<A>
     ensures { IsBare result }
 {
     Owned {
-        linked: Linked::new(alloc),
+        surfaces: Surfaces::new(alloc),
         shell: Shell::new(alloc),
     }
 }
@@ -186,7 +186,7 @@ impl<A: Allocator + Copy> Screen<A> {
         };
         let root = root_of(resident, surface);
         let toplevel = find_toplevel(&resident.owned.shell, &self.stacked, client, root);
-        let surfaces = resident.owned.linked.surfaces.len();
+        let surfaces = resident.owned.surfaces.states.len();
         let has_room = self.prepare(client, toplevel, surfaces).is_ok();
         let Some(outcome) = resident.serve(asked, has_room, placing, grabbing) else {
             return None;

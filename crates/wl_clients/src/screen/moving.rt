@@ -94,7 +94,7 @@ impl<A: Allocator + Copy> Screen<A> {
     fn put_run(&mut self, owned: &Owned<A>, client: ClientNo, toplevel: SurfaceNo, to: Spot)
         ensures standing { self.new.scene.standing ≡ moved_to client toplevel (record { x = to.x; y = to.y }) self.old.scene.standing }
         ensures next { self.new.scene.next ≡ self.old.scene.next }
-        ensures windows { (o : Owns) (owner : Owner) → IsHeld owned.now.linked.surfaces owned.now.linked.family owned.now.shell o
+        ensures windows { (o : Owns) (owner : Owner) → IsHeld owned.now.surfaces.states owned.now.surfaces.family owned.now.shell o
             → AreRising (popups_of o.shell) → HasRole owned.now.shell toplevel → length o.shell ≤ 256
             → length (trees_at o owner client toplevel to.x to.y) ≡ length (run_of client toplevel self.old.stacked.windows)
             → self.new.stacked.windows ≡ replaced client toplevel (trees_at o owner client toplevel to.x to.y) self.old.stacked.windows }
@@ -114,7 +114,7 @@ impl<A: Allocator + Copy> Screen<A> {
         self.spare.roots.find(owned, toplevel, to.x, to.y);
         let roots = self.spare.roots.places();
         self.stacked
-            .move_run(client, toplevel, &owned.linked, roots);
+            .move_run(client, toplevel, &owned.surfaces, roots);
         self.spare
             .moving
             .is

@@ -50,7 +50,7 @@ impl<A: Allocator + Copy> Roots<A> {
 
     /// The roots are those of a toplevel that stands there, in pixels of the output: its own, and those of its popups that are shown.
     pub(crate) fn find(&mut self, owned: &Owned<A>, toplevel: SurfaceNo, x: i32, y: i32)
-        ensures { (o : Owns) (client : ℕ) → IsHeld owned.now.linked.surfaces owned.now.linked.family owned.now.shell o
+        ensures { (o : Owns) (client : ℕ) → IsHeld owned.now.surfaces.states owned.now.surfaces.family owned.now.shell o
             → AreRising (popups_of o.shell) → HasRole owned.now.shell toplevel → length o.shell ≤ 256
             → self.new ≡ map told_root (roots_of o.surfaces (root_of (λ _. o) (standing_at client toplevel x y)) (stacked_popups o)) }
     {

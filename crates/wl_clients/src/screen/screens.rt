@@ -169,7 +169,7 @@ impl<A: Allocator + Copy> Screen<A> {
         let owned = &resident.owned;
         self.spare.roots.find(owned, surface, stands.x, stands.y);
         let roots = self.spare.roots.places();
-        let _added = add_trees(&owned.linked, roots, &mut self.spare.is);
+        let _added = add_trees(&owned.surfaces, roots, &mut self.spare.is);
     }
 
     /// The windows of this toplevel, if there is one, are those that it has now: there is room for them.

@@ -60,9 +60,9 @@ pub fn touched_by<A: Allocator + Copy>(resident: &Resident<A>, asked: &Asked) ->
 /// The root of the tree of a surface (wayland.xml, wl_subsurface).
 pub(crate) fn root_of<A: Allocator + Copy>(resident: &Resident<A>, surface: SurfaceNo) -> SurfaceNo
     ensures root { root_in resident.now (Some surface) ≡ Some result }
-    ensures none { links_in resident.now.owned.linked.family result ≡ None }
+    ensures none { links_in resident.now.owned.surfaces.family result ≡ None }
 {
-    resident.owned.linked.family.root(surface)
+    resident.owned.surfaces.family.root(surface)
 }
 
 /// The popup of a surface, if it has one.

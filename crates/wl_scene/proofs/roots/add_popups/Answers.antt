@@ -22,7 +22,7 @@ pub returns-in_err-add_popup-clause-succeeds : goal.returns-in_err-add_popup-cla
 returns-in_err-add_popup-clause-succeeds g c = λ o toplevel had held rising at len items fits.
     let owned = c.args.owned.now in
     let last = c.loop-surface.last in
-    let next = stacked-next owned.linked.surfaces owned.linked.family owned.shell o held rising toplevel at last c.in-Some.surface c.in-Some.ensures in
+    let next = stacked-next owned.surfaces.states owned.surfaces.family owned.shell o held rising toplevel at last c.in-Some.surface c.in-Some.ensures in
     let told = c.loop-surface.invariant.told o toplevel had held rising at len items in
     let less = next.1.fits in
     let room = c.loop-surface.invariant.capacity in
@@ -43,7 +43,7 @@ loop-surface-preserved g c = record {
   told = λ o toplevel had held rising at len items.
       let owned = c.args.owned.now in
       let last = c.loop-surface.last in
-      let next = stacked-next owned.linked.surfaces owned.linked.family owned.shell o held rising toplevel at last c.in-Some.surface c.in-Some.ensures in
+      let next = stacked-next owned.surfaces.states owned.surfaces.family owned.shell o held rising toplevel at last c.in-Some.surface c.in-Some.ensures in
       let told = c.loop-surface.invariant.told o toplevel had held rising at len items in
       c.in_ok-add_popup.ensures.ok o next.0 (roots_done o toplevel last) had held next.1.only next.1.are_at len told
       ∙ ap (λ (rs : List Root). had ++ map told_root rs) (sym (ap (λ (n : ℕ). roots_done o toplevel (Some n)) c.number_of.ensures ∙ next.1.roots));
@@ -56,4 +56,4 @@ returns-clause-ok g c = λ o toplevel had held rising at len items.
     let owned = c.args.owned.now in
     c.loop-surface.invariant.told o toplevel had held rising at len items
     ∙ ap (λ (rs : List Root). had ++ map told_root rs)
-    (stacked-all owned.linked.surfaces owned.linked.family owned.shell o held rising toplevel at c.loop-surface.last c.in_default.ensures)
+    (stacked-all owned.surfaces.states owned.surfaces.family owned.shell o held rising toplevel at c.loop-surface.last c.in_default.ensures)

@@ -11,7 +11,7 @@ use Rattle.wl_shell.specs.Popups.{popups_of}
 
 abbrev pub invariant-loop-surface : goal.invariant-loop-surface
 invariant-loop-surface g l = record {
-  told : (o : Owned) (toplevel : Root) (had : List RootPlace) → IsHeld l.owned.linked.surfaces l.owned.linked.family l.owned.shell o → AreRising (popups_of o.shell)
+  told : (o : Owned) (toplevel : Root) (had : List RootPlace) → IsHeld l.owned.surfaces.states l.owned.surfaces.family l.owned.shell o → AreRising (popups_of o.shell)
       → AreAt l.owned.shell (toplevel ∷ []) → length had ≡ l.before → l.initial.roots.items ≡ had ++ told_root toplevel ∷ []
       → l.roots.items ≡ had ++ map told_root (roots_done o toplevel l.last);
   more : Continues l.initial.roots.items l.roots.items;

@@ -14,7 +14,7 @@ returns-clause-ok g c =
     let x : to_z w32 (of_z w32 c.args.root.now.x) ≡ c.args.root.now.x = omega (arith, ints) in
     let y : to_z w32 (of_z w32 c.args.root.now.y) ≡ c.args.root.now.y = omega (arith, ints) in
     on_ok_weaker
-    {Q = (all : Asked) (owner : Owner) → Stand c.args.linked.now.surfaces c.args.linked.now.family all
+    {Q = (all : Asked) (owner : Owner) → Stand c.args.surfaces.now.states c.args.surfaces.now.family all
     → c.add_windows.new.windows.items ≡ c.args.windows.now.items ++ told_at owner all c.args.root.now}
     c.add_windows.result
     (λ told all owner stand.

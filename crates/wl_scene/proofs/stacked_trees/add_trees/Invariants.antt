@@ -8,7 +8,7 @@ use Rattle.wl_scene.proofs.stacked_trees.add_trees.Given as goal
 
 abbrev pub invariant-loop-root : goal.invariant-loop-root
 invariant-loop-root g l = record {
-  told : (all : Asked) (owner : Owner) → Stand l.linked.surfaces l.linked.family all
+  told : (all : Asked) (owner : Owner) → Stand l.surfaces.states l.surfaces.family all
       → l.windows.items ≡ l.initial.windows.items ++ told_trees owner all (take l.root-index l.roots);
   capacity : vec_capacity l.initial.windows ≤ vec_capacity l.windows;
 }

@@ -37,7 +37,7 @@ add_tree-returns-in_default-clause-ok g t c = λ all owner stand.
 pub add_tree-returns-then-is_empty-clause-ok : goal.add_tree-returns-then-is_empty-clause-ok
 add_tree-returns-then-is_empty-clause-ok g t c = λ all owner stand.
     let less : c.args.levels ≡ suc (c.args.levels - 1) = omega arith in
-    told-alone c.args.linked.now.surfaces c.args.linked.now.family all c.args.levels (c.args.levels - 1) (rooted c.args.spot.now.root owner) c.args.surface
+    told-alone c.args.surfaces.now.states c.args.surfaces.now.family all c.args.levels (c.args.levels - 1) (rooted c.args.spot.now.root owner) c.args.surface
     (place_beside c.args.spot.now) c.window_of.result c.in-Some.window c.stack-stack.result.now c.is_empty.result c.args.windows.now.items
     c.push.new.self.items stand less (c.window_of.ensures all stand) c.in-Some.is c.stack-stack.ensures.stack c.is_empty.ensures c.if-is_empty.true
     c.in_ok-push.ensures.items
@@ -47,11 +47,11 @@ add_tree-returns-clause-ok g t c =
     let less : c.args.levels ≡ suc (c.args.levels - 1) = omega arith in
     let place = place_beside c.args.spot.now in
     on_ok_weaker
-    {Q = (all : Asked) (owner : Owner) → Stand c.args.linked.now.surfaces c.args.linked.now.family all
+    {Q = (all : Asked) (owner : Owner) → Stand c.args.surfaces.now.states c.args.surfaces.now.family all
     → c.add_stack.new.windows.items ≡ c.args.windows.now.items ++ told_tree c.args.levels (rooted c.args.spot.now.root owner) all c.args.surface place}
     c.add_stack.result
     (λ told all owner stand.
-    told-stack c.args.linked.now.surfaces c.args.linked.now.family all c.args.levels (c.args.levels - 1) (rooted c.args.spot.now.root owner) c.args.surface place c.window_of.result
+    told-stack c.args.surfaces.now.states c.args.surfaces.now.family all c.args.levels (c.args.levels - 1) (rooted c.args.spot.now.root owner) c.args.surface place c.window_of.result
     c.in-Some.window c.stack-stack.result.now c.is_empty.result c.args.windows.now.items c.add_stack.new.windows.items stand less
     (c.window_of.ensures all stand) c.in-Some.is c.stack-stack.ensures.stack c.is_empty.ensures c.if-is_empty.false (told all owner stand))
     c.add_stack.ensures.ok
@@ -70,7 +70,7 @@ add_tree-returns-in_err-push-clause-succeeds g t c = λ all owner stand fits.
     let old : length c.args.windows.now.items ≡ vec_len c.args.windows.now = sym c.args.windows.now.ok.0 in
     let place = place_beside c.args.spot.now in
     let room = same-fits c.args.windows.now.items (c.in-Some.window ∷ []) (told_tree c.args.levels (rooted c.args.spot.now.root owner) all c.args.surface place) (vec_capacity c.args.windows.now)
-    (told-alone c.args.linked.now.surfaces c.args.linked.now.family all c.args.levels (c.args.levels - 1) (rooted c.args.spot.now.root owner) c.args.surface place c.window_of.result
+    (told-alone c.args.surfaces.now.states c.args.surfaces.now.family all c.args.levels (c.args.levels - 1) (rooted c.args.spot.now.root owner) c.args.surface place c.window_of.result
     c.in-Some.window c.stack-stack.result.now c.is_empty.result c.args.windows.now.items (c.args.windows.now.items ++ c.in-Some.window ∷ []) stand less
     (c.window_of.ensures all stand) c.in-Some.is c.stack-stack.ensures.stack c.is_empty.ensures c.if-is_empty.true refl) (omega arith) in
     failed-not (c.in_err-push.ensures.succeeds (omega (arith, room)))
@@ -82,7 +82,7 @@ add_tree-returns-clause-succeeds g t c = λ all owner stand fits.
     let place = place_beside c.args.spot.now in
     let more = flat_map (placed_windows (told_tree (c.args.levels - 1) (rooted c.in-Some.window.root owner) all) c.in-Some.window) c.stack-stack.result.now in
     let room = same-fits c.args.windows.now.items more (told_tree c.args.levels (rooted c.args.spot.now.root owner) all c.args.surface place) (vec_capacity c.args.windows.now)
-    (told-stack c.args.linked.now.surfaces c.args.linked.now.family all c.args.levels (c.args.levels - 1) (rooted c.args.spot.now.root owner) c.args.surface place c.window_of.result
+    (told-stack c.args.surfaces.now.states c.args.surfaces.now.family all c.args.levels (c.args.levels - 1) (rooted c.args.spot.now.root owner) c.args.surface place c.window_of.result
     c.in-Some.window c.stack-stack.result.now c.is_empty.result c.args.windows.now.items (c.args.windows.now.items ++ more) stand less
     (c.window_of.ensures all stand) c.in-Some.is c.stack-stack.ensures.stack c.is_empty.ensures c.if-is_empty.false refl) (omega arith) in
     c.add_stack.ensures.succeeds all owner stand (omega (arith, room))

@@ -17,7 +17,7 @@ decreases-add_placed g l = l.levels * 3 + 1
 
 abbrev pub invariant-add_stack-loop-placed : goal.invariant-add_stack-loop-placed
 invariant-add_stack-loop-placed g l = record {
-  told : (all : Asked) (owner : Owner) → Stand l.linked.surfaces l.linked.family all
+  told : (all : Asked) (owner : Owner) → Stand l.surfaces.states l.surfaces.family all
       → l.windows.items ≡ l.initial.windows.items ++ flat_map (placed_windows (told_tree l.levels (rooted l.window.root owner) all) l.window) (take l.placed-index l.stack);
   more : Continues l.initial.windows.items l.windows.items;
   capacity : vec_capacity l.initial.windows ≤ vec_capacity l.windows;

@@ -13,7 +13,7 @@ returns-else-is_err-clause-ok g c =
     let x : to_z w32 (of_z w32 c.args.x) ≡ c.args.x = omega (arith, ints) in
     let y : to_z w32 (of_z w32 c.args.y) ≡ c.args.y = omega (arith, ints) in
     on_ok_weaker
-    {Q = (all : Asked) (owner : Owner) → Stand c.args.linked.now.surfaces c.args.linked.now.family all
+    {Q = (all : Asked) (owner : Owner) → Stand c.args.surfaces.now.states c.args.surfaces.now.family all
     → c.add_tree-added.new.windows.items ≡ c.args.windows.now.items ++ map told_of (tree 17 (rooted c.args.root owner) all c.args.root (record { x = c.args.x; y = c.args.y }))}
     c.add_tree-added.result
     (λ told all owner stand.

@@ -32,14 +32,14 @@ returns-in-Ok-clause-answers g c = λ version named client r on is only.
       record {
         peer = c.count.ensures.counts r.peer is.peer;
         numbers = λ alive. keeps-names v.client.objects c.count.new.self.objects (names-counted v.client c.count.new.self c.count.ensures.only);
-        frames = λ alive. framed-names v.owned.linked.surfaces.frames v.client.objects c.count.new.self.objects r (changed_by (Acknowledge x.id serial) (with_peer (counted r.peer) r)) refl
+        frames = λ alive. framed-names v.owned.surfaces.states.frames v.client.objects c.count.new.self.objects r (changed_by (Acknowledge x.id serial) (with_peer (counted r.peer) r)) refl
             (one-more r.peer.requests) is.frames
             (names-counted v.client c.count.new.self c.count.ensures.only) refl;
         subsurfaces = λ alive. subsurfaces-names v.subsurfaces r.subsurfaces v.client.objects c.count.new.self.objects is.subsurfaces
             (names-counted v.client c.count.new.self c.count.ensures.only);
-        owns = λ alive. subst (λ (n : Names). IsOwned n v.owned.linked.surfaces v.owned.linked.family (kept_of c.ack.new.self) (changed_by (Acknowledge x.id serial) r).owned)
+        owns = λ alive. subst (λ (n : Names). IsOwned n v.owned.surfaces.states v.owned.surfaces.family (kept_of c.ack.new.self) (changed_by (Acknowledge x.id serial) r).owned)
             (sym (names-counted v.client c.count.new.self c.count.ensures.only))
-            (owned-acknowledged names v.owned.linked.surfaces v.owned.linked.family kept r is.owns c.args.surface k x h one serial (kept_of c.ack.new.self) c.in-Ok.ensures.ok);
+            (owned-acknowledged names v.owned.surfaces.states v.owned.surfaces.family kept r is.owns c.args.surface k x h one serial (kept_of c.ack.new.self) c.in-Ok.ensures.ok);
       },
     )))
 

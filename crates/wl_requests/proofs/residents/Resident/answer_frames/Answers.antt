@@ -18,8 +18,8 @@ pub loop-callback-preserved : goal.loop-callback-preserved
 loop-callback-preserved g c = (
   λ lives r is only.
       let now = c.loop-callback.self in
-      let linked = record now.owned.linked { surfaces = c.next_frame.new.self } in
-      let new : Kept _ = record now { client = c.finish.new.self; owned = record { linked = linked; shell = now.owned.shell } } in
+      let linked = record now.owned.surfaces { states = c.next_frame.new.self } in
+      let new : Kept _ = record now { client = c.finish.new.self; owned = record { surfaces = linked; shell = now.owned.shell } } in
       let so = c.loop-callback.invariant.0 lives r is only in
       let due = c.in-Some.ensures.due _ so.0.callbacks so.2.frames.waits in
       let told = c.finish.ensures.tells so.0.peer so.2.peer in
@@ -34,8 +34,8 @@ pub returns-then-has_ended : goal.returns-then-has_ended
 returns-then-has_ended g c = record {
   tells = λ lives r is only.
       let now = c.loop-callback.self in
-      let linked = record now.owned.linked { surfaces = c.next_frame.new.self } in
-      let new : Kept _ = record now { client = c.finish.new.self; owned = record { linked = linked; shell = now.owned.shell } } in
+      let linked = record now.owned.surfaces { states = c.next_frame.new.self } in
+      let new : Kept _ = record now { client = c.finish.new.self; owned = record { surfaces = linked; shell = now.owned.shell } } in
       let so = c.loop-callback.invariant.0 lives r is only in
       let due = c.in-Some.ensures.due _ so.0.callbacks so.2.frames.waits in
       let told = c.finish.ensures.tells so.0.peer so.2.peer in

@@ -11,7 +11,7 @@ abbrev pub invariant-loop-callback : goal.invariant-loop-callback
 invariant-loop-callback g l =
     (l.fn.self.client.ended ≡ None → (r : Resident) → IsResident l.fn.self r → OwnsOrdered r
     → (mid : Resident) × IsAnswered l.time r mid × IsResident l.self mid × (names_of l.self.client.objects ≡ names_of l.fn.self.client.objects))
-    × (l.self.owned.linked.surfaces.places ≡ l.fn.self.owned.linked.surfaces.places)
+    × (l.self.owned.surfaces.states.places ≡ l.fn.self.owned.surfaces.states.places)
 
 abbrev pub decreases-loop-callback : goal.decreases-loop-callback
-decreases-loop-callback g l = length l.self.owned.linked.surfaces.frames
+decreases-loop-callback g l = length l.self.owned.surfaces.states.frames

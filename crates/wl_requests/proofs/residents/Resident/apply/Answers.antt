@@ -60,14 +60,14 @@ returns-clause-applies g c = λ client r on names object kept bounds at only com
     let v = c.args.self.now in
     let number = c.args.surface in
     let act = c.args.act in
-    let slots = v.owned.linked.surfaces in
-    let tied = v.owned.linked.family in
+    let slots = v.owned.surfaces.states in
+    let tied = v.owned.surfaces.family in
     let all = committed_in object r.owned.surfaces in
     let then = with_surfaces all r in
     let after = tree_committed object r in
     let freed = c.in-Ok.told.applied.freed.items in
     let shown = map buffer_of c.in-Ok.told.shown.items in
-    let called = commit-called names.surfaces slots c.commit.new.self.surfaces tied c.commit.new.self.family r owned.surfaces object number named freed shown
+    let called = commit-called names.surfaces slots c.commit.new.self.states tied c.commit.new.self.family r owned.surfaces object number named freed shown
     c.in-Ok.ensures.among c.in-Ok.ensures.ok c.in-Ok.ensures.waits c.in-Ok.ensures.freed c.in-Ok.ensures.shown in
     let stores = c.in-Some.ensures.lets_go.stores in
     let peer_then = subst (λ (x : Resident). IsPeer c.let_go_of_told.new.self.client x.peer) (tree-lets-go r then freed shown only.order.buffers called.frees (waits-committed object r.owned.surfaces))
@@ -113,8 +113,8 @@ returns-clause-applies g c = λ client r on names object kept bounds at only com
       record {
         peer = next.2;
         owns = λ alive. owns-told c.tell_releases.new.self _ names made.owned (ap names_of (table alive) ∙ names_are) kept_owned
-            (subst (λ (f : Effect). IsOwned names c.commit.new.self.surfaces c.commit.new.self.family (kept_of v.owned.shell) (effect_placing where_to object f o after).owned) comes
-            (popups-commit.committed names slots tied kept r client object number bounds at act (unpointed on) c.commit.new.self.surfaces c.commit.new.self.family (kept_of v.owned.shell) owned
+            (subst (λ (f : Effect). IsOwned names c.commit.new.self.states c.commit.new.self.family (kept_of v.owned.shell) (effect_placing where_to object f o after).owned) comes
+            (popups-commit.committed names slots tied kept r client object number bounds at act (unpointed on) c.commit.new.self.states c.commit.new.self.family (kept_of v.owned.shell) owned
             only.order.once only.order.numbered only.order.roots named c.in-Ok.ensures.ok within there answer shell));
         frames = λ alive. rw (
           kept_owned,
@@ -139,7 +139,7 @@ returns-clause-applies g c = λ client r on names object kept bounds at only com
 
 pub returns-clause-touched : goal.returns-clause-touched
 returns-clause-touched g c = (
-  subst (λ (o : Lent _). IsMade (Commits c.args.surface) c.args.self.now.owned.linked o.linked) (sym (c.tell_releases.ensures.owned ∙ c.tell_act.ensures.owned ∙ c.let_go_of_told.ensures.owned))
+  subst (λ (o : Lent _). IsMade (Commits c.args.surface) c.args.self.now.owned.surfaces o.surfaces) (sym (c.tell_releases.ensures.owned ∙ c.tell_act.ensures.owned ∙ c.let_go_of_told.ensures.owned))
       c.in-Ok.ensures.ok,
   c.in-Ok.ensures.changes,
 )
@@ -156,5 +156,5 @@ pub returns-clause-holds : goal.returns-clause-holds
 returns-clause-holds g c = λ client r on names object kept bounds at only owned names_are named within there answer shell done.
     let v = c.args.self.now in
     holds-same v c.tell_releases.new.self names _ (ap (λ (n : Names). n.surfaces) names_are) (rw (c.tell_releases.ensures.owned ∙ c.tell_act.ensures.owned ∙ c.let_go_of_told.ensures.owned)
-    (popups-commit.committed names v.owned.linked.surfaces v.owned.linked.family kept r client object c.args.surface bounds at c.args.act (unpointed on) c.commit.new.self.surfaces
+    (popups-commit.committed names v.owned.surfaces.states v.owned.surfaces.family kept r client object c.args.surface bounds at c.args.act (unpointed on) c.commit.new.self.states
     c.commit.new.self.family (kept_of v.owned.shell) owned only.order.once only.order.numbered only.order.roots named c.in-Ok.ensures.ok within there answer shell))

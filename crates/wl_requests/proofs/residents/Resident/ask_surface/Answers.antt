@@ -26,7 +26,7 @@ returns-in-Attach-clause-answers g c = λ named new client r on is only.
     (as-asked _ _ client on r only (Ok (AskSurface id (Attach (buffer_named r c.in-Attach.buffer) x y)))
     (counted-does v (record v { client = c.count.new.self }) c.attach.new.self r (λ (q : Resident). AskSurface id (Attach (buffer_named q c.in-Attach.buffer) x y)) is
     c.count.ensures.only refl refl (c.count.ensures.counts r.peer is.peer)
-    (asked-releases (names_of v.client.objects).surfaces v.owned.linked.surfaces v.owned.linked.family (with_peer (counted r.peer) r) id c.args.surface
+    (asked-releases (names_of v.client.objects).surfaces v.owned.surfaces.states v.owned.surfaces.family (with_peer (counted r.peer) r) id c.args.surface
     (Attach (buffer_named r c.in-Attach.buffer) x y) refl is.owns.surfaces named)
     (does id (surface-counted v.client c.count.new.self id c.args.surface c.count.ensures.only named))))
 
@@ -45,7 +45,7 @@ returns-in-Damage-clause-answers g c = λ named new client r on is only.
     (as-asked _ _ client on r only (Ok (AskSurface id (Damage rect)))
     (counted-does v (record v { client = count.new.self }) c.damage.new.self r (λ (q : Resident). AskSurface id (Damage rect)) is count.ensures.only refl refl
     (count.ensures.counts r.peer is.peer)
-    (asked-releases (names_of v.client.objects).surfaces v.owned.linked.surfaces v.owned.linked.family (with_peer (counted r.peer) r) id c.args.surface (Damage rect) refl is.owns.surfaces named)
+    (asked-releases (names_of v.client.objects).surfaces v.owned.surfaces.states v.owned.surfaces.family (with_peer (counted r.peer) r) id c.args.surface (Damage rect) refl is.owns.surfaces named)
     (does id (surface-counted v.client count.new.self id c.args.surface count.ensures.only named))))
 
 pub returns-in-DamageBuffer-clause-answers : goal.returns-in-DamageBuffer-clause-answers
@@ -63,7 +63,7 @@ returns-in-DamageBuffer-clause-answers g c = λ named new client r on is only.
     (as-asked _ _ client on r only (Ok (AskSurface id (DamageBuffer rect)))
     (counted-does v (record v { client = count.new.self }) c.damage_buffer.new.self r (λ (q : Resident). AskSurface id (DamageBuffer rect)) is count.ensures.only refl refl
     (count.ensures.counts r.peer is.peer)
-    (asked-releases (names_of v.client.objects).surfaces v.owned.linked.surfaces v.owned.linked.family (with_peer (counted r.peer) r) id c.args.surface (DamageBuffer rect) refl is.owns.surfaces named)
+    (asked-releases (names_of v.client.objects).surfaces v.owned.surfaces.states v.owned.surfaces.family (with_peer (counted r.peer) r) id c.args.surface (DamageBuffer rect) refl is.owns.surfaces named)
     (does id (surface-counted v.client count.new.self id c.args.surface count.ensures.only named))))
 
 pub returns-in-Frame-clause-answers : goal.returns-in-Frame-clause-answers
@@ -79,7 +79,7 @@ returns-in-SetOpaqueRegion-clause-answers g c = λ named new client r on is only
     (as-asked _ _ client on r only (Ok (AskSurface id (SetOpaqueRegion (region_named r region))))
     (counted-does v (record v { client = count.new.self }) c.set_opaque_region.new.self r (λ (q : Resident). AskSurface id (SetOpaqueRegion (region_named q region))) is
     count.ensures.only refl refl (count.ensures.counts r.peer is.peer)
-    (asked-releases (names_of v.client.objects).surfaces v.owned.linked.surfaces v.owned.linked.family (with_peer (counted r.peer) r) id c.args.surface (SetOpaqueRegion (region_named r region))
+    (asked-releases (names_of v.client.objects).surfaces v.owned.surfaces.states v.owned.surfaces.family (with_peer (counted r.peer) r) id c.args.surface (SetOpaqueRegion (region_named r region))
     refl is.owns.surfaces named)
     (c.set_opaque_region.ensures.does id (surface-counted v.client count.new.self id c.args.surface count.ensures.only named))))
 
@@ -93,7 +93,7 @@ returns-in-SetInputRegion-clause-answers g c = λ named new client r on is only.
     (as-asked _ _ client on r only (Ok (AskSurface id (SetInputRegion (region_named r region))))
     (counted-does v (record v { client = count.new.self }) c.set_input_region.new.self r (λ (q : Resident). AskSurface id (SetInputRegion (region_named q region))) is count.ensures.only
     refl refl (count.ensures.counts r.peer is.peer)
-    (asked-releases (names_of v.client.objects).surfaces v.owned.linked.surfaces v.owned.linked.family (with_peer (counted r.peer) r) id c.args.surface (SetInputRegion (region_named r region))
+    (asked-releases (names_of v.client.objects).surfaces v.owned.surfaces.states v.owned.surfaces.family (with_peer (counted r.peer) r) id c.args.surface (SetInputRegion (region_named r region))
     refl is.owns.surfaces named)
     (c.set_input_region.ensures.does id (surface-counted v.client count.new.self id c.args.surface count.ensures.only named))))
 

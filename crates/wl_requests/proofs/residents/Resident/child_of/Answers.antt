@@ -9,4 +9,4 @@ returns-in-None g c = λ numbers subsurfaces are child here.
     let second = are.known c.in_ok-child.child c.args.object c.in_ok-child.ensures.some in
     let same = some-same first.0 second.0 (sym first.2 ∙ second.2) in
     let numbered = some-same child c.in_ok-child.child (sym first.1 ∙ ap numbers same ∙ second.1) in
-    ap (links_in c.args.self.now.owned.linked.family) numbered ∙ sym c.link.ensures ∙ c.in-None.is
+    ap (links_in c.args.self.now.owned.surfaces.family) numbered ∙ sym c.link.ensures ∙ c.in-None.is

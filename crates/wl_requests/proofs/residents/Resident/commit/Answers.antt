@@ -33,21 +33,21 @@ returns-else-not-is_whole-clause-answers g c = λ named client r on is only plac
     let names = names_of v.client.objects in
     let kept = kept_of v.owned.shell in
     let shows = c.is_some-has_buffer.result in
-    let will : shows ≡ will_show r object = c.is_some-has_buffer.ensures ∙ pending-read names v.owned.linked.surfaces v.owned.linked.family kept r is.owns object number c.pending_buffer.result
+    let will : shows ≡ will_show r object = c.is_some-has_buffer.ensures ∙ pending-read names v.owned.surfaces.states v.owned.surfaces.family kept r is.owns object number c.pending_buffer.result
     named c.pending_buffer.ensures in
     let answer = sym c.on_commit.ensures.answer ∙ c.in-Ok.is in
-    let whole : c.is_whole.result ≡ will_be_whole r object = whole-read names v.owned.linked.surfaces v.owned.linked.family kept r is.owns object number c.is_whole.result named c.is_whole.ensures in
+    let whole : c.is_whole.result ≡ will_be_whole r object = whole-read names v.owned.surfaces.states v.owned.surfaces.family kept r is.owns object number c.is_whole.result named c.is_whole.ensures in
     let judged = whole-judged (will_be_whole r object) object (commit_demand r object) _
-    (committed-by names v.owned.linked.surfaces v.owned.linked.family kept r is.owns bounds corner object number 0 0 named) (sym whole ∙ c.if-not-is_whole.false)
+    (committed-by names v.owned.surfaces.states v.owned.surfaces.family kept r is.owns bounds corner object number 0 0 named) (sym whole ∙ c.if-not-is_whole.false)
     ∙ ap (λ (b : Bool). asks_by (λ (a : ShellAct). CommitTree object) (shell_refusal 0 (kept_id (kept number)) 0) (commit_answer b bounds corner (kept number))) (sym will)
     ∙ ap (asks_by (λ (a : ShellAct). CommitTree object) (shell_refusal 0 (kept_id (kept number)) 0)) answer in
     let serial : c.serial-serial.result ≡ r.peer.serial = c.serial-serial.ensures ∙ is.peer.serial in
     let shell = c.in-Ok.ensures.ok ∙ ap (λ (n : ℕ). changing number (kept_after n act) kept) serial in
-    let comes = answered-effect names v.owned.linked.surfaces v.owned.linked.family kept r is.owns object number (will_show r object) bounds corner act named
+    let comes = answered-effect names v.owned.surfaces.states v.owned.surfaces.family kept r is.owns object number (will_show r object) bounds corner act named
     (ap (λ (b : Bool). commit_answer b bounds corner (kept number)) (sym will) ∙ answer) in
     let applied = c.apply-applied.ensures.applies client (with_peer (counted r.peer) r) on names object kept bounds corner (counted-ordered r only) comes
     (sym is.peer.status ∙ is.lives) (c.count.ensures.counts r.peer is.peer) is.owns
-    (framed-names v.owned.linked.surfaces.frames v.client.objects v.client.objects r (with_peer (counted r.peer) r) refl (one-more r.peer.requests) is.frames refl refl)
+    (framed-names v.owned.surfaces.states.frames v.client.objects v.client.objects r (with_peer (counted r.peer) r) refl (one-more r.peer.requests) is.frames refl refl)
     is.subsurfaces (names-counted v.client c.count.new.self c.count.ensures.only) named placed.bounds placed.parent
     (ap (λ (b : Bool). commit_answer b bounds corner (kept number)) (sym will) ∙ answer) serial shell in
     let done = is_some c.apply-applied.result in
@@ -66,11 +66,11 @@ returns-then-not-is_whole-clause-answers g c = rw c.of.ensures (λ named client 
     let names = names_of v.client.objects in
     let kept = kept_of v.owned.shell in
     let will : c.is_some-has_buffer.result ≡ will_show r object = c.is_some-has_buffer.ensures
-    ∙ pending-read names v.owned.linked.surfaces v.owned.linked.family kept r is.owns object number c.pending_buffer.result named c.pending_buffer.ensures in
-    let whole : c.is_whole.result ≡ will_be_whole r object = whole-read names v.owned.linked.surfaces v.owned.linked.family kept r is.owns object number c.is_whole.result named c.is_whole.ensures in
+    ∙ pending-read names v.owned.surfaces.states v.owned.surfaces.family kept r is.owns object number c.pending_buffer.result named c.pending_buffer.ensures in
+    let whole : c.is_whole.result ≡ will_be_whole r object = whole-read names v.owned.surfaces.states v.owned.surfaces.family kept r is.owns object number c.is_whole.result named c.is_whole.ensures in
     let answer = ap (λ (b : Bool). commit_answer b bounds corner (kept number)) (sym will) ∙ sym c.on_commit.ensures.answer ∙ c.in-Ok.is in
     let judged = unwhole-judged (will_be_whole r object) object (commit_demand r object) _ (CommitTree object)
-    (committed-by names v.owned.linked.surfaces v.owned.linked.family kept r is.owns bounds corner object number 0 0 named) (sym whole ∙ c.if-not-is_whole.true)
+    (committed-by names v.owned.surfaces.states v.owned.surfaces.family kept r is.owns bounds corner object number 0 0 named) (sym whole ∙ c.if-not-is_whole.true)
     (ap (asks_by (λ (a : ShellAct). CommitTree object) (shell_refusal 0 (kept_id (kept number)) 0)) answer) in
     refused-as _ _ client r on (commit_demand r object) _ (judged ∙ ap (λ (f : Refusal). Err f) (sym c.of-refusal.ensures)) c.refuse.ensures.ended (c.refuse.ensures.errs r.peer is.peer))
 
@@ -87,11 +87,11 @@ returns-in-Err-clause-answers g c = rw c.of-in-Err.ensures (λ named client r on
     let xdg = c.xdg_surface_of-xdg_surface.result in
     let base = kept_base (kept_of c.on_commit.new.self number) in
     let will : c.is_some-has_buffer.result ≡ will_show r object = c.is_some-has_buffer.ensures
-    ∙ pending-read names v.owned.linked.surfaces v.owned.linked.family kept r is.owns object number c.pending_buffer.result named c.pending_buffer.ensures in
+    ∙ pending-read names v.owned.surfaces.states v.owned.surfaces.family kept r is.owns object number c.pending_buffer.result named c.pending_buffer.ensures in
     let same : kept_id (kept number) ≡ xdg = sym (c.xdg_surface_of-xdg_surface.ensures ∙ ap (λ b. kept_id (kept_of b number)) c.in-Err.ensures.err) in
     let asked = asks_by (λ (a : ShellAct). CommitTree object) (shell_refusal base (kept_id (kept number)) xdg) (commit_answer (will_show r object) bounds corner (kept number)) in
     let judged = shell-judged (will_be_whole r object) object (commit_demand r object) asked (shell_refusal base (kept_id (kept number)) xdg error)
-    (committed-by names v.owned.linked.surfaces v.owned.linked.family kept r is.owns bounds corner object number base xdg named)
+    (committed-by names v.owned.surfaces.states v.owned.surfaces.family kept r is.owns bounds corner object number base xdg named)
     (told-err asked (λ (a : ShellAct). CommitTree object) (shell_refusal base (kept_id (kept number)) xdg) (commit_answer (will_show r object) bounds corner (kept number))
     c.on_commit.result error refl
     (c.on_commit.ensures.answer ∙ ap (λ (b : Bool). commit_answer b bounds corner (kept number)) will) c.in-Err.is) in
@@ -109,17 +109,17 @@ returns-else-not-is_whole-clause-stacks g c = λ named r is only.
     let names = names_of v.client.objects in
     let kept = kept_of v.owned.shell in
     let will : c.is_some-has_buffer.result ≡ will_show r object = c.is_some-has_buffer.ensures
-    ∙ pending-read names v.owned.linked.surfaces v.owned.linked.family kept r is.owns object number c.pending_buffer.result named c.pending_buffer.ensures in
-    let whole : c.is_whole.result ≡ will_be_whole r object = whole-read names v.owned.linked.surfaces v.owned.linked.family kept r is.owns object number c.is_whole.result named c.is_whole.ensures in
+    ∙ pending-read names v.owned.surfaces.states v.owned.surfaces.family kept r is.owns object number c.pending_buffer.result named c.pending_buffer.ensures in
+    let whole : c.is_whole.result ≡ will_be_whole r object = whole-read names v.owned.surfaces.states v.owned.surfaces.family kept r is.owns object number c.is_whole.result named c.is_whole.ensures in
     let judged = whole-judged (will_be_whole r object) object (commit_demand r object) _
-    (committed-by names v.owned.linked.surfaces v.owned.linked.family kept r is.owns bounds corner object number 0 0 named) (sym whole ∙ c.if-not-is_whole.false)
+    (committed-by names v.owned.surfaces.states v.owned.surfaces.family kept r is.owns bounds corner object number 0 0 named) (sym whole ∙ c.if-not-is_whole.false)
     ∙ ap (λ (b : Bool). asks_by (λ (a : ShellAct). CommitTree object) (shell_refusal 0 (kept_id (kept number)) 0) (commit_answer b bounds corner (kept number))) (sym will)
     ∙ ap (asks_by (λ (a : ShellAct). CommitTree object) (shell_refusal 0 (kept_id (kept number)) 0)) (sym c.on_commit.ensures.answer ∙ c.in-Ok.is) in
-    let comes = answered-effect names v.owned.linked.surfaces v.owned.linked.family kept r is.owns object number (will_show r object) bounds corner c.in-Ok.act named
+    let comes = answered-effect names v.owned.surfaces.states v.owned.surfaces.family kept r is.owns object number (will_show r object) bounds corner c.in-Ok.act named
     (ap (λ (b : Bool). commit_answer b bounds corner (kept number)) (sym will)
     ∙ sym c.on_commit.ensures.answer ∙ c.in-Ok.is) in
     commit-stacks v r object number c.in-Ok.act c.has_toplevel-is_toplevel.result (commit_demand r object) c.stacking_of.result named judged comes
-    (c.has_toplevel-is_toplevel.ensures ∙ toplevel-read names v.owned.linked.surfaces v.owned.linked.family kept r is.owns object number named) c.stacking_of.ensures
+    (c.has_toplevel-is_toplevel.ensures ∙ toplevel-read names v.owned.surfaces.states v.owned.surfaces.family kept r is.owns object number named) c.stacking_of.ensures
 
 pub returns-then-not-is_whole-clause-stacks : goal.returns-then-not-is_whole-clause-stacks
 returns-then-not-is_whole-clause-stacks g c = λ named r is only.
@@ -131,11 +131,11 @@ returns-then-not-is_whole-clause-stacks g c = λ named r is only.
     let names = names_of v.client.objects in
     let kept = kept_of v.owned.shell in
     let will : c.is_some-has_buffer.result ≡ will_show r object = c.is_some-has_buffer.ensures
-    ∙ pending-read names v.owned.linked.surfaces v.owned.linked.family kept r is.owns object number c.pending_buffer.result named c.pending_buffer.ensures in
-    let whole : c.is_whole.result ≡ will_be_whole r object = whole-read names v.owned.linked.surfaces v.owned.linked.family kept r is.owns object number c.is_whole.result named c.is_whole.ensures in
+    ∙ pending-read names v.owned.surfaces.states v.owned.surfaces.family kept r is.owns object number c.pending_buffer.result named c.pending_buffer.ensures in
+    let whole : c.is_whole.result ≡ will_be_whole r object = whole-read names v.owned.surfaces.states v.owned.surfaces.family kept r is.owns object number c.is_whole.result named c.is_whole.ensures in
     let answer = ap (λ (b : Bool). commit_answer b bounds corner (kept number)) (sym will) ∙ sym c.on_commit.ensures.answer ∙ c.in-Ok.is in
     let judged = unwhole-judged (will_be_whole r object) object (commit_demand r object) _ (CommitTree object)
-    (committed-by names v.owned.linked.surfaces v.owned.linked.family kept r is.owns bounds corner object number 0 0 named) (sym whole ∙ c.if-not-is_whole.true)
+    (committed-by names v.owned.surfaces.states v.owned.surfaces.family kept r is.owns bounds corner object number 0 0 named) (sym whole ∙ c.if-not-is_whole.true)
     (ap (asks_by (λ (a : ShellAct). CommitTree object) (shell_refusal 0 (kept_id (kept number)) 0)) answer) in
     subst (λ (j : Result Demand Refusal). StacksSo v r j c.of.result.stacking) (sym judged) tt
 
@@ -167,11 +167,11 @@ returns-in-Err-clause-stacks g c = λ named r is only.
     let xdg = c.xdg_surface_of-xdg_surface.result in
     let base = kept_base (kept_of c.on_commit.new.self number) in
     let will : c.is_some-has_buffer.result ≡ will_show r object = c.is_some-has_buffer.ensures
-    ∙ pending-read names v.owned.linked.surfaces v.owned.linked.family kept r is.owns object number c.pending_buffer.result named c.pending_buffer.ensures in
+    ∙ pending-read names v.owned.surfaces.states v.owned.surfaces.family kept r is.owns object number c.pending_buffer.result named c.pending_buffer.ensures in
     let same : kept_id (kept number) ≡ xdg = sym (c.xdg_surface_of-xdg_surface.ensures ∙ ap (λ b. kept_id (kept_of b number)) c.in-Err.ensures.err) in
     let asked = asks_by (λ (a : ShellAct). CommitTree object) (shell_refusal base (kept_id (kept number)) xdg) (commit_answer (will_show r object) bounds corner (kept number)) in
     let judged = shell-judged (will_be_whole r object) object (commit_demand r object) asked (shell_refusal base (kept_id (kept number)) xdg error)
-    (committed-by names v.owned.linked.surfaces v.owned.linked.family kept r is.owns bounds corner object number base xdg named)
+    (committed-by names v.owned.surfaces.states v.owned.surfaces.family kept r is.owns bounds corner object number base xdg named)
     (told-err asked (λ (a : ShellAct). CommitTree object) (shell_refusal base (kept_id (kept number)) xdg) (commit_answer (will_show r object) bounds corner (kept number))
     c.on_commit.result error refl
     (c.on_commit.ensures.answer ∙ ap (λ (b : Bool). commit_answer b bounds corner (kept number)) will) c.in-Err.is) in
@@ -196,11 +196,11 @@ returns-else-not-is_whole-clause-holds g c = λ named client r on is only placed
     let names = names_of v.client.objects in
     let kept = kept_of v.owned.shell in
     let will : c.is_some-has_buffer.result ≡ will_show r object = c.is_some-has_buffer.ensures
-    ∙ pending-read names v.owned.linked.surfaces v.owned.linked.family kept r is.owns object number c.pending_buffer.result named c.pending_buffer.ensures in
+    ∙ pending-read names v.owned.surfaces.states v.owned.surfaces.family kept r is.owns object number c.pending_buffer.result named c.pending_buffer.ensures in
     let answer = ap (λ (b : Bool). commit_answer b bounds corner (kept number)) (sym will) ∙ sym c.on_commit.ensures.answer ∙ c.in-Ok.is in
-    let whole : c.is_whole.result ≡ will_be_whole r object = whole-read names v.owned.linked.surfaces v.owned.linked.family kept r is.owns object number c.is_whole.result named c.is_whole.ensures in
+    let whole : c.is_whole.result ≡ will_be_whole r object = whole-read names v.owned.surfaces.states v.owned.surfaces.family kept r is.owns object number c.is_whole.result named c.is_whole.ensures in
     let judged = whole-judged (will_be_whole r object) object (commit_demand r object) _
-    (committed-by names v.owned.linked.surfaces v.owned.linked.family kept r is.owns bounds corner object number 0 0 named) (sym whole ∙ c.if-not-is_whole.false)
+    (committed-by names v.owned.surfaces.states v.owned.surfaces.family kept r is.owns bounds corner object number 0 0 named) (sym whole ∙ c.if-not-is_whole.false)
     ∙ ap (asks_by (λ (a : ShellAct). CommitTree object) (shell_refusal 0 (kept_id (kept number)) 0)) answer in
     let serial : c.serial-serial.result ≡ r.peer.serial = c.serial-serial.ensures ∙ is.peer.serial in
     let shell = c.in-Ok.ensures.ok ∙ ap (λ (n : ℕ). changing number (kept_after n act) kept) serial in

@@ -35,7 +35,7 @@ toplevel-asked : {A : Type 0} (old new : Kept A) (object number : ℕ) (judged :
     → AnswersSo (judged (Some x)) r old new)
     → AnswersSo (judged (xdg_with object r.owned.shell)) r old new
 toplevel-asked old new object number judged r is named answers =
-    let one = toplevel-named (names_of old.client.objects) old.owned.linked.surfaces old.owned.linked.family (kept_of old.owned.shell) r.owned is.owns object number
+    let one = toplevel-named (names_of old.client.objects) old.owned.surfaces.states old.owned.surfaces.family (kept_of old.owned.shell) r.owned is.owns object number
     (roles-named.toplevel old.client.objects object number named) in
     subst (λ (o : Option Xdg). AnswersSo (judged o) r old new) (sym one.4) (answers one.0 one.1 one.2 one.3 one.5)
 
@@ -67,15 +67,15 @@ returns-in-Ok-true-clause-answers g c = λ named client r on is only.
         frames = λ alive.
             let table = ap names_of (c.tell_configure.ensures.table alive ∙ ap (λ (w : ClientView). w.objects) c.draw_serial.ensures) ∙ names-counted v.client c.count.new.self c.count.ensures.only in
             let after = changed_by (ConfigureAgain x.id) (with_peer (counted r.peer) r) in
-            subst (λ (o : Lent _). IsFramed o.linked.surfaces.frames new.client.objects after) (sym c.tell_configure.ensures.owned)
-            (framed-names v.owned.linked.surfaces.frames v.client.objects new.client.objects r after refl (one-more r.peer.requests) is.frames table refl);
+            subst (λ (o : Lent _). IsFramed o.surfaces.states.frames new.client.objects after) (sym c.tell_configure.ensures.owned)
+            (framed-names v.owned.surfaces.states.frames v.client.objects new.client.objects r after refl (one-more r.peer.requests) is.frames table refl);
         subsurfaces = λ alive.
             let table = ap names_of (c.tell_configure.ensures.table alive ∙ ap (λ (w : ClientView). w.objects) c.draw_serial.ensures) ∙ names-counted v.client c.count.new.self c.count.ensures.only in
             subst (λ ids. AreOfSurfaces ids (targets_in WlSurface new.client.objects) r.subsurfaces) (sym c.tell_configure.ensures.subsurfaces)
             (subsurfaces-names v.subsurfaces r.subsurfaces v.client.objects new.client.objects is.subsurfaces table);
         owns = λ alive. owns-told new _ names _ (ap names_of (c.tell_configure.ensures.table alive ∙ ap (λ (w : ClientView). w.objects) c.draw_serial.ensures)
             ∙ names-counted v.client c.count.new.self c.count.ensures.only) c.tell_configure.ensures.owned
-            (owned-configured names v.owned.linked.surfaces v.owned.linked.family kept r is.owns number k x h one (kept_of c.configure.new.self)
+            (owned-configured names v.owned.surfaces.states v.owned.surfaces.family kept r is.owns number k x h one (kept_of c.configure.new.self)
             (c.in-Ok-true.ensures.ok ∙ ap (λ b. changing number (kept_configured b c.serial-serial.result) kept) c.in-Ok-true.field-0-test
             ∙ ap (λ n. changing number (kept_configuring n) kept) serial));
       },
@@ -100,12 +100,12 @@ returns-in-Ok-false-clause-answers g c = λ named client r on is only.
       record {
         peer = count.ensures.counts r.peer is.peer;
         numbers = λ alive. keeps-names v.client.objects count.new.self.objects (names-counted v.client count.new.self count.ensures.only);
-        frames = λ alive. framed-names v.owned.linked.surfaces.frames v.client.objects count.new.self.objects r (with_peer (counted r.peer) r) refl (one-more r.peer.requests) is.frames
+        frames = λ alive. framed-names v.owned.surfaces.states.frames v.client.objects count.new.self.objects r (with_peer (counted r.peer) r) refl (one-more r.peer.requests) is.frames
             (names-counted v.client count.new.self count.ensures.only) refl;
         subsurfaces = λ alive. subsurfaces-names v.subsurfaces r.subsurfaces v.client.objects count.new.self.objects is.subsurfaces (names-counted v.client count.new.self count.ensures.only);
-        owns = λ alive. subst (λ (n : Names). IsOwned n v.owned.linked.surfaces v.owned.linked.family (kept_of c.configure.new.self) r.owned)
+        owns = λ alive. subst (λ (n : Names). IsOwned n v.owned.surfaces.states v.owned.surfaces.family (kept_of c.configure.new.self) r.owned)
             (sym (names-counted v.client count.new.self count.ensures.only))
-            (subst (λ (ks : ℕ → Option KeptXdg). IsOwned names v.owned.linked.surfaces v.owned.linked.family ks r.owned)
+            (subst (λ (ks : ℕ → Option KeptXdg). IsOwned names v.owned.surfaces.states v.owned.surfaces.family ks r.owned)
             (sym (c.in-Ok-false.ensures.ok ∙ ap (λ b. changing number (kept_configured b c.serial-serial.result) kept) c.in-Ok-false.field-0-test ∙ changing-same number kept)) is.owns);
       },
     )))

@@ -28,8 +28,8 @@ returns-clause-answers g c = λ free client r on is only.
       made.1,
       record {
         peer = made.2;
-        owns = λ alive. subst (λ (n : Names). IsOwned n v.owned.linked.surfaces v.owned.linked.family (kept_of v.owned.shell) r.owned) (sym (named alive)) is.owns;
-        frames = λ alive. framed-names v.owned.linked.surfaces.frames v.client.objects c.create_region.new.self.objects r
+        owns = λ alive. subst (λ (n : Names). IsOwned n v.owned.surfaces.states v.owned.surfaces.family (kept_of v.owned.shell) r.owned) (sym (named alive)) is.owns;
+        frames = λ alive. framed-names v.owned.surfaces.states.frames v.client.objects c.create_region.new.self.objects r
             (changed_by (Own (CreateRegion c.args.id c.args.version)) (with_peer (counted r.peer) r)) refl (one-more r.peer.requests) is.frames (named alive) refl;
         subsurfaces = λ alive. subsurfaces-names v.subsurfaces r.subsurfaces v.client.objects c.create_region.new.self.objects is.subsurfaces (named alive);
         numbers = λ alive. keeps-names v.client.objects c.create_region.new.self.objects (named alive);

@@ -34,12 +34,12 @@ returns-in-Ok-clause-answers g c = λ free client r on is only.
     let made = c.add.ensures.makes (counted r.peer) (c.count.ensures.counts r.peer is.peer) in
     let names = names-surface-made v.client.objects c.add.new.self.objects id _ free refl in
     accepted _ r (surface_created r id c.args.version) (CreateSurface id c.args.version)
-    (created-within (names_of v.client.objects) v.owned.linked.surfaces v.owned.linked.family r id c.args.version (is.owns.surfaces) c.in-Ok.ensures.room) (
+    (created-within (names_of v.client.objects) v.owned.surfaces.states v.owned.surfaces.family r id c.args.version (is.owns.surfaces) c.in-Ok.ensures.room) (
       made.0,
       made.1,
       record {
         peer = made.2;
-        owns = λ alive. owned-created (names_of v.client.objects) v.owned.linked.surfaces v.owned.linked.family (kept_of v.owned.shell) (with_peer (counted r.peer) r) is.owns id c.args.version
+        owns = λ alive. owned-created (names_of v.client.objects) v.owned.surfaces.states v.owned.surfaces.family (kept_of v.owned.shell) (with_peer (counted r.peer) r) is.owns id c.args.version
             c.in-Ok.surface c.create.new.self
             (names_of c.add.new.self.objects)
             (targets-free WlSurface v.client.objects id free) c.in-Ok.ensures.ok c.in-Ok.ensures.count
@@ -48,7 +48,7 @@ returns-in-Ok-clause-answers g c = λ free client r on is only.
             let now = names (holds-counted v.client c.count.new.self c.add.new.self.objects id _ c.count.ensures.only (c.add.ensures.table alive)) in
             let after = changed_by (CreateSurface id c.args.version) (with_peer (counted r.peer) r) in
             subst (λ (ws : List Waiting). IsFramed ws c.add.new.self.objects after) (sym c.create.ensures.frames)
-            (framed-made v.owned.linked.surfaces.frames v.client.objects c.add.new.self.objects r after refl (one-more r.peer.requests) is.frames v.owned.linked.surfaces v.owned.linked.family
+            (framed-made v.owned.surfaces.states.frames v.client.objects c.add.new.self.objects r after refl (one-more r.peer.requests) is.frames v.owned.surfaces.states v.owned.surfaces.family
             is.owns.surfaces id c.in-Ok.surface
             c.create.new.self c.in-Ok.ensures.ok
             (targets-free WlSurface v.client.objects id free) (ap (λ (n : Names). n.surfaces) now) refl);
@@ -66,7 +66,7 @@ returns-then-is_too_many-clause-answers g c = λ free client r on is only.
     let v = c.args.self.now in
     let many = c.is_too_many.ensures.0 c.if-is_too_many.true in
     subst (λ (j : Result Ask Refusal). AnswersSo (demands j) client r on v c.refuse_unserved.new.self)
-    (sym (created-past (names_of v.client.objects) v.owned.linked.surfaces v.owned.linked.family r c.args.id c.args.version c.in-Err.error is.owns.surfaces c.in-Err.ensures.cause many))
+    (sym (created-past (names_of v.client.objects) v.owned.surfaces.states v.owned.surfaces.family r c.args.id c.args.version c.in-Err.error is.owns.surfaces c.in-Err.ensures.cause many))
     (rw c.in-Err.ensures.err at c.refuse_unserved.ensures.answers client r on is only)
 
 pub returns-else-is_too_many-clause-answers : goal.returns-else-is_too_many-clause-answers
@@ -78,6 +78,6 @@ returns-else-is_too_many-clause-answers g c = λ free client r on is only.
     let then = with_peer (counted r.peer) r in
     let lacks = lacked v _ (changed_by ask then) then (c.lack_memory.ensures.lacks (counted r.peer) (c.count-else-is_too_many.ensures.counts r.peer is.peer)) c.lack_memory.ensures.ended in
     accepted _ r (surface_created r id c.args.version) ask
-    (created-short (names_of v.client.objects) v.owned.linked.surfaces v.owned.linked.family r id c.args.version c.in-Err.error is.owns.surfaces c.in-Err.ensures.cause
+    (created-short (names_of v.client.objects) v.owned.surfaces.states v.owned.surfaces.family r id c.args.version c.in-Err.error is.owns.surfaces c.in-Err.ensures.cause
     (λ many. absurd (let told = c.is_too_many.ensures.1 many in let not = c.if-is_too_many.false in cc)))
     (lacks.0, inl lacks.1, lacks.2))

@@ -24,7 +24,7 @@ returns-then-has_xdg_surface-clause-answers g c = rw c.of.ensures (λ named clie
     let v = c.args.self.now in
     let id = c.args.object in
     let there = sym c.has_xdg_surface.ensures ∙ c.if-has_xdg_surface.true in
-    let judged = destroyed-by (names_of v.client.objects) v.owned.linked.surfaces v.owned.linked.family (kept_of v.owned.shell) r is.owns id c.args.surface named
+    let judged = destroyed-by (names_of v.client.objects) v.owned.surfaces.states v.owned.surfaces.family (kept_of v.owned.shell) r is.owns id c.args.surface named
     ∙ ap (λ (b : Bool). if b then refuses id SurfaceHasRoleObject else Ok (EndSurface id)) there in
     refused-as _ _ client r on (surface_destroyed r id) _ (judged ∙ ap (λ (f : Refusal). Err f) (sym c.of-refusal.ensures)) c.refuse.ensures.ended (c.refuse.ensures.errs r.peer is.peer))
 
@@ -33,7 +33,7 @@ returns-clause-answers g c = λ named client r on is only.
     let v = c.args.self.now in
     let id = c.args.object in
     let there = sym c.has_xdg_surface.ensures ∙ c.if-has_xdg_surface.false in
-    let judged = destroyed-by (names_of v.client.objects) v.owned.linked.surfaces v.owned.linked.family (kept_of v.owned.shell) r is.owns id c.args.surface named
+    let judged = destroyed-by (names_of v.client.objects) v.owned.surfaces.states v.owned.surfaces.family (kept_of v.owned.shell) r is.owns id c.args.surface named
     ∙ ap (λ (b : Bool). if b then refuses id SurfaceHasRoleObject else Ok (EndSurface id)) there in
     subst (λ (j : Result Demand Refusal). AnswersAs (is_some c.destroy_surface.result) j client r on v c.destroy_surface.new.self) (sym judged)
     (counted-told v (record v { client = c.count.new.self }) c.destroy_surface.new.self c.destroy_surface.result client r on (λ (q : Resident). EndSurface id) is only
@@ -69,7 +69,7 @@ returns-clause-holds g c = λ named client r on is only done.
     let id = c.args.object in
     let mid = record v { client = c.count.new.self } in
     let there = sym c.has_xdg_surface.ensures ∙ c.if-has_xdg_surface.false in
-    let judged = destroyed-by (names_of v.client.objects) v.owned.linked.surfaces v.owned.linked.family (kept_of v.owned.shell) r is.owns id c.args.surface named
+    let judged = destroyed-by (names_of v.client.objects) v.owned.surfaces.states v.owned.surfaces.family (kept_of v.owned.shell) r is.owns id c.args.surface named
     ∙ ap (λ (b : Bool). if b then refuses id SurfaceHasRoleObject else Ok (EndSurface id)) there in
     subst (λ (j : Result Demand Refusal). HoldsSo j client r on v c.destroy_surface.new.self) (sym judged)
     (held-so v mid c.destroy_surface.new.self (Ok (EndSurface id)) client r on (objects-counted v.client c.count.new.self c.count.ensures.only)

@@ -28,7 +28,7 @@ returns-then-not-has_room-clause-decides g c = λ named client r d is ordered.
     (λ k x h one its.
     let demand = EndPopup object x.id in
     let judged = answered-ok (popup_destroyed r object x) (λ u. demand) (shell_refusal x.base x.id object) _ c.destroy_popup.result tt
-    (popups-go.asked (names_of v.client.objects) v.owned.linked.surfaces v.owned.linked.family v.owned.shell r number k x h object c.are_found.ensures is.owns one) c.destroy_popup.ensures.answer
+    (popups-go.asked (names_of v.client.objects) v.owned.surfaces.states v.owned.surfaces.family v.owned.shell r number k x h object c.are_found.ensures is.owns one) c.destroy_popup.ensures.answer
     c.in-Ok.is in
     let lacks = lacked v _ (changed_for client demand one_more (unpointed d)) one_more (c.lack_memory.ensures.lacks (counted r.peer) (c.count.ensures.counts r.peer is.peer))
     c.lack_memory.ensures.ended in
@@ -43,7 +43,7 @@ returns-else-not-has_room-clause-decides g c = λ named client r d is ordered.
     (λ k x h one its.
     let demand = EndPopup object x.id in
     let judged = answered-ok (popup_destroyed r object x) (λ u. demand) (shell_refusal x.base x.id object) _ c.destroy_popup.result tt
-    (popups-go.asked (names_of v.client.objects) v.owned.linked.surfaces v.owned.linked.family v.owned.shell r number k x h object c.are_found.ensures is.owns one) c.destroy_popup.ensures.answer
+    (popups-go.asked (names_of v.client.objects) v.owned.surfaces.states v.owned.surfaces.family v.owned.shell r number k x h object c.are_found.ensures is.owns one) c.destroy_popup.ensures.answer
     c.in-Ok.is in
     as-judged true (popup_destroyed r object x) demand client r d v _ judged
     (popup-ends v _ client r d object number k x h is one its (c.remove.ensures.removes (counted r.peer) (c.count.ensures.counts r.peer is.peer))
@@ -58,7 +58,7 @@ returns-in-Err-clause-decides g c = λ named client r d is ordered.
     (λ k x h one its.
     let demand = EndPopup object x.id in
     let judged = told-err (popup_destroyed r object x) (λ u. demand) (shell_refusal x.base x.id object) _ c.destroy_popup.result c.in-Err.error
-    (popups-go.asked (names_of v.client.objects) v.owned.linked.surfaces v.owned.linked.family v.owned.shell r number k x h object c.are_found.ensures is.owns one) c.destroy_popup.ensures.answer
+    (popups-go.asked (names_of v.client.objects) v.owned.surfaces.states v.owned.surfaces.family v.owned.shell r number k x h object c.are_found.ensures is.owns one) c.destroy_popup.ensures.answer
     c.in-Err.is in
     let base : kept_base (kept_of c.destroy_popup.new.self number) ≡ x.base =
     ap (λ (b : Book). kept_base (kept_of b number)) c.in-Err.ensures.err ∙ ap kept_base one.here ∙ one.stands.base in
@@ -85,7 +85,7 @@ returns-else-not-has_room-clause-holds g c = λ named client r d is ordered done
     popup-held v _ object number (λ o. popup_asked r object o popup.Destroy) client d r is named
     (λ k x h one its.
     let judged = answered-ok (popup_destroyed r object x) (λ u. EndPopup object x.id) (shell_refusal x.base x.id object) _ c.destroy_popup.result tt
-    (popups-go.asked (names_of v.client.objects) v.owned.linked.surfaces v.owned.linked.family v.owned.shell r number k x h object c.are_found.ensures is.owns one) c.destroy_popup.ensures.answer
+    (popups-go.asked (names_of v.client.objects) v.owned.surfaces.states v.owned.surfaces.family v.owned.shell r number k x h object c.are_found.ensures is.owns one) c.destroy_popup.ensures.answer
     c.in-Ok.is in
     popup-left v _ (popup_destroyed r object x) client r d object number k x h is one its judged c.in-Ok.ensures.ok refl)
 

@@ -93,7 +93,7 @@ returns-in_default-clause-answers g c = λ here client r d is orderly.
         peer = told.2;
         owns = λ alive. rw (c.forget.ensures.owned, table alive) is.owns;
         frames = λ alive. rw (c.forget.ensures.owned, ap (λ (n : Names). n.surfaces) (table alive))
-            (framed-names v.owned.linked.surfaces.frames v.client.objects v.client.objects r one_more refl (one-more r.peer.requests) is.frames refl refl);
+            (framed-names v.owned.surfaces.states.frames v.client.objects v.client.objects r one_more refl (one-more r.peer.requests) is.frames refl refl);
         subsurfaces = λ alive. rw (ap (λ (n : Names). n.surfaces) (table alive)) (c.forget.ensures.subsurfaces _ r.subsurfaces is.subsurfaces is.owns.surfaces.once);
         numbers = λ alive. keeps-names v.client.objects c.remove.new.self.objects (table alive);
       },
@@ -116,7 +116,7 @@ pub returns-in_default-remove_subsurface-clause-answers : goal.returns-in_defaul
 returns-in_default-remove_subsurface-clause-answers g c = λ here client r d is orderly.
     let only = λ (other : ℕ) (there : _). only-number _ _ _ c.args.object other c.in-Some.child is.subsurfaces there c.in-Some.ensures.0 in
     answered-so false (Ok (EndSubsurface c.args.object)) client r d c.args.self.now
-    (record c.args.self.now { client = c.lack_memory.new.self; owned = record c.args.self.now.owned { linked = c.remove_subsurface.new.self } })
+    (record c.args.self.now { client = c.lack_memory.new.self; owned = record c.args.self.now.owned { surfaces = c.remove_subsurface.new.self } })
     (returns-in_default-remove_subsurface-clause-decides g c c.in-Some.child (c.in-Some.ensures, only) here client r d is orderly)
 
 pub returns-in_default-let_go_of_told-clause-decides : goal.returns-in_default-let_go_of_told-clause-decides
@@ -142,8 +142,8 @@ returns-clause-decides g c = λ child of here client r d is orderly.
     let its = link-of-child v r is orderly object below c.in-Some.ensures in
     let number = its.link.number in
     let names = names_of v.client.objects in
-    let slots = v.owned.linked.surfaces in
-    let tied = v.owned.linked.family in
+    let slots = v.owned.surfaces.states in
+    let tied = v.owned.surfaces.family in
     let one_more = with_peer (counted r.peer) r in
     let peer_one = c.count.ensures.counts r.peer is.peer in
     let order = counted-ordered r orderly in
@@ -151,7 +151,7 @@ returns-clause-decides g c = λ child of here client r d is orderly.
     let after = after_all one_more then in
     let freed = c.in-Ok.told.applied.freed.items in
     let shown = map buffer_of c.in-Ok.told.shown.items in
-    let called = part-called names.surfaces slots c.remove_subsurface.new.self.surfaces tied c.remove_subsurface.new.self.family one_more is.owns.surfaces its.link below its.here its.lives its.named
+    let called = part-called names.surfaces slots c.remove_subsurface.new.self.states tied c.remove_subsurface.new.self.family one_more is.owns.surfaces its.link below its.here its.lives its.named
     freed shown c.in-Ok.ensures.among c.in-Ok.ensures.ok c.in-Ok.ensures.waits c.in-Ok.ensures.freed c.in-Ok.ensures.shown in
     let stores = c.in-Some-let_go_of_told.ensures.lets_go.stores in
     let peer_then = subst (λ (x : Resident). IsPeer c.let_go_of_told.new.self.client x.peer)
@@ -180,7 +180,7 @@ returns-clause-decides g c = λ child of here client r d is orderly.
       record {
         peer = next.2;
         owns = λ alive. rw (kept_owned, table alive)
-            (owned-parted names slots tied (kept_of v.owned.shell) r.owned is.owns number below its.link its.here its.lives its.named c.remove_subsurface.new.self.surfaces
+            (owned-parted names slots tied (kept_of v.owned.shell) r.owned is.owns number below its.link its.here its.lives its.named c.remove_subsurface.new.self.states
             c.remove_subsurface.new.self.family orderly.order.once orderly.order.numbered orderly.order.roots c.in-Ok.ensures.ok);
         frames = λ alive. rw (kept_owned, ap (λ (n : Names). n.surfaces) (table alive))
             (called.framed (framed-names slots.frames v.client.objects v.client.objects r one_more refl (one-more r.peer.requests) is.frames refl refl));
@@ -201,8 +201,8 @@ returns-clause-answers g c = λ here client r d is orderly.
 pub returns-clause-touched : goal.returns-clause-touched
 returns-clause-touched g c = λ child of.
     let same : c.in-Some.child ≡ child = of.1 c.in-Some.child c.in-Some.ensures.0 in
-    subst (λ (n : ℕ). IsTouched (Parts n) c.args.self.now.owned.linked c.tell_releases.new.self.owned.linked (Some c.in-Ok.told.applied)) same (
-      subst (λ (o : Lent _). IsMade (Parts c.in-Some.child) c.args.self.now.owned.linked o.linked) (sym (c.tell_releases.ensures.owned ∙ c.let_go_of_told.ensures.owned)) c.in-Ok.ensures.ok,
+    subst (λ (n : ℕ). IsTouched (Parts n) c.args.self.now.owned.surfaces c.tell_releases.new.self.owned.surfaces (Some c.in-Ok.told.applied)) same (
+      subst (λ (o : Lent _). IsMade (Parts c.in-Some.child) c.args.self.now.owned.surfaces o.surfaces) (sym (c.tell_releases.ensures.owned ∙ c.let_go_of_told.ensures.owned)) c.in-Ok.ensures.ok,
       λ all number link is stands. c.in-Ok.ensures.changes all number link is stands,
     )
 
@@ -231,5 +231,5 @@ returns-clause-holds g c = λ child of here client r d is orderly done.
     let one_more = with_peer (counted r.peer) r in
     subst (λ (o : Option ℕ). HoldsBy v c.tell_releases.new.self (ended_by object o one_more).owned) (sym (link-number object one_more its.link its.of_object))
     (holds-same v c.tell_releases.new.self names _ refl (rw (c.tell_releases.ensures.owned ∙ c.let_go_of_told.ensures.owned)
-    (owned-parted names v.owned.linked.surfaces v.owned.linked.family (kept_of v.owned.shell) r.owned is.owns its.link.number below its.link its.here its.lives its.named
-    c.remove_subsurface.new.self.surfaces c.remove_subsurface.new.self.family orderly.order.once orderly.order.numbered orderly.order.roots c.in-Ok.ensures.ok)))
+    (owned-parted names v.owned.surfaces.states v.owned.surfaces.family (kept_of v.owned.shell) r.owned is.owns its.link.number below its.link its.here its.lives its.named
+    c.remove_subsurface.new.self.states c.remove_subsurface.new.self.family orderly.order.once orderly.order.numbered orderly.order.roots c.in-Ok.ensures.ok)))

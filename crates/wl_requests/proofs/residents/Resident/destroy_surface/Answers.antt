@@ -71,8 +71,8 @@ returns-clause-does g c = λ named bare client r on is only.
     let id = c.args.object in
     let number = c.args.surface in
     let names = names_of v.client.objects in
-    let slots = v.owned.linked.surfaces in
-    let tied = v.owned.linked.family in
+    let slots = v.owned.surfaces.states in
+    let tied = v.owned.surfaces.family in
     let kept = kept_of v.owned.shell in
     let none = xdg-of-none names slots tied kept r.owned is.owns id number named bare in
     let there = surface-named names.surfaces slots tied r.owned.surfaces is.owns.surfaces id number named in
@@ -85,7 +85,7 @@ returns-clause-does g c = λ named bare client r on is only.
     let left = fold ended_in r.owned.surfaces (links_with id r.owned.surfaces) in
     let then : Resident = with_surfaces (destroyed_in id r.owned.surfaces) (record r { subsurfaces = map (without_child id) r.subsurfaces }) in
     let without = with_id id None names.surfaces in
-    let called = destroy-called names.surfaces slots c.destroy.new.self.surfaces tied c.destroy.new.self.family r is.owns.surfaces id number named freed shown
+    let called = destroy-called names.surfaces slots c.destroy.new.self.states tied c.destroy.new.self.family r is.owns.surfaces id number named freed shown
     c.in-Ok.ensures.among c.in-Ok.ensures.ok c.in-Ok.ensures.waits c.in-Ok.ensures.freed c.in-Ok.ensures.shown in
     let gone = freed_of freed shown in
     let stores = c.in-Some.ensures.lets_go.stores in
@@ -138,10 +138,10 @@ returns-clause-does g c = λ named bare client r on is only.
       record {
         peer = next.2;
         owns = λ alive. rw kept_owned
-            (owned-destroyed names slots tied kept r is.owns id number c.destroy.new.self.surfaces c.destroy.new.self.family (names_of c.tell_releases.new.self.client.objects)
+            (owned-destroyed names slots tied kept r is.owns id number c.destroy.new.self.states c.destroy.new.self.family (names_of c.tell_releases.new.self.client.objects)
             only.order.once only.order.numbered only.order.roots named none c.in-Ok.ensures.ok (table alive));
         frames = λ alive. rw (kept_owned, ap (λ (n : Names). n.surfaces) (table alive), going-requests cs after.peer)
-            (subst (λ (ls : List Callback). AreFramed c.destroy.new.self.surfaces.frames (by_number without then.owned.surfaces) (r.peer.requests + 1) ls)
+            (subst (λ (ls : List Callback). AreFramed c.destroy.new.self.states.frames (by_number without then.owned.surfaces) (r.peer.requests + 1) ls)
             (ap (λ ns. filter (λ x. not (is_in ns x)) r.callbacks) asked ∙ sym (left-by (frames_asked (history_in id r.owned.surfaces)) r.callbacks)) (called.framed is.frames));
         subsurfaces = λ alive. rw (c.tell_releases.ensures.subsurfaces, c.let_go_if_over.ensures.subsurfaces, c.let_go_of_told.ensures.subsurfaces, ap (λ (n : Names). n.surfaces) (table alive))
             (gone-subsurfaces v.subsurfaces c.clear.new.self names.surfaces r.subsurfaces id number named is.owns.surfaces.once c.clear.ensures is.subsurfaces);
@@ -151,7 +151,7 @@ returns-clause-does g c = λ named bare client r on is only.
 
 pub returns-clause-touched : goal.returns-clause-touched
 returns-clause-touched g c = (
-  subst (λ (o : Lent _). IsMade (Destroys c.args.surface) c.args.self.now.owned.linked o.linked)
+  subst (λ (o : Lent _). IsMade (Destroys c.args.surface) c.args.self.now.owned.surfaces o.surfaces)
       (sym (c.tell_releases.ensures.owned ∙ c.let_go_if_over.ensures.owned ∙ c.let_go_of_told.ensures.owned)) c.in-Ok.ensures.ok,
   c.in-Ok.ensures.changes,
 )
@@ -170,10 +170,10 @@ returns-clause-holds g c = λ named bare client r on is only done.
     let id = c.args.object in
     let number = c.args.surface in
     let names = names_of v.client.objects in
-    let slots = v.owned.linked.surfaces in
-    let tied = v.owned.linked.family in
+    let slots = v.owned.surfaces.states in
+    let tied = v.owned.surfaces.family in
     let kept = kept_of v.owned.shell in
     let none = xdg-of-none names slots tied kept r.owned is.owns id number named bare in
     holds-without v c.tell_releases.new.self names id _ refl (rw (c.tell_releases.ensures.owned ∙ c.let_go_if_over.ensures.owned ∙ c.let_go_of_told.ensures.owned)
-    (owned-destroyed names slots tied kept r is.owns id number c.destroy.new.self.surfaces c.destroy.new.self.family (record names { surfaces = with_id id None names.surfaces })
+    (owned-destroyed names slots tied kept r is.owns id number c.destroy.new.self.states c.destroy.new.self.family (record names { surfaces = with_id id None names.surfaces })
     only.order.once only.order.numbered only.order.roots named none c.in-Ok.ensures.ok refl))

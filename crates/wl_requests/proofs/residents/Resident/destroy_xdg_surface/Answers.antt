@@ -42,7 +42,7 @@ returns-in-Ok-clause-answers g c = λ version named client r on is only.
             (c.remove.ensures.table alive));
         frames = λ alive.
             let went = xdg-gone v.client c.count.new.self c.remove.new.self object number c.count.ensures.only named (c.remove.ensures.table alive) in
-            framed-kept v.owned.linked.surfaces.frames v.client.objects c.remove.new.self.objects r (changed_by (DestroyXdgSurface object) (with_peer (counted r.peer) r)) refl
+            framed-kept v.owned.surfaces.states.frames v.client.objects c.remove.new.self.objects r (changed_by (DestroyXdgSurface object) (with_peer (counted r.peer) r)) refl
             (one-more r.peer.requests)
             is.frames (ap (λ (n : Names). n.surfaces) went) refl;
         subsurfaces = λ alive.
@@ -50,8 +50,8 @@ returns-in-Ok-clause-answers g c = λ version named client r on is only.
             subsurfaces-named v.subsurfaces r.subsurfaces v.client.objects c.remove.new.self.objects is.subsurfaces (ap (λ (n : Names). n.surfaces) went);
         owns = λ alive.
             let went : left ≡ with_xdg object None names = xdg-gone v.client c.count.new.self c.remove.new.self object number c.count.ensures.only named (c.remove.ensures.table alive) in
-            subst (λ i. IsOwned left v.owned.linked.surfaces v.owned.linked.family after (changed_by (DestroyXdgSurface i) (with_peer (counted r.peer) r)).owned) same
-            (owned-xdg-gone names v.owned.linked.surfaces v.owned.linked.family kept r is.owns number k x h one after left bare c.in-Ok.ensures.ok
+            subst (λ i. IsOwned left v.owned.surfaces.states v.owned.surfaces.family after (changed_by (DestroyXdgSurface i) (with_peer (counted r.peer) r)).owned) same
+            (owned-xdg-gone names v.owned.surfaces.states v.owned.surfaces.family kept r is.owns number k x h one after left bare c.in-Ok.ensures.ok
             (subst (λ i. left ≡ with_xdg i None names) (sym same) went));
       },
     )))

@@ -67,11 +67,11 @@ loop-preserved g c =
       told = λ names o xdg p is order named peer lives.
           let so = now.told names o xdg p is order named peer lives in
           dismissed-on names xdg o c.loop.counter p so.0 so.1 so.2 c.loop.self c.args.surface so.3 named c.are_found.ensures c.tell_done.new.self c.in-Some.gone (kept_of c.dismiss.new.self) alive
-          c.in-Some.ensures.newest c.in-Some.ensures.some (ap (λ (o : Lent _). kept_of o.shell) c.tell_done.ensures.owned) (ap (λ (o : Lent _). o.linked) c.tell_done.ensures.owned)
+          c.in-Some.ensures.newest c.in-Some.ensures.some (ap (λ (o : Lent _). kept_of o.shell) c.tell_done.ensures.owned) (ap (λ (o : Lent _). o.surfaces) c.tell_done.ensures.owned)
           c.tell_done.ensures.told;
       table = λ lives. c.tell_done.ensures.table lives ∙ now.table alive;
       ended = λ over. absurd (gone c.loop.self.client.ended (ap (λ (v : ClientView). is_some v.ended) (now.ended over) ∙ over) alive);
-      linked = ap (λ (o : Lent _). o.linked) c.tell_done.ensures.owned ∙ now.linked;
+      linked = ap (λ (o : Lent _). o.surfaces) c.tell_done.ensures.owned ∙ now.linked;
       subsurfaces = c.tell_done.ensures.subsurfaces ∙ now.subsurfaces;
       rest = omega (arith, c.tell_done.ensures.rest, now.rest);
     }

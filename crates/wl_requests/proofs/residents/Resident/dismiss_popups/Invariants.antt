@@ -13,12 +13,12 @@ use Rattle.wl_requests.proofs.residents.Resident.dismiss_popups.Given as goal
 abbrev pub invariant-loop : goal.invariant-loop
 invariant-loop g l = record {
   told : (names : Names) (o : Owned) (xdg : ℕ) (p : Peer)
-      → IsOwned names l.fn.self.owned.linked.surfaces l.fn.self.owned.linked.family (kept_of l.fn.self.owned.shell) o
+      → IsOwned names l.fn.self.owned.surfaces.states l.fn.self.owned.surfaces.family (kept_of l.fn.self.owned.shell) o
       → HasOrder o.shell → names.shell xdg ≡ Some l.surface → IsPeer l.fn.self.client p → p.status ≡ None
       → IsDismissedTo names xdg o l.counter p l.self;
   table : l.self.client.ended ≡ None → l.self.client.objects ≡ l.fn.self.client.objects;
   ended : is_some l.fn.self.client.ended ≡ true → l.self.client ≡ l.fn.self.client;
-  linked : l.self.owned.linked ≡ l.fn.self.owned.linked;
+  linked : l.self.owned.surfaces ≡ l.fn.self.owned.surfaces;
   subsurfaces : l.self.subsurfaces ≡ l.fn.self.subsurfaces;
   rest : length l.self.client.rest ≤ length l.fn.self.client.rest;
 }

@@ -17,11 +17,11 @@ returns-clause-does g c = λ alone r is.
       record {
         peer = gone.2;
         numbers = λ alive. keeps-names v.client.objects c.remove.new.self.objects (alone-gone _ _ c.args.object alone (c.remove.ensures.table alive));
-        frames = λ alive. framed-names v.owned.linked.surfaces.frames v.client.objects c.remove.new.self.objects r (removing c.args.object r) refl (no-more r.peer.requests) is.frames
+        frames = λ alive. framed-names v.owned.surfaces.states.frames v.client.objects c.remove.new.self.objects r (removing c.args.object r) refl (no-more r.peer.requests) is.frames
             (alone-gone _ _ c.args.object alone (c.remove.ensures.table alive)) refl;
         subsurfaces = λ alive. subsurfaces-names v.subsurfaces r.subsurfaces v.client.objects c.remove.new.self.objects is.subsurfaces
             (alone-gone _ _ c.args.object alone (c.remove.ensures.table alive));
-        owns = λ alive. subst (λ (names : Names). IsOwned names v.owned.linked.surfaces v.owned.linked.family (kept_of v.owned.shell) r.owned)
+        owns = λ alive. subst (λ (names : Names). IsOwned names v.owned.surfaces.states v.owned.surfaces.family (kept_of v.owned.shell) r.owned)
             (sym (alone-gone _ _ c.args.object alone (c.remove.ensures.table alive))) is.owns;
       },
     )

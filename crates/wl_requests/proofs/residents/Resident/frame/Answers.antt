@@ -37,17 +37,17 @@ returns-in-Ok-clause-answers g c = λ object named free client r on is only.
     (holds-counted v.client c.count.new.self c.add.new.self.objects callback (Some entry) c.count.ensures.only (c.add.ensures.table alive)) in (
       made.0,
       wants-told true _ _ (counted r.peer) (changed_for client ask then (unpointed on)).peer made.0
-          (asked-releases names.surfaces v.owned.linked.surfaces v.owned.linked.family then object number (Frame n) refl is.owns.surfaces named) made.1,
+          (asked-releases names.surfaces v.owned.surfaces.states v.owned.surfaces.family then object number (Frame n) refl is.owns.surfaces named) made.1,
       record {
         peer = made.2;
         numbers = λ alive. keeps-names v.client.objects c.add.new.self.objects (table alive);
         frames = λ alive. framed-frame v.client.objects c.add.new.self.objects r (changed_for client ask then
-            (unpointed on)) v.owned.linked.surfaces v.owned.linked.family is.owns.surfaces is.frames object number
+            (unpointed on)) v.owned.surfaces.states v.owned.surfaces.family is.owns.surfaces is.frames object number
             named c.frame.new.self.frames n
             callback refl refl c.in-Ok.ensures.waits refl (table alive) refl;
         subsurfaces = λ alive. subsurfaces-names v.subsurfaces r.subsurfaces v.client.objects c.add.new.self.objects is.subsurfaces (table alive);
         owns = λ alive. rw (table alive)
-            (owned-asked names v.owned.linked.surfaces v.owned.linked.family (kept_of v.owned.shell) then is.owns object number (Frame n) c.frame.new.self named refl refl (λ asked. refl)
+            (owned-asked names v.owned.surfaces.states v.owned.surfaces.family (kept_of v.owned.shell) then is.owns object number (Frame n) c.frame.new.self named refl refl (λ asked. refl)
             (c.in-Ok.ensures.ok n));
       },
     ))

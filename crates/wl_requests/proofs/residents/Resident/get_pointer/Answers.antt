@@ -37,9 +37,9 @@ returns-clause-answers g c = λ free client r on is only.
       record {
         peer = made.2;
         numbers = λ alive. keeps-names v.client.objects now (table alive);
-        frames = λ alive. framed-names v.owned.linked.surfaces.frames v.client.objects now r after refl (one-more r.peer.requests) is.frames (table alive) refl;
+        frames = λ alive. framed-names v.owned.surfaces.states.frames v.client.objects now r after refl (one-more r.peer.requests) is.frames (table alive) refl;
         subsurfaces = λ alive. subsurfaces-names v.subsurfaces r.subsurfaces v.client.objects now is.subsurfaces (table alive);
-        owns = λ alive. subst (λ (n : Names). IsOwned n v.owned.linked.surfaces v.owned.linked.family (kept_of v.owned.shell) r.owned) (sym (table alive)) is.owns;
+        owns = λ alive. subst (λ (n : Names). IsOwned n v.owned.surfaces.states v.owned.surfaces.family (kept_of v.owned.shell) r.owned) (sym (table alive)) is.owns;
       },
     )
 

@@ -26,8 +26,8 @@ pub returns-then-number-clause-answers : goal.returns-then-number-clause-answers
 returns-then-number-clause-answers g c = λ named free fit client r d is ordered.
     let v = c.args.self.now in
     let names = names_of v.client.objects in
-    let slots = v.owned.linked.surfaces in
-    let tied = v.owned.linked.family in
+    let slots = v.owned.surfaces.states in
+    let tied = v.owned.surfaces.family in
     let kept = kept_of v.owned.shell in
     let object = c.args.object in
     let number = c.args.surface in
@@ -52,8 +52,8 @@ pub returns-else-number-clause-answers : goal.returns-else-number-clause-answers
 returns-else-number-clause-answers g c = λ named free fit client r d is ordered.
     let v = c.args.self.now in
     let names = names_of v.client.objects in
-    let slots = v.owned.linked.surfaces in
-    let tied = v.owned.linked.family in
+    let slots = v.owned.surfaces.states in
+    let tied = v.owned.surfaces.family in
     let kept = kept_of v.owned.shell in
     let object = c.args.object in
     let number = c.args.surface in
@@ -91,8 +91,8 @@ pub returns-in-Err-clause-answers : goal.returns-in-Err-clause-answers
 returns-in-Err-clause-answers g c = λ named free fit client r d is ordered.
     let v = c.args.self.now in
     let names = names_of v.client.objects in
-    let slots = v.owned.linked.surfaces in
-    let tied = v.owned.linked.family in
+    let slots = v.owned.surfaces.states in
+    let tied = v.owned.surfaces.family in
     let kept = kept_of v.owned.shell in
     let object = c.args.object in
     let number = c.args.surface in

@@ -86,18 +86,18 @@ returns-in-Ok-clause-answers g c = λ surface above free below over client r d i
     (meets-so v new client d demand then refl (
       made.0,
       wants-told true _ _ (counted r.peer) after.peer made.0
-          (linked-released n surface above names.surfaces v.owned.linked.surfaces v.owned.linked.family r.owned.surfaces is.owns.surfaces then after refl refl) made.1,
+          (linked-released n surface above names.surfaces v.owned.surfaces.states v.owned.surfaces.family r.owned.surfaces is.owns.surfaces then after refl refl) made.1,
       record {
         peer = made.2;
         numbers = λ alive. keeps-names v.client.objects now (table alive);
         frames = λ alive. subst (λ (ws : List Waiting). IsFramed ws now after) (sym c.link.ensures.frames)
-            (framed-left v.owned.linked.surfaces.frames v.client.objects now r after refl (one-more r.peer.requests) is.frames
+            (framed-left v.owned.surfaces.states.frames v.client.objects now r after refl (one-more r.peer.requests) is.frames
             (λ number. ap (λ (all : Numbered). frames_at (all number)) (named alive)
-            ∙ linked-frames n surface above names.surfaces v.owned.linked.surfaces v.owned.linked.family r.owned.surfaces is.owns.surfaces number)
+            ∙ linked-frames n surface above names.surfaces v.owned.surfaces.states v.owned.surfaces.family r.owned.surfaces is.owns.surfaces number)
             (λ number. ap (λ (all : Numbered). counted_at (all number)) (named alive)
-            ∙ linked-counts n surface above names.surfaces v.owned.linked.surfaces v.owned.linked.family r.owned.surfaces is.owns.surfaces number));
+            ∙ linked-counts n surface above names.surfaces v.owned.surfaces.states v.owned.surfaces.family r.owned.surfaces is.owns.surfaces number));
         subsurfaces = λ alive. subsurfaces-names c.link.new.self.subsurfaces after.subsurfaces v.client.objects now linked_so.1 (table alive);
-        owns = λ alive. subst (λ (x : Names). IsOwned x c.link.new.self.owned.linked.surfaces c.link.new.self.owned.linked.family (kept_of c.link.new.self.owned.shell) after.owned)
+        owns = λ alive. subst (λ (x : Names). IsOwned x c.link.new.self.owned.surfaces.states c.link.new.self.owned.surfaces.family (kept_of c.link.new.self.owned.shell) after.owned)
             (sym (table alive)) linked_so.0;
       },
     ))

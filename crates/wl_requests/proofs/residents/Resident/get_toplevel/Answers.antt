@@ -36,7 +36,7 @@ returns-in-Ok-clause-answers g c = λ named free client r on is only.
     (λ k x h one same. as-asked _ _ client on r only (toplevel_made r x c.args.version c.args.id) (
     let other : c.is_other_role-has_other_role.result ≡ is_no_toplevel (role_of r x.surface) =
     c.is_other_role-has_other_role.ensures ∙ ap is_no_toplevel
-    (role-read names v.owned.linked.surfaces v.owned.linked.family kept r is.owns x.surface number c.role.result one.surface c.role.ensures) in
+    (role-read names v.owned.surfaces.states v.owned.surfaces.family kept r is.owns x.surface number c.role.result one.surface c.role.ensures) in
     let answer : c.get_toplevel.result ≡ toplevel_answer (is_no_toplevel (role_of r x.surface)) (kept number) = c.get_toplevel.ensures.answer ∙ ap (λ b. toplevel_answer b (kept number)) other in
     let bare = bare-toplevel names kept r number k x h one c.args.object (is_no_toplevel (role_of r x.surface)) (sym answer ∙ c.in-Ok.is) in
     accepted _ r (toplevel_made r x version id) (GetToplevel id version x.id)
@@ -56,21 +56,21 @@ returns-in-Ok-clause-answers g c = λ named free client r on is only.
             let then = with_peer (counted r.peer) r in
             subst (λ o. IsFramed c.give_role-given.new.self.frames c.add.new.self.objects (making XdgToplevel id version (toplevel_given id x.id o then))) (sym one.at_id)
             (subst (λ (ws : List Waiting). IsFramed ws c.add.new.self.objects (making XdgToplevel id version (toplevel_given id x.id (Some x) then))) (sym c.give_role-given.ensures.frames)
-            (framed-role v.owned.linked.surfaces.frames v.client.objects c.add.new.self.objects r (making XdgToplevel id version (toplevel_given id x.id (Some x) then)) refl
+            (framed-role v.owned.surfaces.states.frames v.client.objects c.add.new.self.objects r (making XdgToplevel id version (toplevel_given id x.id (Some x) then)) refl
             (one-more r.peer.requests)
             is.frames
-            v.owned.linked.surfaces v.owned.linked.family is.owns.surfaces x.surface number AsToplevel one.surface (ap (λ (n : Names). n.surfaces) now) refl));
+            v.owned.surfaces.states v.owned.surfaces.family is.owns.surfaces x.surface number AsToplevel one.surface (ap (λ (n : Names). n.surfaces) now) refl));
         subsurfaces = λ alive.
             let now = names-toplevel-made v.client.objects c.add.new.self.objects id (record { interface = XdgToplevel; version = version; target = number }) free refl
             (holds-counted v.client c.count.new.self c.add.new.self.objects id (Some (record { interface = XdgToplevel; version = version; target = number })) c.count.ensures.only
             (c.add.ensures.table alive)) in
             subst (λ o. AreOfSurfaces v.subsurfaces (targets_in WlSurface c.add.new.self.objects) (toplevel_given id x.id o (with_peer (counted r.peer) r)).subsurfaces) (sym one.at_id)
             (subsurfaces-named v.subsurfaces r.subsurfaces v.client.objects c.add.new.self.objects is.subsurfaces (ap (λ (n : Names). n.surfaces) now));
-        owns = λ alive. owned-toplevel-made names v.owned.linked.surfaces v.owned.linked.family kept (with_peer (counted r.peer) r) is.owns number k x h one id version c.give_role-given.new.self
+        owns = λ alive. owned-toplevel-made names v.owned.surfaces.states v.owned.surfaces.family kept (with_peer (counted r.peer) r) is.owns number k x h one id version c.give_role-given.new.self
             (kept_of c.get_toplevel.new.self)
             (names_of c.add.new.self.objects) bare.0
             (roles-named.free v.client.objects id free)
-            (role-given names v.owned.linked.surfaces v.owned.linked.family kept r is.owns x.surface number c.role.result c.give_role-given.result c.give_role-given.new.self one.surface bare.1
+            (role-given names v.owned.surfaces.states v.owned.surfaces.family kept r is.owns x.surface number c.role.result c.give_role-given.result c.give_role-given.new.self one.surface bare.1
             c.role.ensures
             c.give_role-given.ensures.refused c.give_role-given.ensures.ok)
             c.in-Ok.ensures.ok
@@ -90,7 +90,7 @@ returns-in-Err-clause-answers g c = λ named free client r on is only.
     (λ k x h one same. as-asked _ _ client on r only (toplevel_made r x c.args.version c.args.id) (
     let other : c.is_other_role-has_other_role.result ≡ is_no_toplevel (role_of r x.surface) =
     c.is_other_role-has_other_role.ensures ∙ ap is_no_toplevel
-    (role-read names v.owned.linked.surfaces v.owned.linked.family kept r is.owns x.surface number c.role.result one.surface c.role.ensures) in
+    (role-read names v.owned.surfaces.states v.owned.surfaces.family kept r is.owns x.surface number c.role.result one.surface c.role.ensures) in
     xdg-refused v _ (kept_of c.get_toplevel.new.self) r c.args.object number k x h c.in-Err.error (toplevel_made r x c.args.version c.args.id) one same
     (told-err _ _ (shell_refusal x.base x.id c.args.object) _ c.get_toplevel.result c.in-Err.error (toplevel-made-by names kept r number k x h one c.args.object c.args.version c.args.id)
     (c.get_toplevel.ensures.answer ∙ ap (λ b. toplevel_answer b (kept number)) other) c.in-Err.is)

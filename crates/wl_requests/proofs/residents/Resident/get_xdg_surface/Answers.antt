@@ -33,13 +33,13 @@ returns-in-Ok-clause-answers g c = λ surface free named client r on is only.
     let version = c.args.version in
     let ask = GetXdgSurface id version base surface in
     let role = c.is_foreign_role-has_other_role.ensures ∙ ap is_foreign
-    (role-read names v.owned.linked.surfaces v.owned.linked.family kept r is.owns surface number c.role.result named c.role.ensures) in
-    let content = content-read names v.owned.linked.surfaces v.owned.linked.family kept r is.owns surface number c.has_content-has_content.result named c.has_content-has_content.ensures in
+    (role-read names v.owned.surfaces.states v.owned.surfaces.family kept r is.owns surface number c.role.result named c.role.ensures) in
+    let content = content-read names v.owned.surfaces.states v.owned.surfaces.family kept r is.owns surface number c.has_content-has_content.result named c.has_content-has_content.ensures in
     let refuses = making-read _ _ _ _ (kept number) c.get_xdg_surface.result role content c.get_xdg_surface.ensures.refused in
     let none = making-ok (making_refused (is_foreign (role_of r surface)) (has_any r surface) (kept number)) c.get_xdg_surface.result refuses c.in-Ok.is in
     let made = c.add.ensures.makes (counted r.peer) (c.count.ensures.counts r.peer is.peer) in
     accepted _ r (xdg_surface_made r base version id surface) ask
-    (made-by names v.owned.linked.surfaces v.owned.linked.family kept r is.owns base version id surface number id base named ∙ ap (asks_unless ask (shell_refusal base id base)) none) (
+    (made-by names v.owned.surfaces.states v.owned.surfaces.family kept r is.owns base version id surface number id base named ∙ ap (asks_unless ask (shell_refusal base id base)) none) (
       made.0,
       made.1,
       record {
@@ -52,14 +52,14 @@ returns-in-Ok-clause-answers g c = λ surface free named client r on is only.
             let now = names-xdg-made v.client.objects c.add.new.self.objects id (record { interface = XdgSurface; version = version; target = number }) free refl
             (holds-counted v.client c.count.new.self c.add.new.self.objects id (Some (record { interface = XdgSurface; version = version; target = number })) c.count.ensures.only
             (c.add.ensures.table alive)) in
-            framed-kept v.owned.linked.surfaces.frames v.client.objects c.add.new.self.objects r (changed_by ask (with_peer (counted r.peer) r)) refl (one-more r.peer.requests) is.frames
+            framed-kept v.owned.surfaces.states.frames v.client.objects c.add.new.self.objects r (changed_by ask (with_peer (counted r.peer) r)) refl (one-more r.peer.requests) is.frames
             (ap (λ (n : Names). n.surfaces) now) refl;
         subsurfaces = λ alive.
             let now = names-xdg-made v.client.objects c.add.new.self.objects id (record { interface = XdgSurface; version = version; target = number }) free refl
             (holds-counted v.client c.count.new.self c.add.new.self.objects id (Some (record { interface = XdgSurface; version = version; target = number })) c.count.ensures.only
             (c.add.ensures.table alive)) in
             subsurfaces-named v.subsurfaces r.subsurfaces v.client.objects c.add.new.self.objects is.subsurfaces (ap (λ (n : Names). n.surfaces) now);
-        owns = λ alive. owned-xdg-made names v.owned.linked.surfaces v.owned.linked.family kept r is.owns id version base surface number (kept_of c.get_xdg_surface.new.self)
+        owns = λ alive. owned-xdg-made names v.owned.surfaces.states v.owned.surfaces.family kept r is.owns id version base surface number (kept_of c.get_xdg_surface.new.self)
             (names_of c.add.new.self.objects) named
             (free-made (is_foreign (role_of r surface)) (has_any r surface) (kept number) none).2
             (targets-free XdgSurface v.client.objects id free)
@@ -82,8 +82,8 @@ returns-then-is_memory-clause-answers g c = λ surface free named client r on is
     let version = c.args.version in
     let ask = GetXdgSurface id version base surface in
     let role = c.is_foreign_role-has_other_role.ensures ∙ ap is_foreign
-    (role-read names v.owned.linked.surfaces v.owned.linked.family kept r is.owns surface number c.role.result named c.role.ensures) in
-    let content = content-read names v.owned.linked.surfaces v.owned.linked.family kept r is.owns surface number c.has_content-has_content.result named c.has_content-has_content.ensures in
+    (role-read names v.owned.surfaces.states v.owned.surfaces.family kept r is.owns surface number c.role.result named c.role.ensures) in
+    let content = content-read names v.owned.surfaces.states v.owned.surfaces.family kept r is.owns surface number c.has_content-has_content.result named c.has_content-has_content.ensures in
     let refuses = making-read _ _ _ _ (kept number) c.get_xdg_surface.result role content c.get_xdg_surface.ensures.refused in
     let none = making-memory (is_foreign (role_of r surface)) (has_any r surface) (kept number) c.get_xdg_surface.result refuses (c.in-Err.is
     ∙ ap (λ (e : ShellError). Err e) (c.is_memory.ensures.0 c.if-is_memory.true)) in
@@ -91,7 +91,7 @@ returns-then-is_memory-clause-answers g c = λ surface free named client r on is
     let lacks = lacked c.args.self.now _ (changed_by ask then) then (c.lack_memory.ensures.lacks (counted r.peer)
     (c.count-then-is_memory.ensures.counts r.peer is.peer)) c.lack_memory.ensures.ended in
     accepted _ r (xdg_surface_made r base version id surface) ask
-    (made-by names v.owned.linked.surfaces v.owned.linked.family kept r is.owns base version id surface number id base named ∙ ap (asks_unless ask (shell_refusal base id base)) none)
+    (made-by names v.owned.surfaces.states v.owned.surfaces.family kept r is.owns base version id surface number id base named ∙ ap (asks_unless ask (shell_refusal base id base)) none)
     (lacks.0, inl lacks.1, lacks.2))
 
 pub returns-else-is_memory-clause-answers : goal.returns-else-is_memory-clause-answers
@@ -106,11 +106,11 @@ returns-else-is_memory-clause-answers g c = λ surface free named client r on is
     let version = c.args.version in
     let ask = GetXdgSurface id version base surface in
     let role = c.is_foreign_role-has_other_role.ensures ∙ ap is_foreign
-    (role-read names v.owned.linked.surfaces v.owned.linked.family kept r is.owns surface number c.role.result named c.role.ensures) in
-    let content = content-read names v.owned.linked.surfaces v.owned.linked.family kept r is.owns surface number c.has_content-has_content.result named c.has_content-has_content.ensures in
+    (role-read names v.owned.surfaces.states v.owned.surfaces.family kept r is.owns surface number c.role.result named c.role.ensures) in
+    let content = content-read names v.owned.surfaces.states v.owned.surfaces.family kept r is.owns surface number c.has_content-has_content.result named c.has_content-has_content.ensures in
     let refuses = making-read _ _ _ _ (kept number) c.get_xdg_surface.result role content c.get_xdg_surface.ensures.refused in
     let some = making-err (making_refused (is_foreign (role_of r surface)) (has_any r surface) (kept number)) c.get_xdg_surface.result c.in-Err.error refuses c.in-Err.is
     (λ memory. absurd (let told = c.is_memory.ensures.1 memory in let not = c.if-is_memory.false in cc)) in
     refused-so _ _ r (xdg_surface_made r base version id surface) c.refusal_of.result (shell_refusal base id base c.in-Err.error)
-    (made-by names v.owned.linked.surfaces v.owned.linked.family kept r is.owns base version id surface number id base named ∙ ap (asks_unless ask (shell_refusal base id base)) some)
+    (made-by names v.owned.surfaces.states v.owned.surfaces.family kept r is.owns base version id surface number id base named ∙ ap (asks_unless ask (shell_refusal base id base)) some)
     c.refusal_of.ensures c.refuse.ensures.ended (c.refuse.ensures.errs r.peer is.peer))

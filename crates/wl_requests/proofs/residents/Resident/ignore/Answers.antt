@@ -21,11 +21,11 @@ returns-clause-answers g c = λ client r on is only.
       record {
         peer = c.count.ensures.counts r.peer is.peer;
         numbers = λ alive. keeps-names v.client.objects c.count.new.self.objects (names-counted v.client c.count.new.self c.count.ensures.only);
-        frames = λ alive. framed-names v.owned.linked.surfaces.frames v.client.objects c.count.new.self.objects r (with_peer (counted r.peer) r) refl (one-more r.peer.requests) is.frames
+        frames = λ alive. framed-names v.owned.surfaces.states.frames v.client.objects c.count.new.self.objects r (with_peer (counted r.peer) r) refl (one-more r.peer.requests) is.frames
             (names-counted v.client c.count.new.self c.count.ensures.only) refl;
         subsurfaces = λ alive. subsurfaces-names v.subsurfaces r.subsurfaces v.client.objects c.count.new.self.objects is.subsurfaces
             (names-counted v.client c.count.new.self c.count.ensures.only);
-        owns = λ alive. subst (λ (n : Names). IsOwned n v.owned.linked.surfaces v.owned.linked.family (kept_of v.owned.shell) r.owned)
+        owns = λ alive. subst (λ (n : Names). IsOwned n v.owned.surfaces.states v.owned.surfaces.family (kept_of v.owned.shell) r.owned)
             (sym (names-counted v.client c.count.new.self c.count.ensures.only)) is.owns;
       },
     ))

@@ -12,7 +12,7 @@ use Rattle.wl_requests.proofs.residents.Resident.let_go_of_freed.Given as goal
 abbrev pub invariant-loop-number : goal.invariant-loop-number
 invariant-loop-number g l = record {
   stores : (r : Resident) (numbers : ById ℕ) → IsPeer l.fn.self.client r.peer
-      → AreKept numbers l.fn.self.owned.linked.surfaces l.fn.self.owned.linked.family r.owned.surfaces
+      → AreKept numbers l.fn.self.owned.surfaces.states l.fn.self.owned.surfaces.family r.owned.surfaces
       → IsPeer l.self.client (gone_of (freed_of (take l.number-index l.freed) (map buffer_of l.shown)) r).peer;
   only : l.self.client ≡ record l.fn.self.client { stores = l.self.client.stores };
   owned : l.self.owned ≡ l.fn.self.owned;

@@ -48,5 +48,5 @@ returns-clause-judged g c = λ names r child parent object version id two.
 
 pub returns-clause-made : goal.returns-clause-made
 returns-clause-made g c = λ names r child parent number two none new.
-    made-so c.args.self.now names r child c.args.child parent c.args.parent two number c.args.id c.subsurface.new.self.surfaces c.subsurface.new.self.family c.set.new.self none new
+    made-so c.args.self.now names r child c.args.child parent c.args.parent two number c.args.id c.subsurface.new.self.states c.subsurface.new.self.family c.set.new.self none new
     (sym (ap is_some c.get.ensures) ∙ sym c.is_some.ensures ∙ c.if-is_some.false) c.in_ok-subsurface.ensures.ok c.in_ok-set.ensures.ok

@@ -29,14 +29,14 @@ returns-in-Ok-clause-answers g c = λ sibling here there client r d is orderly.
     let side = c.args.side in
     let child = c.in-Some.child in
     let its = link-of-child v r is orderly object child c.in-Some.ensures in
-    let good = false_from_ne_true (is_bad_sibling child c.args.sibling (links_in v.owned.linked.family)) (λ bad. let refused = c.place.ensures.bad bad in let done = c.in-Ok.is in absurd (cc)) in
+    let good = false_from_ne_true (is_bad_sibling child c.args.sibling (links_in v.owned.surfaces.family)) (λ bad. let refused = c.place.ensures.bad bad in let done = c.in-Ok.is in absurd (cc)) in
     let placed = placed-kept v r object child sibling c.args.sibling its is there false good in
     placed-so v _ client r d is orderly c.count-in-Ok.ensures.only (c.count-in-Ok.ensures.counts r.peer is.peer) refl refl c.place.ensures.surfaces side _ object child its placed.0
     (ap (λ o. demand_by_link r object o (place_asked side sibling)) its.of_object
     ∙ place-linked side r object sibling its.link
     ∙ ap (placed_beside object its.link.parent (place_request side its.link.number)) placed.1)
-    (owned-placed (names_of v.client.objects) v.owned.linked.surfaces v.owned.linked.family (kept_of v.owned.shell) r.owned is.owns its.link.number child its.link its.here its.lives its.named
-    c.place.new.self.surfaces c.place.new.self.family side its.above sibling c.args.sibling placed.0 its.parent there placed.2 c.in-Ok.ensures.ok)
+    (owned-placed (names_of v.client.objects) v.owned.surfaces.states v.owned.surfaces.family (kept_of v.owned.shell) r.owned is.owns its.link.number child its.link its.here its.lives its.named
+    c.place.new.self.states c.place.new.self.family side its.above sibling c.args.sibling placed.0 its.parent there placed.2 c.in-Ok.ensures.ok)
 
 pub returns-in-Err-clause-answers : goal.returns-in-Err-clause-answers
 returns-in-Err-clause-answers g c = λ sibling here there client r d is orderly.
@@ -45,7 +45,7 @@ returns-in-Err-clause-answers g c = λ sibling here there client r d is orderly.
     let side = c.args.side in
     let child = c.in-Some.child in
     let its = link-of-child v r is orderly object child c.in-Some.ensures in
-    let bad = is_bad_sibling child c.args.sibling (links_in v.owned.linked.family) in
+    let bad = is_bad_sibling child c.args.sibling (links_in v.owned.surfaces.family) in
     unplaced-so v _ client r d _ object child sibling its (place_request side its.link.number) orderly bad (placed-kept v r object child sibling c.args.sibling its is there bad refl)
     (ap (λ o. demand_by_link r object o (place_asked side sibling)) its.of_object
     ∙ place-linked side r object sibling its.link) c.refuse_place.ensures.ended

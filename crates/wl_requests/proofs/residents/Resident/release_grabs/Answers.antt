@@ -37,10 +37,10 @@ loop-preserved g c =
       told = λ names o p is order peer.
           let so = now.told names o p is order peer in
           released-on names o c.loop.counter p so.0 so.1 so.2 c.loop.self so.3 c.are_found.ensures c.tell_released.new.self c.in-Some.gone (kept_of c.dismiss_grabbing.new.self)
-          c.in-Some.ensures.newest c.in-Some.ensures.some (ap (λ (o : Lent _). kept_of o.shell) c.tell_released.ensures.owned) (ap (λ (o : Lent _). o.linked) c.tell_released.ensures.owned)
+          c.in-Some.ensures.newest c.in-Some.ensures.some (ap (λ (o : Lent _). kept_of o.shell) c.tell_released.ensures.owned) (ap (λ (o : Lent _). o.surfaces) c.tell_released.ensures.owned)
           c.tell_released.ensures.told c.tell_released.ensures.refused;
       client = only-then c.args.self.now.client c.loop.self.client c.tell_released.new.self.client now.client c.tell_released.ensures.client;
-      linked = ap (λ (o : Lent _). o.linked) c.tell_released.ensures.owned ∙ now.linked;
+      linked = ap (λ (o : Lent _). o.surfaces) c.tell_released.ensures.owned ∙ now.linked;
       subsurfaces = c.tell_released.ensures.subsurfaces ∙ now.subsurfaces;
     }
 

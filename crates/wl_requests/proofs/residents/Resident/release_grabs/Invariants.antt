@@ -12,10 +12,10 @@ use Rattle.wl_requests.proofs.residents.Resident.release_grabs.Given as goal
 abbrev pub invariant-loop : goal.invariant-loop
 invariant-loop g l = record {
   told : (names : Names) (o : Owned) (p : Peer)
-      → IsOwned names l.fn.self.owned.linked.surfaces l.fn.self.owned.linked.family (kept_of l.fn.self.owned.shell) o
+      → IsOwned names l.fn.self.owned.surfaces.states l.fn.self.owned.surfaces.family (kept_of l.fn.self.owned.shell) o
       → HasOrder o.shell → IsPeer l.fn.self.client p
       → IsReleasedTo names o l.counter p l.self;
   client : l.self.client ≡ record l.fn.self.client { unsent = l.self.client.unsent; refused = l.self.client.refused };
-  linked : l.self.owned.linked ≡ l.fn.self.owned.linked;
+  linked : l.self.owned.surfaces ≡ l.fn.self.owned.surfaces;
   subsurfaces : l.self.subsurfaces ≡ l.fn.self.subsurfaces;
 }

@@ -51,7 +51,7 @@ returns-in-Ok-clause-answers g c = λ named client r d is ordered places.
     ∙ ap (λ (i : ℕ). anew_told placed token r.peer.serial p.object.id i) xdg in
     so-judged (repositioned_by x token values (popup_at x.id r.owned.shell)) (Reposition x.id token values) client r d v _ judged
     (anew-done v _ client r d number token values c.args.placing k x h p is one here its placed (sym answer ∙ c.in-Ok.is) keeps
-    (ap (λ (o : Lent _). o.linked) c.tell_anew.ensures.owned) c.tell_anew.ensures.subsurfaces
+    (ap (λ (o : Lent _). o.surfaces) c.tell_anew.ensures.owned) c.tell_anew.ensures.subsurfaces
     (λ alive. ap names_of (c.tell_anew.ensures.table alive) ∙ names-counted v.client c.count.new.self c.count.ensures.only)
     (told.0, subst (λ (es : List Said). Queues es (drawn_if (is_some placed) (counted r.peer)) told.0) events told.1, told.2)))
 

@@ -35,6 +35,6 @@ returns-clause-answers g c = λ named client r on is only.
     accepted _ r (scale_set id z) ask judged
     (counted-does v (record v { client = c.count.new.self }) c.set_buffer_scale.new.self r (λ (q : Resident). ask) is c.count.ensures.only refl refl
     (c.count.ensures.counts r.peer is.peer)
-    (asked-releases (names_of v.client.objects).surfaces v.owned.linked.surfaces v.owned.linked.family (with_peer (counted r.peer) r) id c.args.surface (SetBufferScale (unsigned_abs z)) refl
+    (asked-releases (names_of v.client.objects).surfaces v.owned.surfaces.states v.owned.surfaces.family (with_peer (counted r.peer) r) id c.args.surface (SetBufferScale (unsigned_abs z)) refl
     is.owns.surfaces named)
     (does id valid (surface-counted v.client c.count.new.self id c.args.surface c.count.ensures.only named))))

@@ -45,11 +45,11 @@ pub returns-in-Ok-clause-answers : goal.returns-in-Ok-clause-answers
 returns-in-Ok-clause-answers g c = λ id named client r d is orderly.
     let v = c.args.self.now in
     let number = c.args.surface in
-    let slots = v.owned.linked.surfaces in
-    let family = v.owned.linked.family in
+    let slots = v.owned.surfaces.states in
+    let family = v.owned.surfaces.family in
     let new = c.give_role.new.self in
     let now = c.count.new.self.objects in
-    let kept : Kept _ = record v { client = c.count.new.self; owned = record v.owned { linked = record v.owned.linked { surfaces = new } } } in
+    let kept : Kept _ = record v { client = c.count.new.self; owned = record v.owned { surfaces = record v.owned.surfaces { states = new } } } in
     let then = with_peer (counted r.peer) r in
     let demand = MakeCursor id in
     let after = changed_for client demand then (unpointed d) in

@@ -57,7 +57,7 @@ returns-in_default-clause-decides g c = λ child of here client r d is orderly.
     let its = link-of-child c.args.self.now r is orderly object child of.0 in
     let then = with_peer (counted r.peer) r in
     subst (λ (j : Result Demand Refusal). AnswersAs false j client r d c.args.self.now
-    (record c.args.self.now { client = c.lack_memory.new.self; owned = record c.args.self.now.owned { linked = c.set_desync.new.self } })) (sym (ap
+    (record c.args.self.now { client = c.lack_memory.new.self; owned = record c.args.self.now.owned { surfaces = c.set_desync.new.self } })) (sym (ap
     (λ o. demand_by_link r object o SetDesync) its.of_object))
     (meets-as c.args.self.now _ client d (SetMode its.link.number false) then refl false (
     let lacks = lacked c.args.self.now _ _ then (c.lack_memory.ensures.lacks (counted r.peer) (c.count.ensures.counts r.peer is.peer)) c.lack_memory.ensures.ended in
@@ -96,8 +96,8 @@ returns-clause-decides g c = λ child of here client r d is orderly.
     let its = link-of-child v r is orderly object below (subst (λ (o : Option ℕ). IsChildOf v object o) c.in_ok-child.was c.child_of.ensures) in
     let number = its.link.number in
     let names = names_of v.client.objects in
-    let slots = v.owned.linked.surfaces in
-    let tied = v.owned.linked.family in
+    let slots = v.owned.surfaces.states in
+    let tied = v.owned.surfaces.family in
     let one_more = with_peer (counted r.peer) r in
     let peer_one = c.count.ensures.counts r.peer is.peer in
     let order = counted-ordered r orderly in
@@ -105,7 +105,7 @@ returns-clause-decides g c = λ child of here client r d is orderly.
     let after = mode_set number false one_more in
     let freed = c.in-Ok.told.applied.freed.items in
     let shown = map buffer_of c.in-Ok.told.shown.items in
-    let called = desync-called names.surfaces slots c.set_desync.new.self.surfaces tied c.set_desync.new.self.family one_more is.owns.surfaces its.link below its.here its.lives its.named
+    let called = desync-called names.surfaces slots c.set_desync.new.self.states tied c.set_desync.new.self.family one_more is.owns.surfaces its.link below its.here its.lives its.named
     freed shown c.in-Ok.ensures.among c.in-Ok.ensures.ok c.in-Ok.ensures.waits c.in-Ok.ensures.freed c.in-Ok.ensures.shown in
     let stores = c.in-Some.ensures.lets_go.stores in
     let peer_then = subst (λ (x : Resident). IsPeer c.let_go_of_told.new.self.client x.peer)
@@ -128,7 +128,7 @@ returns-clause-decides g c = λ child of here client r d is orderly.
       record {
         peer = next.2;
         owns = λ alive. rw (kept_owned, table alive)
-            (owned-desynchronised names slots tied (kept_of v.owned.shell) r.owned is.owns number below its.link its.here its.lives its.named c.set_desync.new.self.surfaces
+            (owned-desynchronised names slots tied (kept_of v.owned.shell) r.owned is.owns number below its.link its.here its.lives its.named c.set_desync.new.self.states
             c.set_desync.new.self.family orderly.order.once orderly.order.numbered orderly.order.roots c.in-Ok.ensures.ok);
         frames = λ alive. rw (kept_owned, table alive)
             (called.framed (framed-names slots.frames v.client.objects v.client.objects r one_more refl (one-more r.peer.requests) is.frames refl refl));
@@ -147,8 +147,8 @@ pub returns-clause-touched : goal.returns-clause-touched
 returns-clause-touched g c = λ child of.
     let here = subst (λ (o : Option ℕ). IsChildOf c.args.self.now c.args.object o) c.in_ok-child.was c.child_of.ensures in
     let same : c.in_ok-child.child ≡ child = of.1 c.in_ok-child.child here.0 in
-    subst (λ (n : ℕ). IsTouched (Releases n) c.args.self.now.owned.linked c.tell_releases.new.self.owned.linked (Some c.in-Ok.told.applied)) same (
-      subst (λ (o : Lent _). IsMade (Releases c.in_ok-child.child) c.args.self.now.owned.linked o.linked) (sym (c.tell_releases.ensures.owned ∙ c.let_go_of_told.ensures.owned)) c.in-Ok.ensures.ok,
+    subst (λ (n : ℕ). IsTouched (Releases n) c.args.self.now.owned.surfaces c.tell_releases.new.self.owned.surfaces (Some c.in-Ok.told.applied)) same (
+      subst (λ (o : Lent _). IsMade (Releases c.in_ok-child.child) c.args.self.now.owned.surfaces o.surfaces) (sym (c.tell_releases.ensures.owned ∙ c.let_go_of_told.ensures.owned)) c.in-Ok.ensures.ok,
       λ all number link is stands. c.in-Ok.ensures.changes all number link is stands,
     )
 
@@ -180,5 +180,5 @@ returns-clause-holds g c = λ child of here client r d is orderly done.
     let names = names_of v.client.objects in
     subst (λ (j : Result Demand Refusal). HoldsSo j client r d v c.tell_releases.new.self) (sym (ap (λ o. demand_by_link r object o SetDesync) its.of_object))
     (holds-same v c.tell_releases.new.self names _ refl (rw (c.tell_releases.ensures.owned ∙ c.let_go_of_told.ensures.owned)
-    (owned-desynchronised names v.owned.linked.surfaces v.owned.linked.family (kept_of v.owned.shell) r.owned is.owns number below its.link its.here its.lives its.named
-    c.set_desync.new.self.surfaces c.set_desync.new.self.family orderly.order.once orderly.order.numbered orderly.order.roots c.in-Ok.ensures.ok)))
+    (owned-desynchronised names v.owned.surfaces.states v.owned.surfaces.family (kept_of v.owned.shell) r.owned is.owns number below its.link its.here its.lives its.named
+    c.set_desync.new.self.states c.set_desync.new.self.family orderly.order.once orderly.order.numbered orderly.order.roots c.in-Ok.ensures.ok)))

@@ -25,8 +25,8 @@ returns-in-Ok-clause-answers g c = λ here client r d is orderly.
     let its = link-of-child v r is orderly object c.in-Some.child c.in-Some.ensures in
     asked-so v _ client r d is orderly c.count.ensures.only (c.count.ensures.counts r.peer is.peer) refl refl c.set_position.ensures.surfaces _ object c.in-Some.child its
     (SetPosition its.link.number c.args.x c.args.y) (ap (λ o. demand_by_link r object o (subsurface.SetPosition c.args.x c.args.y)) its.of_object) refl (λ v. refl) refl
-    (owned-moved (names_of v.client.objects) v.owned.linked.surfaces v.owned.linked.family (kept_of v.owned.shell) r.owned is.owns its.link.number c.in-Some.child its.link its.here its.lives
-    its.named c.set_position.new.self.surfaces c.set_position.new.self.family its.above c.args.x c.args.y its.parent
+    (owned-moved (names_of v.client.objects) v.owned.surfaces.states v.owned.surfaces.family (kept_of v.owned.shell) r.owned is.owns its.link.number c.in-Some.child its.link its.here its.lives
+    its.named c.set_position.new.self.states c.set_position.new.self.family its.above c.args.x c.args.y its.parent
     (simp (to_z-of_z w32 c.args.x c.ranges.x, to_z-of_z w32 c.args.y c.ranges.y) at c.in-Ok.ensures.ok))
 
 pub returns-in-Err-clause-answers : goal.returns-in-Err-clause-answers

@@ -30,23 +30,23 @@ returns-in-Ok-clause-answers g c = λ version named client r on is only.
     (told-ok _ _ (shell_refusal x.base x.id c.args.object) (geometry_answer rect (kept c.args.surface)) c.geometry.result judged c.geometry.ensures.answer c.in-Ok.is) (
       counted r.peer,
       wants-told true _ _ (counted r.peer) (changed_by (AskSurface x.surface (SetWindowGeometry rect)) (with_peer (counted r.peer) r)).peer (counted r.peer)
-          (asked-releases names.surfaces v.owned.linked.surfaces v.owned.linked.family (with_peer (counted r.peer) r) x.surface c.args.surface (SetWindowGeometry rect) refl is.owns.surfaces
+          (asked-releases names.surfaces v.owned.surfaces.states v.owned.surfaces.family (with_peer (counted r.peer) r) x.surface c.args.surface (SetWindowGeometry rect) refl is.owns.surfaces
           one.surface)
-          (inr (sym (geometry-keeps names.surfaces v.owned.linked.surfaces v.owned.linked.family (with_peer (counted r.peer) r) x.surface c.args.surface rect is.owns.surfaces one.surface))),
+          (inr (sym (geometry-keeps names.surfaces v.owned.surfaces.states v.owned.surfaces.family (with_peer (counted r.peer) r) x.surface c.args.surface rect is.owns.surfaces one.surface))),
       record {
         peer = c.count.ensures.counts r.peer is.peer;
         numbers = λ alive. keeps-names v.client.objects c.count.new.self.objects (names-counted v.client c.count.new.self c.count.ensures.only);
-        frames = λ alive. framed-asked v.owned.linked.surfaces.frames v.client.objects c.count.new.self.objects r
+        frames = λ alive. framed-asked v.owned.surfaces.states.frames v.client.objects c.count.new.self.objects r
             (changed_by (AskSurface x.surface (SetWindowGeometry rect)) (with_peer (counted r.peer) r))
             refl (one-more r.peer.requests) is.frames
-            v.owned.linked.surfaces v.owned.linked.family is.owns.surfaces x.surface c.args.surface (SetWindowGeometry rect) refl refl one.surface
+            v.owned.surfaces.states v.owned.surfaces.family is.owns.surfaces x.surface c.args.surface (SetWindowGeometry rect) refl refl one.surface
             (names-counted v.client c.count.new.self c.count.ensures.only) refl;
         subsurfaces = λ alive. subsurfaces-names v.subsurfaces r.subsurfaces v.client.objects c.count.new.self.objects is.subsurfaces
             (names-counted v.client c.count.new.self c.count.ensures.only);
-        owns = λ alive. subst (λ (n : Names). IsOwned n v.owned.linked.surfaces v.owned.linked.family (kept_of c.geometry.new.self)
+        owns = λ alive. subst (λ (n : Names). IsOwned n v.owned.surfaces.states v.owned.surfaces.family (kept_of c.geometry.new.self)
             (changed_by (AskSurface x.surface (SetWindowGeometry rect)) r).owned)
             (sym (names-counted v.client c.count.new.self c.count.ensures.only))
-            (owned-geometry names v.owned.linked.surfaces v.owned.linked.family kept r is.owns c.args.surface k x h one rect (kept_of c.geometry.new.self) c.in-Ok.ensures.ok);
+            (owned-geometry names v.owned.surfaces.states v.owned.surfaces.family kept r is.owns c.args.surface k x h one rect (kept_of c.geometry.new.self) c.in-Ok.ensures.ok);
       },
     )))
 

@@ -87,7 +87,7 @@ returns-in-Commit-clause-decides g c = λ touch touches named client r on is onl
 
 pub returns-in-Commit-clause-touched : goal.returns-in-Commit-clause-touched
 returns-in-Commit-clause-touched g c = λ touch touches.
-    subst (λ (t : Touch). IsTouched t c.args.self.now.owned.linked c.commit.new.self.owned.linked c.commit.result.applied) (sym (rw c.in-Commit.is at touches)) c.commit.ensures.touched
+    subst (λ (t : Touch). IsTouched t c.args.self.now.owned.surfaces c.commit.new.self.owned.surfaces c.commit.result.applied) (sym (rw c.in-Commit.is at touches)) c.commit.ensures.touched
 
 pub returns-in-Commit-clause-nothing : goal.returns-in-Commit-clause-nothing
 returns-in-Commit-clause-nothing g c = λ none. absurd (none (Commits c.args.surface) (rw c.in-Commit.is refl))
@@ -112,7 +112,7 @@ returns-in-Destroy-clause-decides g c = λ touch touches named client r on is on
 
 pub returns-in-Destroy-clause-touched : goal.returns-in-Destroy-clause-touched
 returns-in-Destroy-clause-touched g c = λ touch touches.
-    subst (λ (t : Touch). IsTouched t c.args.self.now.owned.linked c.destroy.new.self.owned.linked c.destroy.result.applied) (sym (rw c.in-Destroy.is at touches)) c.destroy.ensures.touched
+    subst (λ (t : Touch). IsTouched t c.args.self.now.owned.surfaces c.destroy.new.self.owned.surfaces c.destroy.result.applied) (sym (rw c.in-Destroy.is at touches)) c.destroy.ensures.touched
 
 pub returns-in-Destroy-clause-nothing : goal.returns-in-Destroy-clause-nothing
 returns-in-Destroy-clause-nothing g c = λ none. absurd (none (Destroys c.args.surface) (rw c.in-Destroy.is refl))

@@ -18,7 +18,7 @@ returns-in-Destroy-clause-decides g c = λ version touch of named. rw c.in-Destr
 
 pub returns-in-Destroy-clause-touched : goal.returns-in-Destroy-clause-touched
 returns-in-Destroy-clause-touched g c = λ touch of.
-    touched-so touch c.args.surface c.args.self.now.owned.linked c.destroy_popup.new.self.owned.linked c.destroy_popup.result (rw c.in-Destroy.is at of) c.destroy_popup.ensures.surfaces
+    touched-so touch c.args.surface c.args.self.now.owned.surfaces c.destroy_popup.new.self.owned.surfaces c.destroy_popup.result (rw c.in-Destroy.is at of) c.destroy_popup.ensures.surfaces
     c.destroy_popup.ensures.told
 
 pub returns-in-Destroy-clause-nothing : goal.returns-in-Destroy-clause-nothing

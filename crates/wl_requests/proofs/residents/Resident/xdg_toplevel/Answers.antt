@@ -52,7 +52,7 @@ returns-in-Nothing-clause-answers g c = λ named version m interface asked clien
     let v = c.args.self.now in
     let object = c.args.object in
     let request = toplevel_request m.opcode m.fields in
-    let one = toplevel-named (names_of v.client.objects) v.owned.linked.surfaces v.owned.linked.family (kept_of v.owned.shell) r.owned is.owns object c.args.surface
+    let one = toplevel-named (names_of v.client.objects) v.owned.surfaces.states v.owned.surfaces.family (kept_of v.owned.shell) r.owned is.owns object c.args.surface
     (roles-named.toplevel v.client.objects object c.args.surface named) in
     subst (λ (j : Result Demand Refusal). AnswersSo j client r on v c.ignore.new.self) (sym (toplevel-of r object version m interface))
     (subst (λ (o : Option Xdg). AnswersSo (toplevel_asked object o request) client r on v c.ignore.new.self) (sym one.4)
@@ -64,7 +64,7 @@ returns-in-Move-clause-answers g c = λ named version m interface asked client r
     let v = c.args.self.now in
     let object = c.args.object in
     let request = toplevel_request m.opcode m.fields in
-    let one = toplevel-named (names_of v.client.objects) v.owned.linked.surfaces v.owned.linked.family (kept_of v.owned.shell) r.owned is.owns object c.args.surface
+    let one = toplevel-named (names_of v.client.objects) v.owned.surfaces.states v.owned.surfaces.family (kept_of v.owned.shell) r.owned is.owns object c.args.surface
     (roles-named.toplevel v.client.objects object c.args.surface named) in
     subst (λ (j : Result Demand Refusal). AnswersSo j client r on v c.ignore-in-Move.new.self) (sym (toplevel-of r object version m interface))
     (subst (λ (o : Option Xdg). AnswersSo (toplevel_asked object o request) client r on v c.ignore-in-Move.new.self) (sym one.4)

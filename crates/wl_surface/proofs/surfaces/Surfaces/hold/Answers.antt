@@ -1,29 +1,33 @@
-use Rattle.std.proofs.Common.{◌≡◌, ap, map, refl, sym, ◌∙◌}
-use Rattle.wl_surface.specs.Slots.{kept_at}
-use Rattle.wl_surface.specs.Waiting.{held_by}
-use Rattle.wl_surface.proofs.Counting.{waiting-held}
-use Rattle.wl_surface.proofs.Slots.{Changes-at, Changes-none}
-use Rattle.wl_surface.proofs.Waiting.{changed-all}
+use Rattle.std.proofs.Common.{◌==◌, [], ◌∷◌, map, sym, subst}
+use Rattle.wl_surface.specs.Kept.{buffer_of}
+use Rattle.wl_surface.specs.Slots.{Numbered}
+use Rattle.wl_surface.specs.Waiting.{AreWaiting}
+use Rattle.wl_surface.specs.Linked.{numbered}
+use Rattle.wl_surface.specs.Tree.{numbers_of}
+use Rattle.wl_surface.proofs.Committing.{held-freed, held-stands, numbered-held}
+use Rattle.wl_surface.proofs.Showing.{among-alone, are-shown}
+use Rattle.wl_surface.proofs.TreeShown.{among-shown}
 use Rattle.wl_surface.proofs.surfaces.Surfaces.hold.Goals as goal
-use Rattle.wl_surface.proofs.surfaces.Surfaces.hold.Goals.{in-Some+in_ok-hold, in_default}
 
 pub returns-clause-ok : goal.returns-clause-ok
-returns-clause-ok g c =
-    let at = c.get_mut.ensures.value in
-    elim c.match-get_mut.branch [
-      | in-Some+in_ok-hold w ↦ rw (← c.self.view_is, w.self-inside-is) (Changes-at c.self.inside.slots.slots _ _ c.args.surface _ _ _ (sym (rw w.in-Some.is at at)) w.in_ok-hold.ensures.ok)
-      | in_default w ↦ rw (← c.self.view_is, w.self-inside-is) (Changes-none c.self.inside.slots.slots _ _ c.args.surface _ (sym (rw w.in_default.is at at)))
-    ]
-
-pub returns-clause-frames : goal.returns-clause-frames
-returns-clause-frames g c =
-    let same : c.match-get_mut.self-inside.frames.items ≡ c.args.self.now.frames = elim c.match-get_mut.branch [
-      | in-Some+in_ok-hold w ↦ rw (← c.self.view_is, w.self-inside-is) refl
-      | in_default w ↦ rw (← c.self.view_is, w.self-inside-is) refl
-    ] in
-    changed-all (held_by c.args.surface) c.deref_mut.result.now c.hold_all.new.frames c.match-get_mut.self-inside.frames.items _ c.hold_all.ensures c.deref_mut.ensures.value c.deref_mut.ensures.len
-    ∙ ap (λ ws. map (held_by c.args.surface) ws) same
+returns-clause-ok g c = λ all stand.
+    let v = c.args.self.now in
+    held-stands v.states c.hold.new.self v.family c.hold-2.new.self all c.args.surface c.in_ok-hold.ensures.ok c.hold-2.ensures.stacks c.hold-2.ensures.places c.hold-2.ensures.links stand
 
 pub returns-clause-waits : goal.returns-clause-waits
 returns-clause-waits g c = λ all cs stand are.
-    rw (returns-clause-frames g c) (waiting-held c.args.surface all (λ number. (kept_at c.args.self.now number, stand number)) c.args.self.now.frames cs are)
+    subst (λ (named : Numbered). AreWaiting c.hold.new.self.frames named cs) (sym (numbered-held c.args.surface all)) (c.in_ok-hold.ensures.waits (numbered all) cs stand.surfaces are)
+
+pub returns-clause-freed : goal.returns-clause-freed
+returns-clause-freed g c = λ all stand.
+    let after = (returns-clause-ok g c all stand).surfaces in
+    held-freed all c.args.surface (numbers_of (map buffer_of c.in_ok-shown.shown.items)) c.add_freed.new.freed.items
+    (among-shown (c.args.surface ∷ []) (numbered all) c.in_ok-shown.shown.items (c.in_ok-shown.ensures (numbered all) stand.surfaces))
+    (λ b is any. rw c.deref.ensures.value at c.add_freed.ensures.counted _ after b is any)
+
+pub returns-clause-shown : goal.returns-clause-shown
+returns-clause-shown g c = λ all stand.
+    are-shown (c.args.surface ∷ []) (λ n. n == c.args.surface) all c.in_ok-shown.shown.items (among-alone c.args.surface) (c.in_ok-shown.ensures (numbered all) stand.surfaces)
+
+pub returns-clause-among : goal.returns-clause-among
+returns-clause-among g c = λ number e. rw c.deref.ensures.value at c.add_freed.ensures.among number e
