@@ -9,5 +9,5 @@ mod objects;
 mod rising;
 
 pub use entry::{Entry, TableError};
-pub use objects::Objects;
+pub use objects::{MAX_ID, MAX_OBJECTS, Objects};
 pub use rising::put_rising;

@@ -11,12 +11,14 @@ use std::marker::Model;
 use std::ops::Bound;
 use wl_proto::Interface;
 
-const LAST_ID: u32 = 0xfeffffff;
+/// The greatest id that a client gives an object.
+pub const MAX_ID: u32 = 0xfeff_ffff;
 
-const MOST_OBJECTS: usize = 8192;
+/// How many objects a client may have at once, wl_display among them.
+pub const MAX_OBJECTS: usize = 8192;
 
 /// The last id that has a place in a row.
-const LAST_PLACED: u32 = 8192;
+const LAST_PLACED: u32 = MAX_OBJECTS as u32;
 
 /// The objects of a client, by their ids; at most 8,192.
 ///
@@ -160,13 +162,13 @@ impl<A: Allocator + Copy> Objects<A> {
         ensures refused { MatchOption (refusal self.old id) (IsOkUnless result TableError.Memory) (λ e. result ≡ Err e) }
         ensures err { OnErr result (self.new ≡ self.old) }
     {
-        if id == 0 || id > LAST_ID {
+        if id == 0 || id > MAX_ID {
             return Err(TableError::BadId);
         }
         if self.get(id).is_some() {
             return Err(TableError::InUse);
         }
-        if self.len() >= MOST_OBJECTS {
+        if self.len() >= MAX_OBJECTS {
             return Err(TableError::TooMany);
         }
         self.put(id, entry)
