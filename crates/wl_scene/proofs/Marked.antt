@@ -6,10 +6,10 @@ use Rattle.std.proofs.Math.Bool.{or_assoc}
 use Rattle.std.proofs.lemmas.List.Folds.{list_any_more}
 use Rattle.wl_paint.specs.Damage.{Damaged, has}
 use Rattle.wl_geom.specs.declared.rect.Rect.{Rect}
-use Rattle.wl_scene.specs.Marking.{AddsPoints, IsAsLarge, is_record_damaged, record_has}
+use Rattle.wl_scene.specs.Marking.{AddsPoints, IsAsLarge}
 use Rattle.wl_surface.specs.declared.applied.Change.{Change}
 use Rattle.wl_scene.specs.declared.tree_window.TreeWindow.{TreeWindow}
-use Rattle.wl_scene.specs.Repaint.{is_damaged_by, record_of}
+use Rattle.wl_scene.specs.Repaint.{is_damaged_by, is_window_damaged, window_has}
 
 -- What is damaged is what was, and the points that one of these has. The output is as large.
 pub record IsMarked {X : Type 0} (p : ℤ → ℤ → X → Bool) (xs : List X) (old new : Damaged) : Type 0 where
@@ -42,7 +42,7 @@ undamaged c (w ∷ ws) x y none = ap (λ b. b || is_damaged_by ws x y c) (ap (λ
     and-false true = refl
     and-false false = refl
 
-    nowhere : (w : TreeWindow) → is_record_damaged c.rects.items x y (record_of w) ≡ false
+    nowhere : (w : TreeWindow) → is_window_damaged c.rects.items x y w ≡ false
     nowhere w =
-        ap (λ (rs : List Rect). is_record_damaged rs x y (record_of w)) none
-        ∙ ap (λ b. record_has x y (record_of w) && b) (and-false _) ∙ and-false (record_has x y (record_of w))
+        ap (λ (rs : List Rect). is_window_damaged rs x y w) none
+        ∙ ap (λ b. window_has x y w && b) (and-false _) ∙ and-false (window_has x y w)

@@ -9,8 +9,9 @@ use Rattle.wl_geom.specs.declared.rect.Rect.{Rect}
 use Rattle.wl_geom.specs.Rect.{in_rect, in_span}
 use Rattle.wl_surface.specs.State.{is_damaged}
 use Rattle.wl_paint.specs.Damage.{Damaged, has}
-use Rattle.wl_scene.specs.Marking.{AddsPoints, IsAsLarge, is_record_damaged, record_has}
-use Rattle.wl_scene.specs.declared.record.WindowRecord.{WindowRecord}
+use Rattle.wl_scene.specs.Marking.{AddsPoints, IsAsLarge}
+use Rattle.wl_scene.specs.Repaint.{is_window_damaged, window_has}
+use Rattle.wl_scene.specs.declared.tree_window.TreeWindow.{TreeWindow}
 
 -- ---- spans
 
@@ -34,9 +35,9 @@ four true false false d = refl
 four false b c d = refl
 
 -- a part of a rectangle on the output
-pub part-of : (left wide top high : ℤ) (k : WindowRecord) (rect : Rect) (x y : ℤ) → in_span left wide x ≡ (in_span k.x (pos k.w) x && in_span rect.x rect.w (x -ℤ k.x))
+pub part-of : (left wide top high : ℤ) (k : TreeWindow) (rect : Rect) (x y : ℤ) → in_span left wide x ≡ (in_span k.x (pos k.w) x && in_span rect.x rect.w (x -ℤ k.x))
     → in_span top high y ≡ (in_span k.y (pos k.h) y && in_span rect.y rect.h (y -ℤ k.y))
-    → (in_span left wide x && in_span top high y) ≡ (record_has x y k && in_rect (x -ℤ k.x) (y -ℤ k.y) rect)
+    → (in_span left wide x && in_span top high y) ≡ (window_has x y k && in_rect (x -ℤ k.x) (y -ℤ k.y) rect)
 part-of left wide top high k rect x y across down =
     ap (λ b. b && in_span top high y) across ∙ ap (λ b. (in_span k.x (pos k.w) x && in_span rect.x rect.w (x -ℤ k.x)) && b) down
     ∙ four (in_span k.x (pos k.w) x) (in_span rect.x rect.w (x -ℤ k.x)) (in_span k.y (pos k.h) y) (in_span rect.y rect.h (y -ℤ k.y))
@@ -77,32 +78,32 @@ within-side start side z e = grind (arith, ints, nat_tests)
 from-start : (start : ℤ) (side : ℕ) (z : ℤ) → in_span start (pos side) z ≡ true → pos (unsigned_abs (z -ℤ start)) ≡ z -ℤ start
 from-start start side z e = grind (arith, ints)
 
-module _ (rects : List Rect) (k : WindowRecord) (x y : ℤ) where
+module _ (rects : List Rect) (k : TreeWindow) (x y : ℤ) where
   abbrev any_has : Bool
   any_has = list_any (in_rect (x -ℤ k.x) (y -ℤ k.y)) rects
 
   -- within the window the damage is that of its rectangles, or all where there are too many
-  within-window : record_has x y k ≡ true → is_damaged k.w k.h rects (unsigned_abs (x -ℤ k.x)) (unsigned_abs (y -ℤ k.y)) ≡ cond (nat_lt 1024 (length rects)) true any_has
+  within-window : window_has x y k ≡ true → is_damaged k.w k.h rects (unsigned_abs (x -ℤ k.x)) (unsigned_abs (y -ℤ k.y)) ≡ cond (nat_lt 1024 (length rects)) true any_has
   within-window e =
       let across = and-left (in_span k.x (pos k.w) x) _ e in
       let down = and-right (in_span k.x (pos k.w) x) _ e in
       rw (within-side k.x k.w x across, within-side k.y k.h y down, from-start k.x k.w x across, from-start k.y k.h y down) refl
 
-  by-window : (b : Bool) → (record_has x y k ≡ true → is_damaged k.w k.h rects (unsigned_abs (x -ℤ k.x)) (unsigned_abs (y -ℤ k.y)) ≡ b) → is_record_damaged rects x y k ≡ (record_has x y k && b)
-  by-window b is = at (record_has x y k) is
+  by-window : (b : Bool) → (window_has x y k ≡ true → is_damaged k.w k.h rects (unsigned_abs (x -ℤ k.x)) (unsigned_abs (y -ℤ k.y)) ≡ b) → is_window_damaged rects x y k ≡ (window_has x y k && b)
+  by-window b is = at (window_has x y k) is
     where
       at : (has : Bool) → (has ≡ true → is_damaged k.w k.h rects (unsigned_abs (x -ℤ k.x)) (unsigned_abs (y -ℤ k.y)) ≡ b)
           → (has && is_damaged k.w k.h rects (unsigned_abs (x -ℤ k.x)) (unsigned_abs (y -ℤ k.y))) ≡ (has && b)
       at true is = is refl
       at false is = refl
 
-  pub damaged-few : length rects ≤ 1024 → is_record_damaged rects x y k ≡ (record_has x y k && any_has)
+  pub damaged-few : length rects ≤ 1024 → is_window_damaged rects x y k ≡ (window_has x y k && any_has)
   damaged-few few = by-window any_has (λ e. within-window e ∙ ap (λ b. cond b true any_has) (not-more (length rects) few))
     where
       not-more : (n : ℕ) → n ≤ 1024 → nat_lt 1024 n ≡ false
       not-more n few = grind (arith, nat_tests)
 
-  pub damaged-many : 1024 < length rects → is_record_damaged rects x y k ≡ (record_has x y k && true)
+  pub damaged-many : 1024 < length rects → is_window_damaged rects x y k ≡ (window_has x y k && true)
   damaged-many many = by-window true (λ e. within-window e ∙ ap (λ b. cond b true any_has) (more (length rects) many))
     where
       more : (n : ℕ) → 1024 < n → nat_lt 1024 n ≡ true
@@ -118,14 +119,14 @@ any-part old has p rects rect = at old has (list_any p rects) (p rect)
     at false true c d = refl
 
 -- What is damaged is what was, and a window's points in these rectangles of its surface. The output is as large.
-pub record IsPartlyMarked (k : WindowRecord) (rects : List Rect) (old new : Damaged) : Type 0 where
-  pub points : AddsPoints (λ x y. record_has x y k && list_any (in_rect (x -ℤ k.x) (y -ℤ k.y)) rects) old new
+pub record IsPartlyMarked (k : TreeWindow) (rects : List Rect) (old new : Damaged) : Type 0 where
+  pub points : AddsPoints (λ x y. window_has x y k && list_any (in_rect (x -ℤ k.x) (y -ℤ k.y)) rects) old new
   pub sides : IsAsLarge old new
 
 -- one of them more
-pub partly-more : (k : WindowRecord) (rects : List Rect) (n : ℕ) (rect part : Rect) (old was new : Damaged) → n < length rects → IsPartlyMarked k (take n rects) old was
+pub partly-more : (k : TreeWindow) (rects : List Rect) (n : ℕ) (rect part : Rect) (old was new : Damaged) → n < length rects → IsPartlyMarked k (take n rects) old was
     → ((x y : ℕ) → x < was.width → y < was.height → has new x y ≡ (has was x y || in_rect (pos x) (pos y) part))
-    → ((x y : ℕ) → x < 4096 → y < 4096 → in_rect (pos x) (pos y) part ≡ (record_has (pos x) (pos y) k && in_rect (pos x -ℤ k.x) (pos y -ℤ k.y) (get_or rects n rect)))
+    → ((x y : ℕ) → x < 4096 → y < 4096 → in_rect (pos x) (pos y) part ≡ (window_has (pos x) (pos y) k && in_rect (pos x -ℤ k.x) (pos y -ℤ k.y) (get_or rects n rect)))
     → IsAsLarge was new → new.width ≤ 4096 → new.height ≤ 4096 → IsPartlyMarked k (take (n + 1) rects) old new
 partly-more k rects n rect part old was new less is more lies sides small low = record {
   points = λ x y wide high.
@@ -136,8 +137,8 @@ partly-more k rects n rect part old was new less is more lies sides small low = 
       let p : Rect → Bool = in_rect (pos x -ℤ k.x) (pos y -ℤ k.y) in
       more x y wide1 high1
       ∙ ap (λ b. b || in_rect (pos x) (pos y) part) (is.points x y wide high)
-      ∙ ap (λ b. (has old x y || (record_has (pos x) (pos y) k && list_any p (take n rects))) || b) (lies x y wide2 high2)
-      ∙ any-part (has old x y) (record_has (pos x) (pos y) k) p (take n rects) (get_or rects n rect)
-      ∙ ap (λ b. has old x y || (record_has (pos x) (pos y) k && b)) (sym (list_any_more p rects n rect less));
+      ∙ ap (λ b. (has old x y || (window_has (pos x) (pos y) k && list_any p (take n rects))) || b) (lies x y wide2 high2)
+      ∙ any-part (has old x y) (window_has (pos x) (pos y) k) p (take n rects) (get_or rects n rect)
+      ∙ ap (λ b. has old x y || (window_has (pos x) (pos y) k && b)) (sym (list_any_more p rects n rect less));
   sides = record { width = sides.width ∙ is.sides.width; height = sides.height ∙ is.sides.height };
 }

@@ -1,9 +1,10 @@
 -- What of an output is marked where trees of surfaces changed.
-use Rattle.std.specs.Prelude.{ℕ, ℤ, ◌≡◌, ◌==◌, ◌&&◌, ◌||◌, Bool, if◌then◌else◌, List, ◌++◌, filter, not}
+use Rattle.std.specs.Prelude.{ℕ, ℤ, ◌≡◌, ◌==◌, ◌-ℤ◌, ◌&&◌, ◌||◌, pos, unsigned_abs, Bool, false, if◌then◌else◌, Option, Some, None, List, ◌++◌, filter, not}
 use Rattle.std.specs.Cmp.Lexicographic.{pointwise}
 use Rattle.std.specs.List.{list_any}
-use Rattle.wl_scene.specs.Marking.{is_record_damaged, record_has}
-use Rattle.wl_scene.specs.declared.record.WindowRecord.{WindowRecord}
+use Rattle.wl_geom.specs.declared.rect.Rect.{Rect}
+use Rattle.wl_geom.specs.Rect.{in_span}
+use Rattle.wl_surface.specs.State.{is_damaged}
 use Rattle.spec_desktop.specs.Marks.{int_eq}
 use Rattle.wl_store.specs.declared.transform.Transform.{Transform}
 use Rattle.wl_store.specs.declared.transform.Transform.TheVariants.{Normal, Rotated90, Rotated180, Rotated270, Flipped, Flipped90}
@@ -33,17 +34,21 @@ is_same_window w v =
 abbrev pub same_windows : List TreeWindow → List TreeWindow → Bool
 same_windows was is = pointwise is_same_window was is
 
--- what is kept of a window to mark it
-abbrev pub record_of : TreeWindow → WindowRecord
-record_of w = record { x = w.x; y = w.y; w = w.w; h = w.h; transform = w.transform; scale = w.scale }
-
 -- the window contains the point
 abbrev pub window_has : ℤ → ℤ → TreeWindow → Bool
-window_has x y w = record_has x y (record_of w)
+window_has x y w = in_span w.x (pos w.w) x && in_span w.y (pos w.h) y
+
+abbrev pub any_window_has : ℤ → ℤ → Option TreeWindow → Bool
+any_window_has x y None = false
+any_window_has x y (Some w) = window_has x y w
+
+-- the damage of the window's surface, these rectangles, holds the point (wayland.xml, wl_surface.damage)
+abbrev pub is_window_damaged : List Rect → ℤ → ℤ → TreeWindow → Bool
+is_window_damaged rects x y w = window_has x y w && is_damaged w.w w.h rects (unsigned_abs (x -ℤ w.x)) (unsigned_abs (y -ℤ w.y))
 
 -- the window is of the surface of the change, whose damage holds the point there
 abbrev pub is_struck_by : {A : Type 0} → Change A → ℤ → ℤ → TreeWindow → Bool
-is_struck_by c x y w = (c.surface == w.surface) && is_record_damaged c.rects.items x y (record_of w)
+is_struck_by c x y w = (c.surface == w.surface) && is_window_damaged c.rects.items x y w
 
 -- the damage of the change holds the point at a window of its surface
 abbrev pub is_damaged_by : {A : Type 0} → List TreeWindow → ℤ → ℤ → Change A → Bool

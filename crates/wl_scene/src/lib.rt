@@ -11,7 +11,6 @@ mod focus;
 mod hitting;
 mod marking;
 mod owned;
-mod record;
 mod repaint;
 mod repaint_trees;
 mod roots;
@@ -34,7 +33,6 @@ pub use hitting::{
 };
 pub use marking::{mark_damage, mark_window};
 pub use owned::Owned;
-pub use record::WindowRecord;
 pub use repaint::{mark_tree, mark_windows};
 pub use repaint_trees::mark_trees;
 pub use roots::{RootPlace, add_roots};

@@ -2,9 +2,10 @@
 
 ghost use Rattle.std.specs.Prelude.{ℕ, ◌≡◌, ◌<◌, ◌||◌, pos};
 ghost use Rattle.wl_paint.specs.Damage.{has};
-ghost use Rattle.wl_scene.specs.Marking.{IsAsLarge, any_record_has, is_record_damaged};
+ghost use Rattle.wl_scene.specs.Marking.{IsAsLarge};
+ghost use Rattle.wl_scene.specs.Repaint.{any_window_has, is_window_damaged};
 
-use crate::record::WindowRecord;
+use crate::tree_window::TreeWindow;
 use std::alloc::Allocator;
 use wl_geom::Rect;
 use wl_paint::Damage;
@@ -13,8 +14,8 @@ use wl_paint::Damage;
 const MAX_RECTS: usize = 1_024;
 
 /// All points of a window are marked, if there is one.
-pub fn mark_window<A: Allocator>(damage: &mut Damage<A>, window: Option<WindowRecord>)
-    ensures points { (x y : ℕ) → x < damage.old.width → y < damage.old.height → has damage.new x y ≡ (has damage.old x y || any_record_has (pos x) (pos y) window) }
+pub fn mark_window<A: Allocator>(damage: &mut Damage<A>, window: Option<TreeWindow>)
+    ensures points { (x y : ℕ) → x < damage.old.width → y < damage.old.height → has damage.new x y ≡ (has damage.old x y || any_window_has (pos x) (pos y) window) }
     ensures sides { IsAsLarge damage.old damage.new }
 {
     if let Some(window) = window {
@@ -24,9 +25,9 @@ pub fn mark_window<A: Allocator>(damage: &mut Damage<A>, window: Option<WindowRe
 
 /// The points of a window are marked that its surface's damage holds: these rectangles in surface pixels, cut to the surface; more than 1,024
 /// damage all of it (wayland.xml, wl_surface.damage).
-pub fn mark_damage<A: Allocator>(damage: &mut Damage<A>, window: WindowRecord, rects: &[Rect])
+pub fn mark_damage<A: Allocator>(damage: &mut Damage<A>, window: TreeWindow, rects: &[Rect])
     ensures points { (x y : ℕ) → x < damage.old.width → y < damage.old.height
-        → has damage.new x y ≡ (has damage.old x y || is_record_damaged rects.now (pos x) (pos y) window) }
+        → has damage.new x y ≡ (has damage.old x y || is_window_damaged rects.now (pos x) (pos y) window) }
     ensures sides { IsAsLarge damage.old damage.new }
 {
     if rects.len() > MAX_RECTS {

@@ -4,28 +4,13 @@ ghost use Rattle.std.specs.Prelude.{ℕ, ◌≡◌, ◌<◌, ◌||◌, pos};
 ghost use Rattle.std.specs.List.{list_any};
 ghost use Rattle.wl_paint.specs.Damage.{has};
 ghost use Rattle.wl_scene.specs.Marking.{IsAsLarge};
-ghost use Rattle.wl_scene.specs.Repaint.{is_damaged_by, is_struck_by, marks, record_of, same_windows, window_has};
+ghost use Rattle.wl_scene.specs.Repaint.{is_damaged_by, is_struck_by, marks, same_windows, window_has};
 
 use crate::marking::{mark_damage, mark_window};
-use crate::record::WindowRecord;
 use crate::tree_window::TreeWindow;
 use std::alloc::Allocator;
 use wl_paint::Damage;
 use wl_surface::Change;
-
-/// What is kept of a window of a tree to mark it.
-fn record_of(window: &TreeWindow) -> WindowRecord
-    ensures { result ≡ record_of window.now }
-{
-    WindowRecord {
-        x: window.x,
-        y: window.y,
-        w: window.w,
-        h: window.h,
-        transform: window.transform,
-        scale: window.scale,
-    }
-}
 
 /// Whether two lists are of the same windows, each with the same place, size, transform and scale.
 fn are_same(was: &[TreeWindow], is: &[TreeWindow]) -> bool
@@ -41,7 +26,7 @@ pub fn mark_windows<A: Allocator>(damage: &mut Damage<A>, windows: &[TreeWindow]
     ensures sides { IsAsLarge damage.old damage.new }
 {
     for window in windows {
-        mark_window(damage, Some(record_of(window)));
+        mark_window(damage, Some(*window));
     }
 }
 
@@ -52,7 +37,7 @@ fn mark_struck<A: Allocator>(damage: &mut Damage<A>, window: &TreeWindow, change
     ensures sides { IsAsLarge damage.old damage.new }
 {
     if change.surface == window.surface {
-        mark_damage(damage, record_of(window), &change.rects);
+        mark_damage(damage, *window, &change.rects);
     }
 }
 

@@ -1,12 +1,16 @@
 //! The window of a surface of a tree.
 
-ghost use Rattle.std.specs.Prelude.{◌≡◌, ◌+ℤ◌};
+ghost use Rattle.std.specs.Prelude.{ℕ, ◌≡◌, ◌<◌, ◌+ℤ◌, ◌-ℤ◌, ◌&&◌, pos};
+ghost use Rattle.wl_geom.specs.Rect.{in_rect};
 ghost use Rattle.wl_surface.specs.Linked.{Stand};
 ghost use Rattle.wl_surface.specs.State.{within_bounds};
 ghost use Rattle.wl_surface.specs.Surfaces.{Surfaces as Asked};
+ghost use Rattle.wl_scene.specs.Repaint.{window_has};
 ghost use Rattle.wl_scene.specs.TreeWindows.{place_beside, window_at};
 
+use crate::span::{side_on_output, span_on_output};
 use std::alloc::Allocator;
+use wl_geom::Rect;
 use wl_store::Transform;
 use wl_surface::{SurfaceNo, Surfaces};
 
@@ -25,6 +29,27 @@ pub struct TreeWindow {
     pub h: u32,
     pub transform: Transform,
     pub scale: u32,
+}
+
+impl TreeWindow {
+    /// The window's points.
+    pub(crate) fn rect(self) -> Rect
+        ensures { (x y : ℕ) → x < 4096 → y < 4096 → in_rect (pos x) (pos y) result ≡ window_has (pos x) (pos y) self }
+    {
+        let (x, w) = side_on_output(self.x, self.w);
+        let (y, h) = side_on_output(self.y, self.h);
+        Rect { x, y, w, h }
+    }
+
+    /// The window's points that lie in a rectangle of its surface.
+    pub(crate) fn part(self, rect: Rect) -> Rect
+        ensures { (x y : ℕ) → x < 4096 → y < 4096
+            → in_rect (pos x) (pos y) result ≡ (window_has (pos x) (pos y) self && in_rect (pos x -ℤ self.x) (pos y -ℤ self.y) rect) }
+    {
+        let (x, w) = span_on_output(self.x, self.w, rect.x, rect.w);
+        let (y, h) = span_on_output(self.y, self.h, rect.y, rect.h);
+        Rect { x, y, w, h }
+    }
 }
 
 /// So many pixels to the right and down.

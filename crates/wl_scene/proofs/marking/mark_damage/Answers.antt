@@ -4,7 +4,8 @@ use Rattle.std.specs.List.{list_any}
 use Rattle.wl_geom.specs.Rect.{in_rect}
 use Rattle.wl_geom.specs.declared.rect.Rect.{Rect}
 use Rattle.wl_paint.specs.Damage.{has}
-use Rattle.wl_scene.specs.Marking.{AddsPoints, record_has}
+use Rattle.wl_scene.specs.Marking.{AddsPoints}
+use Rattle.wl_scene.specs.Repaint.{window_has}
 use Rattle.wl_scene.proofs.Spans.{damaged-few, damaged-many, partly-more}
 use Rattle.wl_scene.proofs.marking.mark_damage.Goals as goal
 
@@ -22,7 +23,7 @@ returns-then-rects-gt-MAX_RECTS-clause-sides g c = record { width = c.add.ensure
 
 pub returns-clause-points : goal.returns-clause-points
 returns-clause-points g c = λ x y wide high.
-    let whole = subst (λ (rects : List Rect). AddsPoints (λ x y. record_has x y c.args.window && list_any (in_rect (x -ℤ c.args.window.x) (y -ℤ c.args.window.y)) rects) c.args.damage.now
+    let whole = subst (λ (rects : List Rect). AddsPoints (λ x y. window_has x y c.args.window && list_any (in_rect (x -ℤ c.args.window.x) (y -ℤ c.args.window.y)) rects) c.args.damage.now
     c.loop-rect.damage)
     (take_all c.loop-rect.rect-index c.args.rects.now c.loop-rect-test.false) c.loop-rect.invariant.points in
     whole x y wide high ∙ ap (λ (b : Bool). has c.args.damage.now x y || b) (sym (damaged-few c.args.rects.now c.args.window (pos x) (pos y) c.if-rects-gt-MAX_RECTS.false))
@@ -37,4 +38,4 @@ returns-then-rects-gt-MAX_RECTS-clause-points g c = λ x y wide high.
     let upper : y < 4096 = omega (arith, high, c.add.ensures.height, c.add.ensures.high) in
     c.add.ensures.points x y wide high
     ∙ ap (λ (b : Bool). has c.args.damage.now x y || b) (c.rect.ensures x y near upper
-    ∙ (with-true (record_has (pos x) (pos y) c.args.window) ∙ sym (damaged-many c.args.rects.now c.args.window (pos x) (pos y) c.if-rects-gt-MAX_RECTS.true)))
+    ∙ (with-true (window_has (pos x) (pos y) c.args.window) ∙ sym (damaged-many c.args.rects.now c.args.window (pos x) (pos y) c.if-rects-gt-MAX_RECTS.true)))

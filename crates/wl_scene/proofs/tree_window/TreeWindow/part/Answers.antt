@@ -3,7 +3,7 @@ use Rattle.std.specs.Prelude.{◌-ℤ◌, ◌&&◌}
 use Rattle.std.proofs.lemmas.Int.{ints}
 use Rattle.wl_geom.specs.Rect.{in_span}
 use Rattle.wl_scene.proofs.Spans.{part-of}
-use Rattle.wl_scene.proofs.record.WindowRecord.part.Goals as goal
+use Rattle.wl_scene.proofs.tree_window.TreeWindow.part.Goals as goal
 
 pub returns : goal.returns
 returns c = λ x y wide high.
