@@ -13,7 +13,7 @@ use Rattle.spec_desktop.specs.declared.answers.Done.{Done}
 use Rattle.law_desktop.specs.Soundness.{IsSound}
 
 -- A piece of a client's stream leads where its bytes lead as they come, and then the messages that they complete, one after another, or so
--- many of them and then want of memory; to a client that has ended, or isn't there, it does nothing. And wherever these lead a piece does.
+-- many of them until memory runs out; to a client that has ended, or isn't there, it does nothing. And wherever these lead a piece does.
 abbrev pub PieceIsMessages : Type 0
 PieceIsMessages =
     (left : LeftOut) (c : ℕ) (piece : List ℕ) (d new : Desktop)

@@ -1,4 +1,4 @@
--- Laws of the plain desktop whatever is left out: only want of memory leaves a choice, and an end is for good.
+-- Laws of the plain desktop whatever is left out: only that memory may run out leaves a choice, and an end is for good.
 use Rattle.std.specs.Prelude.{ℕ, ◌≡◌, ◌≢◌, ◌≤◌, List, [], ◌∷◌, length, Some, Err}
 use Rattle.spec_desktop.specs.declared.cause.Cause.{Cause}
 use Rattle.spec_desktop.specs.declared.cause.Cause.TheVariants as cause
@@ -11,13 +11,13 @@ use Rattle.spec_desktop.specs.LeftOut.{LeftOut}
 use Rattle.spec_desktop.specs.Act.{Act, Close, Connect}
 use Rattle.spec_desktop.specs.Happens.{Happens}
 
--- No want of memory was met: no connect was refused for it, and a client that it ended had ended so before.
+-- Memory didn't run out: no connect was refused for it, and a client that it ended had ended so before.
 abbrev pub HadMemory : Act → Done → Desktop → Desktop → Type 0
 HadMemory act done old new =
     (act ≡ Connect → done ≢ gave.Connect (Err Memory))
     × ((c : ℕ) → status_in c new ≡ Some cause.Memory → status_in c old ≡ Some cause.Memory)
 
--- Where no want of memory is met, what happens is determined, and so is what is answered. There are 32 clients at most, so no client that
+-- Where memory doesn't run out, what happens is determined, and so is what is answered. There are 32 clients at most, so no client that
 -- is to end is left when the focus was settled for the last time (past 32 one could be left, and whether its event was queued would be a
 -- choice).
 abbrev pub OneRun : Type 0
@@ -33,7 +33,7 @@ Lasts left [] (done ∷ dones) old new = ⊥
 Lasts left (act ∷ acts) [] old new = ⊥
 Lasts left (act ∷ acts) (done ∷ dones) old new = (mid : Desktop) × Happens left act done old mid × Lasts left acts dones mid new
 
--- each of them met no want of memory
+-- none of them ran out of memory
 abbrev pub HadMemoryAll : (left : LeftOut) → (acts : List Act) → (dones : List Done) → (old new : Desktop) → Lasts left acts dones old new
     → Type 0
 HadMemoryAll left [] [] old new run = Unit {0}
@@ -41,7 +41,7 @@ HadMemoryAll left [] (done ∷ dones) old new run = ⊥
 HadMemoryAll left (act ∷ acts) [] old new run = ⊥
 HadMemoryAll left (act ∷ acts) (done ∷ dones) old new run = HadMemory act done old run.0 × HadMemoryAll left acts dones run.0 new run.2
 
--- The same of a list of acts: it has at most one run that meets no want of memory, with its answers.
+-- The same of a list of acts: it has at most one run that doesn't run out of memory, with its answers.
 abbrev pub OnlyRun : Type 0
 OnlyRun =
     (left : LeftOut) (acts : List Act) (dones others : List Done) (old new end : Desktop) → length old.clients ≤ 32

@@ -63,12 +63,12 @@ pub fn may_happen()
     ensures { MayHappen }
 {}
 
-/// Whatever is left out, what happens is determined with its answer, but for want of memory.
+/// Whatever is left out, what happens is determined with its answer, unless memory runs out.
 pub fn one_run()
     ensures { OneRun }
 {}
 
-/// A list of acts has at most one run that meets no want of memory, with its answers.
+/// A list of acts has at most one run that doesn't run out of memory, with its answers.
 pub fn only_run()
     ensures { OnlyRun }
 {}

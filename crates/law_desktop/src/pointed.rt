@@ -45,7 +45,7 @@ pub fn quiet_apart()
     ensures { QuietApart }
 {}
 
-/// Where memory is wanting, or a client goes, the pointer leaves it, and then its focus is settled.
+/// Where memory runs out, or a client goes, the pointer leaves it, and then its focus is settled.
 pub fn ends_apart()
     ensures { EndsApart }
 {}

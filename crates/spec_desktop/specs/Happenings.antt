@@ -16,7 +16,7 @@ pub data Happening : Type 0 where
   Receive : ℕ → List ℕ → Happening
   -- the first whole message of what has come of a client is taken
   Message : ℕ → Happening
-  -- memory is wanting before the next message of a client is taken
+  -- memory runs out before the next message of a client is taken
   Starve : ℕ → Happening
   -- whatever else happens, with its answer: all but a piece of a client's stream
   Single : Act → Done → Happening
@@ -57,7 +57,7 @@ abbrev pub bytes_then_messages : ℕ → List ℕ → ℕ → List Happening
 bytes_then_messages c piece n = Receive c piece ∷ replicate n (Message c)
 
 -- Of a client that lives a piece is its bytes and then the messages that they complete, so that none is left at last; or so many of these
--- and then want of memory. Of one that has ended, or isn't there, it is nothing.
+-- until memory runs out. Of one that has ended, or isn't there, it is nothing.
 abbrev pub ArePieceBy : ℕ → List ℕ → Option Cause → List Happening → Desktop → Type 0
 ArePieceBy c piece (Some cause) parts last = parts ≡ []
 ArePieceBy c piece None parts last =

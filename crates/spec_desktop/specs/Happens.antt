@@ -39,7 +39,7 @@ use Rattle.spec_desktop.specs.Act.{lowest}
 
 -- ---- one message
 
--- what has an effect may want memory, but for the move of a toplevel, which is only noted of the pointer
+-- what has an effect may run out of memory, but for the move of a toplevel, which is only noted of the pointer
 abbrev pub wants_memory : Demand → Bool
 wants_memory (Asks ask) = takes_memory ask
 wants_memory (Move surface serial) = false
@@ -105,7 +105,7 @@ abbrev pub Reaches : LeftOut → ℕ → ℕ → Desktop → Desktop → Type 0
 Reaches left c zero d new = new ≡ d
 Reaches left c (suc n) d new = (mid : Desktop) × Reaches left c n d mid × Serves left c mid new
 
--- The taking of messages stops where none is left, or at any moment for want of memory.
+-- The taking of messages stops where none is left, or at any moment where memory runs out.
 abbrev pub StopsAt : ℕ → Option Resident → Desktop → Desktop → Type 0
 StopsAt c None d new = ⊥
 StopsAt c (Some r) d new =
@@ -261,7 +261,7 @@ HappensThen left (Close c) done d Next Settled = ChangesThen IsClosed (gave.Clos
 HappensThen left (Motion time x y) done d Next Settled = (done ≡ gave.Motion) × MovesThen time (point_in d.output x y) d Settled
 HappensThen left (Button time button pressed) done d Next Settled = (done ≡ gave.Button) × ButtonsThen pressed time button d Settled
 
--- What may happen to the plain desktop, with its answer. Want of memory is the only choice.
+-- What may happen to the plain desktop, with its answer. That memory runs out is the only choice.
 abbrev pub Happens : LeftOut → Act → Done → Desktop → Desktop → Type 0
 Happens left (Feed c piece) done d new = IsFedAt left c piece (client_at c d) d done new
 Happens left act done d new = HappensThen left act done d (settling new) (ending new)

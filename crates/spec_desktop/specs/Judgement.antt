@@ -59,7 +59,7 @@ pub record Known : Type 0 where
   pub stores : Stock
 
 -- After the header come the object, the opcode at the object's version, the arguments, the objects
--- that they name, the new id, the limits, and the request's own errors. Want of memory comes last.
+-- that they name, the new id, the limits, and the request's own errors. Out of memory comes last.
 
 -- a new object may have this id: 1 to 0xfeffffff are the client's (Wayland protocol, 'Creating Objects'), and none has it
 abbrev pub is_free : Objects → ℕ → Bool

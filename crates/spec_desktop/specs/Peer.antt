@@ -117,12 +117,12 @@ with_rest rest p = record p { rest = rest }
 abbrev pub has_room : List ℕ → Said → Bool
 has_room unsent event = nat_le (event_size event.message) 65532 && nat_le (length unsent + event_size event.message) 1048576
 
--- An event isn't queued for this cause: the one that an event before it wasn't queued for, if there is one; else for want of memory where
+-- An event isn't queued for this cause: the one that an event before it wasn't queued for, if there is one; else as out of memory where
 -- there is room, and of room where there is none.
 abbrev pub IsUnqueuedFor : Option Cause → Bool → Cause → Type 0
 IsUnqueuedFor before room cause = MatchOption before (MatchBool room (cause ≡ Memory) (cause ≡ Slow)) (λ was. cause ≡ was)
 
--- One event: past the limit the client ends, and want of memory may end it. `Later` is what comes where it was queued.
+-- One event: past the limit the client ends, and it may end as out of memory. `Later` is what comes where it was queued.
 abbrev pub QueuesOr : Bool → Type 0 → Peer → Peer → Type 0
 QueuesOr false Later old new = new ≡ ended Slow old
 QueuesOr true Later old new = (new ≡ ended Memory old) ⊎ Later
@@ -132,7 +132,7 @@ abbrev pub Queues : List Said → Peer → Peer → Type 0
 Queues [] old new = new ≡ old
 Queues (event ∷ events) old new = QueuesOr (has_room old.unsent event) (Queues events (queued event old) new) old new
 
--- An event is queued, or it isn't, and ends nobody by that: past the limit, or for want of memory. `Later` is what comes where it was.
+-- An event is queued, or it isn't, and ends nobody by that: past the limit, or where memory runs out. `Later` is what comes where it was.
 abbrev pub QueuesFirst : Bool → Type 0 → Peer → Peer → Option Cause → Type 0
 QueuesFirst false Later p q why = (q ≡ p) × (why ≡ Some Slow)
 QueuesFirst true Later p q why = ((q ≡ p) × (why ≡ Some Memory)) ⊎ Later
@@ -148,7 +148,7 @@ Errs refusal old new =
     QueuesOr (has_room old.unsent (error_told refusal))
     (new ≡ ended (Protocol refusal.object (code_number refusal.code)) (queued (error_told refusal) old)) old new
 
--- The client ends for want of memory, of which it is told where there is memory and room for that.
+-- The client ends as out of memory, of which it is told where there is memory and room for that.
 abbrev pub LacksMemory : Peer → Peer → Type 0
 LacksMemory old new =
     (new ≡ ended Memory old)
@@ -211,7 +211,7 @@ answers_to output (DestroyBuffer id store) = id_deleted id ∷ []
 answers_to output (DestroyPositioner id) = id_deleted id ∷ []
 answers_to output action = []
 
--- It may want memory for what it changes.
+-- It may run out of memory for what it changes.
 abbrev pub takes_memory : Action → Bool
 takes_memory (Sync callback) = false
 takes_memory (DestroyRegion id) = false
@@ -259,7 +259,7 @@ IsIdleAt None rest = split_of rest ≡ More
 abbrev pub IsIdle : Peer → Type 0
 IsIdle p = IsIdleAt p.status p.rest
 
--- The taking of messages stops where none is left, or at any moment for want of memory.
+-- The taking of messages stops where none is left, or at any moment where memory runs out.
 abbrev pub Stops : Peer → Peer → Type 0
 Stops old new = ((new ≡ old) × IsIdle old) ⊎ ((old.status ≡ None) × (new ≡ ended Memory old))
 

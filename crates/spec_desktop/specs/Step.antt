@@ -134,7 +134,7 @@ answers_to (DestroyXdgSurface id) r = id_deleted id ∷ []
 answers_to (ConfigureAgain xdg) r = configures_told r.peer.serial (xdg_at xdg r.owned.shell)
 answers_to ask r = []
 
--- what has an effect may want memory, but for what takes away
+-- what has an effect may run out of memory, but for what takes away
 abbrev pub takes_memory : Ask → Bool
 takes_memory (Own action) = own_takes_memory action
 takes_memory Ignore = false

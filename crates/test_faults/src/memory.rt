@@ -198,7 +198,7 @@ fn a_client_ends_where_memory_is_refused(rt: HostRuntime) {
 struct Answers {
     /// Where no allocation is refused.
     all: Vec<u8, Global>,
-    /// Of want of memory.
+    /// Of running out of memory.
     error: Vec<u8, Global>,
 }
 
@@ -238,7 +238,7 @@ enum Told {
     NoClient,
     /// It lives and was told all, and its store 1 has so many bytes.
     Alive(Option<u32>),
-    /// It ended for want of memory and has no store. Whether it was told all before, and whether of the end.
+    /// It ended as out of memory and has no store. Whether it was told all before, and whether of the end.
     Ended(bool, bool),
     Wrong,
 }
@@ -278,7 +278,7 @@ fn feed_with(alloc: Global, served: u64, piece: &[u8], answers: &Answers) -> Tol
     }
 }
 
-/// The clients that ended for want of memory.
+/// The clients that ended as out of memory.
 #[derive(Clone, Copy)]
 struct Ended {
     count: u32,

@@ -1,4 +1,4 @@
-//! Each allocation of worked sessions refused in turn, with all after it or alone: a session isn't made, a client doesn't connect or ends for want of memory, or
+//! Each allocation of worked sessions refused in turn, with all after it or alone: a session isn't made, a client doesn't connect or ends as out of memory, or
 //! nothing is struck; and each frame shows the windows of the clients that are left.
 
 use crate::acts::{
@@ -80,7 +80,7 @@ impl<'a> Progress<'a> {
         }
     }
 
-    /// A client may end for want of memory, and has ended for it from then on.
+    /// A client may end as out of memory, and has ended so from then on.
     fn is_fed(&mut self, client: u32, fed: Fed) -> bool {
         if self.has(client) && fed == Fed::Alive {
             return true;
@@ -169,7 +169,7 @@ fn feed<A: Allocator + Copy>(
     is_right && are_others_right
 }
 
-/// Each client lives on, or has ended for want of memory, after the pointer did something or was settled anew.
+/// Each client lives on, or has ended as out of memory, after the pointer did something or was settled anew.
 fn are_left<A: Allocator + Copy>(session: &Session<A>, progress: &mut Progress) -> bool {
     for client in [1, 2] {
         if progress.has(client) && !progress.is_fed(client, session.status(client)) {
@@ -435,7 +435,7 @@ fn take_steps(session: &mut Session<Global>, plan: &Plan, count: usize) {
     }
 }
 
-/// Whether a client is as in the other session, or ended for want of memory.
+/// Whether a client is as in the other session, or ended as out of memory.
 fn is_as<A: Allocator + Copy>(session: &Session<A>, other: &Session<Global>, client: u32) -> bool {
     match session.status(client) {
         Fed::Alive => {

@@ -236,7 +236,7 @@ fn regions_are_as_worked(rt: HostRuntime) {
 }
 
 // How many of three changes and a copy are done where so many allocations are served. None where one is refused though no allocation was, or for
-// anything but want of memory, or where the region isn't left as it was.
+// anything but that memory ran out, or where the region isn't left as it was.
 fn done_before_a_refusal<B: Allocator + Copy>(alloc: B, served: u64) -> Option<u32> {
     let heap = Refusing::new(alloc, served);
     let mut region = Region::new(&heap);

@@ -263,7 +263,7 @@ fn shells_are_as_worked(rt: HostRuntime) {
     assert_eq!(rt; missed_case(rt.alloc(), CASES), None);
 }
 
-// Makes xdg_surfaces up to the first that is refused for want of memory: how many were made. None where another error comes.
+// Makes xdg_surfaces up to the first that is refused as out of memory: how many were made. None where another error comes.
 fn made<A: Allocator + Copy>(shell: &mut Shell<A>) -> Option<usize> {
     for surface in 0..1000_usize {
         match get_xdg_surface(shell, surface, surface as u32, false, false) {

@@ -265,7 +265,7 @@ fn other_windows_need_memory(rt: HostRuntime) {
     assert!(rt; refused > 0);
 }
 
-// Where there is room for the windows of a toplevel, they want no memory.
+// Where there is room for the windows of a toplevel, they take no memory.
 #[test]
 fn windows_come_into_room(rt: HostRuntime) {
     let heap = Refusing::new(rt.alloc(), 2);

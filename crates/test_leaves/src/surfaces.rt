@@ -180,7 +180,7 @@ pub(crate) enum Row {
     /// No buffer is attached to the surface 0, at an offset.
     Detaches(i32, i32),
     Commits(SurfaceNo),
-    /// A commit of the surface 0 is refused for want of memory.
+    /// A commit of the surface 0 is refused as out of memory.
     CannotCommit,
     Destroys(SurfaceNo),
     /// The surface 0 is damaged.
@@ -365,7 +365,7 @@ const COMMITTED: &[Row] = &[
     Row::IsAt(1, 2),
 ];
 
-// Makes surfaces up to the first that is refused for want of memory: how many were made. None where another error comes.
+// Makes surfaces up to the first that is refused as out of memory: how many were made. None where another error comes.
 fn made<A: Allocator + Copy>(surfaces: &mut SurfaceStates<A>) -> Option<SurfaceNo> {
     for number in 0..256_usize {
         match create(surfaces) {
@@ -411,7 +411,7 @@ fn a_surface_without_memory_is_not_made(rt: HostRuntime) {
     }
 }
 
-// Makes a surface, attaches buffer 7 at (1, 2), damages and commits, up to the first call that is refused for want of memory: how many of the three
+// Makes a surface, attaches buffer 7 at (1, 2), damages and commits, up to the first call that is refused as out of memory: how many of the three
 // that take memory were done. None where a call answers what it can't.
 fn done_before_a_refusal<A: Allocator + Copy>(surfaces: &mut SurfaceStates<A>) -> Option<u32> {
     match create(surfaces) {
@@ -498,7 +498,7 @@ fn damage_without_end(rt: HostRuntime) {
     assert!(rt; takes_no_more_memory(&mut surfaces, &heap));
 }
 
-// Sets both regions, up to the first that is refused for want of memory: how many were set. None where a call answers what it can't.
+// Sets both regions, up to the first that is refused as out of memory: how many were set. None where a call answers what it can't.
 fn set_both<A: Allocator + Copy>(
     surfaces: &mut SurfaceStates<A>,
     region: &Region<A>,

@@ -134,7 +134,7 @@ fn stops_where_too_many_bytes_wait(rt: HostRuntime) {
     assert!(rt; stops_at_the_second(rt.alloc()));
 }
 
-/// Whether the client is told to enter, or is to end for want of memory and was told less. How often it was refused memory.
+/// Whether the client is told to enter, or is to end as out of memory and was told less. How often it was refused memory.
 fn enters<A: Allocator + Copy>(client: &mut Client<A>, wanted: &[u8]) -> Option<u32> {
     match client.tell_pointers(TWO, ENTER) {
         Ok(()) if client.unsent() == wanted && client.to_end_for().is_none() => Some(0),

@@ -84,7 +84,7 @@ slow-of : (room : Bool) (cause : Cause) → MatchBool room (cause ≡ Memory) (c
 slow-of true cause why another = absurd (another why)
 slow-of false cause why another = sym why
 
--- an event that isn't queued, and not for want of memory, has no room
+-- an event that isn't queued, and not as out of memory, has no room
 pub unqueued-slow : (v : ClientView) (p : Peer) (event : Said) (cause : Cause) → IsPeer v p → IsUnqueuedFor v.refused (has_room v.unsent event) cause → cause ≢ Memory → Slow ≡ cause
 unqueued-slow v p event cause is why another = slow-of (has_room v.unsent event) cause (unqueued-now v p event cause is why) another
 

@@ -137,7 +137,7 @@ was_taken answers.Other = false
 abbrev pub EndsBy : Refusal → Option Cause → Type 0
 EndsBy refusal ended = (ended ≡ Some (Protocol refusal.object (code_number refusal.code))) ⊎ ((ended ≡ Some Memory) ⊎ (ended ≡ Some Slow))
 
--- Why a client has ended, by the answer: one refused, by that error or since it couldn't be told; one served, not for want of memory.
+-- Why a client has ended, by the answer: one refused, by that error or since it couldn't be told; one served, not as out of memory.
 abbrev pub EndsSo : Served → Option Cause → Type 0
 EndsSo answers.Done ended = ended ≢ Some Memory
 EndsSo (answers.Refused object code) ended = (ended ≡ Some (Protocol object code)) ⊎ ((ended ≡ Some Memory) ⊎ (ended ≡ Some Slow))

@@ -9,10 +9,7 @@ ghost use Rattle.spec_desktop.specs.Judgement.{after_new_id, is_free};
 use spec_desktop::{ErrorCode, Refusal};
 use std::alloc::Allocator;
 use wl_proto::{Interface, NewId, ObjectArg};
-use wl_table::Objects;
-
-/// How many objects a client may have at once, wl_display among them.
-const OBJECT_LIMIT: usize = 8192;
+use wl_table::{MAX_ID, MAX_OBJECTS, Objects};
 
 fn number_of(interface: Interface) -> u8
     ensures { result ≡ interface_number interface }
@@ -52,7 +49,7 @@ pub(crate) fn are_fit<A: Allocator>(objects: &Objects<A>, args: [Option<ObjectAr
 fn is_free_id<A: Allocator>(objects: &Objects<A>, id: u32) -> bool
     ensures { result ≡ is_free (objects_in objects.now) id }
 {
-    1 <= id && id <= 0xfeff_ffff && objects.get(id).is_none()
+    1 <= id && id <= MAX_ID && objects.get(id).is_none()
 }
 
 /// A new id must be free, and there must be room for another object.
@@ -69,7 +66,7 @@ pub(crate) fn check_new_id<A: Allocator, X: Drop>(
     if !is_free_id(objects, new.id) {
         return Err(Refusal::of_display(ErrorCode::InvalidObject));
     }
-    if objects.len() >= OBJECT_LIMIT {
+    if objects.len() >= MAX_OBJECTS {
         return Err(Refusal::of_display(ErrorCode::Implementation));
     }
     action

@@ -158,7 +158,7 @@ impl<A: Allocator + Copy> Client<A> {
                 object: refusal.object,
                 code: refusal.code.number(),
             },
-            // Where the error isn't queued, the client ends for want of memory or of room.
+            // Where the error isn't queued, the client ends as out of memory or of room.
             Err(cause) => match cause {
                 Cause::Memory => Cause::Memory,
                 _ => Cause::Slow,
@@ -181,7 +181,7 @@ impl<A: Allocator + Copy> Client<A> {
         }
     }
 
-    /// Ends the client for want of memory, of which it is told where that can be.
+    /// Ends the client as out of memory, of which it is told where that can be.
     pub fn lack_memory(&mut self)
         ensures ended { is_some self.new.ended ≡ true }
         ensures lacks { (p : Peer) → IsPeer self.old p → (q : Peer) × LacksMemory p q × IsPeer self.new q }
@@ -205,7 +205,7 @@ impl<A: Allocator + Copy> Client<A> {
         self.add(id, entry, events);
     }
 
-    /// Makes an object with this entry in the table, which tells these events. Want of memory ends the client.
+    /// Makes an object with this entry in the table, which tells these events. Out of memory, the client ends.
     pub fn add(&mut self, id: u32, entry: Entry, events: &[Event])
         ensures makes { (p : Peer) → IsPeer self.old p → (q : Peer) × WantsOr true (Queues (map said_of events.now) (made id (object_of entry) p) q) p q × IsPeer self.new q }
         ensures table { self.new.ended ≡ None → HoldsAt self.old.objects self.new.objects id (Some entry) }

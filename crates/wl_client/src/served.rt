@@ -11,7 +11,7 @@ pub enum Served {
     More,
     /// It is to an object of an interface that isn't served here. Nothing changed.
     Other,
-    /// It was taken, and the client ended. It was told of this error; that of want of memory is wl_display's no_memory.
+    /// It was taken, and the client ended. It was told of this error; out of memory that is wl_display's no_memory.
     Refused { object: u32, code: u32 },
 }
 

@@ -379,7 +379,7 @@ unmarked-each left act done d path new x y is none apart leads unmarked =
     unless (marks_at_least_through all_windows d path x y)
     (λ marked. differ (sym unmarked ∙ marked-each d x y apart path new (leads-along left act done d path new is none leads) marked))
 
--- the same where memory is wanting before the next message
+-- the same where memory runs out before the next message
 pub unmarked-starving : (c : ℕ) (o : Option Resident) (d : Desktop) (path : List Desktop) (new : Desktop) (x y : ℤ) → AreDistinct (all_windows d) → StarvesAt c o d path new
     → marks_at_least d new x y ≡ false → marks_at_least_through all_windows d path x y ≡ false
 unmarked-starving c None d path new x y apart h unmarked = absurd h

@@ -112,7 +112,7 @@ pub message-led : (c : ℕ) (new : DeskView) (before after : Damaged) (d : Deskt
     → Led (Agrees new) (Message c) before after d
 message-led c new before after d n = record { path = n.1; desktop = n.0; leads = n.2; agrees = n.3; marks = n.4 }
 
--- ---- memory is wanting
+-- ---- memory runs out
 
 starve-marks : (c : ℕ) (v : DeskView) (d e : Desktop) (path : List Desktop) (before after : Damaged) → Agrees v d → Leads nothing_left_out (Starve c) d path e → MarksAtLeast d e before after
     → MarksMost d e before after → MarksThrough d path before after

@@ -50,7 +50,7 @@ IsIdleOf (Some r) = IsIdle r.peer
 abbrev pub IsIdleIn : ℕ → Desktop → Type 0
 IsIdleIn c d = IsIdleOf (client_at c d)
 
--- what became of a message that was taken, by how the client is then; want of memory is wl_display's error no_memory
+-- what became of a message that was taken, by how the client is then; out of memory is wl_display's error no_memory
 abbrev pub served_of : Fed → Served
 served_of (fed.Ended (cause.Protocol object code)) = served.Refused object code
 served_of (fed.Ended cause.Memory) = served.Refused 1 2

@@ -36,11 +36,11 @@ use std::marker::Model;
 use wl_client::{Cause, Client, Output, StoreNo};
 use wl_geom::Region;
 use wl_links::Subsurfaces;
-use wl_paint::{Damage, FrameError, Framebuffer, MAX_SIDE};
+use wl_paint::{Damage, FrameError, Framebuffer, is_side};
 use wl_requests::{Asked, PointerAsked, Resident};
 
 /// How many clients there may be at once.
-const CLIENT_LIMIT: usize = 32;
+pub const MAX_CLIENTS: usize = 32;
 
 /// All clients with what each owns, the mapped toplevels with their windows, and which points of the output are to be painted again.
 /// It is seen as the output, what is kept of each client and of what it owns, by number from 1, and the pile of toplevels and windows; and that
@@ -103,8 +103,8 @@ impl<A: Allocator + Copy> Clients<A> {
     {
         let damage = Damage::new(alloc, output.width, output.height)?;
         let screen = Screen::new(alloc, damage)?;
-        let mut residents = Vec::with_capacity(alloc, CLIENT_LIMIT)?;
-        for _ in 0..CLIENT_LIMIT {
+        let mut residents = Vec::with_capacity(alloc, MAX_CLIENTS)?;
+        for _ in 0..MAX_CLIENTS {
             residents.push(None)?;
         }
         Ok(Clients {
@@ -158,7 +158,7 @@ impl<A: Allocator + Copy> Clients<A> {
 
     /// Takes the first whole message of what came from a client that lives. None where there is none; then nothing is changed. What the message
     /// changes is marked, and the windows of a client that ends by it. Where there is no seat for a
-    /// new wl_pointer, a client that asks for one ends for want of memory. The serials are those that a client which asks for a grab was told.
+    /// new wl_pointer, a client that asks for one ends as out of memory. The serials are those that a client which asks for a grab was told.
     /// Unless it is answered that the message touches windows, all windows stay as they are where its client lives on.
     pub fn take(&mut self, client: ClientNo, has_seat: bool, latest: Latest) -> Option<Taken>
         ensures leads { IfSome result (λ taken. (d : Desktop) → Agrees self.old.desk d → IsLatest latest (client_at client d)
@@ -198,7 +198,7 @@ impl<A: Allocator + Copy> Clients<A> {
         })
     }
 
-    /// Memory is wanting for a client that lives, and it ends by that. No more than its own windows is marked.
+    /// Memory runs out for a client that lives, and it ends by that. No more than its own windows is marked.
     pub fn starve(&mut self, client: ClientNo)
         ensures leads { (d : Desktop) → Agrees self.old.desk d → status_of (peer_at client d) ≡ Fed.Alive
             → Led (Agrees self.new.desk) (Starve client) self.old.damage self.new.damage d }
@@ -239,7 +239,7 @@ impl<A: Allocator + Copy> Clients<A> {
         ensures sides { IsAsLarge self.old.damage self.new.damage }
         ensures output { self.new.desk.output ≡ self.old.desk.output }
     {
-        for before in 0..CLIENT_LIMIT {
+        for before in 0..MAX_CLIENTS {
             self.tell_frames(before as u32 + 1, time);
         }
     }
@@ -438,13 +438,6 @@ impl<A: Allocator + Copy> Clients<A> {
         };
         framebuffer.paint(&self.screen.damage, &lent);
     }
-}
-
-/// Whether an output may have this side.
-fn is_side(side: u32) -> bool
-    ensures { result ≡ is_side side }
-{
-    1 <= side && side <= MAX_SIDE
 }
 
 /// A piece is kept of a client that lives.

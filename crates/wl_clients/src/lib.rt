@@ -11,7 +11,7 @@ mod pointing;
 mod screen;
 mod windows;
 
-pub use clients::{Clients, Taken};
+pub use clients::{Clients, MAX_CLIENTS, Taken};
 pub use grabs::Latest;
 pub use painting::{lends_opaque_as_said, paints_the_desktop};
 pub use pictures::lend;

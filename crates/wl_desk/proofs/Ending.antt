@@ -40,7 +40,7 @@ begins v p e kept same placed seats latest = record {
 
 -- ---- one client ends
 
--- Memory was wanting for a client, or it went; the pointer leaves it, and its focus is settled.
+-- Memory ran out for a client, or it went; the pointer leaves it, and its focus is settled.
 pub ends-lead : (c : ℕ) (h : Happening) (d : Desktop) (old mid new : MarkedDesk) → IsEndOf c h → Agrees old.desk d
     → (led : Led (KeptAgrees mid.desk.kept) h old.damage mid.damage (unpointed d)) → IsAsLarge old.damage mid.damage
     → mid.desk.seats ≡ old.desk.seats → mid.desk.latest ≡ old.desk.latest → mid.desk.pointer ≡ pointer_without c old.desk.pointer

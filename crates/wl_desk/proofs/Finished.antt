@@ -27,7 +27,7 @@ use Rattle.law_desktop.proofs.PointerAside.Entering.{lacking, told-alone}
 use Rattle.law_desktop.proofs.PointerAside.Messages.{after-status, becomes-still, done-still}
 use Rattle.law_desktop.proofs.PointerAside.Pointers.{settled-nowhere}
 
--- A client that is there and lives asked this, and it is done or wants memory.
+-- A client that is there and lives asked this, and it is done or runs out of memory.
 pub record IsAsked (left : LeftOut) (c : ℕ) (demand : Demand) (d : Desktop) (path : List Desktop) (e : Desktop) : Type 0 where
   pub there : Resident
   pub is : client_at c d ≡ Some there

@@ -33,12 +33,11 @@ use spec_desktop::Done;
 use std::alloc::{AllocError, Allocator};
 use std::marker::Model;
 use wl_client::{Cause, Output, Served, StoreNo};
-use wl_clients::{ClientNo, Clients, ConnectError, Fed, Latest, PointerAsked, Stored, Taken};
+use wl_clients::{
+    ClientNo, Clients, ConnectError, Fed, Latest, MAX_CLIENTS, PointerAsked, Stored, Taken,
+};
 use wl_paint::{Damage, FrameError, Framebuffer};
 use wl_scene::{Focus, Target};
-
-/// How many clients there may be at once.
-const CLIENT_LIMIT: usize = 32;
 
 /// All clients with the windows that they show, the wl_pointers of each, the serials of its latest press and release, and the pointer. It is
 /// seen as what is kept of the clients, the wl_pointers and the serials of each client by number from 1, and the pointer; and which points of
@@ -237,7 +236,7 @@ impl<A: Allocator + Copy> Desk<A> {
         false
     }
 
-    /// Memory is wanting for a client that lives, and it ends by that; the focus of the pointer is settled. The windows of each client that
+    /// Memory runs out for a client that lives, and it ends by that; the focus of the pointer is settled. The windows of each client that
     /// ends are marked.
     pub fn starve(&mut self, client: ClientNo)
         ensures leads { (d : Desktop) → Agrees self.old.desk d → status_of (peer_at client d) ≡ Fed.Alive
@@ -415,7 +414,7 @@ impl<A: Allocator + Copy> Desk<A> {
         ensures some { IfSome result (λ k. (client ≡ k + 1) × (k < 32)) }
         ensures none { IfNone result ((client ≡ 0) ⊎ (32 < client)) }
     {
-        if client == 0 || client as usize > CLIENT_LIMIT {
+        if client == 0 || client as usize > MAX_CLIENTS {
             return None;
         }
         Some(client as usize - 1)
@@ -426,8 +425,8 @@ impl<A: Allocator + Copy> Desk<A> {
 fn seats_of<A: Allocator + Copy>(alloc: A) -> Result<Vec<Vec<u32, A>, A>, AllocError>
     ensures { IfOk result (λ seats. vec_len seats ≡ 32) }
 {
-    let mut seats = Vec::with_capacity(alloc, CLIENT_LIMIT)?;
-    for _ in 0..CLIENT_LIMIT {
+    let mut seats = Vec::with_capacity(alloc, MAX_CLIENTS)?;
+    for _ in 0..MAX_CLIENTS {
         seats.push(Vec::new(alloc))?;
     }
     Ok(seats)
@@ -437,14 +436,14 @@ fn seats_of<A: Allocator + Copy>(alloc: A) -> Result<Vec<Vec<u32, A>, A>, AllocE
 fn no_serials<A: Allocator + Copy>(alloc: A) -> Result<Vec<Latest, A>, AllocError>
     ensures { IfOk result (λ latest. vec_len latest ≡ 32) }
 {
-    let mut latest = Vec::with_capacity(alloc, CLIENT_LIMIT)?;
-    for _ in 0..CLIENT_LIMIT {
+    let mut latest = Vec::with_capacity(alloc, MAX_CLIENTS)?;
+    for _ in 0..MAX_CLIENTS {
         latest.push(none())?;
     }
     Ok(latest)
 }
 
-/// What became of a client's message, by how the client is then. That it lacked memory it is told as an error of wl_display; one that was too
+/// What became of a client's message, by how the client is then. That it ran out of memory it is told as an error of wl_display; one that was too
 /// slow is told nothing.
 fn served_of(fed: Fed) -> Served
     ensures { result ≡ served_of fed }

@@ -11,4 +11,4 @@ mod seating;
 mod seats;
 
 pub use desks::Desk;
-pub use wl_clients::{ClientNo, ConnectError, Done, Fed, Stored};
+pub use wl_clients::{ClientNo, ConnectError, Done, Fed, MAX_CLIENTS, Stored};

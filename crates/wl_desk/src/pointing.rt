@@ -31,11 +31,11 @@ use crate::desks::Desk;
 use crate::latest::note;
 use crate::seats::seat_of;
 use std::alloc::Allocator;
-use wl_clients::{ClientNo, PointerEvent};
+use wl_clients::{ClientNo, MAX_CLIENTS, PointerEvent};
 use wl_scene::{Action, Actions, Stacked, Target, fixed};
 
-/// How often the focus may have to be settled in a step: each time but the last ends a client, of 32.
-const SETTLINGS: usize = 33;
+/// How often the focus may have to be settled in a step: each time but the last ends a client.
+const SETTLINGS: usize = MAX_CLIENTS + 1;
 
 impl<A: Allocator + Copy> Desk<A> {
     /// The surface that the pointer hits, if it is anywhere.

@@ -44,8 +44,8 @@ impl<A: Allocator> Model for Framebuffer<A> {
     ghost invariant = { λ f. IsImage (record { width = f.width; height = f.height; background = f.background; pixels = f.bytes.items }) };
 }
 
-/// Whether an output may have this side.
-fn is_side(side: u32) -> bool
+/// Whether an output may have this side: 1 to [`MAX_SIDE`] pixels.
+pub fn is_side(side: u32) -> bool
     ensures { result ≡ is_side side }
 {
     1 <= side && side <= MAX_SIDE

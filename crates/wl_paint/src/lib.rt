@@ -18,6 +18,6 @@ mod windows;
 mod words;
 
 pub use damage::Damage;
-pub use framebuffer::{FrameError, Framebuffer, MAX_SIDE};
+pub use framebuffer::{FrameError, Framebuffer, MAX_SIDE, is_side};
 pub use ppm::write_ppm;
 pub use windows::{Painted, Windows};

@@ -37,7 +37,7 @@ unfolding refusals
 accepted-of app words matches is kinds =
     subst (λ (a : App). is_simple_and_free a ≡ true → fault_of a words ≡ []) is kinds (program-is_simple_and_free (is_paced words))
 
--- and those that it doesn't take by one of them, or for want of memory
+-- and those that it doesn't take by one of them, or where memory runs out
 pub refused-of : (app : App) (words : List Text) (error : Error) → app ≡ program (is_paced words)
     → (is_simple_and_free app ≡ true → FailsBy {T = ArgMatches} (fault_of app words) (Err error)) → HasKind (refusals words) error
 unfolding refusals

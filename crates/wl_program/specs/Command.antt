@@ -171,7 +171,7 @@ IsRefused words (refused.Usage error) = IsAmong (kind_of error) (refusals words)
 IsRefused words (refused.Fault fault.Memory) = ⊤
 IsRefused words (refused.Fault other) = HasFault words (refused.Fault other)
 
--- Which error clap's is: want of memory is a fault, and all else is of usage.
+-- Which error clap's is: out of memory is a fault, and all else is of usage.
 abbrev pub IsToldAs : Error → CommandError → Type 0
 IsToldAs error (refused.Usage told) = (told ≡ error) × (kind_of error ≢ OutOfMemory)
 IsToldAs error (refused.Fault told) = (told ≡ fault.Memory) × (kind_of error ≡ OutOfMemory)

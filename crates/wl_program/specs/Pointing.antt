@@ -31,7 +31,7 @@ abbrev pub IsNextLine : Option (List ℕ) → Option (List ℕ) → Option Point
 IsNextLine old new None = IsAtEnd old
 IsNextLine old new (Some line) = TakesPointer old new line
 
--- how the line of this number fails: only where it is bad, or for want of memory, or where it can't be read
+-- how the line of this number fails: only where it is bad, or where memory runs out, or where it can't be read
 abbrev pub FailsLine : ℕ → Option (List ℕ) → Fault → Type 0
 FailsLine number left Read = ⊤
 FailsLine number left (BadLine line) = (line ≡ number) × IsBadPointer left

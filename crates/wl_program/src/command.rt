@@ -87,7 +87,7 @@ impl From<clap::Error> for CommandError {
 /// What these words ask, of which the first is the program's name.
 ///
 /// `Usage` is clap's answer where it refuses the words, or shows its help or the version; `Fault::Rate` is for a rate that is none,
-/// `Fault::Size` for a size that is none, and `Fault::Memory` for want of memory.
+/// `Fault::Size` for a size that is none, and `Fault::Memory` where memory runs out.
 pub fn parse<'a>(alloc: Global, words: &'a [String]) -> Result<Asked<'a>, CommandError>
     ensures { MatchResult result (Asks (map string_bytes words.entry.now)) (IsRefused (map string_bytes words.entry.now)) }
 {

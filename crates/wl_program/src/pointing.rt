@@ -15,7 +15,7 @@ use wl_recording::{LINE_LIMIT, LineError, PointerLine, pointer_line, read_line};
 
 /// Reads the lines of the pointer's file, where there is one.
 ///
-/// `Read` is answered where it can't be opened or read, `BadLine` for the first line that is none of such a file, and `Memory` for want of
+/// `Read` is answered where it can't be opened or read, `BadLine` for the first line that is none of such a file, and `Memory` when it is out of
 /// memory.
 pub(crate) fn read_pointer<F: Files + AllocGlobal, A: Allocator + Copy>(
     files: &F,
@@ -52,7 +52,7 @@ fn opening_failed(error: io::Error) -> Fault
     }
 }
 
-/// Reads all lines. More than can be numbered are want of memory.
+/// Reads all lines. More than can be numbered are out of memory.
 fn read_lines<A: Allocator + Copy, R: BufRead>(
     alloc: A,
     reader: &mut R,

@@ -25,7 +25,7 @@ use Rattle.wl_replay.specs.Storing.{LacksFile, TellsFile, TellsStore}
 use Rattle.wl_recording.specs.Text.{client_line, frame_line, full_line, none_line}
 use Rattle.wl_replay.specs.Told.{IsSeenAt, Leads, Stage, Steps, Told, and_then, words}
 
--- what a connect tells, unless it wanted memory
+-- what a connect tells, unless it ran out of memory
 abbrev pub connect_told : Result ℕ ConnectError → Option Told
 connect_told (Ok client) = Some (record { text = client_line client; images = []; frames = 0; clients = 1 })
 connect_told (Err Full) = Some (words full_line)

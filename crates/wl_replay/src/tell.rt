@@ -10,10 +10,7 @@ use std::alloc::Allocator;
 use std::io;
 use std::io::Write;
 use wl_recording::{write_end, write_to};
-use wl_session::{Fed, Session};
-
-/// The greatest number of a client.
-const CLIENTS: u32 = 32;
+use wl_session::{Fed, MAX_CLIENTS, Session};
 
 /// Sends each client its unsent bytes, in rising number, and closes those that ended.
 pub(crate) fn tell_clients<A: Allocator + Copy, W: Write>(
@@ -23,8 +20,8 @@ pub(crate) fn tell_clients<A: Allocator + Copy, W: Write>(
     ensures { OnOk result ((old : Stage) → Stands session.old old → (new : Stage) × (text : List ℕ) × TellsFirst 32 old text new
         × Stands session.new new × Appends (W.contents writer.old) (W.contents writer.new) text) }
 {
-    for before in 0..CLIENTS {
-        tell_client(session, before + 1, writer)?;
+    for before in 0..MAX_CLIENTS {
+        tell_client(session, before as u32 + 1, writer)?;
     }
     Ok(())
 }

@@ -15,10 +15,10 @@ ghost use Rattle.wl_requests.specs.Residents.{Leaves};
 use crate::residents::Resident;
 use std::alloc::Allocator;
 use wl_proto::{Event, EventBody, XdgPopupEvent};
-use wl_surface::SurfaceNo;
+use wl_surface::{MAX_SURFACES, SurfaceNo};
 
-/// More popups than a client has: it has at most 256 surfaces.
-const PAST_POPUPS: u32 = 257;
+/// More popups than a client has: each is of another of its surfaces.
+const PAST_POPUPS: usize = MAX_SURFACES + 1;
 
 /// xdg_popup.popup_done.
 fn popup_done_event(popup: u32) -> Event<'static>

@@ -177,7 +177,7 @@ impl<A: Allocator + Copy> Resident<A> {
 
     /// Takes the first whole message of a client that lives, which asks this, and answers what that did. None where there is no whole message;
     /// then nothing is changed. Where there is no room for the windows that it leads to, a request that may change what several surfaces show
-    /// lacks memory, and nothing is applied; so does wl_seat.get_pointer where there is none for the new wl_pointer. A popup whose surface is
+    /// runs out of memory, and nothing is applied; so does wl_seat.get_pointer where there is none for the new wl_pointer. A popup whose surface is
     /// committed for the first time, or that is placed anew, is placed by what is handed in for that, and so is what a grab is allowed by.
     pub fn serve(
         &mut self,

@@ -14,7 +14,7 @@ use wl_proto::{Interface, WlSeatRequest};
 use wl_table::Entry;
 
 impl<A: Allocator + Copy> Resident<A> {
-    /// wl_seat.get_pointer: a new wl_pointer under a free id. It is told nothing here. Where there is no room for it, memory is wanting.
+    /// wl_seat.get_pointer: a new wl_pointer under a free id. It is told nothing here. Where there is no room for it, memory runs out.
     fn get_pointer(&mut self, version: u32, id: u32, has_room: bool)
         ensures answers { IsFree self.old id → AnswersDemand (λ r. Ok (GetPointer id version)) self.old self.new }
         ensures rest { Leaves self.old self.new }

@@ -51,7 +51,7 @@ impl<A: Allocator + Copy> Resident<A> {
         }
     }
 
-    /// A child isn't placed beside a surface that is neither its parent nor another child of that, or for want of memory.
+    /// A child isn't placed beside a surface that is neither its parent nor another child of that, or where memory runs out.
     fn refuse_place(&mut self, object: u32, error: SurfaceError)
         ensures ended { is_some self.new.client.ended ≡ true }
         ensures errs { error ≡ SurfaceError.NotSibling → (p : Peer) → IsPeer self.old.client p

@@ -52,7 +52,7 @@ impl<A: Allocator + Copy> Resident<A> {
     }
 
     /// xdg_popup.destroy: its id is given back. It is refused while a living popup has it as its parent. Where there is no room for the windows
-    /// that it leads to, its client lacks memory.
+    /// that it leads to, its client is out of memory.
     fn destroy_popup(
         &mut self,
         object: u32,

@@ -18,26 +18,7 @@ use crate::{Owned, Scene, Surface};
 use std::alloc::Allocator;
 use wl_geom::Rect;
 use wl_shell::{Placed, Shell, XdgSurface};
-use wl_surface::{SurfaceNo, Surfaces};
-
-/// The coordinates of a surface are held within -16,777,216 to 16,777,216 pixels.
-const BOUND: i64 = 16_777_216;
-
-/// How many of a chain of parents are looked at: a client has no more surfaces.
-const MOST_SURFACES: u32 = 256;
-
-/// A coordinate in pixels, held within the bounds.
-fn held(exact: i64) -> i32
-    ensures { result ≡ within_bounds exact }
-{
-    if exact < -BOUND {
-        return -16_777_216;
-    }
-    if exact > BOUND {
-        return 16_777_216;
-    }
-    exact as i32
-}
+use wl_surface::{MAX_SURFACES, SurfaceNo, Surfaces, held};
 
 /// A coordinate and a distance from it in pixels, held within the bounds.
 fn held_sum(place: i32, by: i32) -> i32
@@ -263,6 +244,6 @@ pub fn parent_corner<A: Allocator + Copy>(
     ensures { (o : Owns) → IsHeld owned.now.surfaces.states owned.now.surfaces.family owned.now.shell o
         → record { x = result.0; y = result.1 } ≡ parent_corner scene.now.standing client o parent }
 {
-    let corner = corner_at_parent(scene, client, owned, MOST_SURFACES, parent);
+    let corner = corner_at_parent(scene, client, owned, MAX_SURFACES as u32, parent);
     (corner.x, corner.y)
 }

@@ -292,7 +292,7 @@ fn add_all<A: Allocator + Copy>(
 ///
 /// # Errors
 ///
-/// An `Err` is for want of memory, and adds nothing. There is none where there is room for the roots already.
+/// An `Err` means that memory ran out, and adds nothing. There is none where there is room for the roots already.
 pub fn add_roots<A: Allocator + Copy>(
     owned: &Owned<A>,
     toplevel: SurfaceNo,

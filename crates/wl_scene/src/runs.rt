@@ -84,7 +84,7 @@ fn take_out<A: Allocator>(all: &mut Vec<Stacked, A>, run: Run)
 ///
 /// # Errors
 ///
-/// An `Err` is for want of memory, and changes nothing.
+/// An `Err` means that memory ran out, and changes nothing.
 pub(crate) fn replace_in<A: Allocator>(
     all: &mut Vec<Stacked, A>,
     client: u32,

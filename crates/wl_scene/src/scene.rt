@@ -122,12 +122,12 @@ impl<A: Allocator> Scene<A> {
     }
 
     /// A toplevel is mapped: it stands on top, in the next place (xdg-shell.xml, xdg_surface: mapping). That it isn't mapped yet is the
-    /// caller's condition. The toplevels are kept in `spare` from then on, and what they were kept in is the spare one: mapping wants no
+    /// caller's condition. The toplevels are kept in `spare` from then on, and what they were kept in is the spare one: mapping takes no
     /// memory where that has room for one more than stand. What it held before is lost.
     ///
     /// # Errors
     ///
-    /// An `Err` is for want of memory, and changes nothing of the scene.
+    /// An `Err` means that memory ran out, and changes nothing of the scene.
     pub fn map(&mut self, surface: Surface, spare: &mut Vec<Toplevel, A>) -> Result<(), AllocError>
         ensures ok { OnOk result (self.new ≡ mapped_on surface.client surface.surface self.old) }
         ensures err { OnErr result (self.new ≡ self.old) }

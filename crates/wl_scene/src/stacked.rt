@@ -40,7 +40,7 @@ pub(crate) fn is_of_client(stacked: &Stacked, client: u32) -> bool
 ///
 /// # Errors
 ///
-/// An `Err` is for want of memory, and changes no window.
+/// An `Err` means that memory ran out, and changes no window.
 pub(crate) fn reserve_both<A: Allocator>(
     all: &mut Vec<Stacked, A>,
     spare: &mut Vec<TreeWindow, A>,
@@ -62,7 +62,7 @@ pub(crate) fn reserve_both<A: Allocator>(
 ///
 /// # Errors
 ///
-/// An `Err` is for want of memory, and adds nothing.
+/// An `Err` means that memory ran out, and adds nothing.
 pub(crate) fn add_all<A: Allocator>(
     all: &mut Vec<Stacked, A>,
     client: u32,

@@ -31,7 +31,7 @@ fn add_root<A: Allocator + Copy>(
 ///
 /// # Errors
 ///
-/// An `Err` is for want of memory: then those of the first roots alone may have come. There is none where there is room for all of them already.
+/// An `Err` means that memory ran out: then those of the first roots alone may have come. There is none where there is room for all of them already.
 pub fn add_trees<A: Allocator + Copy>(
     surfaces: &Surfaces<A>,
     roots: &[RootPlace],

@@ -49,7 +49,7 @@ impl<A: Allocator + Copy> StackedWindows<A> {
     }
 
     /// The windows stacked with a toplevel are those of the trees of these roots, tree after tree and one by one, where the roots are placed now:
-    /// there are as many of them. It wants no memory.
+    /// there are as many of them. It takes no memory.
     pub fn move_run(
         &mut self,
         client: u32,
@@ -104,11 +104,11 @@ impl<A: Allocator> StackedWindows<A> {
         }
     }
 
-    /// Makes room for so many windows more: as long as no windows are added, adding or replacing so many wants no memory.
+    /// Makes room for so many windows more: as long as no windows are added, adding or replacing so many takes no memory.
     ///
     /// # Errors
     ///
-    /// An `Err` is for want of memory, and changes nothing.
+    /// An `Err` means that memory ran out, and changes nothing.
     pub fn reserve(&mut self, count: usize) -> Result<(), AllocError>
         ensures windows { self.new.windows ≡ self.old.windows }
         ensures room { self.old.room ≤ self.new.room }
@@ -121,7 +121,7 @@ impl<A: Allocator> StackedWindows<A> {
     ///
     /// # Errors
     ///
-    /// An `Err` is for want of memory, and changes nothing. There is none where there is room for the windows already.
+    /// An `Err` means that memory ran out, and changes nothing. There is none where there is room for the windows already.
     pub fn push(
         &mut self,
         client: u32,
@@ -141,7 +141,7 @@ impl<A: Allocator> StackedWindows<A> {
     ///
     /// # Errors
     ///
-    /// An `Err` is for want of memory, and changes nothing. There is none where there is room for the windows already.
+    /// An `Err` means that memory ran out, and changes nothing. There is none where there is room for the windows already.
     pub fn replace(
         &mut self,
         client: u32,

@@ -12,10 +12,7 @@ use crate::span::{side_on_output, span_on_output};
 use std::alloc::Allocator;
 use wl_geom::Rect;
 use wl_store::Transform;
-use wl_surface::{SurfaceNo, Surfaces};
-
-/// The coordinates of a surface are held within -16,777,216 to 16,777,216 pixels.
-const BOUND: i64 = 16_777_216;
+use wl_surface::{SurfaceNo, Surfaces, held};
 
 /// A window of a tree: its surface, the surface at the root of the tree, where its upper left corner is on the output and its size, in
 /// pixels, and how its buffer is turned and scaled (wayland.xml, wl_subcompositor, wl_surface.set_buffer_transform and set_buffer_scale).
@@ -65,19 +62,6 @@ pub(crate) struct Spot {
     pub root: SurfaceNo,
     pub corner: Point,
     pub position: Point,
-}
-
-/// A coordinate in pixels, held within the bounds.
-fn held(exact: i64) -> i32
-    ensures { result ≡ within_bounds exact }
-{
-    if exact < -BOUND {
-        return -16_777_216;
-    }
-    if exact > BOUND {
-        return 16_777_216;
-    }
-    exact as i32
 }
 
 /// The sum of a corner, a position from it and an offset, in pixels, held within the bounds.

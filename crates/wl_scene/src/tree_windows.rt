@@ -8,11 +8,11 @@ ghost use Rattle.wl_scene.specs.TreeWindows.{Continues, place_beside, placed_win
 
 use crate::tree_window::{Point, Spot, TreeWindow, window_of};
 use std::alloc::{AllocError, Allocator};
-use wl_links::{Member, Placed};
+use wl_links::{MAX_DEPTH, Member, Placed};
 use wl_surface::{SurfaceNo, Surfaces};
 
-/// The levels of a tree: subsurfaces stand at most 16 levels below their root.
-const LEVELS: u8 = 17;
+/// The levels of a tree: that of its root, and those below it.
+const LEVELS: u8 = MAX_DEPTH as u8 + 1;
 
 /// Adds what stands at one place in the stack of a surface with this window: the window itself, or the windows of a child, down to so many
 /// levels.
@@ -115,7 +115,7 @@ fn add_tree<A: Allocator + Copy>(
 ///
 /// # Errors
 ///
-/// An `Err` is for want of memory, and adds nothing. There is none where there is room for the windows already.
+/// An `Err` means that memory ran out, and adds nothing. There is none where there is room for the windows already.
 pub fn add_windows<A: Allocator + Copy>(
     surfaces: &Surfaces<A>,
     root: SurfaceNo,

@@ -5,6 +5,7 @@ ghost use Rattle.wl_server.specs.Seats.{nobody};
 ghost use Rattle.wl_server.specs.Phases.{new_seat};
 
 use std::marker::Model;
+use wl_session::MAX_CLIENTS;
 
 /// The connection of a client.
 #[derive(Drop)]
@@ -33,14 +34,11 @@ impl<C: Drop> Seat<C> {
     }
 }
 
-/// How many clients there may be at once.
-const CLIENTS: usize = 32;
-
 /// The connections of all clients, by number from 1, and how many were accepted so far. It is seen as that, and as the connection that each
 /// client has.
 #[derive(Drop)]
 pub struct Connections<C: Drop> {
-    pub(crate) seats: [Option<Seat<C>>; CLIENTS],
+    pub(crate) seats: [Option<Seat<C>>; MAX_CLIENTS],
     pub(crate) accepted: u32,
 }
 
@@ -54,10 +52,10 @@ impl<C: Drop> Model for Connections<C> {
 }
 
 /// No client has a connection.
-fn no_seats<C: Drop>() -> [Option<Seat<C>>; CLIENTS]
+fn no_seats<C: Drop>() -> [Option<Seat<C>>; MAX_CLIENTS]
     ensures { result ≡ replicate 32 None }
 {
-    [const { None }; CLIENTS]
+    [const { None }; MAX_CLIENTS]
 }
 
 impl<C: Drop> Connections<C> {

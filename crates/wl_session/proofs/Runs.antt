@@ -190,6 +190,6 @@ ran-seen acts films old new takes = λ d a.
       (λ liars last broke right. stays_right nothing_left_out (moment d old) (moment ran.desktop new) ran.events liars last ran.apart leads broke right),
     )
 
--- the step at a place may want memory
+-- the step at a place may run out of memory
 pub MayStopAt-here : (steps : List Step) (n : ℕ) (x : Step) → n < length steps → IsTrue (takes_memory (act_of (get_or steps n x))) → MayStopAt steps n
 MayStopAt-here steps n x h may = rw (slice_get-get_or steps n x h) may

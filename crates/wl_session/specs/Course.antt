@@ -18,7 +18,7 @@ use Rattle.wl_session.specs.Viewer.{Sight}
 abbrev pub moment : Desktop → SessionView → Moment
 moment d v = record { desktop = d; damage = v.damage; frame = v.frame }
 
--- What a step is: a piece of a stream is its bytes as they come and then so many messages, or want of memory to keep it, or nothing, as
+-- What a step is: a piece of a stream is its bytes as they come and then so many messages, or running out of memory to keep it, or nothing, as
 -- where its client ended; any other step is by itself.
 abbrev pub AreParts : Act → Done → List Happening → Type 0
 AreParts Connect done parts = parts ≡ Single Connect done ∷ []

@@ -87,6 +87,6 @@ takes_memory (Close c) = false
 takes_memory (Motion time x y) = false
 takes_memory (Button time button pressed) = false
 
--- the step with this index, counted from 0, may want memory
+-- the step with this index, counted from 0, may run out of memory
 abbrev pub MayStopAt : List Step → ℕ → Type 0
 MayStopAt steps n = IsSomeAnd (slice_get steps n) (λ step. IsTrue (takes_memory (act_of step)))

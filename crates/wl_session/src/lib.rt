@@ -15,5 +15,5 @@ pub use shots::{Frame, Run, Shot};
 pub use steps::{RunError, Step};
 pub use wl_blend::Rgb;
 pub use wl_client::{Cause, StoreNo};
-pub use wl_desk::{ClientNo, ConnectError, Done, Fed, Stored};
+pub use wl_desk::{ClientNo, ConnectError, Done, Fed, MAX_CLIENTS, Stored};
 pub use wl_paint::{Damage, FrameError, Framebuffer, MAX_SIDE, write_ppm};

@@ -10,7 +10,7 @@ use std::alloc::{AllocError, Allocator};
 ///
 /// # Errors
 ///
-/// An `Err` is for want of memory, and changes nothing.
+/// An `Err` means that memory ran out, and changes nothing.
 pub fn put_rising<A: Allocator>(ids: &mut Vec<u32, A>, id: u32) -> Result<(), AllocError>
     requires { IsStrictlyIncreasing ids.old.items }
     ensures rising { IsStrictlyIncreasing ids.new.items }

@@ -246,7 +246,7 @@ module _ (left : LeftOut) (c : ℕ) (r : Resident) (d e : Desktop) (is : client_
   becomes-settled : (Q : Peer → Type 0) (now : Resident) → Becomes Q c now d e → StepBecomes Q c now d e
   becomes-settled Q now h = becomes-whole Q c now d e order.pointer h
 
-  -- what may want memory is done where there was enough
+  -- what may run out of memory is done where there was enough
   wants-done : (b : Bool) (Later : Type 0) (now : Resident) → Later → WantsOr b Later c now d e
   wants-done false Later now h = h
   wants-done true Later now h = inr h
@@ -288,7 +288,7 @@ module _ (left : LeftOut) (c : ℕ) (r : Resident) (d e : Desktop) (is : client_
         ap (λ (x : Desktop). is_some (status_in c x)) h.2 ∙ ap (λ s. is_some s) (status-become c now h.0 d r is) ∙ over-some h.0.status (never h.0 h.1) in
         (e ∷ e ∷ [], (h.0, h.1, still-through (becomes c now h.0 d) e (h.2 ∙ sym same) still), (refl, over))
 
-    -- what may want memory is done where there was enough
+    -- what may run out of memory is done where there was enough
     wants-through : (b : Bool) (Then : Type 0) (now : Resident) (path : List Desktop) → Then → WantsOrThen b Then c now d (settling_through path e)
     wants-through false Then now path h = h
     wants-through true Then now path h = inr h

@@ -36,7 +36,7 @@ use Rattle.law_desktop.proofs.Pieces.Settling.{behind-same, ended-longer, queues
 abbrev pub more_behind : List ℕ → Resident → Resident
 more_behind more r = with_behind (r.peer.rest ++ more) r
 
--- ---- a client is refused, or lacks memory
+-- ---- a client is refused, or runs out of memory
 
 -- for some cause
 abbrev IsEnded : Peer → Type 0

@@ -114,7 +114,7 @@ module _ (left : LeftOut) (c id version : ℕ) (d : Desktop) (path : List Deskto
   abbrev Both : (List Desktop → Desktop → Type 0) → Type 0
   Both Step = (path ≡ e ∷ e ∷ []) × ((later : List Desktop) (new : Desktop) → settling_through later new told → Step later new)
 
-  -- one that ended for want of memory isn't told
+  -- one that ended as out of memory isn't told
   lacked : (r : Resident) → BecomesThen (LacksMemory r.peer) c r (unpointed d) (settling_through path e)
       → Both (λ later new. BecomesThen (LacksMemory r.peer) c r d (settling_through later new))
   lacked r h =

@@ -164,7 +164,7 @@ done-still c (EndPopup id xdg) r d = refl
 done-still c (EndToplevel id xdg surface) r d = refl
 done-still c (Move surface serial) r d = refl
 
--- what may want memory doesn't begin to move a toplevel
+-- what may run out of memory doesn't begin to move a toplevel
 pub plain-for : (demand : Demand) (c : ℕ) (d : Desktop) → wants_memory demand ≡ true → pointer_for demand c d ≡ d.pointer
 plain-for (Asks ask) c d wants = refl
 plain-for (EndSurface id) c d wants = refl

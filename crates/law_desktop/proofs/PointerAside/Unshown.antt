@@ -44,7 +44,7 @@ module _ (left : LeftOut) (c id version : ℕ) (d : Desktop) (path : List Deskto
   abbrev Same : Type 0
   Same = all_windows e ≡ all_windows d
 
-  -- for want of memory it ended
+  -- it ended as out of memory
   lacked : (r : Resident) → BecomesThen (LacksMemory r.peer) c r d (settling_through path e) → Same
   lacked r h =
       let q : Peer = h.0 in

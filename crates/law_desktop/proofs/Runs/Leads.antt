@@ -1,4 +1,4 @@
--- From the middle of a step, to what does it lead? To one thing, where no want of memory is met.
+-- From the middle of a step, to what does it lead? To one thing, where memory doesn't run out.
 use Rattle.std.proofs.Common.{◌≡◌, ℕ, Some, subst, sym, ◌∙◌, inl, inr}
 use Rattle.std.specs.Prelude.{◌⊎◌}
 use Rattle.spec_desktop.specs.declared.cause.Cause.TheVariants.{Memory}
@@ -11,7 +11,7 @@ Sound m = AreStruck m.struck m.desktop.clients
 abbrev pub After : Midstep → Midstep → Type 0
 After old new = Follows old.struck old.desktop.clients new.struck new.desktop.clients
 
--- for want of memory no client ends or is to end that wasn't before
+-- no client ends, or is to end, as out of memory that wasn't before
 abbrev pub Spares : Midstep → Midstep → Type 0
 Spares old new = (c : ℕ) → fate c new.struck new.desktop.clients ≡ Some Memory → fate c old.struck old.desktop.clients ≡ Some Memory
 

@@ -1,4 +1,4 @@
--- Where no want of memory is met, what happens is determined.
+-- Where memory doesn't run out, what happens is determined.
 use Rattle.std.proofs.Common.{◌≡◌, ℕ, ◌≤◌, List, length, Option, Some, None, refl, ap, sym, ◌∙◌, arith, inl, inr}
 use Rattle.std.specs.Prelude.{ℤ, ◌+◌, false, true}
 use Rattle.spec_desktop.specs.declared.cause.Cause.{Cause}

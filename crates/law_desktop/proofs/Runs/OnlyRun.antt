@@ -1,4 +1,4 @@
--- Where no want of memory is met, a list of acts has one run.
+-- Where memory doesn't run out, a list of acts has one run.
 use Rattle.std.proofs.Common.{[], ◌∷◌, refl, ap, subst, sym, ◌∙◌, arith}
 use Rattle.law_desktop.specs.RunLaws.{HadMemoryAll, Lasts, OnlyRun}
 use Rattle.law_desktop.proofs.Runs.OneRun.{happens-long, one_run}

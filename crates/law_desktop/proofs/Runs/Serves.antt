@@ -54,7 +54,7 @@ module _ (c : ℕ) (d : Desktop) (lives : Lives c d.clients) where
       ap (λ rs. status_of (client_in rs c)) (becomes-by q.status c r q d) ∙ status-here d.clients c lives (Some (left_by q.status r q))
       ∙ ap (λ p. p.status) (left-peer q.status r q)
 
-  -- where it ends for want of memory, it isn't spared
+  -- where it ends as out of memory, it isn't spared
   pub unspared : (new : Desktop) → Spares (unstruck d) (unstruck new) → status_in c new ≢ Some Memory
   unspared new fine e = none-some Memory (sym (status-lives d.clients c lives None) ∙ fine c e)
 

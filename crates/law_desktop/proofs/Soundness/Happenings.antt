@@ -33,7 +33,7 @@ happenings_are_sound left output hs d h =
     let orderly : AreOrderly d = leads-all-orderly left hs (empty output) d (empty-orderly output) h in
     (orderly-is-sound d orderly, λ one path new k. all-sound path new (λ c. leads-known c left one d path new (orderly c) k))
 
--- the end of a client for want of memory, without the desktops on the way
+-- the end of a client that is out of memory, without the desktops on the way
 pub stops : (c : ℕ) (o : Option Resident) (d : Desktop) (path : List Desktop) (e : Desktop) → StarvesAt c o d path e → StopsAt c o d e
 stops c None d path e h = absurd h
 stops c (Some r) d path e h = inr (h.0, settling-without path e (unstruck (becomes c r (ended Memory r.peer) d)) h.1)
@@ -73,7 +73,7 @@ module _ (left : LeftOut) (c : ℕ) where
   reaches zero d e h = h
   reaches (suc n) d e h = before n d h.1 e ((messages_lead_through left c d h.1).0 h.0 h.2) (reaches n h.1 e h.3)
 
-  -- no message is left to be taken, or memory is wanting
+  -- no message is left to be taken, or memory runs out
   stopped : (o : Option Resident) (d e : Desktop) → client_at c d ≡ o → StopsAt c o d e → ((e ≡ d) × HasTakenAll c e) ⊎ LeadsAll left (Starve c ∷ []) d e
   stopped None d e found h = absurd h
   stopped (Some r) d e found (inl h) =

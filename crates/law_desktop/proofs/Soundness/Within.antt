@@ -98,7 +98,7 @@ module _ (c : ℕ) where
           serves-then left a c differ IsOrderlyAt Anyhow (focus-stays frames) (AllKnown c path new) (settling_through path new)
           (λ mid within. all-settling path new mid within.0) (client_at a d) d known h
 
-  -- memory is wanting for a client
+  -- memory runs out for a client
   starves-known : (a : ℕ) (o : Option Resident) (d : Desktop) (path : List Desktop) (new : Desktop)
       → client_at a d ≡ o → Known c d → StarvesAt a o d path new → AllKnown c path new
   starves-known a None d path new found known h = absurd h

@@ -54,7 +54,7 @@ QuietApart =
 
 -- ---- where its client ends
 
--- memory is wanting, or a client that lives goes
+-- memory runs out, or a client that lives goes
 abbrev pub IsEndOf : ℕ → Happening → Type 0
 IsEndOf c h = (h ≡ Starve c) ⊎ (h ≡ Single (Leave c) (gave.Gone true))
 

@@ -122,7 +122,7 @@ fn run_with_memory(alloc: Global, served: u64) -> Outcome {
     )
 }
 
-/// Whether the report tells that client 1 ended for want of memory.
+/// Whether the report tells that client 1 ended as out of memory.
 fn ends_for_memory(report: &[u8]) -> bool {
     report
         .windows(12)

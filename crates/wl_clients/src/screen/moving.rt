@@ -21,7 +21,7 @@ use std::alloc::{AllocError, Allocator};
 use wl_paint::Damage;
 use wl_requests::Resident;
 use wl_scene::{Owned, Surface, TreeWindow, mark_trees};
-use wl_surface::{Change, SurfaceNo};
+use wl_surface::{Change, SurfaceNo, held};
 
 /// The windows of a toplevel before it is moved and after.
 #[derive(Drop)]
@@ -31,7 +31,7 @@ pub(crate) struct Moving<A: Allocator> {
 }
 
 impl<A: Allocator + Copy> Moving<A> {
-    /// None yet. An `Err` is for want of memory.
+    /// None yet. An `Err` means that memory ran out.
     pub(crate) fn new(alloc: A) -> Result<Self, AllocError> {
         Ok(Moving {
             was: Run::new(alloc)?,
@@ -39,9 +39,6 @@ impl<A: Allocator + Copy> Moving<A> {
         })
     }
 }
-
-/// The coordinates of a surface are held within -16,777,216 to 16,777,216 pixels.
-const BOUND: i64 = 16_777_216;
 
 /// Farther than from one coordinate to any other.
 const FAR: i64 = 1 << 40;
@@ -53,28 +50,12 @@ struct Spot {
     y: i32,
 }
 
-/// A coordinate in pixels, held within the bounds.
-fn held(exact: i64) -> i32
-    ensures { result ≡ within_bounds exact }
-{
-    if exact < -BOUND {
-        return -16_777_216;
-    }
-    if exact > BOUND {
-        return 16_777_216;
-    }
-    exact as i32
-}
-
 /// A coordinate in pixels, so far from where it was, and held within the bounds.
 fn moved(from: i32, by: i64) -> i32
     ensures { result ≡ within_bounds (from +ℤ by) }
 {
-    if by < -FAR {
-        return -16_777_216;
-    }
-    if by > FAR {
-        return 16_777_216;
+    if by < -FAR || by > FAR {
+        return held(by);
     }
     held(i64::from(from) + by)
 }

@@ -11,10 +11,10 @@ ghost use Rattle.wl_shell.specs.Popups.{popups_of};
 use std::alloc::{AllocError, Allocator};
 use std::marker::Model;
 use wl_scene::{Owned, RootPlace, add_roots};
-use wl_surface::SurfaceNo;
+use wl_surface::{MAX_SURFACES, SurfaceNo};
 
-/// A toplevel and as many popups as a client has surfaces, which are 256 at most.
-const MOST_ROOTS: usize = 257;
+/// A toplevel and as many popups as a client may have surfaces.
+const MOST_ROOTS: usize = MAX_SURFACES + 1;
 
 /// The roots of the windows of one toplevel, each with its place. There is room for as many as a client can have.
 #[derive(Drop)]
@@ -34,7 +34,7 @@ impl<A: Allocator> Model for Roots<A> {
 }
 
 impl<A: Allocator + Copy> Roots<A> {
-    /// None yet. An `Err` is for want of memory.
+    /// None yet. An `Err` means that memory ran out.
     pub(crate) fn new(alloc: A) -> Result<Self, AllocError> {
         let mut places = Vec::new(alloc);
         places.try_reserve(MOST_ROOTS)?;

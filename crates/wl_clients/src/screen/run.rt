@@ -6,11 +6,9 @@ ghost use Rattle.wl_clients.specs.Runs.{windows_told};
 use std::alloc::{AllocError, Allocator};
 use std::marker::Model;
 use wl_scene::{Stacked, TreeWindow};
+use wl_surface::MAX_SURFACES;
 
-/// As many windows as a client has surfaces, which are 256 at most: each window is of another.
-const MOST_WINDOWS: usize = 256;
-
-/// The windows that are stacked with one toplevel. There is room for as many as a client can have.
+/// The windows that are stacked with one toplevel. There is room for as many as a client can have: each is of another of its surfaces.
 #[derive(Drop)]
 pub(crate) struct Run<A: Allocator> {
     windows: Vec<TreeWindow, A>,
@@ -28,10 +26,10 @@ impl<A: Allocator> Model for Run<A> {
 }
 
 impl<A: Allocator> Run<A> {
-    /// None yet. An `Err` is for want of memory.
+    /// None yet. An `Err` means that memory ran out.
     pub(crate) fn new(alloc: A) -> Result<Self, AllocError> {
         let mut windows = Vec::new(alloc);
-        windows.try_reserve(MOST_WINDOWS)?;
+        windows.try_reserve(MAX_SURFACES)?;
         Ok(Run { windows })
     }
 

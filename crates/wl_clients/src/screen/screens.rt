@@ -56,7 +56,7 @@ pub(crate) fn toplevel_of<A: Allocator>(scene: &Scene<A>, surface: Surface) -> O
 }
 
 impl<A: Allocator + Copy> Screen<A> {
-    /// No toplevel stands, and these points are to be painted again. An `Err` is for want of memory.
+    /// No toplevel stands, and these points are to be painted again. An `Err` means that memory ran out.
     pub fn new(alloc: A, damage: Damage<A>) -> Result<Self, AllocError>
         ensures scene { IfOk result (λ screen. screen.scene ≡ record { standing = []; next = 0 }) }
         ensures windows { IfOk result (λ screen. screen.stacked.windows ≡ []) }
@@ -111,7 +111,7 @@ impl<A: Allocator + Copy> Screen<A> {
     }
 
     /// The windows of this toplevel, if there is one, are kept as they are before a message, and there is room for a toplevel more and for as
-    /// many windows more as the client has surfaces. An `Err` is for want of memory.
+    /// many windows more as the client has surfaces. An `Err` means that memory ran out.
     pub(crate) fn prepare(
         &mut self,
         client: ClientNo,
