@@ -19,8 +19,6 @@ mod hits;
 #[cfg(test)]
 mod images;
 #[cfg(test)]
-mod linked;
-#[cfg(test)]
 mod painting;
 #[cfg(test)]
 mod pictures;
@@ -45,13 +43,15 @@ mod shells;
 #[cfg(test)]
 mod stacked;
 #[cfg(test)]
+mod state_cases;
+#[cfg(test)]
+mod states;
+#[cfg(test)]
 mod stores;
 #[cfg(test)]
 mod subsurfaces;
 #[cfg(test)]
 mod support;
-#[cfg(test)]
-mod surface_cases;
 #[cfg(test)]
 mod surfaces;
 #[cfg(test)]

@@ -110,7 +110,7 @@ fn positioner() -> Result<Positioner, ShellError> {
 }
 
 // Attaches a buffer of 4 by 4 pixels, so many pixels to the right, and commits.
-fn shows<A: Allocator + Copy>(linked: &mut Surfaces<A>, surface: SurfaceNo, right: i32) -> bool {
+fn shows<A: Allocator + Copy>(surfaces: &mut Surfaces<A>, surface: SurfaceNo, right: i32) -> bool {
     if let Ok(layout) = layout(64, 0, 4, 4, 16, 1) {
         let buffer = Attached {
             number: surface as u64,
@@ -118,9 +118,9 @@ fn shows<A: Allocator + Copy>(linked: &mut Surfaces<A>, surface: SurfaceNo, righ
             store: 1,
             layout,
         };
-        linked.states.attach(surface, Some(buffer), right, 0);
+        surfaces.states.attach(surface, Some(buffer), right, 0);
     }
-    linked.commit(surface).is_ok()
+    surfaces.commit(surface).is_ok()
 }
 
 // The window geometry is set, and the first configure acknowledged.

@@ -136,10 +136,12 @@ fn has_run_of<A: Allocator>(all: &StackedWindows<A>, wanted: &[TreeWindow]) -> b
 // xdg_toplevel.move: the windows of a toplevel come to another place of the output, and stay where they are in the stack.
 #[test]
 fn a_toplevel_comes_to_another_place(rt: HostRuntime) {
-    let mut linked = Surfaces::new(rt.alloc());
+    let mut surfaces = Surfaces::new(rt.alloc());
     let mut all = StackedWindows::new(rt.alloc());
     let mut windows = Vec::new(rt.alloc());
-    assert!(rt; has_family(&mut linked) && add_windows(&linked, 0, 10, 20, &mut windows).is_ok());
+    assert!(rt;
+        has_family(&mut surfaces) && add_windows(&surfaces, 0, 10, 20, &mut windows).is_ok()
+    );
     assert!(rt; !all.has_toplevel(1, 0) && all.push(1, 0, &windows).is_ok());
     assert!(rt; !all.has_toplevel(1, 7) && all.push(1, 7, &[window(7)]).is_ok());
     let root = RootPlace {
@@ -147,7 +149,7 @@ fn a_toplevel_comes_to_another_place(rt: HostRuntime) {
         x: -30,
         y: 5,
     };
-    all.move_run(1, 0, &linked, &[root]);
+    all.move_run(1, 0, &surfaces, &[root]);
     assert!(rt;
         has_run_of(
             &all,
@@ -200,10 +202,10 @@ fn popups_are_stacked_with_their_toplevel(rt: HostRuntime) {
 // The trees of several roots come to other places one after another.
 #[test]
 fn a_toplevel_takes_its_popups_along(rt: HostRuntime) {
-    let mut linked = Surfaces::new(rt.alloc());
+    let mut surfaces = Surfaces::new(rt.alloc());
     let mut all = StackedWindows::new(rt.alloc());
     let mut windows = Vec::new(rt.alloc());
-    assert!(rt; has_family(&mut linked));
+    assert!(rt; has_family(&mut surfaces));
     let roots = [
         RootPlace {
             surface: 1,
@@ -216,7 +218,7 @@ fn a_toplevel_takes_its_popups_along(rt: HostRuntime) {
             y: 40,
         },
     ];
-    assert!(rt; add_trees(&linked, &roots, &mut windows).is_ok() && windows.len() == 3);
+    assert!(rt; add_trees(&surfaces, &roots, &mut windows).is_ok() && windows.len() == 3);
     assert!(rt; !all.has_toplevel(1, 1) && all.push(1, 1, &windows).is_ok());
     let moved = [
         RootPlace {
@@ -230,7 +232,7 @@ fn a_toplevel_takes_its_popups_along(rt: HostRuntime) {
             y: 42,
         },
     ];
-    all.move_run(1, 1, &linked, &moved);
+    all.move_run(1, 1, &surfaces, &moved);
     for (stacked, window) in all.run(1, 1).iter().zip(&windows) {
         assert!(rt;
             stacked.window.surface == window.surface

@@ -1,577 +1,377 @@
-use crate::calls::{attach, commit, create, damage, destroy, set_input, set_opaque};
-use crate::surface_cases::{CASES, NO_SURFACE};
-use std::alloc::{Allocator, Global};
+use std::alloc::Allocator;
 use test_support::Refusing;
-use wl_geom::{Rect, Region};
-use wl_store::Transform;
-use wl_surface::{
-    Attached, BufferNo, MAX_SURFACES, Offset, Role, SurfaceError, SurfaceNo, SurfaceStates,
-};
+use wl_geom::Rect;
+use wl_links::{Member, Placed};
+use wl_store::layout;
+use wl_surface::{Attached, BufferNo, Role, SurfaceError, SurfaceNo, Surfaces, Told};
 
-const FOUR_BY_FOUR: Rect = Rect {
+const ROOT: SurfaceNo = 0;
+
+const CHILD: SurfaceNo = 1;
+
+const ITSELF: Placed = Placed {
+    member: Member::Itself,
     x: 0,
     y: 0,
-    w: 4,
-    h: 4,
 };
 
-fn attaches<A: Allocator + Copy>(
-    surfaces: &mut SurfaceStates<A>,
+fn child_at(child: SurfaceNo, x: i32, y: i32) -> Placed {
+    Placed {
+        member: Member::Child(child),
+        x,
+        y,
+    }
+}
+
+fn stack_is<A: Allocator + Copy>(
+    surfaces: &Surfaces<A>,
     surface: SurfaceNo,
-    number: BufferNo,
-    x: i32,
-    y: i32,
+    wanted: &[Placed],
 ) -> bool {
-    attach(surfaces, surface, number, x, y);
-    true
+    surfaces.family.stack(surface) == wanted
 }
 
-fn detaches<A: Allocator + Copy>(surfaces: &mut SurfaceStates<A>, x: i32, y: i32) -> bool {
-    surfaces.attach(0, None, x, y);
-    true
-}
-
-// Whether buffer 7 is used so, is busy so, and the surface has content so.
-fn reads<A: Allocator>(
-    surfaces: &SurfaceStates<A>,
-    surface: SurfaceNo,
-    is_used: bool,
-    is_busy: bool,
-    has_content: bool,
-) -> bool {
-    surfaces.is_used(7) == is_used
-        && surfaces.is_busy(7) == is_busy
-        && surfaces.has_content(surface) == has_content
-}
-
-fn number(buffer: Option<Attached>) -> Option<BufferNo> {
-    Some(buffer?.number)
-}
-
-fn pending<A: Allocator>(surfaces: &SurfaceStates<A>, surface: SurfaceNo) -> Option<BufferNo> {
-    number(surfaces.pending_buffer(surface))
-}
-
-// The buffer that is shown, and the surface's size.
-fn shown<A: Allocator>(
-    surfaces: &SurfaceStates<A>,
-    surface: SurfaceNo,
-) -> Option<(BufferNo, u32, u32)> {
-    let current = surfaces.current(surface)?;
-    Some((current.buffer?.number, current.w, current.h))
-}
-
-fn is_at<A: Allocator>(surfaces: &SurfaceStates<A>, surface: SurfaceNo, x: i32, y: i32) -> bool {
-    match surfaces.current(surface) {
-        Some(current) => current.offset == Offset { x, y },
-        None => false,
-    }
-}
-
-fn is_opaque<A: Allocator>(surfaces: &SurfaceStates<A>, x: i32, y: i32) -> bool {
-    match surfaces.current(0) {
-        Some(current) => current.opaque.contains(x, y),
-        None => false,
-    }
-}
-
-fn takes_input<A: Allocator>(surfaces: &SurfaceStates<A>, x: i32, y: i32) -> bool {
-    match surfaces.current(0) {
-        Some(current) => match current.input {
-            Some(region) => region.contains(x, y),
-            None => true,
-        },
-        None => false,
-    }
-}
-
-fn has_no_size<A: Allocator>(surfaces: &SurfaceStates<A>) -> bool {
-    match surfaces.current(0) {
-        Some(current) => current.buffer.is_none() && current.w == 0 && current.h == 0,
-        None => false,
-    }
-}
-
-// Whether the buffers that are pending, held and applied have these numbers.
-fn had<A: Allocator>(
-    surfaces: &SurfaceStates<A>,
-    surface: SurfaceNo,
-    first: Option<BufferNo>,
-    second: Option<BufferNo>,
-    third: Option<BufferNo>,
-) -> bool {
-    let [pending, held, applied] = surfaces.buffers(surface);
-    number(pending) == first && number(held) == second && number(applied) == third
-}
-
-// Attaches at this offset, commits, and says whether the surface is at that place then.
-fn moves<A: Allocator + Copy>(
-    surfaces: &mut SurfaceStates<A>,
-    by: (i32, i32),
-    x: i32,
-    y: i32,
-) -> bool {
-    attach(surfaces, 0, 7, by.0, by.1);
-    commit(surfaces, 0) == Ok(()) && is_at(surfaces, 0, x, y)
-}
-
-fn has_form<A: Allocator>(
-    surfaces: &SurfaceStates<A>,
-    transform: Transform,
-    w: u32,
-    h: u32,
-) -> bool {
-    match surfaces.current(0) {
-        Some(current) => current.transform == transform && current.w == w && current.h == h,
-        None => false,
-    }
-}
-
-fn sets_both<A: Allocator + Copy>(
-    surfaces: &mut SurfaceStates<A>,
-    region: Option<&Region<A>>,
-) -> bool {
-    set_opaque(surfaces, region) == Ok(()) && set_input(surfaces, region) == Ok(())
-}
-
-// Before a commit nothing is opaque, and input is taken everywhere.
-fn is_unset<A: Allocator>(surfaces: &SurfaceStates<A>) -> bool {
-    !is_opaque(surfaces, 0, 0) && !is_opaque(surfaces, 3, 3) && takes_input(surfaces, 9, 9)
-}
-
-fn is_four_by_four<A: Allocator>(surfaces: &SurfaceStates<A>) -> bool {
-    is_opaque(surfaces, 3, 3)
-        && !is_opaque(surfaces, 4, 3)
-        && takes_input(surfaces, 0, 0)
-        && !takes_input(surfaces, 9, 9)
-}
-
-fn has_counted(surfaces: &mut SurfaceStates<Global>, region: &mut Region<Global>) -> bool {
-    create(surfaces) == Ok(0)
-        && region.add(FOUR_BY_FOUR) == Ok(())
-        && is_unset(surfaces)
-        && sets_both(surfaces, Some(region))
-        && region.subtract(FOUR_BY_FOUR) == Ok(())
-        && is_unset(surfaces)
-        && commit(surfaces, 0) == Ok(())
-        && is_four_by_four(surfaces)
-        && commit(surfaces, 0) == Ok(())
-        && is_four_by_four(surfaces)
-}
-
-fn creates_256<A: Allocator + Copy>(surfaces: &mut SurfaceStates<A>) -> bool {
-    for number in 0..256_usize {
-        if create(surfaces) != Ok(number) {
+// Makes so many surfaces.
+fn made<A: Allocator + Copy>(surfaces: &mut Surfaces<A>, count: usize) -> bool {
+    for number in 0..count {
+        if surfaces.states.create() != Ok(number) {
             return false;
         }
     }
     true
 }
 
-/// What is done to surfaces or asked of them, with what is wanted of it.
-#[derive(Clone, Copy)]
-pub(crate) enum Row {
-    /// A surface is made, with this answer.
-    Creates(Result<SurfaceNo, SurfaceError>),
-    /// 256 surfaces are made.
-    Creates256,
-    /// A buffer is attached at an offset.
-    Attaches(SurfaceNo, BufferNo, i32, i32),
-    /// No buffer is attached to the surface 0, at an offset.
-    Detaches(i32, i32),
-    Commits(SurfaceNo),
-    /// A commit of the surface 0 is refused as out of memory.
-    CannotCommit,
-    Destroys(SurfaceNo),
-    /// The surface 0 is damaged.
-    Damages,
-    /// The surface 0 gets another transform, by its number, with this answer.
-    Turns(i32, Result<(), SurfaceError>),
-    /// A surface is given a role, with this answer.
-    TakesRole(SurfaceNo, Role, Result<(), SurfaceError>),
-    /// The surface 0 gets no opaque region.
-    UnsetsOpaque,
-    /// The surface 0 gets no input region.
-    UnsetsInput,
-    /// The buffer 7 is attached to the surface 0 at this offset, and a commit moves it to this place.
-    Moves((i32, i32), i32, i32),
-    /// Whether the buffer 7 is used and busy, and a surface has content.
-    Reads(SurfaceNo, bool, bool, bool),
-    IsUsed(BufferNo, bool),
-    IsBusy(BufferNo, bool),
-    IsPending(SurfaceNo, Option<BufferNo>),
-    Shows(SurfaceNo, Option<(BufferNo, u32, u32)>),
-    /// The surface 0 shows nothing.
-    HasNoSize,
-    /// The buffers of a surface that are pending, held and applied.
-    Had(SurfaceNo, Option<BufferNo>, Option<BufferNo>, Option<BufferNo>),
-    /// The place of the surface 0.
-    IsAt(i32, i32),
-    /// The transform and the size of the surface 0.
-    HasForm(Transform, u32, u32),
-    HasRole(SurfaceNo, Option<Role>),
-    IsThere(SurfaceNo, bool),
-    /// Whether a point of the surface 0 is opaque.
-    IsOpaque(i32, i32, bool),
-    /// Whether a point of the surface 0 takes input.
-    TakesInput(i32, i32, bool),
-}
-
-// Does what a row says, and tells whether it is as wanted.
-fn is_met<A: Allocator + Copy>(surfaces: &mut SurfaceStates<A>, row: &Row) -> bool {
-    match *row {
-        Row::Creates(wanted) => create(surfaces) == wanted,
-        Row::Creates256 => creates_256(surfaces),
-        Row::Attaches(surface, buffer, x, y) => attaches(surfaces, surface, buffer, x, y),
-        Row::Detaches(x, y) => detaches(surfaces, x, y),
-        Row::Commits(surface) => commit(surfaces, surface) == Ok(()),
-        Row::CannotCommit => commit(surfaces, 0) == Err(SurfaceError::Memory),
-        Row::Destroys(surface) => destroy(surfaces, surface) == Ok(()),
-        Row::Damages => damage(surfaces, FOUR_BY_FOUR) == Ok(()),
-        Row::Turns(number, wanted) => surfaces.set_transform(0, number) == wanted,
-        Row::TakesRole(surface, role, wanted) => surfaces.give_role(surface, role) == wanted,
-        Row::Moves(by, x, y) => moves(surfaces, by, x, y),
-        _ => is_seen(surfaces, row),
+// Attaches a buffer of 4 by 4 pixels.
+fn attach<A: Allocator + Copy>(surfaces: &mut Surfaces<A>, surface: SurfaceNo, number: BufferNo) {
+    if let Ok(layout) = layout(64, 0, 4, 4, 16, 1) {
+        let buffer = Attached {
+            number,
+            object: 90,
+            store: 1,
+            layout,
+        };
+        surfaces.states.attach(surface, Some(buffer), 0, 0);
     }
 }
 
-// Whether it is as a row says that does nothing.
-fn is_seen<A: Allocator>(surfaces: &SurfaceStates<A>, row: &Row) -> bool {
-    match *row {
-        Row::Reads(surface, used, busy, content) => reads(surfaces, surface, used, busy, content),
-        Row::IsUsed(buffer, wanted) => surfaces.is_used(buffer) == wanted,
-        Row::IsBusy(buffer, wanted) => surfaces.is_busy(buffer) == wanted,
-        Row::IsPending(surface, wanted) => pending(surfaces, surface) == wanted,
-        Row::Shows(surface, wanted) => shown(surfaces, surface) == wanted,
-        Row::HasNoSize => has_no_size(surfaces),
-        Row::Had(surface, first, second, third) => had(surfaces, surface, first, second, third),
-        Row::IsAt(x, y) => is_at(surfaces, 0, x, y),
-        Row::HasForm(transform, w, h) => has_form(surfaces, transform, w, h),
-        Row::HasRole(surface, wanted) => surfaces.role(surface) == wanted,
-        Row::IsThere(surface, wanted) => surfaces.current(surface).is_some() == wanted,
-        Row::IsOpaque(x, y, wanted) => is_opaque(surfaces, x, y) == wanted,
-        Row::TakesInput(x, y, wanted) => takes_input(surfaces, x, y) == wanted,
-        _ => false,
+fn damage_at<A: Allocator>(surfaces: &mut Surfaces<A>, surface: SurfaceNo, at: i32) -> bool {
+    let point = Rect {
+        x: at,
+        y: at,
+        w: 1,
+        h: 1,
+    };
+    surfaces.states.damage(surface, point) == Ok(())
+}
+
+fn shown<A: Allocator>(surfaces: &Surfaces<A>, surface: SurfaceNo) -> Option<BufferNo> {
+    let current = surfaces.states.current(surface)?;
+    Some(current.buffer?.number)
+}
+
+// Whether an answer tells just this: of each of these surfaces, in this order, so many rectangles, and that these buffers are freed.
+fn tells<A: Allocator>(
+    answer: Result<Told<A>, SurfaceError>,
+    wanted: &[(SurfaceNo, usize)],
+    freed: &[BufferNo],
+) -> bool {
+    match answer {
+        Ok(Told { applied, .. }) => {
+            applied.changes.len() == wanted.len()
+                && applied.changes.iter().zip(wanted).all(|(change, row)| change.surface == row.0
+                    && change.rects.len() == row.1)
+                && applied.freed.as_slice() == freed
+        }
+        Err(_) => false,
     }
 }
 
-fn are_met<A: Allocator + Copy>(surfaces: &mut SurfaceStates<A>, rows: &[Row]) -> bool {
-    for row in rows {
-        if !is_met(surfaces, row) {
+// Whether an answer tells that just these buffers were shown, in this order, each as it was attached.
+fn tells_shown<A: Allocator>(answer: Result<Told<A>, SurfaceError>, wanted: &[BufferNo]) -> bool {
+    match answer {
+        Ok(told) => {
+            told.shown.len() == wanted.len()
+                && told.shown.iter().zip(wanted).all(|(buffer, number)| buffer.number == *number
+                    && buffer.object == 90)
+        }
+        Err(_) => false,
+    }
+}
+
+// Attaches another buffer, damages a point and commits: whether that tells just this.
+fn commits<A: Allocator + Copy>(
+    surfaces: &mut Surfaces<A>,
+    surface: SurfaceNo,
+    buffer: BufferNo,
+    wanted: &[(SurfaceNo, usize)],
+    freed: &[BufferNo],
+) -> bool {
+    attach(surfaces, surface, buffer);
+    damage_at(surfaces, surface, 0) && tells(surfaces.commit(surface), wanted, freed)
+}
+
+// A window with a child at (4, 4), which shows the buffer 18 once the window is committed.
+fn has_child<A: Allocator + Copy>(surfaces: &mut Surfaces<A>) -> bool {
+    made(surfaces, 2)
+        && commits(surfaces, ROOT, 10, &[(ROOT, 1)], &[])
+        && surfaces.subsurface(CHILD, ROOT) == Ok(())
+        && surfaces.set_position(CHILD, 4, 4) == Ok(())
+        && commits(surfaces, CHILD, 18, &[], &[])
+        && shown(surfaces, CHILD).is_none()
+        && tells(surfaces.commit(ROOT), &[(ROOT, 0), (CHILD, 1)], &[])
+}
+
+// Whether surfaces without children tell what their commits and their ends change, and free a buffer once none of them shows it.
+fn tells_what_changes<A: Allocator + Copy>(surfaces: &mut Surfaces<A>) -> bool {
+    let is_shown = made(surfaces, 2) && commits(surfaces, 0, 7, &[(0, 1)], &[]);
+    attach(surfaces, 0, 8);
+    is_shown
+        && tells(surfaces.commit(0), &[(0, 0)], &[7])
+        && commits(surfaces, 1, 8, &[(1, 1)], &[])
+        && tells(surfaces.destroy(0), &[(0, 0)], &[])
+        && tells(surfaces.destroy(1), &[(1, 0)], &[8])
+        && tells(surfaces.destroy(1), &[], &[])
+}
+
+// wl_surface.commit and wl_surface.destroy, wl_buffer.release
+#[test]
+fn changes_are_told(rt: HostRuntime) {
+    let mut surfaces = Surfaces::new(rt.alloc());
+    assert!(rt; tells_what_changes(&mut surfaces));
+}
+
+// Whether commits of a synchronised child are held, the later in the place of the earlier with the damage of both, and applied by a commit of its
+// parent. A buffer is released where no surface holds or shows it any more.
+fn holds_commits<A: Allocator + Copy>(surfaces: &mut Surfaces<A>) -> bool {
+    has_child(surfaces)
+        && shown(surfaces, CHILD) == Some(18)
+        && stack_is(surfaces, ROOT, &[ITSELF, child_at(CHILD, 4, 4)])
+        && commits(surfaces, CHILD, 19, &[], &[])
+        && commits(surfaces, CHILD, 20, &[], &[19])
+        && shown(surfaces, CHILD) == Some(18)
+        && surfaces.states.is_busy(20)
+        && tells(surfaces.commit(ROOT), &[(ROOT, 0), (CHILD, 2)], &[18])
+        && shown(surfaces, CHILD) == Some(20)
+}
+
+// wl_subsurface
+#[test]
+fn a_synchronised_child_is_held(rt: HostRuntime) {
+    let mut surfaces = Surfaces::new(rt.alloc());
+    assert!(rt; holds_commits(&mut surfaces));
+}
+
+// Whether what was held is applied at once, and so are later commits.
+fn releases<A: Allocator + Copy>(surfaces: &mut Surfaces<A>) -> bool {
+    let is_released = has_child(surfaces)
+        && commits(surfaces, CHILD, 19, &[], &[])
+        && tells(surfaces.set_desync(CHILD), &[(CHILD, 1)], &[18])
+        && tells(surfaces.set_desync(CHILD), &[], &[])
+        && commits(surfaces, CHILD, 20, &[(CHILD, 1)], &[19]);
+    surfaces.set_sync(CHILD);
+    is_released
+        && commits(surfaces, CHILD, 21, &[], &[])
+        && tells(surfaces.set_desync(ROOT), &[], &[])
+        && shown(surfaces, CHILD) == Some(20)
+}
+
+// wl_subsurface.set_desync
+#[test]
+fn a_child_is_released(rt: HostRuntime) {
+    let mut surfaces = Surfaces::new(rt.alloc());
+    assert!(rt; releases(&mut surfaces));
+}
+
+// Whether a link that ends lets what was held of the child be applied.
+fn ends_with_its_link<A: Allocator + Copy>(surfaces: &mut Surfaces<A>) -> bool {
+    let is_ended = has_child(surfaces)
+        && commits(surfaces, CHILD, 19, &[], &[])
+        && tells(surfaces.remove_subsurface(CHILD), &[(CHILD, 1)], &[18])
+        && stack_is(surfaces, ROOT, &[ITSELF])
+        && surfaces.family.link(CHILD).is_none()
+        && tells(surfaces.remove_subsurface(CHILD), &[], &[]);
+    surfaces.states.attach(CHILD, None, 0, 0);
+    is_ended && tells(surfaces.commit(CHILD), &[(CHILD, 0)], &[19])
+}
+
+// Whether a parent that goes does so too.
+fn ends_with_its_parent<A: Allocator + Copy>(surfaces: &mut Surfaces<A>) -> bool {
+    surfaces.subsurface(CHILD, ROOT) == Ok(())
+        && commits(surfaces, CHILD, 20, &[], &[])
+        && tells(surfaces.destroy(ROOT), &[(ROOT, 0), (CHILD, 1)], &[10])
+        && surfaces.family.link(CHILD).is_none()
+        && shown(surfaces, CHILD) == Some(20)
+}
+
+// wl_subsurface.destroy and wl_surface.destroy
+#[test]
+fn a_link_ends(rt: HostRuntime) {
+    let mut surfaces = Surfaces::new(rt.alloc());
+    assert!(rt; ends_with_its_link(&mut surfaces) && ends_with_its_parent(&mut surfaces));
+}
+
+// Attaches another buffer and commits: whether that tells that just these were shown.
+fn commit_tells_shown<A: Allocator + Copy>(
+    surfaces: &mut Surfaces<A>,
+    surface: SurfaceNo,
+    buffer: BufferNo,
+    wanted: &[BufferNo],
+) -> bool {
+    attach(surfaces, surface, buffer);
+    tells_shown(surfaces.commit(surface), wanted)
+}
+
+// Whether what surfaces had applied and held before is told of those that a call applies, holds or ends, and of no others.
+fn tells_what_was_shown<A: Allocator + Copy>(surfaces: &mut Surfaces<A>) -> bool {
+    has_child(surfaces)
+        && commit_tells_shown(surfaces, CHILD, 19, &[18, 18])
+        && commit_tells_shown(surfaces, CHILD, 20, &[18, 19])
+        && commit_tells_shown(surfaces, ROOT, 11, &[10, 10, 18, 20])
+        && tells_shown(surfaces.set_desync(CHILD), &[20, 20])
+        && tells_shown(surfaces.set_desync(CHILD), &[])
+        && tells_shown(surfaces.remove_subsurface(CHILD), &[20, 20])
+        && tells_shown(surfaces.remove_subsurface(CHILD), &[])
+        && tells_shown(surfaces.destroy(ROOT), &[11, 11])
+        && tells_shown(surfaces.destroy(ROOT), &[])
+}
+
+// wl_buffer.release
+#[test]
+fn what_was_shown_is_told(rt: HostRuntime) {
+    let mut surfaces = Surfaces::new(rt.alloc());
+    assert!(rt; tells_what_was_shown(&mut surfaces));
+}
+
+// Whether the order of a surface and its children counts once the parent is committed.
+fn places_children<A: Allocator + Copy>(surfaces: &mut Surfaces<A>) -> bool {
+    made(surfaces, 4)
+        && surfaces.subsurface(1, 0) == Ok(())
+        && surfaces.subsurface(2, 0) == Ok(())
+        && surfaces.place_below(2, 0) == Ok(())
+        && surfaces.place_above(1, 2) == Ok(())
+        && surfaces.place_above(1, 1) == Err(SurfaceError::NotSibling)
+        && surfaces.place_below(1, 3) == Err(SurfaceError::NotSibling)
+        && surfaces.place_above(3, 0) == Ok(())
+        && stack_is(surfaces, 0, &[])
+        && tells(surfaces.commit(0), &[(0, 0), (1, 0), (2, 0)], &[])
+        && stack_is(surfaces, 0, &[child_at(2, 0, 0), child_at(1, 0, 0), ITSELF])
+}
+
+#[test]
+fn children_are_placed(rt: HostRuntime) {
+    let mut surfaces = Surfaces::new(rt.alloc());
+    assert!(rt; places_children(&mut surfaces));
+}
+
+// Whether each of the surfaces 1 to 16 becomes the child of the one before it.
+fn chains_16<A: Allocator + Copy>(surfaces: &mut Surfaces<A>) -> bool {
+    for child in 1..17_usize {
+        if surfaces.subsurface(child, child - 1) != Ok(()) {
             return false;
         }
     }
     true
 }
 
-// Does what a row says of no region, or of anything else.
-fn is_met_or_unset(surfaces: &mut SurfaceStates<Global>, row: &Row) -> bool {
-    match *row {
-        Row::UnsetsOpaque => set_opaque(surfaces, None) == Ok(()),
-        Row::UnsetsInput => set_input(surfaces, None) == Ok(()),
-        _ => is_met(surfaces, row),
-    }
-}
+// A child and its parent, and what the link is answered with.
+type Asked = (SurfaceNo, SurfaceNo, Result<(), SurfaceError>);
 
-fn missed_row(surfaces: &mut SurfaceStates<Global>, rows: &[Row]) -> Option<usize> {
-    for (place, row) in rows.iter().enumerate() {
-        if !is_met_or_unset(surfaces, row) {
+const ASKED: [Asked; 7] = [
+    (17, 16, Err(SurfaceError::TooDeep)),
+    (19, 16, Err(SurfaceError::TooDeep)),
+    (19, 0, Err(SurfaceError::Role)),
+    (1, 18, Err(SurfaceError::Role)),
+    (18, 18, Err(SurfaceError::BadParent)),
+    (0, 18, Err(SurfaceError::TooDeep)),
+    (18, 15, Ok(())),
+];
+
+// The first that isn't answered so.
+fn answered_otherwise<A: Allocator + Copy>(
+    surfaces: &mut Surfaces<A>,
+    asked: &[Asked],
+) -> Option<usize> {
+    for (place, &(child, parent, wanted)) in asked.iter().enumerate() {
+        if surfaces.subsurface(child, parent) != wanted {
             return Some(place);
         }
     }
     None
 }
 
-// The part and its row that are the first not to be met.
-fn missed(surfaces: &mut SurfaceStates<Global>, parts: &[&[Row]]) -> Option<(usize, usize)> {
-    for (part, rows) in parts.iter().enumerate() {
-        if let Some(place) = missed_row(surfaces, rows) {
-            return Some((part, place));
-        }
-    }
-    None
+// Whether links are refused in this order.
+fn refuses_links<A: Allocator + Copy>(surfaces: &mut Surfaces<A>) -> bool {
+    made(surfaces, 20)
+        && surfaces.states.give_role(19, Role::Toplevel) == Ok(())
+        && chains_16(surfaces)
+        && answered_otherwise(surfaces, &ASKED).is_none()
+        && tells(surfaces.remove_subsurface(16), &[(16, 0)], &[])
+        && surfaces.subsurface(0, 17) == Err(SurfaceError::TooDeep)
+        && surfaces.states.role(18) == Some(Role::Subsurface)
 }
 
-fn missed_by(alloc: Global, parts: &[&[Row]]) -> Option<(usize, usize)> {
-    let mut surfaces = SurfaceStates::new(alloc);
-    missed(&mut surfaces, parts)
-}
-
-// The case, its part and the row of that which are the first not to be met.
-fn missed_case(alloc: Global, cases: &[(&str, &[&[Row]])]) -> Option<(usize, (usize, usize))> {
-    for (place, &(_, parts)) in cases.iter().enumerate() {
-        if let Some(row) = missed_by(alloc, parts) {
-            return Some((place, row));
-        }
-    }
-    None
-}
-
+// wl_subcompositor.get_subsurface
 #[test]
-fn surfaces_are_as_worked(rt: HostRuntime) {
-    assert!(rt; MAX_SURFACES == 256);
-    assert_eq!(rt; missed_case(rt.alloc(), CASES), None);
+fn links_are_refused(rt: HostRuntime) {
+    let mut surfaces = Surfaces::new(rt.alloc());
+    assert!(rt; refuses_links(&mut surfaces));
 }
 
-// Opaque without a region is nothing from the commit on, and input stays. Input without a region is everything from the commit on.
-const UNSETS: &[Row] = &[
-    Row::UnsetsOpaque,
-    Row::IsOpaque(3, 3, true),
-    Row::IsOpaque(4, 3, false),
-    Row::TakesInput(0, 0, true),
-    Row::TakesInput(9, 9, false),
-    Row::Commits(0),
-    Row::IsOpaque(3, 3, false),
-    Row::TakesInput(9, 9, false),
-    Row::UnsetsInput,
-    Row::TakesInput(9, 9, false),
-    Row::Commits(0),
-    Row::IsOpaque(0, 0, false),
-    Row::IsOpaque(3, 3, false),
-    Row::TakesInput(9, 9, true),
-    Row::TakesInput(-1, -1, true),
-];
-
-// What a region becomes once it was set isn't seen, and a region counts from the commit on.
-#[test]
-fn regions_count_from_the_commit_on(rt: HostRuntime) {
-    let mut surfaces = SurfaceStates::new(rt.alloc());
-    let mut region = Region::new(rt.alloc());
-    assert!(rt; has_counted(&mut surfaces, &mut region));
-    assert_eq!(rt; missed_row(&mut surfaces, UNSETS), None);
-}
-
-// The buffer is attached and nothing is applied.
-const NOT_COMMITTED: &[Row] = &[
-    Row::Reads(0, true, false, true),
-    Row::IsPending(0, Some(7)),
-    Row::Shows(0, None),
-    Row::IsAt(0, 0),
-];
-
-// Nor is it after one more commit that is refused too.
-const REFUSED_AGAIN: &[Row] = &[
-    Row::CannotCommit,
-    Row::Reads(0, true, false, true),
-    Row::IsPending(0, Some(7)),
-    Row::Shows(0, None),
-    Row::IsAt(0, 0),
-];
-
-const COMMITTED: &[Row] = &[
-    Row::Reads(0, true, true, true),
-    Row::IsPending(0, Some(7)),
-    Row::Shows(0, Some((7, 5, 8))),
-    Row::IsAt(1, 2),
-];
-
-// Makes surfaces up to the first that is refused as out of memory: how many were made. None where another error comes.
-fn made<A: Allocator + Copy>(surfaces: &mut SurfaceStates<A>) -> Option<SurfaceNo> {
-    for number in 0..256_usize {
-        match create(surfaces) {
-            Ok(made) if made == number => {}
-            Err(SurfaceError::Memory) => return Some(number),
-            _ => return None,
-        }
-    }
-    None
-}
-
-// Whether the next is refused once more, and those that were made, and no other, are there.
-fn has_only<A: Allocator + Copy>(surfaces: &mut SurfaceStates<A>, made: SurfaceNo) -> bool {
-    for number in 0..made {
-        if surfaces.current(number).is_none() {
-            return false;
-        }
-    }
-    create(surfaces) == Err(SurfaceError::Memory) && surfaces.current(made).is_none()
-}
-
-// Whether surfaces are made up to a refusal, and those stay.
-fn keeps_what_was_made<A: Allocator + Copy, B: Allocator>(
-    surfaces: &mut SurfaceStates<A>,
-    heap: &Refusing<B>,
-) -> bool {
-    match made(surfaces) {
-        Some(made) => heap.refused() && has_only(surfaces, made),
-        None => false,
-    }
-}
-
-fn makes_up_to_a_refusal<B: Allocator + Copy>(alloc: B, served: u64) -> bool {
-    let heap = Refusing::new(alloc, served);
-    let mut surfaces = SurfaceStates::new(&heap);
-    keeps_what_was_made(&mut surfaces, &heap)
-}
-
-#[test]
-fn a_surface_without_memory_is_not_made(rt: HostRuntime) {
-    for served in 0..4_u64 {
-        assert!(rt; makes_up_to_a_refusal(rt.alloc(), served), "{served}");
-    }
-}
-
-// Makes a surface, attaches buffer 7 at (1, 2), damages and commits, up to the first call that is refused as out of memory: how many of the three
-// that take memory were done. None where a call answers what it can't.
-fn done_before_a_refusal<A: Allocator + Copy>(surfaces: &mut SurfaceStates<A>) -> Option<u32> {
-    match create(surfaces) {
-        Ok(0) => {}
-        Err(SurfaceError::Memory) => return Some(0),
-        _ => return None,
-    }
-    attach(surfaces, 0, 7, 1, 2);
-    match damage(surfaces, FOUR_BY_FOUR) {
-        Ok(()) => {}
-        Err(SurfaceError::Memory) => return Some(1),
-        Err(_) => return None,
-    }
-    match commit(surfaces, 0) {
-        Ok(()) => Some(3),
-        Err(SurfaceError::Memory) => Some(2),
+// What a commit of the window and of its child tells, the window's first: None where there was no memory for it.
+fn committed<A: Allocator + Copy>(surfaces: &mut Surfaces<A>, surface: SurfaceNo) -> Option<usize> {
+    match surfaces.commit(surface) {
+        Ok(told) => Some(told.applied.changes.len()),
         Err(_) => None,
     }
 }
 
-// How many of the three were done. None where the surfaces aren't what these made of them.
-fn leaves<A: Allocator + Copy, B: Allocator>(
-    surfaces: &mut SurfaceStates<A>,
-    heap: &Refusing<B>,
-) -> Option<u32> {
-    let done = done_before_a_refusal(surfaces)?;
-    let is_left = match done {
-        0 => heap.refused() && are_met(surfaces, NO_SURFACE),
-        1 => heap.refused() && are_met(surfaces, NOT_COMMITTED),
-        2 => heap.refused() && are_met(surfaces, REFUSED_AGAIN),
-        _ => !heap.refused() && are_met(surfaces, COMMITTED),
-    };
-    if is_left { Some(done) } else { None }
-}
-
-fn done_where_served<B: Allocator + Copy>(alloc: B, served: u64) -> Option<u32> {
-    let heap = Refusing::new(alloc, served);
-    let mut surfaces = SurfaceStates::new(&heap);
-    leaves(&mut surfaces, &heap)
-}
-
-// A commit that is refused applies nothing.
-#[test]
-fn damage_and_commit_without_memory(rt: HostRuntime) {
-    let mut damages = false;
-    let mut commits = false;
-    for served in 0..1000_u64 {
-        match done_where_served(rt.alloc(), served) {
-            Some(0) => {}
-            Some(1) => damages = true,
-            Some(2) => commits = true,
-            Some(_) => break,
-            None => assert!(rt; false, "{served}"),
-        }
-    }
-    assert!(rt; damages && commits);
-}
-
-fn damages<A: Allocator + Copy>(surfaces: &mut SurfaceStates<A>, times: u32) -> bool {
-    for _ in 0..times {
-        if damage(surfaces, FOUR_BY_FOUR) != Ok(()) {
-            return false;
-        }
-    }
-    true
-}
-
-fn takes_no_more_memory<A: Allocator + Copy, B: Allocator>(
-    surfaces: &mut SurfaceStates<A>,
-    heap: &Refusing<B>,
-) -> bool {
-    if create(surfaces) != Ok(0) || !damages(surfaces, 1025) {
-        return false;
-    }
-    let served = heap.served();
-    damages(surfaces, 9000) && heap.served() == served && commit(surfaces, 0) == Ok(())
-}
-
-// More than 1,025 rectangles aren't kept: they take no memory, neither pending nor held.
-#[test]
-fn damage_without_end(rt: HostRuntime) {
-    let heap = Refusing::new(rt.alloc(), 1000);
-    let mut surfaces = SurfaceStates::new(&heap);
-    assert!(rt; takes_no_more_memory(&mut surfaces, &heap));
-}
-
-// Sets both regions, up to the first that is refused as out of memory: how many were set. None where a call answers what it can't.
-fn set_both<A: Allocator + Copy>(
-    surfaces: &mut SurfaceStates<A>,
-    region: &Region<A>,
-) -> Option<u32> {
-    match set_opaque(surfaces, Some(region)) {
-        Ok(()) => {}
-        Err(SurfaceError::Memory) => return Some(0),
-        Err(_) => return None,
-    }
-    match set_input(surfaces, Some(region)) {
-        Ok(()) => Some(2),
-        Err(SurfaceError::Memory) => Some(1),
-        Err(_) => None,
-    }
-}
-
-// How many regions were set, and 3 where a commit was done after both. None where an allocation was refused to both, or none to one.
-fn sets_and_commits<A: Allocator + Copy, B: Allocator>(
-    surfaces: &mut SurfaceStates<A>,
-    region: &Region<A>,
-    heap: &Refusing<B>,
-) -> Option<u32> {
-    let set = set_both(surfaces, region)?;
-    if heap.refused() != (set < 2) {
+// Without memory a commit of a window applies nothing of it, nor of its child.
+fn applies_all_or_nothing<A: Allocator + Copy>(surfaces: &mut Surfaces<A>) -> Option<bool> {
+    if !has_child(surfaces) {
         return None;
     }
-    if set == 2 && commit(surfaces, 0) == Ok(()) {
-        Some(3)
-    } else {
-        Some(set)
-    }
+    attach(surfaces, ROOT, 11);
+    attach(surfaces, CHILD, 19);
+    committed(surfaces, CHILD)?;
+    let seen = match committed(surfaces, ROOT) {
+        Some(told) => told == 2
+            && shown(surfaces, ROOT) == Some(11)
+            && shown(surfaces, CHILD) == Some(19),
+        None => shown(surfaces, ROOT) == Some(10) && shown(surfaces, CHILD) == Some(18),
+    };
+    Some(seen)
 }
 
-// 2 where there is no memory for a surface and a region.
-fn sets_a_region<A: Allocator + Copy, B: Allocator>(
-    surfaces: &mut SurfaceStates<A>,
-    region: &mut Region<A>,
-    heap: &Refusing<B>,
-) -> Option<u32> {
-    if create(surfaces).is_err() || region.add(FOUR_BY_FOUR).is_err() {
-        return Some(2);
-    }
-    let set = sets_and_commits(surfaces, region, heap)?;
-    if set < 3 || is_four_by_four(surfaces) {
-        Some(set)
-    } else {
-        None
-    }
-}
-
-// No region can be set in any case: it takes no memory.
-fn set_where_served(alloc: Global, served: u64) -> Option<u32> {
-    let heap = Refusing::new(alloc, served);
-    let mut surfaces = SurfaceStates::new(&heap);
-    let mut region = Region::new(&heap);
-    let set = sets_a_region(&mut surfaces, &mut region, &heap);
-    let is_unset = sets_both(&mut surfaces, None);
-    if is_unset { set } else { None }
-}
-
-// Each allocation is refused in turn, until both regions are set and committed.
 #[test]
-fn regions_without_memory(rt: HostRuntime) {
-    let mut opaques = false;
-    let mut inputs = false;
-    for served in 0..1000_u64 {
-        match set_where_served(rt.alloc(), served) {
-            Some(0) => opaques = true,
-            Some(1) => inputs = true,
-            Some(2) => {}
-            Some(_) => break,
-            None => assert!(rt; false, "{served}"),
+fn a_commit_needs_memory(rt: HostRuntime) {
+    let mut seen = 0_u32;
+    for served in 0..60_u64 {
+        let refusing = Refusing::new(rt.alloc(), served);
+        let mut surfaces = Surfaces::new(&refusing);
+        if let Some(is_whole) = applies_all_or_nothing(&mut surfaces) {
+            assert!(rt; is_whole, "{served}");
+            if refusing.refused() {
+                seen = seen.saturating_add(1);
+            }
         }
     }
-    assert!(rt; opaques && inputs);
+    assert!(rt; seen > 2);
+}
+
+// Without memory a surface isn't destroyed, and shows what it showed.
+#[test]
+fn an_end_needs_memory(rt: HostRuntime) {
+    let mut refused = 0_u32;
+    for served in 0..40_u64 {
+        let refusing = Refusing::new(rt.alloc(), served);
+        let mut surfaces = Surfaces::new(&refusing);
+        if made(&mut surfaces, 1) && commits(&mut surfaces, ROOT, 7, &[(ROOT, 1)], &[]) {
+            let is_gone = surfaces.destroy(ROOT).is_ok();
+            assert!(rt; is_gone == shown(&surfaces, ROOT).is_none(), "{served}");
+            if !is_gone {
+                refused = refused.saturating_add(1);
+            }
+        }
+    }
+    assert!(rt; refused > 0);
 }

@@ -11,7 +11,6 @@ use Rattle.wl_client.specs.declared.outputs.Output.{Output}
 use Rattle.wl_paint.specs.Damage.{Damaged}
 use Rattle.spec_desktop.specs.Objects.{ById}
 use Rattle.spec_desktop.specs.declared.cause.Cause.{Cause}
-use Rattle.spec_desktop.specs.Changing.{is_focus_in}
 use Rattle.spec_desktop.specs.Desktop.{Desktop, Resident, client_at}
 use Rattle.spec_desktop.specs.Replies.{focus_window}
 use Rattle.spec_desktop.specs.Settling.{Midstep, Strike, is_struck}
@@ -29,11 +28,11 @@ use Rattle.wl_requests.specs.declared.residents.Resident.{Resident as Kept}
 use Rattle.wl_clients.specs.Agreement.{IsStack, numbers_in}
 use Rattle.wl_clients.specs.View.{DeskView, MarkedDesk, Pile}
 use Rattle.wl_clients.specs.Midway.{IsMid, first_struck, is_refused, strike_for, strikes_from}
-use Rattle.wl_clients.specs.Pointing.{is_in_tree, windows_numbered}
+use Rattle.wl_clients.specs.Pointing.{windows_numbered}
 use Rattle.wl_clients.specs.Residents.{client_views, resident_at}
 use Rattle.wl_clients.proofs.Desktops.{at, at-map, at-within}
 use Rattle.wl_clients.proofs.Midway.{mid-kept, mid-nobody, mid_is_numbered_once, seat}
-use Rattle.wl_clients.proofs.Numbers.{any-mapped, stands-so, tree-so, window-found, window-numbered}
+use Rattle.wl_clients.proofs.Numbers.{any-mapped, stands-so, window-found, window-numbered}
 use Rattle.wl_clients.proofs.Opened.{numbers-open}
 use Rattle.wl_clients.proofs.Seats.{here-of, marked, view_of}
 use Rattle.wl_clients.proofs.Strikes.{none-struck, of-refused, refused_in, struck-at}
@@ -60,13 +59,6 @@ module _ (v : DeskView) (m : Midstep) (mid : IsMid v m) (c : ℕ) where
       → is_some o ≡ is_stacked (record { client = c; surface = n }) (windows_numbered v m.desktop)
   mid-numbered ws same o n found =
       ap is_some (found ∙ ap (find (is_window_of c n)) same) ∙ window-numbered numbers c n v.pile.windows (all_windows m.desktop) windows
-
-  -- a surface in the tree of a toplevel
-  pub mid-tree : (ws : List Stacked) → ws ≡ v.pile.windows → (k top n id : ℕ) → numbers c top ≡ Some k → numbers c id ≡ Some n
-      → list_any (is_in_tree c k n) ws ≡ is_focus_in c top (Some (record { client = c; surface = id })) (all_windows m.desktop)
-  mid-tree ws same k top n id toplevel named =
-      ap (list_any (is_in_tree c k n)) same
-      ∙ tree-so numbers c k top n id (mid_is_numbered_once v m mid c) toplevel named v.pile.windows (all_windows m.desktop) windows
 
   -- a toplevel that stands
   pub mid-stands : (ts : List Toplevel) → map standing_of ts ≡ v.pile.scene.standing → (k top : ℕ) → numbers c top ≡ Some k

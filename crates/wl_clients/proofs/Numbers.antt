@@ -15,15 +15,12 @@ use Rattle.wl_scene.specs.declared.stacked.Stacked.{Stacked}
 use Rattle.wl_scene.specs.ByNumbers.{by_numbers}
 use Rattle.wl_scene.specs.Hit.{IsStackedOrNone, is_window_of}
 use Rattle.wl_scene.specs.StackedAgreement.{AreNumberedOnce, AreStacked, IsStacked}
-use Rattle.wl_scene.proofs.Standing.{any-same}
 use Rattle.wl_scene.proofs.Truth.{same-equal, some-same}
 use Rattle.law_desktop.specs.Owning.{target_as, targets_in}
 use Rattle.law_desktop.proofs.Keeping.OwningNames.{targets-at}
-use Rattle.spec_desktop.specs.Changing.{is_focus_in}
 use Rattle.spec_desktop.specs.Replies.{focus_window}
 use Rattle.wl_requests.specs.declared.residents.Resident.{Resident as Kept}
 use Rattle.wl_clients.specs.Agreement.{IsStack, numbers_in, numbers_of}
-use Rattle.wl_clients.specs.Pointing.{is_in_tree}
 use Rattle.wl_clients.specs.Residents.{client_views, resident_at}
 use Rattle.wl_clients.proofs.Desktops.{at-map}
 use Rattle.wl_clients.proofs.Seats.{IsHere, client-here}
@@ -114,19 +111,6 @@ window-numbered numbers c n (s ∷ ss) (w ∷ ws) are = by (is_window_of c n s) 
     by : (b : Bool) → is_some (if b then Some s else find (is_window_of c n) ss) ≡ (b || is_some (find (is_window_of c n) ss))
     by true = refl
     by false = refl
-
--- a surface is in the tree of a toplevel
-pub tree-so : (numbers : ℕ → ById ℕ) (c k top n id : ℕ) → AreNumberedOnce (numbers c) → numbers c top ≡ Some k → numbers c id ≡ Some n → (ss : List Stacked) (ws : List Window)
-    → AreStacked numbers ss ws → list_any (is_in_tree c k n) ss ≡ is_focus_in c top (Some (record { client = c; surface = id })) ws
-tree-so numbers c k top n id once toplevel named ss ws are =
-    any-same numbers (is_in_tree c k n) (λ w. (w.owner.client == c) && ((w.surface == id) && (w.owner.root == top))) one ss ws are
-    ∙ sym (ap (λ b. b && list_any (λ w. (w.owner.client == c) && ((w.surface == id) && (w.owner.root == top))) ws) (eq-eqb c c refl))
-  where
-    one : (s : Stacked) (w : Window) → IsStacked numbers s w → is_in_tree c k n s ≡ ((w.owner.client == c) && ((w.surface == id) && (w.owner.root == top)))
-    one s w is =
-        by-client numbers c n id once named s w is ((s.window.surface == n) && (s.window.root == k)) ((w.surface == id) && (w.owner.root == top))
-        (λ own. ap₂ (λ a b. a && b) (surface-so numbers c n id once named s.window.surface w.surface (ap (λ (m : ℕ). numbers m w.surface) (sym own) ∙ is.surface))
-        (surface-so numbers c k top once toplevel s.window.root w.owner.root (ap (λ (m : ℕ). numbers m w.owner.root) (sym own) ∙ is.root)))
 
 -- ---- toplevels
 

@@ -28,10 +28,6 @@ AsksOfPointer numbers (Some demand) asked = AsksPointer numbers demand asked
 abbrev pub windows_numbered : DeskView → Desktop → List Window
 windows_numbered v d = by_numbers v.pile.windows (all_windows d)
 
--- a window that is kept is that of the surface of this number of a client, in the tree of this toplevel
-abbrev pub is_in_tree : ℕ → ℕ → ℕ → Stacked → Bool
-is_in_tree client toplevel surface s = (s.client == client) && ((s.window.surface == surface) && (s.window.root == toplevel))
-
 -- these are the serials of the latest press and release that the client was told of, if it is there
 abbrev pub IsLatest : Latest → Option Resident → Type 0
 IsLatest latest None = Unit {0}

@@ -15,7 +15,6 @@ ghost use Rattle.spec_desktop.specs.Stacking.{is_of};
 ghost use Rattle.spec_desktop.specs.Windows.{hit as hit_of};
 ghost use Rattle.wl_scene.specs.Kept.{standing_of};
 ghost use Rattle.wl_scene.specs.Marking.{IsAsLarge};
-ghost use Rattle.spec_desktop.specs.Changing.{is_focus_in};
 ghost use Rattle.spec_desktop.specs.Desktop.{Desktop, Resident as Plain, become, client_at};
 ghost use Rattle.spec_desktop.specs.Replies.{focus_window};
 ghost use Rattle.spec_desktop.specs.Settling.{Midstep, Strike, Tells, ended_by};
@@ -27,7 +26,7 @@ ghost use Rattle.wl_clients.specs.Seats.{IsSeated, opened_kept};
 ghost use Rattle.wl_clients.specs.View.{pile_of};
 ghost use Rattle.wl_clients.specs.Feeding.{rest_in};
 ghost use Rattle.wl_clients.specs.Midway.{IsMid, MidBeginsAndEnds, MidIsNumberedOnce, MidNamesSurfaces, first_struck, is_refused};
-ghost use Rattle.wl_clients.specs.Pointing.{IsToldAt, IsToldBy, is_in_tree, windows_numbered};
+ghost use Rattle.wl_clients.specs.Pointing.{IsToldAt, IsToldBy, windows_numbered};
 
 use crate::clients::{Clients, place_of};
 use crate::screen::Screen;
@@ -55,27 +54,6 @@ fn window_in(windows: &[Stacked], client: ClientNo, surface: SurfaceNo) -> Optio
         .iter()
         .copied()
         .find(|stacked| is_window_of(stacked, client, surface))
-}
-
-/// Whether a window is that of the surface of this number of a client, in the tree of this toplevel.
-fn is_in_tree(stacked: &Stacked, client: ClientNo, toplevel: SurfaceNo, surface: SurfaceNo) -> bool
-    ensures { result ≡ is_in_tree client toplevel surface stacked.now }
-{
-    stacked.client == client && stacked.window.surface == surface && stacked.window.root == toplevel
-}
-
-/// Whether one of these windows is.
-fn has_in_tree(
-    windows: &[Stacked],
-    client: ClientNo,
-    toplevel: SurfaceNo,
-    surface: SurfaceNo,
-) -> bool
-    ensures { result ≡ list_any (is_in_tree client toplevel surface) windows.now }
-{
-    windows
-        .iter()
-        .any(|stacked| is_in_tree(stacked, client, toplevel, surface))
 }
 
 fn is_toplevel(toplevel: &Toplevel, client: ClientNo, surface: SurfaceNo) -> bool
@@ -127,15 +105,6 @@ impl<A: Allocator + Copy> Clients<A> {
             → is_some result ≡ is_stacked (record { client = client; surface = surface }) (windows_numbered self.now.desk m.desktop) }
     {
         window_in(self.screen.stacked.windows(), client, surface)
-    }
-
-    /// Whether a surface of a client, by its number, is in the tree of this toplevel of the client that has windows on the output.
-    pub fn is_in_tree(&self, client: ClientNo, toplevel: SurfaceNo, surface: SurfaceNo) -> bool
-        ensures { (m : Midstep) (top id : ℕ) → IsMid self.now.desk m → numbers_in self.now.desk.clients client top ≡ Some toplevel
-            → numbers_in self.now.desk.clients client id ≡ Some surface
-            → result ≡ is_focus_in client top (Some (record { client = client; surface = id })) (all_windows m.desktop) }
-    {
-        has_in_tree(self.screen.stacked.windows(), client, toplevel, surface)
     }
 
     /// Whether a toplevel of a client, by the number of its surface, is mapped and stands.

@@ -58,7 +58,7 @@ impl<A: Allocator + Copy> Resident<A> {
         ensures dismisses { DismissesWith surface self.old self.new }
         ensures table { self.new.client.ended ≡ None → self.new.client.objects ≡ self.old.client.objects }
         ensures ended { is_some self.old.client.ended ≡ true → self.new.client ≡ self.old.client }
-        ensures linked { self.new.owned.surfaces ≡ self.old.owned.surfaces }
+        ensures surfaces { self.new.owned.surfaces ≡ self.old.owned.surfaces }
         ensures subsurfaces { self.new.subsurfaces ≡ self.old.subsurfaces }
         ensures rest { Leaves self.old self.new }
     {
@@ -95,7 +95,7 @@ impl<A: Allocator + Copy> Resident<A> {
     pub fn release_grabs(&mut self)
         ensures releases { ReleasesGrabs self.old self.new }
         ensures client { self.new.client ≡ record self.old.client { unsent = self.new.client.unsent; refused = self.new.client.refused } }
-        ensures linked { self.new.owned.surfaces ≡ self.old.owned.surfaces }
+        ensures surfaces { self.new.owned.surfaces ≡ self.old.owned.surfaces }
         ensures subsurfaces { self.new.subsurfaces ≡ self.old.subsurfaces }
     {
         for _ in 0..PAST_POPUPS {

@@ -16,7 +16,7 @@ returns-clause-answers g c = λ named client r d is ordered.
     toplevel-there v _ object number (λ o. toplevel_destroyed object o) client d r is named
     (λ k x h one with_it its.
     toplevel-ends v c.dismiss_popups.new.self c.remove.new.self c.destroy_toplevel.new.self client r d object number k x h is ordered named one with_it told.0 told.1 told.2
-    c.dismiss_popups.ensures.dismisses c.dismiss_popups.ensures.ended c.dismiss_popups.ensures.linked c.dismiss_popups.ensures.subsurfaces
+    c.dismiss_popups.ensures.dismisses c.dismiss_popups.ensures.ended c.dismiss_popups.ensures.surfaces c.dismiss_popups.ensures.subsurfaces
     (c.destroy_toplevel.ensures ∙ ap (λ (ks : ℕ → Option KeptXdg). changing number kept_without_role ks) c.orphan.ensures)
     (λ alive.
     let lives : c.remove.new.self.ended ≡ None = alive-before c.remove.new.self c.dismiss_popups.new.self.client c.dismiss_popups.ensures.ended alive in

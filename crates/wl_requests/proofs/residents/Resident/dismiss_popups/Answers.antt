@@ -13,7 +13,7 @@ loop-init g c = record {
   told = λ names o xdg p is order named peer lives. none-dismissed names xdg o p c.args.self.now is order peer lives;
   table = λ alive. refl;
   ended = λ over. refl;
-  linked = refl;
+  surfaces = refl;
   subsurfaces = refl;
   rest = omega arith;
 }
@@ -26,8 +26,8 @@ returns-then-has_ended-clause-dismisses g c = λ names o xdg p is order named pe
 pub returns-then-has_ended-clause-ended : goal.returns-then-has_ended-clause-ended
 returns-then-has_ended-clause-ended g c = c.loop.invariant.ended
 
-pub returns-then-has_ended-clause-linked : goal.returns-then-has_ended-clause-linked
-returns-then-has_ended-clause-linked g c = c.loop.invariant.linked
+pub returns-then-has_ended-clause-surfaces : goal.returns-then-has_ended-clause-surfaces
+returns-then-has_ended-clause-surfaces g c = c.loop.invariant.surfaces
 
 pub returns-then-has_ended-clause-subsurfaces : goal.returns-then-has_ended-clause-subsurfaces
 returns-then-has_ended-clause-subsurfaces g c = c.loop.invariant.subsurfaces
@@ -50,8 +50,8 @@ returns-in_default-clause-table g c = c.loop.invariant.table
 pub returns-in_default-clause-ended : goal.returns-in_default-clause-ended
 returns-in_default-clause-ended g c = c.loop.invariant.ended
 
-pub returns-in_default-clause-linked : goal.returns-in_default-clause-linked
-returns-in_default-clause-linked g c = c.loop.invariant.linked
+pub returns-in_default-clause-surfaces : goal.returns-in_default-clause-surfaces
+returns-in_default-clause-surfaces g c = c.loop.invariant.surfaces
 
 pub returns-in_default-clause-subsurfaces : goal.returns-in_default-clause-subsurfaces
 returns-in_default-clause-subsurfaces g c = c.loop.invariant.subsurfaces
@@ -71,7 +71,7 @@ loop-preserved g c =
           c.tell_done.ensures.told;
       table = λ lives. c.tell_done.ensures.table lives ∙ now.table alive;
       ended = λ over. absurd (gone c.loop.self.client.ended (ap (λ (v : ClientView). is_some v.ended) (now.ended over) ∙ over) alive);
-      linked = ap (λ (o : Lent _). o.surfaces) c.tell_done.ensures.owned ∙ now.linked;
+      surfaces = ap (λ (o : Lent _). o.surfaces) c.tell_done.ensures.owned ∙ now.surfaces;
       subsurfaces = c.tell_done.ensures.subsurfaces ∙ now.subsurfaces;
       rest = omega (arith, c.tell_done.ensures.rest, now.rest);
     }
@@ -87,8 +87,8 @@ returns-clause-table g c = c.loop.invariant.table
 pub returns-clause-ended : goal.returns-clause-ended
 returns-clause-ended g c = c.loop.invariant.ended
 
-pub returns-clause-linked : goal.returns-clause-linked
-returns-clause-linked g c = c.loop.invariant.linked
+pub returns-clause-surfaces : goal.returns-clause-surfaces
+returns-clause-surfaces g c = c.loop.invariant.surfaces
 
 pub returns-clause-subsurfaces : goal.returns-clause-subsurfaces
 returns-clause-subsurfaces g c = c.loop.invariant.subsurfaces

@@ -18,7 +18,7 @@ invariant-loop g l = record {
       → IsDismissedTo names xdg o l.counter p l.self;
   table : l.self.client.ended ≡ None → l.self.client.objects ≡ l.fn.self.client.objects;
   ended : is_some l.fn.self.client.ended ≡ true → l.self.client ≡ l.fn.self.client;
-  linked : l.self.owned.surfaces ≡ l.fn.self.owned.surfaces;
+  surfaces : l.self.owned.surfaces ≡ l.fn.self.owned.surfaces;
   subsurfaces : l.self.subsurfaces ≡ l.fn.self.subsurfaces;
   rest : length l.self.client.rest ≤ length l.fn.self.client.rest;
 }

@@ -58,7 +58,7 @@ returns-in-Ok-false-clause-answers g c = λ named seat client r d is ordered giv
     so-judged (grab_of object serial x (popup_at x.id r.owned.shell)) demand client r d v _ judged
     (grab-refused v c.dismiss_popups.new.self client r d object number serial k x h p is ordered one here mid c.grab.result answer ok (count.ensures.counts r.peer is.peer) refl
     (c.in-Ok-false.ensures.ok ∙ ap (λ (b : Bool). changing number (kept_grabbing b) kept) c.in-Ok-false.field-0-test) c.dismiss_popups.ensures.dismisses
-    c.dismiss_popups.ensures.linked c.dismiss_popups.ensures.subsurfaces
+    c.dismiss_popups.ensures.surfaces c.dismiss_popups.ensures.subsurfaces
     (λ alive. ap names_of (c.dismiss_popups.ensures.table alive) ∙ names-counted v.client count.new.self count.ensures.only)))
 
 pub returns-in-Err-clause-answers : goal.returns-in-Err-clause-answers

@@ -8,7 +8,7 @@ pub loop-init : goal.loop-init
 loop-init g c = record {
   told = λ names o p is order peer. none-released names o p c.args.self.now is order peer;
   client = refl;
-  linked = refl;
+  surfaces = refl;
   subsurfaces = refl;
 }
 
@@ -24,8 +24,8 @@ returns-in_default-clause-releases g c = λ names o p is order peer lives unrefu
 pub returns-in_default-clause-client : goal.returns-in_default-clause-client
 returns-in_default-clause-client g c = c.loop.invariant.client
 
-pub returns-in_default-clause-linked : goal.returns-in_default-clause-linked
-returns-in_default-clause-linked g c = c.loop.invariant.linked
+pub returns-in_default-clause-surfaces : goal.returns-in_default-clause-surfaces
+returns-in_default-clause-surfaces g c = c.loop.invariant.surfaces
 
 pub returns-in_default-clause-subsurfaces : goal.returns-in_default-clause-subsurfaces
 returns-in_default-clause-subsurfaces g c = c.loop.invariant.subsurfaces
@@ -40,7 +40,7 @@ loop-preserved g c =
           c.in-Some.ensures.newest c.in-Some.ensures.some (ap (λ (o : Lent _). kept_of o.shell) c.tell_released.ensures.owned) (ap (λ (o : Lent _). o.surfaces) c.tell_released.ensures.owned)
           c.tell_released.ensures.told c.tell_released.ensures.refused;
       client = only-then c.args.self.now.client c.loop.self.client c.tell_released.new.self.client now.client c.tell_released.ensures.client;
-      linked = ap (λ (o : Lent _). o.surfaces) c.tell_released.ensures.owned ∙ now.linked;
+      surfaces = ap (λ (o : Lent _). o.surfaces) c.tell_released.ensures.owned ∙ now.surfaces;
       subsurfaces = c.tell_released.ensures.subsurfaces ∙ now.subsurfaces;
     }
 
@@ -52,8 +52,8 @@ returns-clause-releases g c = λ names o p is order peer lives unrefused.
 pub returns-clause-client : goal.returns-clause-client
 returns-clause-client g c = c.loop.invariant.client
 
-pub returns-clause-linked : goal.returns-clause-linked
-returns-clause-linked g c = c.loop.invariant.linked
+pub returns-clause-surfaces : goal.returns-clause-surfaces
+returns-clause-surfaces g c = c.loop.invariant.surfaces
 
 pub returns-clause-subsurfaces : goal.returns-clause-subsurfaces
 returns-clause-subsurfaces g c = c.loop.invariant.subsurfaces

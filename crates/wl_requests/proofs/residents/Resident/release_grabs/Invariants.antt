@@ -16,6 +16,6 @@ invariant-loop g l = record {
       → HasOrder o.shell → IsPeer l.fn.self.client p
       → IsReleasedTo names o l.counter p l.self;
   client : l.self.client ≡ record l.fn.self.client { unsent = l.self.client.unsent; refused = l.self.client.refused };
-  linked : l.self.owned.surfaces ≡ l.fn.self.owned.surfaces;
+  surfaces : l.self.owned.surfaces ≡ l.fn.self.owned.surfaces;
   subsurfaces : l.self.subsurfaces ≡ l.fn.self.subsurfaces;
 }

@@ -1,6 +1,6 @@
 //! What surfaces do and are, as tables of rows.
 
-use crate::surfaces::Row;
+use crate::states::Row;
 use wl_store::Transform;
 use wl_surface::{Role, SurfaceError};
 
