@@ -1,6 +1,6 @@
 -- A piece is kept of a client of the desk, one of its messages is taken, and it ends.
 use Rattle.std.proofs.Common.{◌≡◌, ℕ, ◌<◌, ◌++◌, List, length, Option, Some, None, Result, set, refl, subst, sym, ◌∙◌, ap}
-use Rattle.std.specs.Prelude.{Ok, Err, OnErr, OnOk, is_some}
+use Rattle.std.specs.Prelude.{Ok, Err, IfNone, IfSome, OnErr, OnOk, is_some, false, true}
 use Rattle.wl_proto.specs.declared.interface.Interface.TheVariants.{WlSurface}
 use Rattle.law_desktop.specs.Owning.{targets_in}
 use Rattle.spec_desktop.specs.Objects.{ById}
@@ -42,6 +42,18 @@ ok-then (Err e) f p = tt
 pub err-then : {A E P Q : Type 0} (r : Result A E) → (P → Q) → OnErr r P → OnErr r Q
 err-then (Ok v) f p = tt
 err-then (Err e) f p = f p
+
+pub some-then : {X : Type 0} (o : Option X) {P Q : X → Type 0} → IfSome o P → (is_some o ≡ true → (x : X) → P x → Q x) → IfSome o Q
+some-then None p f = tt
+some-then (Some x) p f = f refl x p
+
+pub both-then : {X : Type 0} (o : Option X) {P R Q : X → Type 0} → IfSome o P → IfSome o R → ((x : X) → P x → R x → Q x) → IfSome o Q
+both-then None p r f = tt
+both-then (Some x) p r f = f x p r
+
+pub none-then : {X Q : Type 0} (o : Option X) → (is_some o ≡ false → Q) → IfNone o Q
+none-then None f = f refl
+none-then (Some x) f = tt
 
 -- ---- a piece is kept of a client that lives
 

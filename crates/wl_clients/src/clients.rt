@@ -19,7 +19,6 @@ ghost use Rattle.wl_clients.specs.Touching.{ChangesNoWindow};
 ghost use Rattle.wl_clients.specs.Residents.{resident_at};
 ghost use Rattle.law_desktop.specs.Pointed.Pointed.{asked};
 ghost use Rattle.wl_clients.specs.Agreement.{numbers_in};
-ghost use Rattle.wl_clients.specs.Screens.{IsTouchedBy};
 ghost use Rattle.wl_clients.specs.Painting.{IsOpaqueAsSaid};
 ghost use Rattle.spec_desktop.specs.Scratch.{scratch};
 ghost use Rattle.spec_desktop.specs.LeftOut.{nothing_left_out};
@@ -28,7 +27,7 @@ ghost use Rattle.spec_desktop.specs.Happens.{Happens};
 ghost use Rattle.law_desktop.specs.Touching.{has_window_at};
 
 use crate::grabs::Latest;
-use crate::screen::{Screen, bare, touched_by};
+use crate::screen::{Screen, Taken, bare};
 use crate::windows::{Lent, resident_of};
 use spec_desktop::{ClientNo, ConnectError, Done, Fed, Stored};
 use std::alloc::{AllocError, Allocator};
@@ -37,7 +36,7 @@ use wl_client::{Cause, Client, Output, StoreNo};
 use wl_geom::Region;
 use wl_links::Subsurfaces;
 use wl_paint::{Damage, FrameError, Framebuffer, is_side};
-use wl_requests::{Asked, PointerAsked, Resident};
+use wl_requests::{PointerAsked, Resident};
 
 /// How many clients there may be at once.
 pub const MAX_CLIENTS: usize = 32;
@@ -50,13 +49,6 @@ pub struct Clients<A: Allocator> {
     output: Output,
     pub(crate) residents: Vec<Option<Resident<A>>, A>,
     pub(crate) screen: Screen<A>,
-}
-
-/// What a message that was taken asks of the pointer, unless it was refused, and whether it may have changed windows of a client that lives on.
-#[derive(Clone, Copy, Debug, PartialEq, Eq)]
-pub struct Taken {
-    pub pointer: PointerAsked,
-    pub touches_windows: bool,
 }
 
 impl<A: Allocator> Model for Clients<A> {
@@ -178,7 +170,6 @@ impl<A: Allocator + Copy> Clients<A> {
             return None;
         };
         let asked = resident.asked();
-        let touches_windows = touches_windows(resident, &asked);
         let grabbing = self.grabbing(client, &asked, latest);
         let Some(k) = place_of(&self.residents, client) else {
             return None;
@@ -186,16 +177,8 @@ impl<A: Allocator + Copy> Clients<A> {
         let Some(resident) = &mut self.residents[k] else {
             return None;
         };
-        let Some(pointer) = self
-            .screen
+        self.screen
             .serve(resident, client, asked, has_seat, grabbing)
-        else {
-            return None;
-        };
-        Some(Taken {
-            pointer,
-            touches_windows,
-        })
     }
 
     /// Memory runs out for a client that lives, and it ends by that. No more than its own windows is marked.
@@ -449,13 +432,6 @@ fn keep_in<A: Allocator + Copy>(resident: &mut Resident<A>, piece: &[u8]) -> Res
         return Ok(());
     }
     resident.client.keep(piece)
-}
-
-/// Whether a message of a client that asks this may change windows. It takes the same time however many there are.
-fn touches_windows<A: Allocator + Copy>(resident: &Resident<A>, asked: &Asked) -> bool
-    ensures { result ≡ false → IsTouchedBy resident.now asked.now None }
-{
-    touched_by(resident, asked).is_some()
 }
 
 /// Where the client of this number stands, if it is the number of a place.

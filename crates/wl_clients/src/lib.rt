@@ -11,12 +11,12 @@ mod pointing;
 mod screen;
 mod windows;
 
-pub use clients::{Clients, MAX_CLIENTS, Taken};
+pub use clients::{Clients, MAX_CLIENTS};
 pub use grabs::Latest;
 pub use painting::{lends_opaque_as_said, paints_the_desktop};
 pub use pictures::lend;
 pub use pointing::{mid_begins_and_ends, mid_is_numbered_once, mid_names_surfaces};
-pub use screen::{Screen, bare, sent, store, touched_by};
+pub use screen::{Screen, Taken, bare, sent, store, touched_by};
 pub use spec_desktop::{ClientNo, ConnectError, Done, Fed, Stored};
 pub use wl_client::PointerEvent;
 pub use wl_requests::PointerAsked;

@@ -13,6 +13,6 @@ mod run;
 mod screens;
 mod touching;
 
-pub use feeding::{bare, sent, store};
+pub use feeding::{Taken, bare, sent, store};
 pub use screens::Screen;
 pub use touching::touched_by;

@@ -12,7 +12,7 @@ ghost use Rattle.wl_paint.specs.Damage.{has};
 ghost use Rattle.wl_requests.specs.Grabbing.{IsGrabbingOf};
 ghost use Rattle.wl_requests.specs.Messages.{IsAsked};
 ghost use Rattle.wl_requests.specs.PointerAsks.{MessageAsksPointer};
-ghost use Rattle.wl_clients.specs.Screens.{IsFollowed, IsParted, has_own};
+ghost use Rattle.wl_clients.specs.Screens.{IsFollowed, IsParted, IsTouchedBy, has_own};
 ghost use Rattle.wl_clients.specs.Seats.{IsBare, IsChangedSo, IsClearedBy, IsSeated, ended_by, opened_kept};
 ghost use Rattle.wl_clients.specs.Finding.{IsPlacedBy};
 ghost use Rattle.wl_clients.specs.View.{Pile, pile_of};
@@ -33,6 +33,13 @@ use wl_requests::{Asked, Grabbing, Outcome, Placing, PointerAsked, Resident};
 use wl_scene::{Owned, parent_corner};
 use wl_shell::Shell;
 use wl_surface::{SurfaceNo, Surfaces};
+
+/// What a message that was taken asks of the pointer, unless it was refused, and whether it may have changed windows of a client that lives on.
+#[derive(Clone, Copy, Debug, PartialEq, Eq)]
+pub struct Taken {
+    pub pointer: PointerAsked,
+    pub touches_windows: bool,
+}
 
 /// Nothing is owned.
 pub fn bare<A: Allocator + Copy>(alloc: A) -> Owned<A>
@@ -131,10 +138,11 @@ impl<A: Allocator + Copy> Screen<A> {
         }
     }
 
-    /// Takes the first whole message of a client that lives, which asks this, and answers what it asks of the pointer; None where there is
-    /// none. What it changes of the windows of a toplevel is marked, tree by tree: the damage that it applied, where the windows of a tree
-    /// stand as they did; else all of them, as they were before and as they are after. Where the client ends by it, its windows are marked, and
-    /// no more; so does one that asks for a wl_pointer where there is no seat for that. A grab is allowed by what is handed in for that.
+    /// Takes the first whole message of a client that lives, which asks this, and answers what it asks of the pointer and whether it may have
+    /// changed windows, which takes the same time however many there are; None where there is no message. What it changes of the windows of a
+    /// toplevel is marked, tree by tree: the damage that it applied, where the windows of a tree stand as they did; else all of them, as they
+    /// were before and as they are after. Where the client ends by it, its windows are marked, and no more; so does one that asks for a
+    /// wl_pointer where there is no seat for that. A grab is allowed by what is handed in for that.
     pub fn serve(
         &mut self,
         resident: &mut Resident<A>,
@@ -142,7 +150,7 @@ impl<A: Allocator + Copy> Screen<A> {
         asked: Asked,
         has_seat: bool,
         grabbing: Grabbing,
-    ) -> Option<PointerAsked>
+    ) -> Option<Taken>
         requires { IsAsked resident.old.client asked }
         ensures serves { is_some result ≡ true → (others : ℕ → ById ℕ) (base d : Desktop) (r : Plain)
             → self.old.damage.width ≡ d.output.width → self.old.damage.height ≡ d.output.height
@@ -163,8 +171,10 @@ impl<A: Allocator + Copy> Screen<A> {
             → IsSeated client others base resident.old (pile_of self.old) d r → Ordered d → IsGrabbingOf grabbing asked client r d
             → (e : Desktop) × (q : Plain) × (path : List Desktop) × ServesThrough nothing_left_out client d path e
             × IsSeated client others base resident.new (pile_of self.new) e q × MarksThrough d path self.old.damage self.new.damage }
-        ensures asks { IfSome result (λ asked. (resident.old.client.ended ≡ None) × MessageAsksPointer resident.old asked) }
-        ensures seat { IfSome result (λ asked. (id : ℕ) → asked ≡ PointerAsked.NewPointer id → has_seat ≡ false → is_some resident.new.client.ended ≡ true) }
+        ensures asks { IfSome result (λ taken. (resident.old.client.ended ≡ None) × MessageAsksPointer resident.old taken.pointer) }
+        ensures seat { IfSome result (λ taken. (id : ℕ) → taken.pointer ≡ PointerAsked.NewPointer id → has_seat ≡ false
+            → is_some resident.new.client.ended ≡ true) }
+        ensures untouched { IfSome result (λ taken. taken.touches_windows ≡ false → IsTouchedBy resident.old asked None) }
         ensures idle { is_some result ≡ false → (resident.new ≡ resident.old) × (pile_of self.new ≡ pile_of self.old)
             × (self.new.damage ≡ self.old.damage) × IsIdleAt resident.old.client.ended resident.old.client.rest }
         ensures sides { IsAsLarge self.old.damage self.new.damage }
@@ -182,7 +192,10 @@ impl<A: Allocator + Copy> Screen<A> {
                 return None;
             };
             self.part_alone(resident, client, alloc);
-            return Some(pointer);
+            return Some(Taken {
+                pointer,
+                touches_windows: false,
+            });
         };
         let root = root_of(resident, surface);
         let toplevel = find_toplevel(&resident.owned.shell, &self.stacked, client, root);
@@ -196,7 +209,10 @@ impl<A: Allocator + Copy> Screen<A> {
         } else {
             self.follow(resident, client, toplevel, &outcome);
         }
-        Some(pointer)
+        Some(Taken {
+            pointer,
+            touches_windows: true,
+        })
     }
 
     /// The client ends by this, where it lives, also where an event wasn't queued for it. Its windows are marked, and no more.

@@ -1,13 +1,12 @@
 use Rattle.std.proofs.Common.{None, ap, refl, subst, sym, ◌∙◌}
 use Rattle.std.proofs.lemmas.List.{length-set}
 use Rattle.wl_clients.specs.Agreement.{numbers_in}
-use Rattle.wl_clients.specs.Screens.{IsTouchedBy}
 use Rattle.wl_clients.specs.View.{MarkedDesk, pile_of}
 use Rattle.wl_clients.specs.Residents.{client_views, resident_at}
 use Rattle.wl_requests.specs.Messages.{IsAsked}
 use Rattle.wl_clients.proofs.Asks.{message-asks, over-there}
 use Rattle.wl_clients.proofs.Grabbing.{latest-here}
-use Rattle.wl_clients.proofs.Kept.{idles, rest-less, serves-through}
+use Rattle.wl_clients.proofs.Kept.{both-then, idles, none-then, rest-less, serves-through, some-then}
 use Rattle.wl_clients.proofs.Leading.{message-led}
 use Rattle.wl_clients.proofs.Steps.{idles-nobody, idles-whole, through-whole}
 use Rattle.wl_clients.proofs.Seats.{as-large, empty-slot, found, here-is, missing, still}
@@ -40,38 +39,29 @@ returns-in_default-index_mut-clause-output g c = ap (λ (m : MarkedDesk). m.desk
 
 -- ---- no whole message is there
 
-pub returns-in_default-serve-clause-more : goal.returns-in_default-serve-clause-more
-returns-in_default-serve-clause-more g c =
+pub returns-clause-more : goal.returns-clause-more
+returns-clause-more g c =
     let pile = pile_of c.self.inside.screen in
-    idles-whole c.args.client _ _ (λ d a.
-    let idle = c.in_default-serve.ensures.idle refl in
+    none-then c.serve.result (λ none. idles-whole c.args.client _ _ (λ d a.
+    let idle = c.serve.ensures.idle none in
     idles c.self.inside.output c.self.inside.residents.items pile c.args.client c.in-Some-place_of.k c.in-Some-index_mut.resident
     (found _ _ _ _ _ _ c.deref-2.ensures.value c.in-Some-place_of.ensures.some c.index_mut.ensures.value c.in-Some-index_mut.is) d (rw (← c.self.view_is) at a)
-    c.serve.new.resident (pile_of c.serve.new.self) idle.0 idle.1 idle.3)
+    c.serve.new.resident (pile_of c.serve.new.self) idle.0 idle.1 idle.3))
 
-pub returns-in_default-serve-clause-rests : goal.returns-in_default-serve-clause-rests
-returns-in_default-serve-clause-rests g c = (c.in_default-serve.ensures.idle refl).2 ∙ ap (λ (m : MarkedDesk). m.damage) c.self.view_is
-
-pub returns-in_default-serve-clause-sides : goal.returns-in_default-serve-clause-sides
-returns-in_default-serve-clause-sides g c = rw (← c.self.view_is) c.in_default-serve.ensures.sides
-
-pub returns-in_default-serve-clause-output : goal.returns-in_default-serve-clause-output
-returns-in_default-serve-clause-output g c = ap (λ (m : MarkedDesk). m.desk.output) c.self.view_is
+pub returns-clause-rests : goal.returns-clause-rests
+returns-clause-rests g c = none-then c.serve.result (λ none. (c.serve.ensures.idle none).2 ∙ ap (λ (m : MarkedDesk). m.damage) c.self.view_is)
 
 -- ---- a message is taken
-
-pub invariant_of-self-in_default-serve : goal.invariant_of-self-in_default-serve
-invariant_of-self-in_default-serve g c =
-    let sides = c.in_default-serve.ensures.sides in (length-set _ _ _ ∙ c.self.invariant.0, (sides.width ∙ c.self.invariant.1.0, sides.height ∙ c.self.invariant.1.1))
 
 pub returns-clause-less : goal.returns-clause-less
 returns-clause-less g c =
     let pile = pile_of c.self.inside.screen in
+    some-then c.serve.result c.serve.ensures.asks (λ some taken asks.
     rw (← c.self.view_is) (rest-less c.self.inside.output c.self.inside.residents.items pile (pile_of c.serve.new.self) c.args.client c.in-Some-place_of.k c.in-Some-index_mut.resident
-    (found _ _ _ _ _ _ c.deref-2.ensures.value c.in-Some-place_of.ensures.some c.index_mut.ensures.value c.in-Some-index_mut.is) c.serve.new.resident (c.in-Some-serve.ensures.less refl))
+    (found _ _ _ _ _ _ c.deref-2.ensures.value c.in-Some-place_of.ensures.some c.index_mut.ensures.value c.in-Some-index_mut.is) c.serve.new.resident (c.serve.ensures.less some)))
 
 pub returns-clause-sides : goal.returns-clause-sides
-returns-clause-sides g c = rw (← c.self.view_is) c.in-Some-serve.ensures.sides
+returns-clause-sides g c = rw (← c.self.view_is) c.serve.ensures.sides
 
 pub returns-clause-output : goal.returns-clause-output
 returns-clause-output g c = ap (λ (m : MarkedDesk). m.desk.output) c.self.view_is
@@ -84,31 +74,30 @@ pub invariant_of-self : goal.invariant_of-self
 invariant_of-self g c = (length-set _ _ _ ∙ c.self.invariant.0, c.self.invariant.1)
 
 pub returns-clause-asks : goal.returns-clause-asks
-returns-clause-asks g c = λ d a.
+returns-clause-asks g c = some-then c.serve.result c.serve.ensures.asks (λ some taken asks d a.
     let pile = pile_of c.self.inside.screen in
-    let asks = c.in-Some-serve.ensures.asks in
     rw (← c.self.view_is) (message-asks c.self.inside.output c.self.inside.residents.items pile c.args.client c.in-Some-place_of.k c.in-Some-index_mut.resident
-    (found _ _ _ _ _ _ c.deref-2.ensures.value c.in-Some-place_of.ensures.some c.index_mut.ensures.value c.in-Some-index_mut.is) d (rw (← c.self.view_is) at a.matches) asks.0 _ asks.1)
+    (found _ _ _ _ _ _ c.deref-2.ensures.value c.in-Some-place_of.ensures.some c.index_mut.ensures.value c.in-Some-index_mut.is) d (rw (← c.self.view_is) at a.matches) asks.0 _ asks.1))
 
 pub returns-clause-leads : goal.returns-clause-leads
-returns-clause-leads g c = λ d a latest.
+returns-clause-leads g c = some-then c.serve.result c.serve.ensures.asks (λ some taken asks d a latest.
     let pile = pile_of c.self.inside.screen in
     message-led c.args.client _ c.args.self.now.damage c.serve.new.self.damage d
     (through-whole c.args.client _ _ c.args.self.now.damage c.serve.new.self.damage d a
     (rw (← c.self.view_is) (serves-through c.self.inside.output c.self.inside.residents.items pile c.args.client c.in-Some-place_of.k c.in-Some-index_mut.resident
     (found _ _ _ _ _ _ c.deref-2.ensures.value c.in-Some-place_of.ensures.some c.index_mut.ensures.value c.in-Some-index_mut.is) d (rw (← c.self.view_is) at a.matches)
     c.serve.new.resident (pile_of c.serve.new.self) c.self.inside.screen.damage c.serve.new.self.damage a.ordered
-    (λ r width height seated ordered. c.in-Some-serve.ensures.through refl
+    (λ r width height seated ordered. c.serve.ensures.through some
     (numbers_in (client_views c.self.inside.residents.items)) d d r width height seated ordered
     (c.grabbing-grabbing.ensures d r a (latest-here c.args.latest c.args.client r d seated.based.there latest)))
-    c.self.invariant.1)))
+    c.self.invariant.1))))
 
 pub returns-clause-seat : goal.returns-clause-seat
-returns-clause-seat g c = λ id new lacks e b.
+returns-clause-seat g c = some-then c.serve.result c.serve.ensures.seat (λ some taken seat id new lacks e b.
     let pile = pile_of c.self.inside.screen in
     over-there c.self.inside.output c.self.inside.residents.items pile (pile_of c.serve.new.self) c.args.client c.in-Some-place_of.k c.in-Some-index_mut.resident
     (found _ _ _ _ _ _ c.deref-2.ensures.value c.in-Some-place_of.ensures.some c.index_mut.ensures.value c.in-Some-index_mut.is) c.serve.new.resident e
-    (c.in-Some-serve.ensures.seat id new lacks) b.matches
+    (seat id new lacks) b.matches)
 
 pub serve-requires : goal.serve-requires
 serve-requires g c =
@@ -118,11 +107,9 @@ serve-requires g c =
     (c.in-Some.ensures ∙ ap (λ rs. resident_at rs c.args.client) c.deref.ensures.value)) c.asked-asked.ensures
 
 pub returns-clause-untouched : goal.returns-clause-untouched
-returns-clause-untouched g c = λ untouched d a.
+returns-clause-untouched g c =
     let rs = c.self.inside.residents.items in
     let put = found _ _ _ _ _ _ c.deref-2.ensures.value c.in-Some-place_of.ensures.some c.index_mut.ensures.value c.in-Some-index_mut.is in
-    let here = here-is rs c.args.client c.in-Some-place_of.k c.in-Some-index_mut.resident c.in-Some.resident.now put (c.in-Some.ensures ∙ ap (λ rs. resident_at rs c.args.client) c.deref.ensures.value) in
-    let asks = c.in-Some-serve.ensures.asks in
+    both-then c.serve.result c.serve.ensures.asks c.serve.ensures.untouched (λ taken asks by untouched d a.
     no-window c.self.inside.output rs (pile_of c.self.inside.screen) c.args.client c.in-Some-place_of.k c.in-Some-index_mut.resident put d (rw (← c.self.view_is) at a.matches)
-    a.ordered asks.0 c.asked-asked.result (subst (λ v. IsAsked v.client c.asked-asked.result) here c.asked-asked.ensures)
-    (subst (λ v. IsTouchedBy v c.asked-asked.result None) here (c.touches_windows-touches_windows.ensures untouched))
+    a.ordered asks.0 c.asked-asked.result (serve-requires g c) (by untouched))
