@@ -7,7 +7,6 @@ pub mod Keeping
 pub mod KeptInOrder
 pub mod KeptRecords
 pub mod Lists
-mod MarkedLists
 mod MarkedOrder
 mod MarkedStack
 mod MarkedTrees
@@ -26,5 +25,6 @@ pub mod Soundness
 pub mod TreeBuffers
 pub mod TreeMarks
 pub mod TreeSteps
+pub mod Truth
 pub mod Twins
 pub mod XdgRoots

@@ -5,20 +5,12 @@ use Rattle.std.specs.List.{list_any}
 use Rattle.std.proofs.lemmas.Bool.{eqb-true, or_left, or_right}
 use Rattle.spec_desktop.specs.Windows.{Window}
 use Rattle.spec_desktop.specs.Marks.{AreDistinct, is_before, is_same_surface}
-use Rattle.law_desktop.proofs.Marks.Stacks.{Each, differ, each-map, equal-numbers}
+use Rattle.law_desktop.proofs.Marks.Stacks.{before-there, equal-numbers}
 use Rattle.law_desktop.proofs.TreeMarks.Records.{apart-second, before-in-second, distinct-second}
 use Rattle.law_desktop.specs.Toplevel.{of_root}
-use Rattle.law_desktop.proofs.MarkedLists.{any-left, none-left}
-
--- both are there, where one stands before the other
-pub upper-there : (w v : Window) (xs : List Window) → is_before w v xs ≡ true → list_any (is_same_surface v) xs ≡ true
-upper-there w v [] e = e
-upper-there w v (x ∷ xs) e = or_right (is_same_surface v x) (list_any (is_same_surface v) xs) (at (is_same_surface w x) e (upper-there w v xs))
-  where
-    at : (same : Bool) → (if same then list_any (is_same_surface v) xs else is_before w v xs) ≡ true
-        → (is_before w v xs ≡ true → list_any (is_same_surface v) xs ≡ true) → list_any (is_same_surface v) xs ≡ true
-    at true f later = f
-    at false f later = later f
+use Rattle.law_desktop.proofs.Lists.Left.{any-left, none-left}
+use Rattle.law_desktop.proofs.Truth.{differ}
+use Rattle.law_desktop.proofs.Lists.Each.{Each, each-map}
 
 pub lower-there : (w v : Window) (xs : List Window) → is_before w v xs ≡ true → list_any (is_same_surface w) xs ≡ true
 lower-there w v [] e = e
@@ -76,7 +68,7 @@ passed w v r q k ks ws here apart of-w of-v there distinct before =
     let first : list_any (is_same_surface v) (of_root k ws) ≡ true =
     ap (λ n. list_any (is_same_surface v) (of_root n ws)) (eqb-true k q here) ∙ own-there v q ws of-v there in
     let later = before-in-second w v (of_root k ws) (in_turn ks ws) (other-nowhere w r k ws apart of-w) before in
-    differ (sym (apart-second v (of_root k ws) (in_turn ks ws) distinct first) ∙ upper-there w v (in_turn ks ws) later)
+    differ (sym (apart-second v (of_root k ws) (in_turn ks ws) distinct first) ∙ before-there w v (in_turn ks ws) later)
 
 -- windows of two trees that stand in one order don't move past each other
 pub uncrossed : (w v : Window) (r q : ℕ) (was is : List Window) → (r == q) ≡ false → IsRooted w r was → IsRooted v q was → IsRooted w r is → IsRooted v q is

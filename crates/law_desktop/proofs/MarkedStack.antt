@@ -2,17 +2,19 @@
 use Rattle.std.proofs.Common.{◌≡◌, ℕ, Bool, true, false, List, [], ◌∷◌, ◌++◌, refl, ap, sym, subst, ◌∙◌}
 use Rattle.std.specs.Prelude.{ℤ, ◌==◌, ◌&&◌, ◌||◌}
 use Rattle.std.specs.List.{All, list_any}
-use Rattle.std.proofs.lemmas.Bool.{eqb-true, or_left, or_right}
+use Rattle.std.proofs.lemmas.Bool.{eqb-true, false_from_ne_true, or_left, or_right}
 use Rattle.std.proofs.lemmas.List.Elements.{recursion_from_All}
 use Rattle.spec_desktop.specs.Windows.{Window, contains}
 use Rattle.spec_desktop.specs.Marks.{AreDistinct, is_before, is_same_surface, same_records, shared_by}
-use Rattle.law_desktop.proofs.Marks.Stacks.{Each, and-left, and-right, any-more, each-both, each-map, surface-as, unless}
+use Rattle.law_desktop.proofs.Marks.Stacks.{before-there, surface-as}
 use Rattle.law_desktop.specs.TreeMarksLaws.{among, is_in_any}
-use Rattle.law_desktop.proofs.TreeMarks.Lists.{any-second, any-three, either-of, none-first}
+use Rattle.law_desktop.proofs.Lists.Tests.{any-more, any-second, any-three, none-first}
 use Rattle.law_desktop.proofs.TreeMarks.Records.{apart-first, apart-second, before-first, before-in-first, before-in-second, before-same, before-second, distinct-second, one-before, same-tested}
 use Rattle.law_desktop.specs.Toplevel.{AreInTurn, SameRoot, of_root}
-use Rattle.law_desktop.proofs.MarkedLists.{any-each-of, any-left, each-recursive}
-use Rattle.law_desktop.proofs.MarkedOrder.{IsRooted, before-left, lower-there, own-left, uncrossed, upper-there}
+use Rattle.law_desktop.proofs.Lists.Left.{any-each-of, any-left, each-recursive}
+use Rattle.law_desktop.proofs.MarkedOrder.{IsRooted, before-left, lower-there, own-left, uncrossed}
+use Rattle.law_desktop.proofs.Truth.{and-left, and-right, either-of}
+use Rattle.law_desktop.proofs.Lists.Each.{Each, each-both, each-map}
 
 -- ---- where they stand
 
@@ -33,10 +35,10 @@ module _ (below above was is : List Window) (distinct : AreDistinct (among below
       one-before w v (among below above is) distinct' (before-second w v below (is ++ above) (before-second w v is above third)) after
 
   under : list_any (is_same_surface w) below ≡ false
-  under = unless (list_any (is_same_surface w) below) not-below
+  under = false_from_ne_true (list_any (is_same_surface w) below) not-below
 
   over : list_any (is_same_surface w) above ≡ false
-  over = unless (list_any (is_same_surface w) above) not-above
+  over = false_from_ne_true (list_any (is_same_surface w) above) not-above
 
   -- a window of the first surface is one of those between
   between : (p : Window → Bool) → ((a : Window) → p a ≡ true → is_same_surface w a ≡ true) → (ws : List Window) → list_any p (among below above ws) ≡ true
@@ -49,7 +51,7 @@ module _ (below above was is : List Window) (distinct : AreDistinct (among below
   there-before = between (is_same_surface w) (λ a e. e) was (lower-there w v (among below above was) before)
 
   there-after : list_any (is_same_surface w) is ≡ true
-  there-after = between (is_same_surface w) (λ a e. e) is (upper-there v w (among below above is) after)
+  there-after = between (is_same_surface w) (λ a e. e) is (before-there v w (among below above is) after)
 
 -- one before the other between those below and those above
 before-between : (below above ws : List Window) (w v : Window) → list_any (is_same_surface w) below ≡ false → list_any (is_same_surface v) above ≡ false
@@ -164,7 +166,7 @@ module _ (below above was is : List Window) (distinct : AreDistinct (among below
     differ-so : (root : ℕ) → IsRooted w root was → IsRooted v root was → IsRooted w root is → IsRooted v root is
         → same_records (of_root root was) (of_root root is) ≡ false
     differ-so root a b c d =
-        unless (same_records (of_root root was) (of_root root is))
+        false_from_ne_true (same_records (of_root root was) (of_root root is))
         (λ same.
         one-before w v is distinct-is
         (sym (before-left w v (λ u. root == u.owner.root) is (own-left w root is c) (own-left v root is d))

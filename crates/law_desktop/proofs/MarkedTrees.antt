@@ -2,24 +2,26 @@
 use Rattle.std.proofs.Common.{◌≡◌, ℕ, Bool, true, false, List, [], ◌∷◌, ◌++◌, suc, length, refl, ap, sym, ◌∙◌, arith}
 use Rattle.std.specs.Prelude.{ℤ, ◌==◌, ◌&&◌, ◌||◌, if◌then◌else◌, filter, not, Option}
 use Rattle.std.specs.List.{All, list_all, list_any}
-use Rattle.std.proofs.lemmas.Bool.{eqb-true, or_left, or_right}
+use Rattle.std.proofs.lemmas.Bool.{and_from, eqb-true, false_from_ne_true, or_left, or_right}
 use Rattle.std.proofs.lemmas.List.Elements.{filter-append}
 use Rattle.std.proofs.lemmas.List.Folds.{list_any-append}
 use Rattle.std.proofs.lemmas.List.{length-append}
 use Rattle.spec_desktop.specs.Windows.{Window, contains}
 use Rattle.spec_desktop.specs.Marks.{Applied, AreDistinct, at_least, at_most, has_changed_tree, has_moved_past, has_same_record, in_output}
 use Rattle.spec_desktop.specs.Marks.{is_allowed_at, is_before, is_changed_at, is_damaged_at, is_kept_in, is_raised, is_restacked_at, same_records, shared_by}
-use Rattle.law_desktop.proofs.Marks.Stacks.{AreSame, Each, and-both, and-left, and-right, any-more, differ, each-map, or-left, or-right, same-number, unless}
+use Rattle.law_desktop.proofs.Marks.Stacks.{AreSame, same-number}
 use Rattle.spec_desktop.specs.Moments.{applied_between}
 use Rattle.spec_desktop.specs.Stacked.{all_windows}
 use Rattle.law_desktop.specs.TreeMarksLaws.{AreUndamaged, among, has_root, is_in_any, is_struck_at}
-use Rattle.law_desktop.proofs.TreeMarks.Lists.{any-each-more, any-first, any-of, any-second, any-three, each-all, each-first, each-second, either-of, filter-none}
+use Rattle.law_desktop.proofs.Lists.Tests.{any-each-more, any-first, any-more, any-of, any-second, any-three, each-all, filter-none}
 use Rattle.law_desktop.proofs.TreeMarks.Records.{each-kept, same-self, same-tested, same-turned}
 use Rattle.law_desktop.proofs.TreeMarks.Damage.{first-undamaged, none-changed, none-damaged, second-undamaged}
 use Rattle.law_desktop.specs.Toplevel.{AreInTurn, SameRoot, has_toplevel, of_root}
 use Rattle.law_desktop.specs.Marked.{MarksByTreesBetween, marks_by_trees, marks_of_tree}
-use Rattle.law_desktop.proofs.MarkedLists.{any-filtered, any-one, any-there, each-left, filter-as}
+use Rattle.law_desktop.proofs.Lists.Left.{any-filtered, any-one, any-there, each-left, filter-as}
 use Rattle.law_desktop.proofs.MarkedStack.{restacked-differs}
+use Rattle.law_desktop.proofs.Truth.{and-left, and-right, differ, either-of, or-left, or-right}
+use Rattle.law_desktop.proofs.Lists.Each.{Each, each-first, each-map, each-second}
 
 -- ---- one tree among others
 
@@ -61,7 +63,7 @@ in-some-tree P p ws e f =
     (λ w here more.
     f w.owner.root
     (any-filtered p (λ u. w.owner.root == u.owner.root) ws
-    ∙ more (λ u. (w.owner.root == u.owner.root) && p u) (and-both (w.owner.root == w.owner.root) (p w) (same-number w.owner.root) here)))
+    ∙ more (λ u. (w.owner.root == u.owner.root) && p u) (and_from (w.owner.root == w.owner.root) (p w) (same-number w.owner.root) here)))
 
 -- ---- records among others
 
@@ -83,14 +85,14 @@ same-behind (b ∷ below) ws vs same = same-behind below ws vs same.1
 
 records-same : (ws vs : List Window) → AreSame ws vs → same_records ws vs ≡ true
 records-same [] [] same = refl
-records-same (w ∷ ws) (v ∷ vs) same = and-both (has_same_record w v) (same_records ws vs) same.0 (records-same ws vs same.1)
+records-same (w ∷ ws) (v ∷ vs) same = and_from (has_same_record w v) (same_records ws vs) same.0 (records-same ws vs same.1)
 records-same [] (v ∷ vs) same = absurd same
 records-same (w ∷ ws) [] same = absurd same
 
 -- those between the same windows differ where the lists do
 differ-among : (below above ws vs : List Window) → same_records ws vs ≡ false → same_records (among below above ws) (among below above vs) ≡ false
 differ-among below above ws vs other =
-    unless (same_records (among below above ws) (among below above vs))
+    false_from_ne_true (same_records (among below above ws) (among below above vs))
     (λ e.
     let rest = same-behind below (ws ++ above) (vs ++ above) (same-tested (among below above ws) (among below above vs) e) in
     let long : length ws ≡ length vs =
@@ -158,7 +160,7 @@ module _ (client toplevel : ℕ) (below above was is : List Window) (applied : A
       in-some-tree Marked (is_changed_at new x y) was e
       (λ root f.
       by-differing applied was is x y root
-      (unless (same_records (of_root root was) (of_root root is))
+      (false_from_ne_true (same_records (of_root root was) (of_root root is))
       (λ same. changed-differs was is root f (same-tested (of_root root was) (of_root root is) same)))
       (or_left (is_in_any x y (of_root root was)) (is_in_any x y (of_root root is)) (changed-in new (of_root root was) f)))
 
@@ -167,7 +169,7 @@ module _ (client toplevel : ℕ) (below above was is : List Window) (applied : A
       in-some-tree Marked (is_changed_at old x y) is e
       (λ root f.
       by-differing applied was is x y root
-      (unless (same_records (of_root root was) (of_root root is))
+      (false_from_ne_true (same_records (of_root root was) (of_root root is))
       (λ same.
       changed-differs is was root f (same-turned (of_root root was) (of_root root is) (same-tested (of_root root was) (of_root root is) same))))
       (or_right (is_in_any x y (of_root root was)) (is_in_any x y (of_root root is)) (changed-in old (of_root root is) f)))
@@ -257,7 +259,7 @@ module _ (client toplevel : ℕ) (below above was is : List Window) (applied : A
       (any-first (is_allowed_at old new raised x y) ws above
       (any-there (is_allowed_at old new raised x y) (λ u. root == u.owner.root) ws
       (any-each-more (λ w. contains w x y) (is_allowed_at old new raised x y) (λ w. has_changed_tree old new w ≡ true)
-      (λ w e in_it. and-both (contains w x y) (has_changed_tree old new w || is_raised raised w) in_it
+      (λ w e in_it. and_from (contains w x y) (has_changed_tree old new w || is_raised raised w) in_it
       (or_left (has_changed_tree old new w) (is_raised raised w) e)) (of_root root ws) changed here)))
 
   struck-least : (root : ℕ) → same_records (of_root root was) (of_root root is) ≡ true → list_any (is_struck_at applied x y) (of_root root is) ≡ true
@@ -267,7 +269,7 @@ module _ (client toplevel : ℕ) (below above was is : List Window) (applied : A
       (any-first (is_damaged_at applied old x y) is above
       (any-there (is_damaged_at applied old x y) (λ u. root == u.owner.root) is
       (any-each-more (is_struck_at applied x y) (is_damaged_at applied old x y) (λ w. is_kept_in old w ≡ true)
-      (λ w e f. and-both (is_kept_in old w) (is_struck_at applied x y w) e f) (of_root root is)
+      (λ w e f. and_from (is_kept_in old w) (is_struck_at applied x y w) e f) (of_root root is)
       (kept is was root (same-turned (of_root root was) (of_root root is) (same-tested (of_root root was) (of_root root is) same))) struck)))
 
   pub most-marked : list_all (has_toplevel client toplevel) (was ++ is) ≡ true → (raised : Option (ℕ × ℕ)) (width height : ℕ)
@@ -292,12 +294,12 @@ module _ (client toplevel : ℕ) (below above was is : List Window) (applied : A
           → at_most width height applied raised old new x y ≡ true
       at root true same e =
           or_left least _
-          (and-both (in_output width height x y) _ inside
+          (and_from (in_output width height x y) _ inside
           (or_right (list_any (is_changed_at new x y) old || list_any (is_changed_at old x y) new) _
           (or_left (list_any (is_damaged_at applied old x y) new) (is_restacked_at old new x y) (struck-least root same e))))
       at root false other e =
           or_right least _
-          (and-both (in_output width height x y) _ inside
+          (and_from (in_output width height x y) _ inside
           (either-of ((list_any (is_allowed_at old new raised x y) old || list_any (is_allowed_at old new raised x y) new) ≡ true)
           (is_in_any x y (of_root root was)) (is_in_any x y (of_root root is)) e
           (λ f. or_left (list_any (is_allowed_at old new raised x y) old) (list_any (is_allowed_at old new raised x y) new)

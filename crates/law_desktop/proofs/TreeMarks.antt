@@ -1,4 +1,3 @@
-pub mod Lists
 pub mod Records
 pub mod Damage
 pub mod Roots

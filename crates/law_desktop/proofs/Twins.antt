@@ -3,7 +3,7 @@ use Rattle.std.proofs.Common.{◌≡◌, ℕ, ◌==◌, Bool, true, false, cond,
 use Rattle.std.specs.Prelude.{find}
 use Rattle.std.specs.List.{AllByRecursion as Each}
 use Rattle.std.specs.Option.{option_and_then, option_map, option_map_or}
-use Rattle.std.proofs.lemmas.Bool.{eqb-true, eq-eqb}
+use Rattle.std.proofs.lemmas.Bool.{eq-eqb, eqb-true, true≢false}
 use Rattle.std.proofs.lemmas.List.Elements.{All-from_recursion}
 use Rattle.wl_links.specs.Family.{Tied}
 use Rattle.law_desktop.specs.Renaming.{has_surface, renamed}
@@ -42,9 +42,6 @@ none-passes : (p : XdgSurface → Bool) (g : XdgSurface → XdgSurface) (xs : Sh
 none-passes p g [] each = refl
 none-passes p g (x ∷ xs) each = ap (λ b. cond b (Some (g x)) (find p (map g xs))) each.0 ∙ none-passes p g xs each.1
 
-clash : true ≡ false → ⊥
-clash e = cc
-
 -- ---- what is kept of one xdg_surface
 
 kept-renamed : (f : ℕ → ℕ) (k : Option Kept) (x : Option XdgSurface) (h : Option History) → IsKept k x h → IsKept k (option_map (renamed_xdg f) x) h
@@ -66,7 +63,7 @@ kept-renamed f (Some k) (Some x) (Some h) is = record {
 -- where there is an xdg_surface, one is kept, and its surface is there
 kept-some : (k : Option Kept) (x : Option XdgSurface) (s : Option Surface) → IsKept k x (option_map (λ (s : Surface). s.history) s) → is_some x ≡ true
     → (is_some k ≡ true) × (is_some s ≡ true)
-kept-some None None s is there = absurd (clash (sym there))
+kept-some None None s is there = absurd (true≢false (sym there))
 kept-some None (Some x) s is there = absurd is
 kept-some (Some k) None s is there = absurd is
 kept-some (Some k) (Some x) None is there = absurd is
@@ -98,11 +95,11 @@ module _ (names : Names) (slots : Slots) (tied : Tied) (kept : ℕ → Option Ke
       (kept-some (by_id names.surfaces kept x.surface) (xdg_of x.surface o.shell) (surface_at x.surface o.surfaces) (is.shell.each x.surface) found).0
     where
       same : (m : ℕ) (b : Bool) → (m == number) ≡ b → is_some (kept m) ≡ true → b ≡ false
-      same m true e some = absurd (clash (sym some ∙ ap is_some (ap kept (eqb-true m number e) ∙ none)))
+      same m true e some = absurd (true≢false (sym some ∙ ap is_some (ap kept (eqb-true m number e) ∙ none)))
       same m false e some = refl
 
       at : (n : Option ℕ) → names.surfaces x.surface ≡ n → is_some (option_and_then kept n) ≡ true → (option_map_or (λ number. number) n 0 == number) ≡ false
-      at None e some = absurd (clash (sym some))
+      at None e some = absurd (true≢false (sym some))
       at (Some m) e some = same m (m == number) refl some
 
   none-numbered : (number : ℕ) → kept number ≡ None → xdg_of number (renamed_shell f o.shell) ≡ None

@@ -1,5 +1,6 @@
 -- What a call of a desk that takes no message and shows no frame does to the plain desktop, and that it happens so.
 use Rattle.std.proofs.Common.{◌≡◌, ℕ, List, [], ◌∷◌, Bool, true, false, Option, Some, None, cond, refl, ap, subst, sym, ◌∙◌}
+use Rattle.std.proofs.lemmas.Option.{none-some, same_Some}
 use Rattle.std.specs.Prelude.{◌==◌, filter, is_none, is_some, not}
 use Rattle.spec_desktop.specs.declared.cause.Cause.{Cause}
 use Rattle.spec_desktop.specs.declared.cause.Cause.TheVariants.{Gone}
@@ -15,7 +16,6 @@ use Rattle.spec_desktop.specs.Happens.{Happens}
 use Rattle.spec_desktop.specs.LeftOut.{nothing_left_out}
 use Rattle.spec_desktop.specs.Settling.{becomes}
 use Rattle.spec_desktop.specs.Step.{with_peer}
-use Rattle.law_desktop.proofs.Lists.Keys.{none-some, some-same}
 use Rattle.law_desktop.proofs.Runs.Forms.{ChangesAt as StepChangesAt, ConnectsAt, LeavesAt}
 use Rattle.law_desktop.proofs.Runs.OneRun.{held}
 use Rattle.law_desktop.proofs.Runs.Places.{client-kept}
@@ -108,14 +108,14 @@ changes-whole R leaves absent done c (Some r) d new owns h =
 pub stored-leaves : (store at : ℕ) (bytes : List ℕ) → Leaves (IsStored store at bytes)
 unfolding Leaves
 stored-leaves store at bytes p done q h = (
-  λ x e. ap (λ (y : Peer). y.status) (some-same x _ (sym e ∙ h.0)) ∙ stored-status p.status store at bytes p,
+  λ x e. ap (λ (y : Peer). y.status) (same_Some x _ (sym e ∙ h.0)) ∙ stored-status p.status store at bytes p,
   λ e. absurd (none-some _ (sym e ∙ h.0)),
 )
 
 pub sent-leaves : (n : ℕ) → Leaves (IsSent n)
 unfolding Leaves
 sent-leaves n p done q h = (
-  λ x e. ap (λ (y : Peer). y.status) (some-same x _ (sym e ∙ h.0)) ∙ sent-status n p,
+  λ x e. ap (λ (y : Peer). y.status) (same_Some x _ (sym e ∙ h.0)) ∙ sent-status n p,
   λ e. absurd (none-some _ (sym e ∙ h.0)),
 )
 
@@ -124,7 +124,7 @@ unfolding Leaves
 closed-leaves p done q h = at p.status refl h.0
   where
     at : (s : Option Cause) → p.status ≡ s → q ≡ closed_by s p → ((x : Peer) → q ≡ Some x → x.status ≡ p.status) × (q ≡ None → (cause : Cause) × (p.status ≡ Some cause))
-    at None e is = (λ x there. ap (λ (y : Peer). y.status) (some-same x p (sym there ∙ is)), λ none. absurd (none-some p (sym none ∙ is)))
+    at None e is = (λ x there. ap (λ (y : Peer). y.status) (same_Some x p (sym there ∙ is)), λ none. absurd (none-some p (sym none ∙ is)))
     at (Some cause) e is = (λ x there. absurd (none-some x (sym is ∙ there)), λ none. (cause, e))
 
 -- one that is taken had ended

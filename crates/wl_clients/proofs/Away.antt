@@ -2,7 +2,7 @@
 use Rattle.std.proofs.Common.{◌≡◌, ◌<◌, ℕ, arith, pos, List, [], ◌∷◌, Bool, true, false, Option, Some, None, cond, refl, ap, sym, subst, ◌∙◌, inl, inr}
 use Rattle.std.specs.Prelude.{ℤ, ◌⊎◌, ◌==◌, ◌&&◌, filter, is_some, not}
 use Rattle.std.specs.List.{list_any}
-use Rattle.std.proofs.lemmas.Bool.{eqb-true, or_left}
+use Rattle.std.proofs.lemmas.Bool.{and_from, eqb-true, false_from_ne_true, or_left}
 use Rattle.std.proofs.lemmas.Int.{ints}
 use Rattle.spec_desktop.specs.declared.cause.Cause.{Cause}
 use Rattle.spec_desktop.specs.Stacking.{nothing_owned}
@@ -12,12 +12,14 @@ use Rattle.spec_desktop.specs.Marks.{has_same_record, in_output, is_changed_at, 
 use Rattle.spec_desktop.specs.Moments.{marks_at_least, marks_at_most}
 use Rattle.spec_desktop.specs.Stacked.{all_windows}
 use Rattle.law_desktop.proofs.Lists.Standings.{any-gone}
-use Rattle.law_desktop.proofs.Marks.Stacks.{and-both, and-left, and-right, any-more, differ, equal-numbers, fields, or-left, or-right, unless}
+use Rattle.law_desktop.proofs.Marks.Stacks.{equal-numbers, fields}
 use Rattle.law_desktop.specs.Touching.{has_window_at}
 use Rattle.law_desktop.specs.InOrder.{InOrderAt}
 use Rattle.law_desktop.specs.Ordered.{Ordered}
 use Rattle.law_desktop.specs.Ways.{IsGone}
 use Rattle.law_desktop.proofs.MessageWays.Gone.{gone_windows}
+use Rattle.law_desktop.proofs.Truth.{and-left, and-right, differ, or-left, or-right}
+use Rattle.law_desktop.proofs.Lists.Tests.{any-more}
 use Rattle.wl_clients.proofs.Altering.{ended-bare, none-taken}
 
 -- it isn't there, or has ended
@@ -66,7 +68,7 @@ away-windowless c d ordered away = gone-windowless c d d (away-gone c d ordered 
 
 pub away-nowhere : (c : ℕ) (d : Desktop) → Ordered d → IsAway c d → (x y : ℤ) → has_window_at c x y d ≡ false
 away-nowhere c d ordered away x y =
-    unless (has_window_at c x y d)
+    false_from_ne_true (has_window_at c x y d)
     (λ there. differ (sym (away-windowless c d ordered away)
     ∙ any-more (λ (w : Window). (w.owner.client == c) && contains w x y) (λ w. w.owner.client == c) (λ w f. and-left (w.owner.client == c) (contains w x y) f) (all_windows d) there))
 
@@ -77,12 +79,12 @@ lost-changed : (c : ℕ) (x y : ℤ) (was is : List Window) → list_any (λ (w 
     → list_any (λ (w : Window). (w.owner.client == c) && contains w x y) was ≡ true → list_any (is_changed_at is x y) was ≡ true
 lost-changed c x y was is none there =
     any-more (λ (w : Window). (w.owner.client == c) && contains w x y) (is_changed_at is x y)
-    (λ w f. and-both (contains w x y) (not (is_kept_in is w)) (and-right (w.owner.client == c) (contains w x y) f)
+    (λ w f. and_from (contains w x y) (not (is_kept_in is w)) (and-right (w.owner.client == c) (contains w x y) f)
     (ap (λ b. not b) (lost w (and-left (w.owner.client == c) (contains w x y) f)))) was there
   where
     lost : (w : Window) → (w.owner.client == c) ≡ true → is_kept_in is w ≡ false
     lost w its =
-        unless (is_kept_in is w)
+        false_from_ne_true (is_kept_in is w)
         (λ kept. differ (sym none
         ∙ any-more (has_same_record w) (λ (v : Window). v.owner.client == c)
         (λ v same. equal-numbers v.owner.client c (sym (fields w v same).client ∙ eqb-true w.owner.client c its)) is kept))
@@ -92,7 +94,7 @@ pub lost-most : (c : ℕ) (d e : Desktop) (x y : ℤ) → Ordered e → IsAway c
     → has_window_at c x y d ≡ true → marks_at_most d e None x y ≡ true
 lost-most c d e x y ordered away inside there =
     or_left (marks_at_least d e x y) _
-    (and-both (in_output d.output.width d.output.height x y) _ inside
+    (and_from (in_output d.output.width d.output.height x y) _ inside
     (or_left _ _ (or_left _ _
     (lost-changed c x y (all_windows d) (all_windows e) (away-windowless c e ordered away) there))))
 

@@ -1,5 +1,7 @@
 -- The calls of the desk: one client is taken out and put back, comes, or goes.
 use Rattle.std.proofs.Common.{◌≡◌, ℕ, ◌+◌, suc, zero, ◌<◌, List, [], ◌∷◌, Bool, true, false, length, Option, Some, None, set, refl, subst, sym, ◌∙◌, ap, arith, inl, inr}
+use Rattle.std.proofs.lemmas.Bool.{true≢false}
+use Rattle.std.proofs.lemmas.Option.{same_Some}
 use Rattle.std.specs.Option.{option_map}
 use Rattle.std.specs.Prelude.{◌==◌, ◌%◌, if◌then◌else◌, is_some, replicate, Ok, Err}
 use Rattle.std.specs.List.{list_any}
@@ -24,12 +26,11 @@ use Rattle.spec_desktop.specs.Stacked.{all_windows}
 use Rattle.spec_desktop.specs.declared.answers.ConnectError.TheVariants.{Full, Memory}
 use Rattle.spec_desktop.specs.declared.answers.Done.{Done}
 use Rattle.spec_desktop.specs.declared.answers.Done.TheVariants as gave
-use Rattle.law_desktop.proofs.Lists.Keys.{differ, some-same}
-use Rattle.law_desktop.proofs.Marks.Stacks.{or-left, or-right}
 use Rattle.law_desktop.proofs.Runs.Forms.{ConnectsAt}
 use Rattle.law_desktop.proofs.Runs.Places.{client-kept}
 use Rattle.law_desktop.specs.Ordered.{Ordered}
 use Rattle.law_desktop.proofs.ShownSurfaces.Laws.{empty_is_shown}
+use Rattle.law_desktop.proofs.Truth.{or-left, or-right}
 use Rattle.wl_requests.specs.declared.residents.Resident.{Resident as Kept}
 use Rattle.wl_clients.specs.Agreement.{Matches, IsPlace, IsScene, IsStack, numbers_in, numbers_of, with_numbers}
 use Rattle.wl_clients.specs.Seats.{IsBare, IsChangedSo, IsSeated, ended_by}
@@ -65,10 +66,10 @@ place-some (Some v) (Some o) None here = absurd here
 
 pub lives-of : (o : Option Cause) → is_some o ≡ false → o ≡ None
 lives-of None e = refl
-lives-of (Some cause) e = absurd (differ e)
+lives-of (Some cause) e = absurd (true≢false e)
 
 pub closed-none : (s : Option Cause) (p : Peer) → is_some s ≡ true → closed_by s p ≡ None
-closed-none None p e = absurd (differ (sym e))
+closed-none None p e = absurd (true≢false (sym e))
 closed-none (Some cause) p e = refl
 
 -- ---- what is left where a client's toplevels and windows go
@@ -80,7 +81,7 @@ closed-scene c old others d e was is scene standing mappings kept next =
       standing = subst (λ (ks : List Standing). IsStack (with_numbers c nothing others) ks e.standing) (sym kept)
           (subst (λ (ss : List Standing). IsStack (with_numbers c nothing others) (without_client c was.standing) ss) (sym standing)
           (stack-by (with_numbers c old others) (with_numbers c nothing others) (without_client c was.standing) (without_client c d.standing)
-          (numbers-by c old nothing others (without_client c d.standing) (λ surface n has is. absurd (differ (sym has ∙ none-stands c surface d.standing))))
+          (numbers-by c old nothing others (without_client c d.standing) (λ surface n has is. absurd (true≢false (sym has ∙ none-stands c surface d.standing))))
           (stack-without (with_numbers c old others) c was.standing d.standing scene.standing)));
       next = next ∙ (scene.next ∙ ap (λ (m : ℕ). m % 8) (sym mappings));
     }
@@ -223,8 +224,8 @@ lowest-same : (us : List (Option ClientView)) (rs : List (Option Resident)) → 
 lowest-same [] [] count same = refl
 lowest-same (None ∷ us) (None ∷ rs) count same = refl
 lowest-same (Some v ∷ us) (Some r ∷ rs) count same = ap (λ (o : Option ℕ). next_of o) (lowest-same us rs (omega (arith, count)) (λ k. same (suc k)))
-lowest-same (None ∷ us) (Some r ∷ rs) count same = absurd (differ (sym (same zero)))
-lowest-same (Some v ∷ us) (None ∷ rs) count same = absurd (differ (same zero))
+lowest-same (None ∷ us) (Some r ∷ rs) count same = absurd (true≢false (sym (same zero)))
+lowest-same (Some v ∷ us) (None ∷ rs) count same = absurd (true≢false (same zero))
 lowest-same [] (r ∷ rs) count same = absurd (omega (arith, count))
 lowest-same (v ∷ us) [] count same = absurd (omega (arith, count))
 
@@ -253,7 +254,7 @@ lowest-at (Some x ∷ xs) k e = by (lowest xs) (lowest-at xs) e
     by : (o : Option ℕ) → ((j : ℕ) → o ≡ Some j → at xs j ≡ None) → next_of o ≡ Some k → at (Some x ∷ xs) k ≡ None
     by None later e = absurd (cc)
     by (Some j) later e =
-        let next : suc j ≡ k = let same = some-same (j + 1) k e in omega (arith, same) in
+        let next : suc j ≡ k = let same = same_Some (j + 1) k e in omega (arith, same) in
         subst (λ (n : ℕ). at (Some x ∷ xs) n ≡ None) next (later j refl)
 
 -- a client's numbers come where it had none

@@ -1,6 +1,6 @@
 -- Where windows only go, what is marked by each end in turn is marked from the first desktop to the last.
 use Rattle.std.proofs.Common.{◌≡◌, ◌≢◌, ℕ, zero, suc, ◌+◌, List, [], ◌∷◌, ◌++◌, Bool, true, false, cond, Option, Some, None, refl, ap, ap₂, subst, sym, ◌∙◌, inl, inr}
-use Rattle.std.proofs.lemmas.Bool.{eqb-false}
+use Rattle.std.proofs.lemmas.Bool.{and_from, eqb-false, false_from_ne_true}
 use Rattle.std.proofs.lemmas.List.Elements.{filter-append}
 use Rattle.std.specs.List.{list_any}
 use Rattle.std.specs.Prelude.{ℤ, ◌==◌, ◌&&◌, ◌||◌, filter, flat_map, fold, if◌then◌else◌, is_some, not}
@@ -26,15 +26,19 @@ use Rattle.spec_desktop.specs.Settling.{Midstep, Settles, Strike, becomes, ended
 use Rattle.spec_desktop.specs.Stacked.{all_windows}
 use Rattle.spec_desktop.specs.Through.{EndsFirstThrough, SettlesAllThrough, ending_through, ends_through, settling_through}
 use Rattle.law_desktop.proofs.Marks.Painted.{distinct-kept}
-use Rattle.law_desktop.proofs.Marks.Stacks.{Each, and-both, and-left, and-right, any-more, differ, each-map, equal-numbers, fields, unless}
+use Rattle.law_desktop.proofs.Marks.Stacks.{equal-numbers, fields}
 use Rattle.law_desktop.proofs.Runs.Output.{settles-still, tells-still}
 use Rattle.law_desktop.proofs.Runs.Places.{number-other}
 use Rattle.law_desktop.proofs.Runs.Settled.{ShowsSame, closed-none, come-shows, has-settled, never-none, put-shows, same-windows, shows-itself, tells-so, windows_by}
-use Rattle.law_desktop.proofs.Soundness.Trees.{each-append, each-flat}
+use Rattle.law_desktop.proofs.Soundness.Trees.{each-flat}
 use Rattle.law_desktop.specs.Ordered.{Ordered}
 use Rattle.law_desktop.proofs.TreeSteps.Owners.{tree-owned}
 use Rattle.law_desktop.proofs.MessageWays.Gone.{same-applied}
-use Rattle.law_desktop.proofs.MessageWays.Lists.{any-left, filter-all, filter-every, filter-none, gone-least, least-gone}
+use Rattle.law_desktop.proofs.MessageWays.Lists.{filter-every, gone-least, least-gone}
+use Rattle.law_desktop.proofs.Truth.{and-left, and-right, differ}
+use Rattle.law_desktop.proofs.Lists.Each.{Each, each-append, each-map}
+use Rattle.law_desktop.proofs.Lists.Tests.{any-more, filter-all}
+use Rattle.law_desktop.proofs.Lists.Left.{any-there, filter-none-each}
 use Rattle.wl_clients.proofs.Altering.{ended-bare}
 
 -- ---- the windows of the others stay as a client ends
@@ -105,7 +109,7 @@ module _ (c : ℕ) (owned new : ℕ → Owned) (others : (other : ℕ) → other
   left-of s ss true is later =
       later
       ∙ ap (λ (ws : List Window). ws ++ filter keeps_others (windows_by owned ss))
-      (sym (filter-none keeps_others (shown_for owned s) (each-map (λ (w : Window). w.owner.client ≡ s.client) (λ w. keeps_others w ≡ false)
+      (sym (filter-none-each keeps_others (shown_for owned s) (each-map (λ (w : Window). w.owner.client ≡ s.client) (λ w. keeps_others w ≡ false)
       (λ w own. ap (λ n. not (n == c)) own ∙ ap (λ b. not b) is) (shown_for owned s) (its-windows s))))
   left-of s ss false is later =
       shown-first new s (without_client c ss)
@@ -235,7 +239,7 @@ module _ (d : Desktop) (x y : ℤ) (apart : AreDistinct (all_windows d)) where
   one-step : (m e : Desktop) (first : Loses d m) (second : Loses m e) → marks_at_least m e x y ≡ true → Inside × (list_any (lost_at second.keeps) (all_windows d) ≡ true)
   one-step m e first second marked = (
     ap (λ o. in_output o.width o.height x y) (sym first.output) ∙ and-left (in_output m.output.width m.output.height x y) _ marked,
-    any-left (λ w. first.keeps w.owner.client) (lost_at second.keeps) (all_windows d)
+    any-there (lost_at second.keeps) (λ w. first.keeps w.owner.client) (all_windows d)
         (subst (λ ws. list_any (lost_at second.keeps) ws ≡ true) first.windows
         (least-gone kept (all_windows m) x y (applied_between m e) (subst AreDistinct (sym first.windows) (distinct-kept (λ w. first.keeps w.owner.client) (all_windows d) apart))
         (λ w keeps p q. same-applied m e w.owner.client w.surface p q (second.owned w.owner.client keeps)) m.output.width m.output.height
@@ -248,8 +252,8 @@ module _ (d : Desktop) (x y : ℤ) (apart : AreDistinct (all_windows d)) where
   more-lost : (keeps all : ℕ → Bool) → ((c : ℕ) → all c ≡ true → keeps c ≡ true) → list_any (lost_at keeps) (all_windows d) ≡ true → list_any (lost_at all) (all_windows d) ≡ true
   more-lost keeps all fewer any =
       any-more (lost_at keeps) (lost_at all)
-      (λ w f. and-both (contains w x y) (not (all w.owner.client)) (and-left (contains w x y) (not (keeps w.owner.client)) f)
-      (ap (λ b. not b) (unless (all w.owner.client)
+      (λ w f. and_from (contains w x y) (not (all w.owner.client)) (and-left (contains w x y) (not (keeps w.owner.client)) f)
+      (ap (λ b. not b) (false_from_ne_true (all w.owner.client)
       (λ kept. differ (sym (ap (λ b. not b) (fewer w.owner.client kept)) ∙ and-right (contains w x y) (not (keeps w.owner.client)) f)))))
       (all_windows d) any
 
@@ -376,7 +380,7 @@ leads-along left (Button time button pressed) done d path new is none h = absurd
 pub unmarked-each : (left : LeftOut) (act : Act) (done : Done) (d : Desktop) (path : List Desktop) (new : Desktop) (x y : ℤ) → is_losing_act act ≡ true → EndedAreBare d → AreDistinct (all_windows d)
     → Leads left (Single act done) d path new → marks_at_least d new x y ≡ false → marks_at_least_through all_windows d path x y ≡ false
 unmarked-each left act done d path new x y is none apart leads unmarked =
-    unless (marks_at_least_through all_windows d path x y)
+    false_from_ne_true (marks_at_least_through all_windows d path x y)
     (λ marked. differ (sym unmarked ∙ marked-each d x y apart path new (leads-along left act done d path new is none leads) marked))
 
 -- the same where memory runs out before the next message
@@ -384,7 +388,7 @@ pub unmarked-starving : (c : ℕ) (o : Option Resident) (d : Desktop) (path : Li
     → marks_at_least d new x y ≡ false → marks_at_least_through all_windows d path x y ≡ false
 unmarked-starving c None d path new x y apart h unmarked = absurd h
 unmarked-starving c (Some r) d path new x y apart h unmarked =
-    unless (marks_at_least_through all_windows d path x y)
+    false_from_ne_true (marks_at_least_through all_windows d path x y)
     (λ marked. differ (sym unmarked
     ∙ marked-each d x y apart path new (settling-along d (unstruck (becomes c r (ended Memory r.peer) d)) path new (loses-client c Memory r d) h.1) marked))
 

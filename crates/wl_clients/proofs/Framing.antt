@@ -10,7 +10,6 @@ use Rattle.spec_desktop.specs.Windows.{contains}
 use Rattle.spec_desktop.specs.Desktop.{Desktop, Resident, client_at, status_in, status_of}
 use Rattle.spec_desktop.specs.Framing.{FramesTold, FramesToldAt}
 use Rattle.spec_desktop.specs.Moments.{marks_at_most}
-use Rattle.law_desktop.proofs.Marks.Stacks.{differ}
 use Rattle.law_desktop.proofs.Marks.Through.{unmarked-on}
 use Rattle.law_desktop.proofs.Runs.Fates.{same-or}
 use Rattle.law_desktop.specs.Touching.{has_window_at}
@@ -19,6 +18,7 @@ use Rattle.law_desktop.specs.Ordered.{Ordered}
 use Rattle.law_desktop.proofs.KeptInOrder.Laws.{frames_keep_ordered}
 use Rattle.law_desktop.specs.Ways.{IsGone}
 use Rattle.law_desktop.proofs.MessageWays.Ends.{untold_is_gone}
+use Rattle.law_desktop.proofs.Truth.{differ}
 use Rattle.wl_scene.specs.Marking.{IsAsLarge}
 use Rattle.wl_requests.specs.declared.residents.Resident.{Resident as Kept}
 use Rattle.wl_clients.specs.Agreement.{Matches, numbers_in}

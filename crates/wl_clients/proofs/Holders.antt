@@ -3,7 +3,7 @@ use Rattle.std.proofs.Common.{◌≡◌, ℕ, ◌+◌, suc, zero, ◌<◌, ◌�
 use Rattle.std.specs.List.{list_any}
 use Rattle.std.specs.Option.{option_map}
 use Rattle.std.specs.Prelude.{◌==◌, if◌then◌else◌}
-use Rattle.std.proofs.lemmas.Bool.{eqb-false, eqb-true}
+use Rattle.std.proofs.lemmas.Bool.{eqb-false, eqb-true, true≢false}
 use Rattle.wl_surface.specs.Surfaces.{history_in}
 use Rattle.wl_shell.specs.Found.{AreFound}
 use Rattle.wl_shell.specs.PopupsKept.{is_grabbing}
@@ -22,7 +22,6 @@ use Rattle.wl_client.specs.declared.outputs.Output.{Output}
 use Rattle.spec_desktop.specs.Changing.{grab_holder, holder_from, holds_grab}
 use Rattle.spec_desktop.specs.Desktop.{Resident, client_at, place}
 use Rattle.spec_desktop.specs.Settling.{Midstep}
-use Rattle.law_desktop.proofs.Lists.Keys.{differ}
 use Rattle.wl_requests.specs.declared.residents.Resident.{Resident as Kept}
 use Rattle.wl_clients.specs.Agreement.{IsPlace}
 use Rattle.wl_clients.specs.Seats.{opened_kept}
@@ -86,7 +85,7 @@ holder-none c (r ∷ rs) none =
     ap (λ (b : Bool). if b then Some c else holder_from (suc c) rs) (none zero (omega arith)) ∙ holder-none (suc c) rs (λ k less. none (suc k) (omega (arith, less)))
 
 holder-first : (c k : ℕ) (rs : List (Option Resident)) → ((j : ℕ) → j < k → holds_grab (place rs j) ≡ false) → holds_grab (place rs k) ≡ true → holder_from c rs ≡ Some (c + k)
-holder-first c k [] before holds = absurd (differ (sym holds))
+holder-first c k [] before holds = absurd (true≢false (sym holds))
 holder-first c zero (r ∷ rs) before holds =
     ap (λ (b : Bool). if b then Some c else holder_from (suc c) rs) holds ∙ ap Some (let e : c ≡ c + zero = omega arith in e)
 holder-first c (suc k) (r ∷ rs) before holds =

@@ -1,5 +1,6 @@
 -- A piece is kept of a client of the desk, one of its messages is taken, and it ends.
 use Rattle.std.proofs.Common.{◌≡◌, ℕ, ◌<◌, ◌++◌, List, length, Option, Some, None, Result, set, refl, subst, sym, ◌∙◌, ap}
+use Rattle.std.proofs.lemmas.Bool.{true≢false}
 use Rattle.std.specs.Prelude.{Ok, Err, IfNone, IfSome, OnErr, OnOk, is_some, false, true}
 use Rattle.wl_proto.specs.declared.interface.Interface.TheVariants.{WlSurface}
 use Rattle.law_desktop.specs.Owning.{targets_in}
@@ -21,7 +22,6 @@ use Rattle.spec_desktop.specs.Stacked.{all_windows}
 use Rattle.spec_desktop.specs.Step.{with_peer}
 use Rattle.spec_desktop.specs.Through.{ServesThrough}
 use Rattle.spec_desktop.specs.declared.answers.Fed.TheVariants as fed
-use Rattle.law_desktop.proofs.Lists.Keys.{differ}
 use Rattle.law_desktop.proofs.Runs.Places.{number-same, number-twice}
 use Rattle.law_desktop.specs.Ordered.{Ordered}
 use Rattle.wl_requests.specs.declared.residents.Resident.{Resident as Kept}
@@ -82,7 +82,7 @@ come-seated c others base d r piece v pile is lives =
         owns = is.seat.owns;
         frames = is.seat.frames;
         subsurfaces = is.seat.subsurfaces;
-        ended = λ over. absurd (differ (sym over ∙ ap (λ (s : Option Cause). is_some s) lives));
+        ended = λ over. absurd (true≢false (sym over ∙ ap (λ (s : Option Cause). is_some s) lives));
       };
       scene = record { standing = is.scene.standing; next = is.scene.next };
       windows = subst (λ (ws : List Window). AreStacked (with_numbers c (targets_in WlSurface v.client.objects) others) pile.windows ws) (sym shown) is.windows;

@@ -3,7 +3,7 @@ use Rattle.std.proofs.Common.{◌≡◌, ℕ, ◌+◌, suc, zero, ◌<◌, ◌�
 use Rattle.std.specs.List.{list_any}
 use Rattle.std.specs.Option.{option_map}
 use Rattle.std.specs.Prelude.{◌==◌, ◌||◌, find, is_some, nat_lt, position}
-use Rattle.std.proofs.lemmas.Bool.{eqb-false, eqb-true, le-ltb, lt-ltb}
+use Rattle.std.proofs.lemmas.Bool.{eqb-false, eqb-true, le-ltb, lt-ltb, true≢false}
 use Rattle.std.proofs.lemmas.List.Quantifiers.{position-Some}
 use Rattle.std.proofs.lemmas.List.Sums.{position_or_len_is}
 use Rattle.wl_client.specs.View.{ClientView}
@@ -15,7 +15,6 @@ use Rattle.spec_desktop.specs.Desktop.{Desktop, Resident, client_at}
 use Rattle.spec_desktop.specs.Replies.{focus_window}
 use Rattle.spec_desktop.specs.Settling.{Midstep, Strike, is_struck}
 use Rattle.spec_desktop.specs.Stacked.{all_windows}
-use Rattle.law_desktop.proofs.Lists.Keys.{differ}
 use Rattle.wl_scene.specs.Kept.{standing_of}
 use Rattle.wl_scene.specs.declared.scene.Toplevel.{Toplevel}
 use Rattle.spec_desktop.specs.Pointer.{is_stacked}
@@ -78,7 +77,7 @@ begins start None ts e = absurd (cc)
 begins start (Some cause) ts e = refl
 
 none-of : (t : Strike) (ts : List Strike) (c : ℕ) → t.client ≡ c → is_struck c (t ∷ ts) ≡ false → ⊥
-none-of t ts c own none = differ (sym (ap (λ (b : Bool). b || is_struck c ts) (eq-eqb t.client c own)) ∙ none)
+none-of t ts c own none = true≢false (sym (ap (λ (b : Bool). b || is_struck c ts) (eq-eqb t.client c own)) ∙ none)
 
 module _ {A : Type 0} where
   abbrev kept_client : Option (Kept A) → Option ClientView

@@ -1,6 +1,6 @@
 -- What the calls of a desk mark.
 use Rattle.std.proofs.Common.{◌≡◌, ◌<◌, ℕ, List, Bool, true, false, Option, Some, None, refl, ap, subst, sym, ◌∙◌, inl, inr}
-use Rattle.std.proofs.lemmas.Bool.{or_left, or_right}
+use Rattle.std.proofs.lemmas.Bool.{false_from_ne_true, or_left, or_right}
 use Rattle.std.specs.Prelude.{◌⊎◌, ◌&&◌, ◌||◌, is_none, is_some, pos}
 use Rattle.spec_desktop.specs.Told.{Output as Sides}
 use Rattle.spec_desktop.specs.declared.cause.Cause.{Cause}
@@ -12,7 +12,6 @@ use Rattle.spec_desktop.specs.Desktop.{Desktop, Resident, client_at, status_of}
 use Rattle.spec_desktop.specs.Happens.{Happens}
 use Rattle.spec_desktop.specs.LeftOut.{nothing_left_out}
 use Rattle.spec_desktop.specs.Moments.{marks_at_least, marks_at_most}
-use Rattle.law_desktop.proofs.Marks.Stacks.{differ, or-left, or-right, unless}
 use Rattle.law_desktop.specs.Shown.{ShownStand}
 use Rattle.law_desktop.specs.Touching.{has_window_at}
 use Rattle.law_desktop.specs.Ordered.{Ordered}
@@ -20,6 +19,7 @@ use Rattle.law_desktop.proofs.RootsOf.Orders.{in-order-has-trees}
 use Rattle.law_desktop.specs.Ways.{IsGone}
 use Rattle.law_desktop.proofs.MessageWays.Ends.{left_is_gone}
 use Rattle.law_desktop.proofs.MessageWays.Gone.{gone_marks_least}
+use Rattle.law_desktop.proofs.Truth.{differ, or-left, or-right}
 use Rattle.wl_requests.specs.declared.residents.Resident.{Resident as Kept}
 use Rattle.wl_clients.specs.Agreement.{numbers_in}
 use Rattle.wl_clients.specs.Marking.{MarksAtLeast, MarksMost, MarksOwn}
@@ -60,7 +60,7 @@ pub gone-marks : (c : ℕ) (d e : Desktop) (old new : Damaged) → Ordered d →
 gone-marks c d e old new ordered stand gone adds = λ x y wide high clean.
     let none = sym (adds x y wide high) ∙ clean in (
       or-left (has old x y) (has_window_at c (pos x) (pos y) d) none,
-      unless (marks_at_least d e (pos x) (pos y))
+      false_from_ne_true (marks_at_least d e (pos x) (pos y))
           (λ marked. differ (sym (or-right (has old x y) (has_window_at c (pos x) (pos y) d) none)
           ∙ gone_marks_least c d e (in-order-has-trees d ordered.in_order stand) gone (pos x) (pos y) marked)),
     )

@@ -2,7 +2,7 @@
 use Rattle.std.proofs.Common.{◌≡◌, ℕ, Bool, true, false, List, [], ◌∷◌, Option, Some, None, cond, refl, ap, ap₂, sym, subst, ◌∙◌, inl, inr}
 use Rattle.std.specs.Prelude.{ℤ, ◌==◌, ◌&&◌, ◌||◌, ◌⊎◌, filter, not}
 use Rattle.std.specs.List.{list_any}
-use Rattle.std.proofs.lemmas.Bool.{eqb-true, or_left, or_right}
+use Rattle.std.proofs.lemmas.Bool.{and_from, eqb-true, or_left, or_right}
 use Rattle.spec_desktop.specs.Windows.{Window, contains}
 use Rattle.spec_desktop.specs.Peer.{ended}
 use Rattle.spec_desktop.specs.Told.{Output}
@@ -16,10 +16,12 @@ use Rattle.spec_desktop.specs.Settling.{Midstep, becomes, unstruck}
 use Rattle.spec_desktop.specs.Stacked.{all_windows}
 use Rattle.spec_desktop.specs.Through.{ending_through, settling_through}
 use Rattle.law_desktop.proofs.Marks.Painted.{contains-same}
-use Rattle.law_desktop.proofs.Marks.Stacks.{and-both, and-left, and-right, any-more, differ, either-more, equal-numbers, fields, recorded}
+use Rattle.law_desktop.proofs.Marks.Stacks.{equal-numbers, fields, recorded}
 use Rattle.law_desktop.proofs.Marks.Through.{leads-output, marked_through}
 use Rattle.law_desktop.proofs.Runs.Following.{Along, Follow, ending-follows, settling-follows}
 use Rattle.law_desktop.proofs.Runs.Through.{happened, served}
+use Rattle.law_desktop.proofs.Truth.{and-left, and-right, differ, either-more}
+use Rattle.law_desktop.proofs.Lists.Tests.{any-more}
 
 -- ---- the desktops of a happening
 
@@ -65,7 +67,7 @@ record-then w v x e f =
 
 records-self : (ws : List Window) → same_records ws ws ≡ true
 records-self [] = refl
-records-self (w ∷ ws) = and-both (has_same_record w w) (same_records ws ws) (record-self w) (records-self ws)
+records-self (w ∷ ws) = and_from (has_same_record w w) (same_records ws ws) (record-self w) (records-self ws)
 
 records-then : (ws vs xs : List Window) → same_records ws vs ≡ true → same_records vs xs ≡ true → same_records ws xs ≡ true
 records-then [] [] [] e f = refl
@@ -74,7 +76,7 @@ records-then [] (v ∷ vs) xs e f = absurd (differ e)
 records-then (w ∷ ws) [] xs e f = absurd (differ e)
 records-then (w ∷ ws) (v ∷ vs) [] e f = absurd (differ f)
 records-then (w ∷ ws) (v ∷ vs) (x ∷ xs) e f =
-    and-both (has_same_record w x) (same_records ws xs)
+    and_from (has_same_record w x) (same_records ws xs)
     (record-then w v x (and-left (has_same_record w v) (same_records ws vs) e) (and-left (has_same_record v x) (same_records vs xs) f))
     (records-then ws vs xs (and-right (has_same_record w v) (same_records ws vs) e) (and-right (has_same_record v x) (same_records vs xs) f))
 
@@ -83,7 +85,7 @@ records-turned [] [] e = refl
 records-turned [] (v ∷ vs) e = absurd (differ e)
 records-turned (w ∷ ws) [] e = absurd (differ e)
 records-turned (w ∷ ws) (v ∷ vs) e =
-    and-both (has_same_record v w) (same_records vs ws) (turned (and-left (has_same_record w v) (same_records ws vs) e))
+    and_from (has_same_record v w) (same_records vs ws) (turned (and-left (has_same_record w v) (same_records ws vs) e))
     (records-turned ws vs (and-right (has_same_record w v) (same_records ws vs) e))
   where
     turned : has_same_record w v ≡ true → has_same_record v w ≡ true
@@ -156,8 +158,8 @@ module _ (x y : ℤ) where
         w.owner.client,
         w.owner.root,
         or_left (of w.owner.client w.owner.root w && contains w x y) (shows w.owner.client w.owner.root ws)
-            (and-both (of w.owner.client w.owner.root w) (contains w x y)
-            (and-both (w.owner.client == w.owner.client) (w.owner.root == w.owner.root) (equal-numbers w.owner.client w.owner.client refl) (equal-numbers w.owner.root w.owner.root refl))
+            (and_from (of w.owner.client w.owner.root w) (contains w x y)
+            (and_from (w.owner.client == w.owner.client) (w.owner.root == w.owner.root) (equal-numbers w.owner.client w.owner.client refl) (equal-numbers w.owner.root w.owner.root refl))
             (and-left (contains w x y) (has_changed_tree old new w || false) here)),
         changed (same_records (tree w.owner.client w.owner.root old) (tree w.owner.client w.owner.root new)) (and-right (contains w x y) (has_changed_tree old new w || false) here),
       )
@@ -170,7 +172,7 @@ module _ (x y : ℤ) where
       → list_any (is_allowed_at old new raised x y) ws ≡ true
   shows-allowed raised c root old new ws changed there =
       any-more (λ w. of c root w && contains w x y) (is_allowed_at old new raised x y)
-      (λ w f. and-both (contains w x y) (has_changed_tree old new w || is_raised raised w) (and-right (of c root w) (contains w x y) f)
+      (λ w f. and_from (contains w x y) (has_changed_tree old new w || is_raised raised w) (and-right (of c root w) (contains w x y) f)
       (or_left (has_changed_tree old new w) (is_raised raised w) (its w (and-left (of c root w) (contains w x y) f)))) ws there
     where
       its : (w : Window) → of c root w ≡ true → has_changed_tree old new w ≡ true
@@ -207,7 +209,7 @@ module _ (x y : ℤ) where
           → marks_at_most_through all_windows raised d (m ∷ ms) x y ≡ true
       here allowed =
           or_left (marks_at_most_of all_windows d m raised x y) _
-          (or_right (marks_at_least d m x y) _ (and-both (in_output d.output.width d.output.height x y) _ inside allowed))
+          (or_right (marks_at_least d m x y) _ (and_from (in_output d.output.width d.output.height x y) _ inside allowed))
 
       at : ((shows c root (all_windows m) ≡ true) ⊎ (shows c root (all_windows e) ≡ true) → same_records (tree c root (all_windows m)) (tree c root (all_windows e)) ≡ false
           → marks_at_most_through all_windows None m ms x y ≡ true)

@@ -3,6 +3,7 @@ use Rattle.std.proofs.Common.{◌≡◌, ℕ, ◌+◌, suc, zero, ◌<◌, List,
 use Rattle.std.specs.Prelude.{◌||◌}
 use Rattle.std.specs.Option.{option_map}
 use Rattle.std.proofs.lemmas.List.{set-get_or}
+use Rattle.std.proofs.lemmas.Option.{same_Some}
 use Rattle.wl_client.specs.View.{ClientView}
 use Rattle.wl_client.specs.declared.outputs.Output.{Output}
 use Rattle.wl_paint.specs.Damage.{Damaged, has}
@@ -12,7 +13,6 @@ use Rattle.wl_clients.specs.View.{DeskView, MarkedDesk, OwnedView, Pile, owned_v
 use Rattle.wl_requests.specs.declared.residents.Resident.{Resident as Kept}
 use Rattle.spec_desktop.specs.Act.{lowest, next_of}
 use Rattle.spec_desktop.specs.Desktop.{Desktop, Resident, client_at}
-use Rattle.law_desktop.proofs.Lists.Keys.{some-same}
 use Rattle.wl_clients.specs.Agreeing.{MarksNothing}
 use Rattle.wl_clients.specs.Residents.{client_views, owned_views, resident_at}
 use Rattle.wl_clients.proofs.Desktops.{IsPut, at, at-map, at-past, at-within, map-length, place-at, put-map, put-set}
@@ -46,7 +46,7 @@ here-of rs (suc k) v e = (k, record { number = refl; within = at-some rs k v (sy
 
 -- it is the one with its number
 pub here-is : {A : Type 0} (rs : List (Option (Kept A))) (c k : ℕ) (v w : Kept A) → IsHere rs c k v → Some w ≡ resident_at rs c → w ≡ v
-here-is rs c k v w is e = some-same w v (e ∙ ap (λ (n : ℕ). resident_at rs n) is.number ∙ is.here)
+here-is rs c k v w is e = same_Some w v (e ∙ ap (λ (n : ℕ). resident_at rs n) is.number ∙ is.here)
 
 -- a client put at a place is here
 pub put-here : {A : Type 0} (rs : List (Option (Kept A))) (c k : ℕ) (v new : Kept A) → IsHere rs c k v → IsHere (set rs k (Some new)) c k new

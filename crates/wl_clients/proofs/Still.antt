@@ -1,6 +1,7 @@
 -- Where each client owns what it did and the same toplevels stand, the windows stay as they are painted, and nothing is marked.
 use Rattle.std.proofs.Common.{◌≡◌, ℕ, zero, suc, ◌+◌, List, [], ◌∷◌, Bool, false, true, map, Option, Some, None, refl, ap, ap₂, sym, subst, ◌∙◌, inl, inr}
 use Rattle.std.proofs.Math.Path.{fun_ext}
+use Rattle.std.proofs.lemmas.Bool.{false_from_ne_true}
 use Rattle.std.specs.Prelude.{ℤ, ◌&&◌, is_some}
 use Rattle.spec_desktop.specs.declared.cause.Cause.{Cause}
 use Rattle.spec_desktop.specs.Peer.{Peer, with_rest}
@@ -16,7 +17,6 @@ use Rattle.spec_desktop.specs.Moments.{applied_between, marks_at_least}
 use Rattle.spec_desktop.specs.Popups.{stacked_popups}
 use Rattle.spec_desktop.specs.Stacked.{all_windows}
 use Rattle.spec_desktop.specs.Step.{with_peer}
-use Rattle.law_desktop.proofs.Marks.Stacks.{differ, unless}
 use Rattle.law_desktop.proofs.Runs.Forms.{ChangesAt, ConnectsAt}
 use Rattle.law_desktop.proofs.Runs.OneRun.{changed-held, held}
 use Rattle.law_desktop.proofs.Soundness.Windows.{sound_is_distinct}
@@ -27,6 +27,7 @@ use Rattle.law_desktop.proofs.EachClient.Clients.{comes-at}
 use Rattle.law_desktop.proofs.InOrder.Sound.{in_order_is_sound}
 use Rattle.law_desktop.proofs.MessageWays.Gone.{same-applied}
 use Rattle.law_desktop.proofs.MessageWays.Lists.{any-never, filter-every, is_gone_at, least-gone}
+use Rattle.law_desktop.proofs.Truth.{differ}
 use Rattle.wl_clients.proofs.Altering.{closed-leaves, ended-bare, leaves-over, sent-leaves, stored-leaves}
 
 -- The output is the same, each client owns what it did, and the same toplevels stand.
@@ -68,7 +69,7 @@ and-none false = refl
 
 pub still-unmarked : (d e : Desktop) → Ordered d → IsStill d e → (x y : ℤ) → marks_at_least d e x y ≡ false
 still-unmarked d e ordered still x y =
-    unless (marks_at_least d e x y)
+    false_from_ne_true (marks_at_least d e x y)
     (λ marked. differ (sym (any-never (is_gone_at (λ w. true) (all_windows d) x y) (λ w. and-none (contains w x y)) (all_windows d))
     ∙ least-gone (λ w. true) (all_windows d) x y (applied_between d e) (sound_is_distinct d (in_order_is_sound d ordered.in_order))
     (λ w kept p q. same-applied d e w.owner.client w.surface p q (still.owned w.owner.client)) d.output.width d.output.height

@@ -7,15 +7,15 @@ use Rattle.spec_desktop.specs.Windows.{Window}
 use Rattle.spec_desktop.specs.Desktop.{Desktop, Resident, become_by, client_at, owned_of, status_in, status_of}
 use Rattle.spec_desktop.specs.Framing.{FramesToldAt, FramesToldBy, done_due}
 use Rattle.spec_desktop.specs.Stacked.{all_windows}
-use Rattle.law_desktop.proofs.Marks.Stacks.{differ}
 use Rattle.law_desktop.proofs.Runs.Fates.{same-or}
 use Rattle.law_desktop.proofs.Runs.Following.{Owns}
 use Rattle.law_desktop.proofs.Runs.Places.{other-become, status-become}
-use Rattle.law_desktop.proofs.Soundness.ObjectsKeys.{any-of-filter}
 use Rattle.law_desktop.specs.Ordered.{Ordered}
 use Rattle.law_desktop.specs.Ways.{IsGone}
 use Rattle.law_desktop.proofs.MessageWays.Ends.{untold_is_gone}
 use Rattle.law_desktop.proofs.MessageWays.Gone.{gone_windows}
+use Rattle.law_desktop.proofs.Truth.{differ}
+use Rattle.law_desktop.proofs.Lists.Left.{any-there}
 use Rattle.wl_clients.proofs.Still.{IsStill, put-still, same-still, still-windows}
 
 -- ---- the client that is told
@@ -103,5 +103,5 @@ HasNoNew d e = (p : Window → Bool) → list_any p (all_windows e) ≡ true →
 pub fate-windows : (c : ℕ) (d e : Desktop) → IsStill d e ⊎ IsGone c d e → HasNoNew d e
 fate-windows c d e (inl still) p there = ap (λ (ws : List Window). list_any p ws) (sym (still-windows d e still)) ∙ there
 fate-windows c d e (inr gone) p there =
-    any-of-filter p (λ w. not (w.owner.client == c)) (all_windows d)
+    any-there p (λ w. not (w.owner.client == c)) (all_windows d)
     (ap (λ (ws : List Window). list_any p ws) (sym (gone_windows c d e gone)) ∙ there)

@@ -1,5 +1,7 @@
 -- A client in the middle of a step is told something by its wl_pointers: what that leaves of it and of the desktop.
 use Rattle.std.proofs.Common.{◌≡◌, ◌≢◌, ℕ, List, [], ◌∷◌, Bool, true, false, Option, Some, None, refl, ap, subst, sym, ◌∙◌, inl, inr, ◌⊎◌, arith}
+use Rattle.std.proofs.lemmas.Bool.{true≢false}
+use Rattle.std.proofs.lemmas.Option.{same_Some}
 use Rattle.std.specs.Prelude.{is_some}
 use Rattle.wl_client.specs.Agreement.{IsPeer}
 use Rattle.wl_client.specs.Pointers.{TellsPointers}
@@ -17,7 +19,6 @@ use Rattle.wl_scene.specs.StackedAgreement.{AreStacked}
 use Rattle.spec_desktop.specs.Desktop.{Desktop, Resident, client_at, owned_of, toplevels_of, with_client, with_number}
 use Rattle.spec_desktop.specs.Stacked.{all_windows}
 use Rattle.spec_desktop.specs.Step.{with_peer}
-use Rattle.law_desktop.proofs.Lists.Keys.{differ, some-same}
 use Rattle.law_desktop.proofs.Runs.Fates.{same-or}
 use Rattle.law_desktop.proofs.Runs.Places.{number-other, number-same, number-twice}
 use Rattle.law_desktop.specs.InOrder.{InOrderAt, InOrderBy, OwnsInOrder}
@@ -130,7 +131,7 @@ module _ (c : ℕ) (d : Desktop) (s : Resident) (q : Peer) (press release : Opti
       its : (k : ℕ) (r : Resident) → client_at k told_desktop ≡ Some r → r.peer.status ≡ None → (c ≡ k) ⊎ (c ≢ k) → OwnsOrdered r
       its k r here lives (inl e) =
           let its_own : client_at k told_desktop ≡ Some then_told = subst (λ (n : ℕ). client_at n told_desktop ≡ Some then_told) e (number-same d.clients c (Some then_told) s there) in
-          subst OwnsOrdered (some-same then_told r (sym its_own ∙ here)) (told-owns ordered)
+          subst OwnsOrdered (same_Some then_told r (sym its_own ∙ here)) (told-owns ordered)
       its k r here lives (inr apart) = ordered.each k r (sym (number-other d.clients c k (Some then_told) apart) ∙ here) lives
 
       owns : (k : ℕ) (r : Resident) → client_at k told_desktop ≡ Some r → r.peer.status ≡ None → OwnsOrdered r
@@ -176,7 +177,7 @@ module _ (c : ℕ) (d : Desktop) (s : Resident) (q : Peer) (press release : Opti
           owns = rw (owned, objects) is.seat.owns;
           frames = rw (owned, objects, ap (λ (p : Peer). p.requests) only) is.seat.frames;
           subsurfaces = rw (subsurfaces, objects) is.seat.subsurfaces;
-          ended = λ over. absurd (differ (sym over ∙ ap (λ (o : Option Cause). is_some o) still-alive));
+          ended = λ over. absurd (true≢false (sym over ∙ ap (λ (o : Option Cause). is_some o) still-alive));
         };
         scene = rw objects (record { standing = is.scene.standing; next = is.scene.next });
         windows = subst (λ (ws : List Window). AreStacked (with_numbers c (targets_in WlSurface new.client.objects) others) pile.windows ws) (sym told-windows) (rw objects is.windows);

@@ -1,8 +1,8 @@
 -- A message that touches no tree of surfaces leaves all windows as they are, where its client lives on.
 use Rattle.std.proofs.Common.{◌≡◌, ℕ, List, Option, None, Some, subst, inl, inr}
+use Rattle.std.proofs.lemmas.Option.{none-some}
 use Rattle.wl_wire.specs.Wire.{split_of}
 use Rattle.wl_client.specs.declared.outputs.Output.{Output}
-use Rattle.law_desktop.proofs.Lists.Keys.{none-some}
 use Rattle.law_desktop.proofs.Runs.Through.{messages_lead_through}
 use Rattle.law_desktop.specs.Ordered.{Ordered, OwnsOrdered}
 use Rattle.spec_desktop.specs.Demand.{Demand}

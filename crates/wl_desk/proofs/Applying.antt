@@ -12,8 +12,8 @@ use Rattle.spec_desktop.specs.Desktop.{Resident}
 use Rattle.spec_desktop.specs.Pointing.{button_told, has_pointers}
 use Rattle.spec_desktop.specs.Settling.{Applies, AppliesAll, Midstep, Tells, noted, noted_if, number_of, with_focus}
 use Rattle.spec_desktop.specs.Stacked.{all_windows}
-use Rattle.law_desktop.proofs.Marks.Stacks.{Each}
 use Rattle.law_desktop.proofs.Runs.Settled.{same-windows}
+use Rattle.law_desktop.proofs.Lists.Each.{Each}
 use Rattle.wl_scene.specs.Focus.{action_of}
 use Rattle.wl_scene.specs.declared.actions.Action.{Action}
 use Rattle.wl_desk.specs.Doing.{IsTellable, is_told}

@@ -1,5 +1,7 @@
 -- Where a message leads once the pointer is put back, by what it asks of the pointer and by how its client is then.
 use Rattle.std.proofs.Common.{◌≡◌, ℕ, List, [], ◌∷◌, ◌++◌, drop, take, Bool, true, false, Option, Some, None, Result, Ok, Err, refl, ap, subst, sym, ◌∙◌, ◌⊎◌, inl, inr}
+use Rattle.std.proofs.lemmas.Bool.{true≢false}
+use Rattle.std.proofs.lemmas.Option.{none-some}
 use Rattle.std.specs.Prelude.{◌-◌, ◌||◌, is_some}
 use Rattle.wl_wire.specs.Wire.{split_of}
 use Rattle.wl_wire.specs.declared.header.Split.{Split}
@@ -22,7 +24,6 @@ use Rattle.spec_desktop.specs.Settling.{Midstep, Strike, Tells, TellsAt, TellsUn
 use Rattle.spec_desktop.specs.Stacked.{all_windows}
 use Rattle.spec_desktop.specs.Step.{with_peer}
 use Rattle.spec_desktop.specs.Through.{ServesThrough, SettlesAllThrough, settling_through}
-use Rattle.law_desktop.proofs.Lists.Keys.{differ, none-some}
 use Rattle.law_desktop.proofs.Runs.Places.{status-become}
 use Rattle.law_desktop.specs.Pointed.Apart.{SettlesOn}
 use Rattle.law_desktop.specs.Pointed.Entering.{TellsNew, new_entered}
@@ -90,7 +91,7 @@ tells-ended change events c x ended = at (client_at c x) ended
   where
     unless : (r : Resident) (b : Bool) → b ≡ true → TellsUnless (b || false) change events c r (unstruck x) (unstruck x)
     unless r true e = refl
-    unless r false e = absurd (differ (sym e))
+    unless r false e = absurd (true≢false (sym e))
 
     at : (o : Option Resident) → is_some (status_of o) ≡ true → TellsAt change events c o (unstruck x) (unstruck x)
     at None e = refl

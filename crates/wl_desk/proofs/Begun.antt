@@ -1,5 +1,6 @@
 -- Which toplevel is moved after a message.
 use Rattle.std.proofs.Common.{◌≡◌, ◌≢◌, ℕ, List, Bool, true, false, Option, Some, None, if◌then◌else◌, refl, ap, ap₂, subst, sym, ◌∙◌}
+use Rattle.std.proofs.lemmas.Bool.{true≢false}
 use Rattle.std.specs.Prelude.{◌&&◌, is_some}
 use Rattle.spec_desktop.specs.declared.cause.Cause.{Cause}
 use Rattle.spec_desktop.specs.Objects.{ById}
@@ -14,7 +15,6 @@ use Rattle.spec_desktop.specs.Settling.{pointer_without, unless_of}
 use Rattle.spec_desktop.specs.Stacked.{all_windows}
 use Rattle.spec_desktop.specs.Through.{ServesThrough}
 use Rattle.wl_scene.specs.Focus.{unless_of as unless_of_scene}
-use Rattle.law_desktop.proofs.Lists.Keys.{differ}
 use Rattle.law_desktop.specs.Focus.{IsSettled}
 use Rattle.law_desktop.specs.Pointed.Pointed.{MovedStands, asked, keeping, pointed, pointer_after, pointer_asked, pointer_for, pointer_if}
 use Rattle.law_desktop.proofs.PointerAside.Pointers.{keeping-stays}
@@ -83,7 +83,7 @@ none-begun left c d path e leads over = by (asked left c d) refl
     by : (o : Option Demand) → asked left c d ≡ o → to_move o c d ≡ None
     by None is = refl
     by (Some (Move surface serial)) is =
-        absurd (differ (sym over ∙ ap (λ (s : Option Cause). is_some s) (move-lives left c surface serial d path e is leads)))
+        absurd (true≢false (sym over ∙ ap (λ (s : Option Cause). is_some s) (move-lives left c surface serial d path e is leads)))
     by (Some demand) is = refl
 
 pub after-end : (left : LeftOut) (c : ℕ) (why : Cause) (d : Desktop) (path : List Desktop) (e : Desktop) → ServesThrough left c (unpointed d) path e → status_in c e ≡ Some why
@@ -105,7 +105,7 @@ pub after-life : (c : ℕ) (d : Desktop) (path : List Desktop) (e : Desktop) (t 
 after-life c d path e t leads alive is =
     let same : t ≡ to_move (asked nothing_left_out c d) c d =
     to-move-is (asked nothing_left_out c d) c d t
-    (λ none. absurd (differ (sym (refused-ends nothing_left_out c d path e none leads) ∙ ap (λ (s : Option Cause). is_some s) alive))) is in
+    (λ none. absurd (true≢false (sym (refused-ends nothing_left_out c d path e none leads) ∙ ap (λ (s : Option Cause). is_some s) alive))) is in
     after-begun nothing_left_out c d e
     ∙ ap₂ (λ (s : Option Cause) (m : Option Target). keeping e.standing (pointer_if s c (begun m d.pointer))) alive (sym same)
 

@@ -1,5 +1,6 @@
 -- The first client that is to end does, and the pointer leaves it.
 use Rattle.std.proofs.Common.{◌≡◌, ◌≢◌, ℕ, zero, suc, ◌+◌, List, [], ◌∷◌, ◌++◌, Bool, true, false, Option, Some, None, refl, ap, ap₂, subst, sym, ◌∙◌, length, arith, inl, inr}
+use Rattle.std.proofs.lemmas.Option.{none-some, same_Some}
 use Rattle.std.specs.Option.{option_map}
 use Rattle.std.specs.Prelude.{◌⊎◌, ◌||◌, pos}
 use Rattle.wl_client.specs.View.{ClientView, opened}
@@ -11,7 +12,6 @@ use Rattle.wl_scene.specs.Focus.{unless_of as scene_unless}
 use Rattle.spec_desktop.specs.Desktop.{Desktop, Resident, client_at, resident_of, unpointed}
 use Rattle.spec_desktop.specs.Moments.{marks_at_least, marks_at_most}
 use Rattle.spec_desktop.specs.Settling.{Midstep, Strike, ended_at, ended_by, pointer_without, unless_of}
-use Rattle.law_desktop.proofs.Lists.Keys.{none-some, some-same}
 use Rattle.law_desktop.proofs.Runs.Fates.{same-or}
 use Rattle.law_desktop.proofs.Runs.Places.{number-other, number-same}
 use Rattle.law_desktop.specs.Pointed.Rounds.{AreToEnd, Lives}
@@ -83,7 +83,7 @@ mid-long v m mid = sym (map-length (option_map opened) v.clients) ∙ mid.agrees
 -- the first that is to end
 pub first-of : (ss : List Strike) (c : ℕ) → Some c ≡ first_struck ss → (s : Strike) × (rest : List Strike) × (ss ≡ s ∷ rest) × (s.client ≡ c)
 first-of [] c e = absurd (none-some c (sym e))
-first-of (s ∷ ss) c e = (s, ss, refl, some-same s.client c (sym e))
+first-of (s ∷ ss) c e = (s, ss, refl, same_Some s.client c (sym e))
 
 pub none-first : (ss : List Strike) → None ≡ first_struck ss → ss ≡ []
 none-first [] e = refl
@@ -130,7 +130,7 @@ module _ (s : Strike) (d : Desktop) (r : Resident) (there : client_at s.client d
           by (inl e) =
               let own : client_at s.client (ended_at s.client s.cause (Some r) d) ≡ Some x =
               subst (λ (j : ℕ). client_at j (ended_at s.client s.cause (Some r) d) ≡ Some x) (sym e) found in
-              let same : gone ≡ x = some-same gone x (sym (number-same d.clients s.client (Some gone) r there) ∙ own) in
+              let same : gone ≡ x = same_Some gone x (sym (number-same d.clients s.client (Some gone) r there) ∙ own) in
               absurd (none-some s.cause (sym (ap (λ (y : Resident). y.peer.status) same ∙ alive)))
           by (inr differ) = have k x (sym (number-other d.clients s.client k (Some gone) differ) ∙ found) alive
 

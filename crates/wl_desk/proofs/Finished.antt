@@ -1,5 +1,6 @@
 -- What a message leads to that queues nothing and moves nothing, with the pointer put aside: get_pointer and xdg_toplevel.move.
 use Rattle.std.proofs.Common.{◌≡◌, ℕ, List, [], drop, take, Option, Some, None, Result, refl, ap, subst, sym, ◌∙◌, inl, inr}
+use Rattle.std.proofs.lemmas.Option.{none-some, same_Some}
 use Rattle.std.specs.Prelude.{◌-◌, ◌⊎◌, Ok, Err}
 use Rattle.wl_wire.specs.Wire.{split_of}
 use Rattle.wl_wire.specs.declared.header.Split.{Split}
@@ -20,12 +21,12 @@ use Rattle.spec_desktop.specs.Settling.{QueuesTo, becomes}
 use Rattle.spec_desktop.specs.Stacked.{all_windows}
 use Rattle.spec_desktop.specs.Step.{with_peer}
 use Rattle.spec_desktop.specs.Through.{ServesThrough, settling_through}
-use Rattle.law_desktop.proofs.Lists.Keys.{none-some, some-same}
 use Rattle.law_desktop.proofs.Runs.Places.{number-same, status-become}
 use Rattle.law_desktop.specs.Pointed.Pointed.{asked, asked_by, asked_first, asked_of}
-use Rattle.law_desktop.proofs.PointerAside.Entering.{lacking, told-alone}
+use Rattle.law_desktop.proofs.PointerAside.Entering.{told-alone}
 use Rattle.law_desktop.proofs.PointerAside.Messages.{after-status, becomes-still, done-still}
 use Rattle.law_desktop.proofs.PointerAside.Pointers.{settled-nowhere}
+use Rattle.law_desktop.proofs.Runs.Serves.{lacking}
 
 -- A client that is there and lives asked this, and it is done or runs out of memory.
 pub record IsAsked (left : LeftOut) (c : ℕ) (demand : Demand) (d : Desktop) (path : List Desktop) (e : Desktop) : Type 0 where
@@ -46,7 +47,7 @@ module _ (left : LeftOut) (c : ℕ) (demand : Demand) (d : Desktop) (path : List
     is = is;
     now = with_peer (counted r.peer) r;
     lives = lives;
-    does = subst (λ (x : Demand). AnswersThen left (Ok x) c r (unpointed d) (settling_through path e)) (some-same other demand asks) h;
+    does = subst (λ (x : Demand). AnswersThen left (Ok x) c r (unpointed d) (settling_through path e)) (same_Some other demand asks) h;
   }
 
   took : (split : Split) (r : Resident) → asked_first left split r ≡ Some demand → r.peer.status ≡ None → TakesThen left split c r (unpointed d) (settling_through path e)

@@ -1,8 +1,8 @@
 -- The surface that has the focus has a window.
 use Rattle.std.proofs.Common.{◌≡◌, ◌≢◌, ℕ, List, [], ◌∷◌, true, Option, Some, None, refl, ap, sym, ◌∙◌}
+use Rattle.std.proofs.lemmas.Option.{none-some}
 use Rattle.spec_desktop.specs.Pointer.{Pointer, Target, hit_by, is_stacked, kept_focus, settled, settled_focus}
 use Rattle.spec_desktop.specs.Windows.{Place, Window}
-use Rattle.law_desktop.proofs.Lists.Keys.{none-some}
 use Rattle.wl_desk.proofs.Points.{settled-stacked}
 
 -- where the focus is settled

@@ -1,5 +1,6 @@
 -- How the pointer follows a message, by what is kept of the clients, of the wl_pointers, and of the pointer.
 use Rattle.std.proofs.Common.{◌≡◌, ◌≢◌, ◌==◌, ℕ, List, [], ◌∷◌, Bool, true, false, Option, Some, None, refl, ap, subst, sym, ◌∙◌, ◌⊎◌, inl, inr}
+use Rattle.std.proofs.lemmas.Bool.{true≢false}
 use Rattle.std.specs.Prelude.{is_some}
 use Rattle.wl_scene.specs.Marking.{IsAsLarge}
 use Rattle.spec_desktop.specs.declared.cause.Cause.{Cause}
@@ -17,7 +18,6 @@ use Rattle.spec_desktop.specs.Replies.{entered_at, focus_window}
 use Rattle.spec_desktop.specs.Settling.{Midstep, Strike, Tells, ended_by, pointer_without, unstruck}
 use Rattle.spec_desktop.specs.Stacked.{all_windows}
 use Rattle.law_desktop.specs.Focus.{IsSettled}
-use Rattle.law_desktop.proofs.Lists.Keys.{differ}
 use Rattle.law_desktop.specs.Pointed.Pointed.{asked, keeping}
 use Rattle.wl_requests.specs.declared.pointer_asked.PointerAsked.{PointerAsked}
 use Rattle.wl_requests.specs.declared.pointer_asked.PointerAsked.TheVariants.{NewPointer}
@@ -74,7 +74,7 @@ left-whole c request k seats latest p q mid new view fed why status ended leaves
         let e : Desktop = took.desktop in
         let is : status_in c e ≡ Some why = ended-status c e fed why (status e took.kept) ended in
         let left : q ≡ pointer_without c d.pointer = leaves ∙ forgets c p ∙ ap (pointer_without c) took.pointer in
-        followed c false request old (desk_with k seats latest p) new d took (λ yes. absurd (differ (sym yes)))
+        followed c false request old (desk_with k seats latest p) new d took (λ yes. absurd (true≢false (sym yes)))
         (on-ended nothing_left_out c d took.path e took.placed.moved took.leads (ap (λ (s : Option Cause). is_some s) is)) go.kept go.seats go.latest
         (go.pointer e took.kept ∙ ap (keeping e.standing) left ∙ sym (after-end nothing_left_out c why d took.path e took.leads is)) go.damage
 
@@ -117,7 +117,7 @@ away-whole c id mid away old d took alive =
   where
     by : ((asked nothing_left_out c d ≡ None) ⊎ ((version : ℕ) × (asked nothing_left_out c d ≡ Some (GetPointer id version)))) → IsUnsettled c true old mid d
     by (inl none) =
-        absurd (differ (sym (refused-ends nothing_left_out c d took.path took.desktop none took.leads) ∙ ap (λ (s : Option Cause). is_some s) alive))
+        absurd (true≢false (sym (refused-ends nothing_left_out c d took.path took.desktop none took.leads) ∙ ap (λ (s : Option Cause). is_some s) alive))
     by (inr get) = stays c id get.0 (NewPointer id) old mid d took alive get.1 (ap (λ (p : Pointer). has_focus c p.focus) (sym took.pointer) ∙ away)
 
 -- ---- it has

@@ -1,5 +1,6 @@
 -- From a message that was taken with the pointer put aside to where the focus is settled.
 use Rattle.std.proofs.Common.{◌≡◌, ◌≢◌, ℕ, List, [], ◌∷◌, ◌++◌, map, Bool, true, false, Option, Some, None, refl, ap, subst, sym, ◌∙◌, append_assoc, ◌⊎◌, inl, inr, eq-eqb}
+use Rattle.std.proofs.lemmas.Bool.{true≢false}
 use Rattle.std.specs.Prelude.{is_some}
 use Rattle.wl_scene.specs.Marking.{IsAsLarge}
 use Rattle.wl_paint.specs.Damage.{Damaged}
@@ -18,7 +19,6 @@ use Rattle.spec_desktop.specs.Settling.{Midstep, Strike, Tells, ended_by, unstru
 use Rattle.spec_desktop.specs.Stacked.{all_windows}
 use Rattle.spec_desktop.specs.Through.{ServesThrough}
 use Rattle.law_desktop.specs.Focus.{IsSettled}
-use Rattle.law_desktop.proofs.Lists.Keys.{differ}
 use Rattle.law_desktop.proofs.Runs.Settled.{same-windows}
 use Rattle.law_desktop.specs.Pointed.Apart.{SettlesOn}
 use Rattle.law_desktop.specs.Pointed.Entering.{TellsNew, new_entered}
@@ -141,7 +141,7 @@ module _ (c id : ℕ) (old mid : MarkedDesk) (d : Desktop) (took : Took c (NewPo
     where
       by : ((asked nothing_left_out c d ≡ None) ⊎ ((version : ℕ) × (asked nothing_left_out c d ≡ Some (GetPointer id version)))) → (version : ℕ) × (asked nothing_left_out c d ≡ Some (GetPointer id version))
       by (inl none) =
-          absurd (differ (sym (refused-ends nothing_left_out c d took.path took.desktop none took.leads) ∙ ap (λ (s : Option Cause). is_some s) alive))
+          absurd (true≢false (sym (refused-ends nothing_left_out c d took.path took.desktop none took.leads) ∙ ap (λ (s : Option Cause). is_some s) alive))
       by (inr is) = is
 
   has-focus : has_focus c d.pointer.focus ≡ true
@@ -226,5 +226,5 @@ module _ (c id : ℕ) (old mid : MarkedDesk) (d : Desktop) (took : Took c (NewPo
       midway = midway;
       marks = marks-then d n.desktop (n.desktop ∷ []) (ended_by s n.desktop ∷ []) old.damage told.damage new.damage sides refl first marks;
       sides = larger old.damage told.damage new.damage sides large;
-      unmoved = λ yes. absurd (differ (sym yes));
+      unmoved = λ yes. absurd (true≢false (sym yes));
     }

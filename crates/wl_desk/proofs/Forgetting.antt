@@ -1,6 +1,6 @@
 -- Which clients a pointer leaves where some ended.
 use Rattle.std.proofs.Common.{◌≡◌, ℕ, List, [], ◌∷◌, Bool, true, false, Option, Some, None, refl, ap, ap₂, subst, sym, ◌∙◌}
-use Rattle.std.proofs.lemmas.Bool.{eqb-true}
+use Rattle.std.proofs.lemmas.Bool.{eqb-true, true≢false}
 use Rattle.std.specs.List.{list_any}
 use Rattle.std.specs.Prelude.{◌==◌, ◌&&◌, ◌||◌, cond, if◌then◌else◌, filter, is_none, is_some}
 use Rattle.spec_desktop.specs.declared.cause.Cause.{Cause}
@@ -15,9 +15,10 @@ use Rattle.spec_desktop.specs.Desktop.{Desktop, Resident, client_at, owned_in, o
 use Rattle.spec_desktop.specs.Settling.{pointer_without, unless_of}
 use Rattle.spec_desktop.specs.Stacked.{all_windows}
 use Rattle.law_desktop.specs.Focus.{EndedAreBare, IsSettled}
-use Rattle.law_desktop.proofs.Lists.Keys.{differ}
 use Rattle.law_desktop.proofs.Marks.ShownWindows.{IsShown, all-shown}
-use Rattle.law_desktop.proofs.Marks.Stacks.{Each, and-left, same-number}
+use Rattle.law_desktop.proofs.Marks.Stacks.{same-number}
+use Rattle.law_desktop.proofs.Truth.{and-left}
+use Rattle.law_desktop.proofs.Lists.Each.{Each}
 use Rattle.law_desktop.specs.InOrder.{InOrderAt, InOrderBy}
 use Rattle.law_desktop.specs.Ordered.{Ordered}
 use Rattle.law_desktop.specs.Pointed.Happenings.{pointer_left, unless_ended}
@@ -101,7 +102,7 @@ moved-lives d ordered moved t has = at (client_at t.client d) (ordered.in_order.
 
     by : (s : Option Cause) (r : Resident) → InOrderBy s r (toplevels_of t.client d) → s ≡ None
     by None r h = refl
-    by (Some cause) r h = absurd (differ (sym standing ∙ none-of t.client t.surface d.standing h.1))
+    by (Some cause) r h = absurd (true≢false (sym standing ∙ none-of t.client t.surface d.standing h.1))
 
     at : (o : Option Resident) → InOrderAt o (toplevels_of t.client d) → status_of o ≡ None
     at None h = refl

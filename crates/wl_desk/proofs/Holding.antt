@@ -7,12 +7,12 @@ use Rattle.wl_client.specs.Pointers.{has_any}
 use Rattle.spec_desktop.specs.Pointer.{Pointer, Target}
 use Rattle.spec_desktop.specs.Desktop.{Desktop, Resident, client_at, status_of, unpointed}
 use Rattle.spec_desktop.specs.Happens.{hold_from, press_serial, serial_for}
-use Rattle.law_desktop.proofs.Marks.Stacks.{differ}
 use Rattle.wl_desk.specs.Agreeing.{Agrees}
 use Rattle.wl_desk.specs.View.{DeskView, seat_of}
 use Rattle.wl_desk.proofs.Buttons.{has-any}
 use Rattle.wl_desk.proofs.Forgetting.{focus-lives}
 use Rattle.wl_desk.proofs.Quiet.{ended-bare}
+use Rattle.law_desktop.proofs.Truth.{differ}
 
 abbrev serial_if : Bool → Option Resident → Option ℕ
 serial_if any r = if any then option_map (λ r. r.peer.serial) r else None

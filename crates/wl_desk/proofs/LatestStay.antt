@@ -1,7 +1,8 @@
 -- The serials of the latest press and release that each client was told of, where something happens that is no button, where clients are told,
 -- and where they end.
 use Rattle.std.proofs.Common.{◌≡◌, ◌≢◌, ℕ, List, [], ◌∷◌, Bool, true, false, Option, Some, None, refl, ap, subst, sym, ◌∙◌, inl, inr}
-use Rattle.std.proofs.lemmas.Bool.{eqb-true}
+use Rattle.std.proofs.lemmas.Bool.{eqb-true, true≢false}
+use Rattle.std.proofs.lemmas.Option.{none-some, same_Some}
 use Rattle.std.specs.Prelude.{◌⊎◌, ◌||◌, ◌==◌, nat_lt, if◌then◌else◌, is_some, Ok, Err}
 use Rattle.spec_desktop.specs.declared.cause.Cause.{Cause}
 use Rattle.spec_desktop.specs.Peer.{Peer, ended}
@@ -14,7 +15,6 @@ use Rattle.spec_desktop.specs.Desktop.{Desktop, Resident, client_at, resident_of
 use Rattle.spec_desktop.specs.Happenings.{Happening, Leads, Message, Single, Starve}
 use Rattle.spec_desktop.specs.LeftOut.{nothing_left_out}
 use Rattle.spec_desktop.specs.Settling.{Midstep, Strike, Tells, TellsAt, TellsUnless, ended_at, ended_by, in_order, is_struck, struck_by, unstruck}
-use Rattle.law_desktop.proofs.Lists.Keys.{differ, none-some, some-same}
 use Rattle.law_desktop.proofs.Runs.Fates.{same-or}
 use Rattle.law_desktop.proofs.Runs.Places.{number-other, number-same}
 use Rattle.law_desktop.specs.Pointed.Happenings.{IsEndOf, is_quiet}
@@ -58,7 +58,7 @@ pub quiet-keeps : (act : Act) (done : Done) → is_quiet (Single act done) ≡ t
 quiet-keeps act done quiet apart = (λ time button pressed gives e. buttons time button pressed gives e, λ k e. apart (acts k e))
   where
     buttons : (time button : ℕ) (pressed : Bool) (gives : Done) → Single act done ≡ Single (Button time button pressed) gives → ⊥
-    buttons time button pressed gives e = differ (sym quiet ∙ ap is_quiet e)
+    buttons time button pressed gives e = true≢false (sym quiet ∙ ap is_quiet e)
 
     acts : (k : ℕ) → Single act done ≡ Single Connect (gave.Connect (Ok k)) → act ≡ Connect
     acts k e = cc
@@ -88,14 +88,14 @@ pub latest-put : (latest : List Latest) (c : ℕ) (r x : Resident) (d : Desktop)
 latest-put latest c r x d there status press release are k q is lives free = at (same-or c k)
   where
     here : c ≡ k → x ≡ q
-    here e = some-same x q (sym (subst (λ (n : ℕ). client_at n (with_client c (Some x) d) ≡ Some x) e (number-same d.clients c (Some x) r there)) ∙ is)
+    here e = same_Some x q (sym (subst (λ (n : ℕ). client_at n (with_client c (Some x) d) ≡ Some x) e (number-same d.clients c (Some x) r there)) ∙ is)
 
     at : (c ≡ k) ⊎ (c ≢ k) → IsLatest (latest_of latest k) (Some q)
     at (inl e) =
         latest-as (latest_of latest k) (latest_of latest k) r q refl (sym (ap (λ (y : Resident). y.press) (here e)) ∙ press)
         (sym (ap (λ (y : Resident). y.release) (here e)) ∙ release)
         (are k r (subst (λ (n : ℕ). client_at n d ≡ Some r) e there) (sym status ∙ ap (λ (y : Resident). y.peer.status) (here e) ∙ lives) refl)
-    at (inr differ) = are k q (sym (number-other d.clients c k (Some x) differ) ∙ is) lives refl
+    at (inr true≢false) = are k q (sym (number-other d.clients c k (Some x) true≢false) ∙ is) lives refl
 
 -- ---- who is to end
 
@@ -108,7 +108,7 @@ later-true true b c h e = refl
 later-true false b c h e = h e
 
 ordered-struck : (k : ℕ) (s : Strike) (ss : List Strike) → is_struck k ss ≡ true → is_struck k (in_order s ss) ≡ true
-ordered-struck k s [] h = absurd (differ (sym h))
+ordered-struck k s [] h = absurd (true≢false (sym h))
 ordered-struck k s (t ∷ ts) h = at (ordered-struck k s ts) (nat_lt s.client t.client)
   where
     at : (is_struck k ts ≡ true → is_struck k (in_order s ts) ≡ true) → (b : Bool) → is_struck k (if b then s ∷ t ∷ ts else t ∷ in_order s ts) ≡ true
@@ -122,16 +122,16 @@ free-before k c (Some cause) ss free = at (is_struck k ss) refl
   where
     at : (b : Bool) → is_struck k ss ≡ b → b ≡ false
     at false e = refl
-    at true e = absurd (differ (sym (ordered-struck k (record { client = c; cause = cause }) ss e) ∙ free))
+    at true e = absurd (true≢false (sym (ordered-struck k (record { client = c; cause = cause }) ss e) ∙ free))
 
 either-free : (a b : Bool) → (a || b) ≡ false → (a ≡ false) × (b ≡ false)
 either-free false false e = (refl, refl)
-either-free false true e = absurd (differ e)
-either-free true b e = absurd (differ e)
+either-free false true e = absurd (true≢false e)
+either-free true b e = absurd (true≢false e)
 
 lives-not : (s : Option Cause) → is_some s ≡ false → s ≡ None
 lives-not None e = refl
-lives-not (Some cause) e = absurd (differ e)
+lives-not (Some cause) e = absurd (true≢false e)
 
 -- ---- one client is told
 
@@ -164,7 +164,7 @@ module _ (was now : List Latest) (change : Resident → Resident) (events : Resi
           let told : Resident = record (change r) { peer = q } in
           let own : Some told ≡ Some x =
           sym (number-same m.desktop.clients c (Some told) r there) ∙ subst (λ (j : ℕ). client_at j (with_client c (Some told) m.desktop) ≡ Some x) (sym e) found in
-          subst (λ (y : Resident). IsLatest (latest_of now k) (Some y)) (some-same told x own)
+          subst (λ (y : Resident). IsLatest (latest_of now k) (Some y)) (same_Some told x own)
           (subst (λ (j : ℕ). IsLatest (latest_of now j) (Some (change r))) e (noted.own r there lives (are c r there lives spared)))
       by (inr apart) =
           other k x (λ e. apart (sym e)) (sym (number-other m.desktop.clients c k (Some (record (change r) { peer = q })) apart) ∙ found) alive
@@ -175,9 +175,9 @@ module _ (was now : List Latest) (change : Resident → Resident) (events : Resi
     where
       never : (q : Resident) → client_at c m.desktop ≡ Some q → q.peer.status ≡ None → is_struck c m.struck ≡ false → ⊥
       never q is lives free =
-          let same : r ≡ q = some-same r q (sym there ∙ is) in
+          let same : r ≡ q = same_Some r q (sym there ∙ is) in
           let status : r.peer.status ≡ None = ap (λ (y : Resident). y.peer.status) same ∙ lives in
-          differ (sym e ∙ ap (λ (s : Option Cause). is_some s || is_struck c m.struck) status ∙ free)
+          true≢false (sym e ∙ ap (λ (s : Option Cause). is_some s || is_struck c m.struck) status ∙ free)
   unless false r there e h =
       let both = either-free (is_some r.peer.status) (is_struck c m.struck) e in
       subst (λ (x : Midstep). AreLatest now x) (sym h.3) (put r h.0 h.1 there (lives-not r.peer.status both.0) both.1)
@@ -224,7 +224,7 @@ module _ (latest : List Latest) (s : Strike) (ss : List Strike) (m : Midstep) (r
           by (inl e) =
               let own : client_at s.client (ended_at s.client s.cause (Some r) m.desktop) ≡ Some x =
               subst (λ (j : ℕ). client_at j (ended_at s.client s.cause (Some r) m.desktop) ≡ Some x) (sym e) found in
-              let same : gone ≡ x = some-same gone x (sym (number-same m.desktop.clients s.client (Some gone) r there) ∙ own) in
+              let same : gone ≡ x = same_Some gone x (sym (number-same m.desktop.clients s.client (Some gone) r there) ∙ own) in
               absurd (none-some s.cause (sym (ap (λ (y : Resident). y.peer.status) same ∙ alive)))
           by (inr apart) =
               are k x (sym (number-other m.desktop.clients s.client k (Some gone) apart) ∙ found) alive (free-still k apart free)

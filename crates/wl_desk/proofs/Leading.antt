@@ -12,10 +12,10 @@ use Rattle.spec_desktop.specs.Moments.{marks_at_least_through, marks_at_most_thr
 use Rattle.spec_desktop.specs.Settling.{Midstep, Strike, unstruck}
 use Rattle.spec_desktop.specs.Stacked.{all_windows}
 use Rattle.law_desktop.specs.Focus.{IsSettled}
-use Rattle.law_desktop.proofs.Marks.Stacks.{differ}
 use Rattle.law_desktop.specs.Pointed.Apart.{SettlesOn}
 use Rattle.law_desktop.specs.Pointed.Pointed.{pointed}
 use Rattle.law_desktop.proofs.PointerAside.Whole.{steps-by-rounds}
+use Rattle.law_desktop.proofs.Truth.{differ}
 use Rattle.wl_clients.specs.Agreeing.{Agrees as KeptAgrees}
 use Rattle.wl_clients.specs.Leading.{Led, raised_by}
 use Rattle.wl_clients.specs.Marking.{MarksThrough}

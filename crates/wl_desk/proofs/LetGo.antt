@@ -1,6 +1,7 @@
 -- A toplevel that doesn't stand any more isn't moved any more.
 use Rattle.std.proofs.Common.{◌≡◌, ℕ, List, [], ◌∷◌, Bool, true, false, Option, Some, None, if◌then◌else◌, refl, ap, ap₂, sym, ◌∙◌}
 use Rattle.std.proofs.lemmas.Bool.{eqb-true}
+use Rattle.std.proofs.lemmas.Option.{none-some}
 use Rattle.std.specs.List.{list_any}
 use Rattle.std.specs.Prelude.{◌==◌, ◌&&◌, ◌||◌}
 use Rattle.spec_desktop.specs.Objects.{ById}
@@ -8,7 +9,6 @@ use Rattle.spec_desktop.specs.Pointer.{Pointer, Target}
 use Rattle.spec_desktop.specs.Stacking.{Standing, is_of}
 use Rattle.spec_desktop.specs.Changing.{kept_move}
 use Rattle.spec_desktop.specs.Desktop.{Desktop}
-use Rattle.law_desktop.proofs.Lists.Keys.{none-some}
 use Rattle.law_desktop.specs.Pointed.Pointed.{keeping}
 use Rattle.law_desktop.proofs.PointerAside.Pointers.{keeping-stays}
 use Rattle.wl_clients.specs.Agreeing.{Agrees as KeptAgrees}

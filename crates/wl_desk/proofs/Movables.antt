@@ -1,6 +1,7 @@
 -- The toplevel that may be moved is the one in whose own tree the surface is that has the focus.
 use Rattle.std.proofs.Common.{◌≡◌, ◌≢◌, ℕ, List, [], ◌∷◌, Bool, true, false, Option, Some, None, if◌then◌else◌, refl, ap, ap₂, subst, sym, ◌∙◌}
-use Rattle.std.proofs.lemmas.Bool.{eqb-true}
+use Rattle.std.proofs.lemmas.Bool.{and_from, eqb-true, true≢false}
+use Rattle.std.proofs.lemmas.Option.{none-some, same_Some}
 use Rattle.std.specs.List.{list_any}
 use Rattle.std.specs.Prelude.{◌==◌, ◌&&◌, ◌||◌, cond}
 use Rattle.spec_desktop.specs.Objects.{ById}
@@ -16,8 +17,9 @@ use Rattle.spec_desktop.specs.Marks.{AreDistinct, is_same_surface}
 use Rattle.spec_desktop.specs.Replies.{focus_window}
 use Rattle.spec_desktop.specs.Settling.{unstruck}
 use Rattle.spec_desktop.specs.Stacked.{all_windows}
-use Rattle.law_desktop.proofs.Lists.Keys.{differ, found-passes, none-some, some-same}
-use Rattle.law_desktop.proofs.Marks.Stacks.{and-both, and-left, and-right, equal-numbers}
+use Rattle.law_desktop.proofs.Lists.Keys.{found-passes}
+use Rattle.law_desktop.proofs.Marks.Stacks.{equal-numbers}
+use Rattle.law_desktop.proofs.Truth.{and-left, and-right}
 use Rattle.wl_clients.specs.Agreement.{numbers_in}
 use Rattle.wl_clients.proofs.Agreed.{agrees-apart}
 use Rattle.wl_clients.proofs.Midway.{mid_begins_and_ends, mid_is_numbered_once}
@@ -49,9 +51,9 @@ none-implied p q [] implies none = refl
 none-implied p q (w ∷ ws) implies none = at (p w) (q w) (implies w) none (none-implied p q ws implies)
   where
     at : (a b : Bool) → (a ≡ true → b ≡ true) → (b || list_any q ws) ≡ false → (list_any q ws ≡ false → list_any p ws ≡ false) → (a || list_any p ws) ≡ false
-    at true true implies none rest = absurd (differ none)
-    at true false implies none rest = absurd (differ (sym (implies refl)))
-    at false true implies none rest = absurd (differ none)
+    at true true implies none rest = absurd (true≢false none)
+    at true false implies none rest = absurd (true≢false (sym (implies refl)))
+    at false true implies none rest = absurd (true≢false none)
     at false false implies none rest = rest none
 
 -- where a surface has no window, it is in no tree
@@ -77,7 +79,7 @@ one-in surface t w (v ∷ ws) apart is = at (v.owner.client == t.client) (v.surf
         let owned = and-left (u.owner.client == t.client) ((u.surface == t.surface) && (u.owner.root == surface)) within in
         let later = and-right (u.owner.client == t.client) ((u.surface == t.surface) && (u.owner.root == surface)) within in
         let same = and-left (u.surface == t.surface) (u.owner.root == surface) later in
-        and-both (v.owner.client == u.owner.client) (v.surface == u.surface)
+        and_from (v.owner.client == u.owner.client) (v.surface == u.surface)
         (equal-numbers v.owner.client u.owner.client (eqb-true v.owner.client t.client owner ∙ sym (eqb-true u.owner.client t.client owned)))
         (equal-numbers v.surface u.surface (eqb-true v.surface t.surface named ∙ sym (eqb-true u.surface t.surface same)))) apart.0
 
@@ -89,7 +91,7 @@ one-in surface t w (v ∷ ws) apart is = at (v.owner.client == t.client) (v.surf
         → (focus_window (Some t) ws ≡ Some w → list_any (is_in surface t) ws ≡ (w.owner.root == surface))
         → ((a && (b && (v.owner.root == surface))) || list_any (is_in surface t) ws) ≡ (w.owner.root == surface)
     at true true owner named is rest =
-        last (v.owner.root == surface) (list_any (is_in surface t) ws) (others owner named) ∙ ap (λ (u : Window). u.owner.root == surface) (some-same v w is)
+        last (v.owner.root == surface) (list_any (is_in surface t) ws) (others owner named) ∙ ap (λ (u : Window). u.owner.root == surface) (same_Some v w is)
     at true false owner named is rest = rest is
     at false b owner named is rest = rest is
 
@@ -165,12 +167,12 @@ module _ (numbers : ℕ → ById ℕ) (once : (c : ℕ) → AreNumberedOnce (num
           (sym (eqb-true w.owner.root surface root) ∙ once t.client w.owner.root id s.window.root rooted named) ∙ ap (λ (x : Target). Some x) (sym toplevel)
       both w rooted true true false root it =
           let same : m.number ≡ other =
-          number ∙ some-same s.window.root other (sym rooted ∙ ap (λ (n : ℕ). numbers t.client n) (eqb-true w.owner.root surface root) ∙ asked) in
-          absurd (differ (sym (equal-numbers m.number other same) ∙ it))
+          number ∙ same_Some s.window.root other (sym rooted ∙ ap (λ (n : ℕ). numbers t.client n) (eqb-true w.owner.root surface root) ∙ asked) in
+          absurd (true≢false (sym (equal-numbers m.number other same) ∙ it))
       both w rooted true false true root it =
           let same : w.owner.root ≡ surface =
           once t.client w.owner.root surface s.window.root rooted (asked ∙ ap (λ (n : ℕ). Some n) (sym (eqb-true m.number other it) ∙ number)) in
-          absurd (differ (sym (equal-numbers w.owner.root surface same) ∙ root))
+          absurd (true≢false (sym (equal-numbers w.owner.root surface same) ∙ root))
 
       by : (w : Window) × (focus_window (Some t) (all_windows d) ≡ Some w) × (numbers t.client w.owner.root ≡ Some s.window.root)
           → (if is_serial serial d.pointer.hold

@@ -1,6 +1,7 @@
 -- The pointer goes to a point of the output: what it hits then is told of it, and its focus is settled.
 use Rattle.std.proofs.Common.{◌≡◌, ◌≢◌, ℕ, List, [], ◌++◌, Bool, true, false, Option, Some, None, refl, ap, ap₂, subst, sym, ◌∙◌}
 use Rattle.std.proofs.lemmas.Bool.{eqb-true}
+use Rattle.std.proofs.lemmas.Option.{none-some}
 use Rattle.std.specs.Prelude.{ℤ, ◌==◌, if◌then◌else◌}
 use Rattle.wl_client.specs.Agreement.{output_of}
 use Rattle.wl_client.specs.declared.outputs.Output.{Output as Sides}
@@ -20,11 +21,11 @@ use Rattle.spec_desktop.specs.Pointing.{motion_told}
 use Rattle.spec_desktop.specs.Replies.{focus_window}
 use Rattle.spec_desktop.specs.Settling.{AppliesAll, Midstep, PointerActs, unstruck, with_standing}
 use Rattle.spec_desktop.specs.Stacked.{all_windows}
-use Rattle.law_desktop.proofs.Lists.Keys.{none-some}
-use Rattle.law_desktop.proofs.Marks.Stacks.{Each, and-left, and-right, differ}
 use Rattle.law_desktop.proofs.Runs.Settled.{HasFocus, ShowsSame, has-settled, shows-itself, tells-so}
 use Rattle.law_desktop.specs.Pointed.Pointed.{MovedStands}
 use Rattle.law_desktop.proofs.PointerAside.Rounds.{motions-end}
+use Rattle.law_desktop.proofs.Truth.{and-left, and-right, differ}
+use Rattle.law_desktop.proofs.Lists.Each.{Each}
 use Rattle.wl_clients.specs.Agreeing.{Agrees as KeptAgrees}
 use Rattle.wl_clients.specs.Leading.{Led}
 use Rattle.wl_clients.specs.declared.grabs.Latest.{Latest}

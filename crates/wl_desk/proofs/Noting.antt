@@ -1,6 +1,6 @@
 -- The serials of one client among those of all: they are found, forgotten, and noted.
 use Rattle.std.proofs.Common.{◌≡◌, ◌≢◌, ℕ, zero, suc, ◌+◌, ◌<◌, ◌≤◌, List, [], ◌∷◌, Bool, true, false, Option, Some, None, length, map, slice_index_or, slice_set, refl, ap, subst, sym, ◌∙◌, arith, inl, inr}
-use Rattle.std.proofs.lemmas.Bool.{eqb-true}
+use Rattle.std.proofs.lemmas.Bool.{eqb-true, true≢false}
 use Rattle.std.specs.Option.{option_map}
 use Rattle.std.specs.Prelude.{◌⊎◌, ◌==◌}
 use Rattle.wl_client.specs.Pointers.{has_any}
@@ -15,7 +15,6 @@ use Rattle.spec_desktop.specs.Changing.{drawing}
 use Rattle.spec_desktop.specs.Desktop.{Desktop, Resident, client_at, toplevels_of}
 use Rattle.spec_desktop.specs.Pointing.{button_told, has_pointers}
 use Rattle.spec_desktop.specs.Settling.{Midstep, Tells, noted, noted_if, number_of}
-use Rattle.law_desktop.proofs.Lists.Keys.{differ}
 use Rattle.law_desktop.specs.InOrder.{InOrderAt, InOrderBy}
 use Rattle.wl_clients.specs.Pointing.{IsLatest}
 use Rattle.wl_clients.specs.declared.grabs.Latest.{Latest}
@@ -86,12 +85,12 @@ forgotten (suc k) latest = at-forgotten k latest
 -- ---- a client that has wl_pointers is at a place
 
 seat-within : (seats : List (List ℕ)) (k : ℕ) → has_any (slice_index_or seats k []) ≡ true → k < length seats
-seat-within [] k some = absurd (differ (sym some))
+seat-within [] k some = absurd (true≢false (sym some))
 seat-within (ids ∷ seats) zero some = omega arith
 seat-within (ids ∷ seats) (suc k) some = let less = seat-within seats k some in omega (arith, less)
 
 pub seated-placed : (seats : List (List ℕ)) (latest : List Latest) (c : ℕ) → length seats ≡ length latest → has_any (seat_of seats c) ≡ true → IsPlaced c latest
-seated-placed seats latest zero same some = absurd (differ (sym some))
+seated-placed seats latest zero same some = absurd (true≢false (sym some))
 seated-placed seats latest (suc k) same some = let less = seat-within seats k some in omega (arith, less, same)
 
 -- ---- noted among those of all
@@ -104,7 +103,7 @@ empty-none (p ∷ ps) empty is none =
     absurd never
 
 pub full-some : (ps : List ℕ) (empty : Bool) → empty ≡ (length ps == 0) → empty ≡ false → has_any ps ≡ true
-full-some [] empty is none = absurd (differ (sym is ∙ none))
+full-some [] empty is none = absurd (true≢false (sym is ∙ none))
 full-some (p ∷ ps) empty is none = refl
 
 serial-same : (i j : ℕ) → Some i ≡ Some j → i ≡ j

@@ -17,10 +17,10 @@ use Rattle.spec_desktop.specs.Settling.{Midstep}
 use Rattle.spec_desktop.specs.Stacked.{all_windows}
 use Rattle.spec_desktop.specs.Through.{SettlesAllThrough}
 use Rattle.law_desktop.specs.Focus.{IsSettled}
-use Rattle.law_desktop.proofs.Marks.Stacks.{differ}
 use Rattle.law_desktop.proofs.Runs.Settled.{ShowsSame}
 use Rattle.law_desktop.proofs.PointerAside.Marking.{last-marks-nothing, marks-own-then-rounds}
 use Rattle.law_desktop.proofs.PointerAside.Rounds.{rounds-settle}
+use Rattle.law_desktop.proofs.Truth.{differ}
 use Rattle.wl_clients.specs.Leading.{Led, raised_by}
 use Rattle.wl_clients.specs.Marking.{MarksThroughBy}
 use Rattle.wl_desk.specs.Agreeing.{Agrees}

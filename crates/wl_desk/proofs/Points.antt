@@ -1,13 +1,16 @@
 -- Where the pointer is in a surface, and what it hits.
 use Rattle.std.proofs.Common.{◌≡◌, ◌≢◌, ℕ, List, [], ◌∷◌, ◌++◌, Bool, true, false, Option, Some, None, refl, ap, ap₂, subst, sym, ◌∙◌, inl, inr}
 use Rattle.std.specs.Prelude.{ℤ, ◌==◌, ◌&&◌, ◌||◌, ◌⊎◌, cond, fold, if◌then◌else◌}
-use Rattle.std.proofs.lemmas.Bool.{eqb-true}
+use Rattle.std.proofs.lemmas.Bool.{and_from, eqb-true}
+use Rattle.std.proofs.lemmas.Option.{none-some, same_Some}
 use Rattle.spec_desktop.specs.Pointer.{Pointer, Target, fixed_from, hit_by, is_same, is_stacked, kept_focus, settled, settled_focus, target_of}
 use Rattle.spec_desktop.specs.PointerActions.{PointerAction, Settle, actions, enter_of, leave_of}
 use Rattle.spec_desktop.specs.Windows.{Place, Window, hit, hit_after, is_hit}
 use Rattle.spec_desktop.specs.Replies.{focus_window}
-use Rattle.law_desktop.proofs.Lists.Keys.{found-passes, none-some, some-same}
-use Rattle.law_desktop.proofs.Marks.Stacks.{Each, and-both, and-right, same-number}
+use Rattle.law_desktop.proofs.Lists.Keys.{found-passes}
+use Rattle.law_desktop.proofs.Marks.Stacks.{same-number}
+use Rattle.law_desktop.proofs.Truth.{and-right}
+use Rattle.law_desktop.proofs.Lists.Each.{Each}
 use Rattle.wl_desk.specs.Doing.{IsTellable}
 use Rattle.wl_desk.specs.Points.{point_told}
 
@@ -31,7 +34,7 @@ pub is-at : (number : ℕ) (x y : ℤ) (at : Option Place) (w : Option Window) �
 is-at number x y None w of e = absurd (cc)
 is-at number x y (Some p) None of e = absurd (cc)
 is-at number x y (Some p) (Some v) of e =
-    let both : (x, y) ≡ (fixed_from p.x v.corner.x, fixed_from p.y v.corner.y) = some-same (x, y) (fixed_from p.x v.corner.x, fixed_from p.y v.corner.y) e in
+    let both : (x, y) ≡ (fixed_from p.x v.corner.x, fixed_from p.y v.corner.y) = same_Some (x, y) (fixed_from p.x v.corner.x, fixed_from p.y v.corner.y) e in
     record {
       place = p;
       window = v;
@@ -84,10 +87,10 @@ hit-among x y found (v ∷ ws) w e = later (hit-among x y (hit_after x y found v
     now : (b : Bool) → (if b then Some v else found) ≡ Some w → (found ≡ Some w) ⊎ (is_stacked (Named w) (v ∷ ws) ≡ true)
     now false e = inl e
     now true e =
-        let same : v ≡ w = some-same v w e in
+        let same : v ≡ w = same_Some v w e in
         inr (or-first (is_window (Named w) v) (is_stacked (Named w) ws)
         (subst (λ (u : Window). is_window (Named w) u ≡ true) (sym same)
-        (and-both (w.owner.client == w.owner.client) (w.surface == w.surface) (same-number w.owner.client) (same-number w.surface))))
+        (and_from (w.owner.client == w.owner.client) (w.surface == w.surface) (same-number w.owner.client) (same-number w.surface))))
 
     later : (hit_after x y found v ≡ Some w) ⊎ (is_stacked (Named w) ws ≡ true) → (found ≡ Some w) ⊎ (is_stacked (Named w) (v ∷ ws) ≡ true)
     later (inl e) = now (is_hit x y v) e
@@ -103,7 +106,7 @@ hit-stacked (Some p) ws t e = by (hit p.x p.y ws) refl e
   where
     by : (o : Option Window) → hit p.x p.y ws ≡ o → target_of o ≡ Some t → is_stacked t ws ≡ true
     by None found e = absurd (cc)
-    by (Some w) found e = subst (λ (u : Target). is_stacked u ws ≡ true) (some-same (Named w) t e) (of (hit-among p.x p.y None ws w found))
+    by (Some w) found e = subst (λ (u : Target). is_stacked u ws ≡ true) (same_Some (Named w) t e) (of (hit-among p.x p.y None ws w found))
       where
         of : (None ≡ Some w) ⊎ (is_stacked (Named w) ws ≡ true) → is_stacked (Named w) ws ≡ true
         of (inl e) = none-not w e
@@ -121,7 +124,7 @@ kept-stacked None ws t e = absurd (cc)
 kept-stacked (Some s) ws t e = at (is_stacked s ws) refl e
   where
     at : (b : Bool) → is_stacked s ws ≡ b → (if b then Some s else None) ≡ Some t → is_stacked t ws ≡ true
-    at true is e = subst (λ (u : Target). is_stacked u ws ≡ true) (some-same s t e) is
+    at true is e = subst (λ (u : Target). is_stacked u ws ≡ true) (same_Some s t e) is
     at false is e = absurd (cc)
 
 -- so has one to which it settles

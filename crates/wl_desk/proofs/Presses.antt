@@ -22,10 +22,10 @@ use Rattle.spec_desktop.specs.Replies.{popups_done}
 use Rattle.spec_desktop.specs.Settling.{AppliesAll, Midstep, PointerActs, noted_if, number_of, unstruck, with_standing, without_grabs}
 use Rattle.spec_desktop.specs.Stacked.{all_windows}
 use Rattle.spec_desktop.specs.Through.{ending_through, raised_from, raised_if}
-use Rattle.law_desktop.proofs.Marks.Stacks.{Each}
 use Rattle.law_desktop.proofs.Runs.Settled.{ShowsSame, shows-itself}
 use Rattle.law_desktop.specs.Pointed.Pointed.{MovedStands}
 use Rattle.law_desktop.proofs.PointerAside.Rounds.{buttons-end}
+use Rattle.law_desktop.proofs.Lists.Each.{Each}
 use Rattle.wl_clients.specs.declared.grabs.Latest.{Latest}
 use Rattle.wl_clients.specs.Leading.{raised_by}
 use Rattle.wl_clients.specs.Marking.{MarksThroughBy}

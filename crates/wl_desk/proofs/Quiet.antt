@@ -1,5 +1,6 @@
 -- A step in which nobody is told anything and nobody ends leaves the pointer as it is.
 use Rattle.std.proofs.Common.{◌≡◌, ℕ, ◌+◌, List, [], ◌∷◌, ◌++◌, Bool, true, false, Option, Some, None, refl, ap, ap₂, subst, sym, ◌∙◌, inl, inr}
+use Rattle.std.proofs.lemmas.Bool.{true≢false}
 use Rattle.std.specs.Prelude.{is_some}
 use Rattle.spec_desktop.specs.declared.cause.Cause.{Cause}
 use Rattle.spec_desktop.specs.Peer.{Peer, with_rest}
@@ -16,7 +17,6 @@ use Rattle.spec_desktop.specs.Settling.{Midstep, unstruck}
 use Rattle.spec_desktop.specs.Step.{with_peer}
 use Rattle.spec_desktop.specs.Through.{ending_through, settling_through}
 use Rattle.law_desktop.specs.Focus.{EndedAreBare, IsSettled}
-use Rattle.law_desktop.proofs.Lists.Keys.{differ}
 use Rattle.law_desktop.proofs.Runs.Settled.{ShowsSame, closed-none, come-shows, never-none, put-shows, same-windows, shows-itself}
 use Rattle.law_desktop.specs.InOrder.{InOrderAt, InOrderBy}
 use Rattle.law_desktop.specs.Ordered.{Ordered}
@@ -37,7 +37,7 @@ pub ended-bare : (d : Desktop) → Ordered d → EndedAreBare d
 ended-bare d ordered c r there over = at r.peer.status over (subst (λ (o : Option Resident). InOrderAt o (toplevels_of c d)) there (ordered.in_order.each c))
   where
     at : (s : Option Cause) → is_some s ≡ true → InOrderBy s r (toplevels_of c d) → r.owned ≡ nothing_owned
-    at None over h = absurd (differ (sym over))
+    at None over h = absurd (true≢false (sym over))
     at (Some cause) over h = ap (λ (x : Resident). x.owned) h.0
 
 -- ---- it leads to one desktop, where the same is shown
@@ -76,7 +76,7 @@ module _ (d : Desktop) (path : List Desktop) (e : Desktop) where
 
   was_gone : (c : ℕ) (s : Option Cause) (r : Resident) → LeavesThen c (Some (so s r)) d (gave.Gone false) (settling_through path e) Over → Shows
   was_gone c (Some why) r h = over-here h.1
-  was_gone c None r h = absurd (differ (sym (ap lived h.0)))
+  was_gone c None r h = absurd (true≢false (sym (ap lived h.0)))
 
   gone : (c : ℕ) (o : Option Resident) → LeavesThen c o d (gave.Gone false) (settling_through path e) Over → Shows
   gone c None h = over-here h.1
@@ -90,22 +90,22 @@ module _ (d : Desktop) (path : List Desktop) (e : Desktop) where
 
 pub quiet-shows : (left : LeftOut) (h : Happening) (d : Desktop) (path : List Desktop) (e : Desktop) → is_quiet h ≡ true → EndedAreBare d → Leads left h d path e → (path ≡ e ∷ []) × ShowsSame d e
 quiet-shows left (Receive c piece) d path e quiet bare h = received d path e c piece (client_at c d) refl h
-quiet-shows left (Message c) d path e quiet bare h = absurd (differ (sym quiet))
-quiet-shows left (Starve c) d path e quiet bare h = absurd (differ (sym quiet))
+quiet-shows left (Message c) d path e quiet bare h = absurd (true≢false (sym quiet))
+quiet-shows left (Starve c) d path e quiet bare h = absurd (true≢false (sym quiet))
 quiet-shows left (Single Connect done) d path e quiet bare h = connected d path e (lowest d.clients) done refl h
 quiet-shows left (Single (Feed c piece) done) d path e quiet bare h = absurd h
 quiet-shows left (Single (Store c store at bytes) done) d path e quiet bare h =
     changed d path e (IsStored store at bytes) _ c (client_at c d) done refl (λ r q there stored gone. never-none q _ stored.0 gone) h
-quiet-shows left (Single (Leave c) (gave.Gone true)) d path e quiet bare h = absurd (differ (sym quiet))
+quiet-shows left (Single (Leave c) (gave.Gone true)) d path e quiet bare h = absurd (true≢false (sym quiet))
 quiet-shows left (Single (Leave c) (gave.Gone false)) d path e quiet bare h = gone d path e c (client_at c d) h
-quiet-shows left (Single (Leave c) done) d path e quiet bare h = absurd (differ (sym quiet))
-quiet-shows left (Single (Tick time) done) d path e quiet bare h = absurd (differ (sym quiet))
+quiet-shows left (Single (Leave c) done) d path e quiet bare h = absurd (true≢false (sym quiet))
+quiet-shows left (Single (Tick time) done) d path e quiet bare h = absurd (true≢false (sym quiet))
 quiet-shows left (Single (Send c n) done) d path e quiet bare h =
     changed d path e (IsSent n) _ c (client_at c d) done refl (λ r q there sent gone. never-none q _ sent.0 gone) h
 quiet-shows left (Single (Close c) done) d path e quiet bare h =
     changed d path e IsClosed _ c (client_at c d) done refl (λ r q there closed gone. bare c r there (closed-none r.peer.status r.peer (sym closed.0 ∙ gone))) h
-quiet-shows left (Single (Motion time x y) done) d path e quiet bare h = absurd (differ (sym quiet))
-quiet-shows left (Single (Button time button pressed) done) d path e quiet bare h = absurd (differ (sym quiet))
+quiet-shows left (Single (Motion time x y) done) d path e quiet bare h = absurd (true≢false (sym quiet))
+quiet-shows left (Single (Button time button pressed) done) d path e quiet bare h = absurd (true≢false (sym quiet))
 
 -- ---- the pointer is put back
 

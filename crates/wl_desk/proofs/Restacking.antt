@@ -3,6 +3,7 @@ use Rattle.std.proofs.Common.{◌≡◌, ◌≢◌, ℕ, List, [], ◌∷◌, Bo
 use Rattle.std.specs.Prelude.{ℤ, ◌==◌, ◌||◌, if◌then◌else◌, is_some, map, pos, slice_get}
 use Rattle.std.specs.List.{list_any}
 use Rattle.std.proofs.lemmas.Bool.{eqb-true}
+use Rattle.std.proofs.lemmas.Option.{none-some}
 use Rattle.wl_paint.specs.Damage.{Damaged, has}
 use Rattle.spec_desktop.specs.Objects.{ById}
 use Rattle.spec_desktop.specs.Pointer.{Target, hit_now}
@@ -21,12 +22,11 @@ use Rattle.spec_desktop.specs.Moments.{marks_at_least_of, marks_at_most_of}
 use Rattle.spec_desktop.specs.Pointing.{moved_standing}
 use Rattle.spec_desktop.specs.Settling.{Midstep, unstruck, with_standing}
 use Rattle.spec_desktop.specs.Stacked.{all_windows}
-use Rattle.law_desktop.proofs.Lists.Keys.{none-some}
-use Rattle.law_desktop.proofs.Marks.Stacks.{and-left, and-right, differ}
 use Rattle.wl_scene.specs.Hit.{IsStackedOrNone}
 use Rattle.wl_scene.specs.StackedAgreement.{AreNumberedOnce}
 use Rattle.law_desktop.proofs.PointerAside.Marking.{settling-marks-nothing}
 use Rattle.law_desktop.proofs.PointerAside.Rounds.{settles-idly}
+use Rattle.law_desktop.proofs.Truth.{and-left, and-right, differ}
 use Rattle.wl_clients.specs.Agreement.{IsStack, numbers_in}
 use Rattle.wl_clients.specs.Midway.{IsMid, opened_desk}
 use Rattle.wl_clients.specs.View.{DeskView as ClientsView}

@@ -14,13 +14,13 @@ use Rattle.spec_desktop.specs.Moments.{marks_at_least_of, marks_at_least_through
 use Rattle.spec_desktop.specs.Settling.{Applies, AppliesAll, Midstep, Settles, Strike, Tells, TellsAt, TellsUnless, ended_at, ended_by}
 use Rattle.spec_desktop.specs.Stacked.{all_windows}
 use Rattle.law_desktop.specs.Focus.{IsSettled}
-use Rattle.law_desktop.proofs.Marks.Stacks.{Each}
 use Rattle.law_desktop.proofs.Runs.Fates.{number-long}
 use Rattle.law_desktop.proofs.Runs.Focus.{settles-keeps}
 use Rattle.law_desktop.proofs.Runs.Settled.{HasFocus, has-settled}
 use Rattle.law_desktop.specs.Pointed.Rounds.{AreRounds, IsRound}
 use Rattle.law_desktop.proofs.PointerAside.Rounds.{rounds-are-few, settles-idly}
 use Rattle.law_desktop.proofs.PointerAside.Marking.{rounds-mark-in-turn}
+use Rattle.law_desktop.proofs.Lists.Each.{Each}
 use Rattle.wl_clients.specs.Marking.{MarksThrough}
 use Rattle.wl_clients.proofs.Agreed.{agrees-apart}
 use Rattle.wl_clients.specs.Midway.{first_struck, opened_desk}

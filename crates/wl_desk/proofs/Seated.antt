@@ -1,5 +1,6 @@
 -- The wl_pointers of each client after a message, where there was room for one more.
 use Rattle.std.proofs.Common.{◌≡◌, ◌≢◌, ℕ, zero, suc, ◌<◌, ◌+◌, List, [], ◌∷◌, Bool, true, false, length, map, slice_index_or, slice_set, Option, Some, None, refl, ap, subst, sym, ◌∙◌, arith, ◌⊎◌, inl, inr}
+use Rattle.std.proofs.lemmas.Bool.{true≢false}
 use Rattle.std.specs.Prelude.{is_some}
 use Rattle.spec_desktop.specs.declared.cause.Cause.{Cause}
 use Rattle.spec_desktop.specs.Objects.{ById}
@@ -10,7 +11,6 @@ use Rattle.spec_desktop.specs.Desktop.{Desktop, Resident, client_at, status_in, 
 use Rattle.spec_desktop.specs.Happenings.{Message}
 use Rattle.spec_desktop.specs.LeftOut.{nothing_left_out}
 use Rattle.spec_desktop.specs.Through.{ServesThrough}
-use Rattle.law_desktop.proofs.Lists.Keys.{differ}
 use Rattle.law_desktop.specs.Pointed.Pointed.{asked}
 use Rattle.law_desktop.specs.Pointed.Seats.{AskedForPointer, HadPointers, HasPointersAfter}
 use Rattle.law_desktop.proofs.PointerAside.Pointing.{pointers-stay}
@@ -141,7 +141,7 @@ module _ (c : ℕ) (request : PointerAsked) (room : Bool) (numbers : ById ℕ) (
     (no_room : (id : ℕ) → request ≡ NewPointer id → room ≡ false → is_some (status_in c e) ≡ true) (placed : room ≡ true → IsPlaced c seats) where
   never-both : (q : Resident) → client_at c e ≡ Some q → q.peer.status ≡ None → is_some (status_in c e) ≡ true → ⊥
   never-both q here alive ended =
-      differ (sym ended ∙ ap (λ (o : Option Resident). is_some (status_of o)) here ∙ ap (λ (s : Option Cause). is_some s) alive)
+      true≢false (sym ended ∙ ap (λ (o : Option Resident). is_some (status_of o)) here ∙ ap (λ (s : Option Cause). is_some s) alive)
 
   -- its client asked for none
   had : (other : ℕ) (q : Resident) → client_at other e ≡ Some q → q.peer.status ≡ None → HadPointers nothing_left_out (Message c) (unpointed d) other q

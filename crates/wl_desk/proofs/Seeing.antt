@@ -1,5 +1,6 @@
 -- What the focus goes by: what is hit where no button is down, and whether the surface that has the focus has a window where one is.
 use Rattle.std.proofs.Common.{◌≡◌, ◌≢◌, ℕ, List, [], ◌∷◌, Bool, true, false, Option, Some, None, refl, ap, subst, sym, ◌∙◌}
+use Rattle.std.proofs.lemmas.Option.{none-some, same_Some}
 use Rattle.std.specs.Prelude.{◌||◌, cond, is_some}
 use Rattle.spec_desktop.specs.Objects.{ById}
 use Rattle.spec_desktop.specs.Pointer.{Pointer, Target, hit_by, is_stacked}
@@ -10,7 +11,6 @@ use Rattle.wl_scene.specs.Hit.{IsStackedOrNone}
 use Rattle.spec_desktop.specs.Replies.{focus_window}
 use Rattle.spec_desktop.specs.Settling.{Midstep}
 use Rattle.spec_desktop.specs.Stacked.{all_windows}
-use Rattle.law_desktop.proofs.Lists.Keys.{none-some, some-same}
 use Rattle.wl_desk.specs.Midway.{IsMidway, IsTelling}
 use Rattle.wl_desk.specs.View.{DeskView}
 use Rattle.wl_desk.proofs.Points.{is_window}
@@ -56,7 +56,7 @@ pub held-seen : (v : DeskView) (t : Target) (numbers : ℕ → ById ℕ) (found 
 held-seen v t numbers found down has finds m midway = record {
   free = λ free. absurd (down (ap (λ (p : Pointer). p.buttons) midway.pointer ∙ free));
   pressed = λ held u is.
-      let same : t ≡ u = some-same t u (has ∙ ap (λ (p : Pointer). p.focus) midway.pointer ∙ is) in
+      let same : t ≡ u = same_Some t u (has ∙ ap (λ (p : Pointer). p.focus) midway.pointer ∙ is) in
       subst (λ (x : Target). is_stacked x (all_windows m.desktop) ≡ is_some found) same
       (stacked-some t (all_windows m.desktop) ∙ both-some numbers found (focus_window (Some t) (all_windows m.desktop)) (finds m midway.telling));
 }

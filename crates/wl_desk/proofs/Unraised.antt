@@ -1,12 +1,12 @@
 -- Nothing but a press raises a toplevel.
 use Rattle.std.proofs.Common.{◌≡◌, ℕ, List, true, Option, None, refl, ap, subst, sym, inl, inr}
+use Rattle.std.proofs.lemmas.Bool.{true≢false}
 use Rattle.wl_paint.specs.Damage.{Damaged}
 use Rattle.spec_desktop.specs.declared.answers.Done.{Done}
 use Rattle.spec_desktop.specs.Act.{Act, Connect, Feed, Store, Leave, Tick, Send, Close, Motion, Button}
 use Rattle.spec_desktop.specs.Desktop.{Desktop}
 use Rattle.spec_desktop.specs.Happenings.{Happening, Message, Receive, Single, Starve}
 use Rattle.spec_desktop.specs.Through.{raised_in}
-use Rattle.law_desktop.proofs.Lists.Keys.{differ}
 use Rattle.law_desktop.specs.Pointed.Happenings.{IsEndOf, is_quiet, is_quiet_act}
 use Rattle.wl_clients.specs.Leading.{raised_by}
 use Rattle.wl_clients.specs.Marking.{MarksThrough, MarksThroughBy}
@@ -25,7 +25,7 @@ act-unraised (Tick time) done d quiet = refl
 act-unraised (Send client count) done d quiet = refl
 act-unraised (Close client) done d quiet = refl
 act-unraised (Motion time x y) done d quiet = refl
-act-unraised (Button time button pressed) done d quiet = absurd (differ (sym quiet))
+act-unraised (Button time button pressed) done d quiet = absurd (true≢false (sym quiet))
 
 -- nobody is told and nobody ends
 pub quiet-unraised : (h : Happening) (d : Desktop) → is_quiet h ≡ true → raised_by h d ≡ None

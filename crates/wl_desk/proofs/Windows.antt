@@ -3,6 +3,7 @@ use Rattle.std.proofs.Common.{◌≡◌, ◌≢◌, ℕ, zero, suc, List, [], �
 use Rattle.std.specs.Option.{option_map}
 use Rattle.std.specs.Prelude.{ℤ, ◌==◌, cond, is_some}
 use Rattle.std.proofs.lemmas.Bool.{eqb-true}
+use Rattle.std.proofs.lemmas.Option.{none-some}
 use Rattle.spec_desktop.specs.Objects.{ById}
 use Rattle.wl_surface.specs.Surfaces.{history_in, surface_at}
 use Rattle.wl_surface.specs.Surface.{Surface}
@@ -18,8 +19,7 @@ use Rattle.spec_desktop.specs.Desktop.{Resident, client_at}
 use Rattle.spec_desktop.specs.Replies.{focus_window}
 use Rattle.spec_desktop.specs.Settling.{Midstep}
 use Rattle.spec_desktop.specs.Stacked.{all_windows}
-use Rattle.law_desktop.proofs.Lists.Keys.{none-some}
-use Rattle.law_desktop.proofs.Marks.Stacks.{and-left, and-right}
+use Rattle.law_desktop.proofs.Truth.{and-left, and-right}
 use Rattle.wl_clients.specs.Agreement.{IsPlace, numbers_in, numbers_of}
 use Rattle.wl_clients.specs.View.{DeskView, OwnedView}
 use Rattle.wl_clients.specs.Midway.{IsMid, opened_desk}

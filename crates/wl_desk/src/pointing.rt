@@ -14,7 +14,6 @@ ghost use Rattle.spec_desktop.specs.Replies.{entered_at, focus_window};
 ghost use Rattle.spec_desktop.specs.Settling.{AppliesAll, Midstep, Settles, Strike, Tells, ended_by, leave_drawn, noted_if, number_of, told_drawn};
 ghost use Rattle.spec_desktop.specs.Stacked.{all_windows};
 ghost use Rattle.wl_scene.specs.Hit.{IsStackedOrNone};
-ghost use Rattle.law_desktop.proofs.Marks.Stacks.{Each};
 ghost use Rattle.law_desktop.specs.Focus.{IsSettled};
 ghost use Rattle.wl_clients.specs.Agreement.{numbers_in};
 ghost use Rattle.wl_clients.specs.Marking.{MarksThrough};
@@ -26,6 +25,7 @@ ghost use Rattle.wl_desk.specs.Points.{point_told};
 ghost use Rattle.wl_desk.specs.Serials.{AreNoted, KeepsSerials, noted_by};
 ghost use Rattle.wl_desk.specs.View.{latest_of, seat_of};
 ghost use Rattle.wl_clients.specs.declared.grabs.Latest.{Latest};
+ghost use Rattle.law_desktop.proofs.Lists.Each.{Each};
 
 use crate::desks::Desk;
 use crate::latest::note;

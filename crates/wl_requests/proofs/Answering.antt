@@ -4,6 +4,8 @@ use Rattle.std.specs.Prelude.{◌==◌, ◌||◌, filter, find, flat_map, fold, 
 use Rattle.std.specs.List.{list_any}
 use Rattle.std.proofs.lemmas.List.Elements.{filter-append}
 use Rattle.std.proofs.lemmas.List.Folds.{list_any-append}
+use Rattle.std.proofs.lemmas.Bool.{true≢false}
+use Rattle.std.proofs.lemmas.Option.{none-some}
 use Rattle.spec_desktop.specs.Objects.{ById, Objects, with_id}
 use Rattle.spec_desktop.specs.Peer.{Peer, Queues, all_removed, removed}
 use Rattle.spec_desktop.specs.Told.{Said}
@@ -26,7 +28,6 @@ use Rattle.law_desktop.proofs.KeptRecords.Toplevels.Heard.{AreHeard}
 use Rattle.law_desktop.proofs.KeptRecords.Toplevels.Messages.{told-objects}
 use Rattle.law_desktop.proofs.Soundness.ObjectsHas.{has_callback}
 use Rattle.law_desktop.proofs.Soundness.ObjectsKeys.{objects-gone}
-use Rattle.law_desktop.proofs.Lists.Keys.{differ, none-some}
 use Rattle.law_desktop.proofs.Keeping.OwningSurfaces.{any-is}
 use Rattle.wl_requests.proofs.Framing.{left-by, told-requests}
 
@@ -51,13 +52,13 @@ module _ (numbers : ById ℕ) (slots : Slots) (tied : Tied) (all : Surfaces) (is
     where
       at : (b : Bool) → IsAny (λ at. is_in (applied_at at) c) (by_number numbers all) b → b ≡ true
       at true any = refl
-      at false none = absurd (differ (sym due ∙ none number))
+      at false none = absurd (true≢false (sym due ∙ none number))
 
   counting-undue : (c : Callback) → IsUndue (by_number numbers all) c → is_in (frames_counting all) c ≡ false
   counting-undue c undue = read c ∙ at (list_any (counts_here c) all.surfaces) (counts-any c)
     where
       at : (b : Bool) → IsAny (λ at. is_in (applied_at at) c) (by_number numbers all) b → b ≡ false
-      at true any = absurd (differ (sym any.1 ∙ undue any.0))
+      at true any = absurd (true≢false (sym any.1 ∙ undue any.0))
       at false none = refl
 
   pub none-due : (cs : List Callback) → AreUndue (by_number numbers all) cs → filter (is_in (frames_counting all)) cs ≡ []
@@ -90,11 +91,11 @@ any-none p [] e = refl
 any-none p (x ∷ xs) e = at (p x) e (any-none p xs)
   where
     at : (b : Bool) → (b || list_any p xs) ≡ false → (list_any p xs ≡ false → find p xs ≡ None) → cond b (Some x) (find p xs) ≡ None
-    at true e later = absurd (differ e)
+    at true e later = absurd (true≢false e)
     at false e later = later e
 
 or-none : (a b : Bool) → (a || b) ≡ false → b ≡ false
-or-none true b e = absurd (differ e)
+or-none true b e = absurd (true≢false e)
 or-none false b e = e
 
 apart-middle : (before after : List Callback) (c : Callback) → AreApartBy has_callback (before ++ c ∷ after) → AreApartBy has_callback (before ++ after)
@@ -113,7 +114,7 @@ none-middle (b ∷ bs) after c apart key has = at (has_callback key b) refl (non
     at : (x : Bool) → has_callback key b ≡ x → list_any (has_callback key) (bs ++ after) ≡ false → (x || list_any (has_callback key) (bs ++ after)) ≡ false
     at true e later =
         let any : list_any (has_callback key) (bs ++ c ∷ after) ≡ true = any-middle (has_callback key) bs after c ∙ ap (λ x. x || list_any (has_callback key) (bs ++ after)) has in
-        absurd (differ (sym any ∙ none-any (has_callback key) (bs ++ c ∷ after) (apart.0 key e)))
+        absurd (true≢false (sym any ∙ none-any (has_callback key) (bs ++ c ∷ after) (apart.0 key e)))
     at false e later = later
 
 same-id : (n : ℕ) → (n == n) ≡ true

@@ -2,6 +2,7 @@
 use Rattle.std.proofs.Common.{◌≡◌, ℕ, List, [], ◌∷◌, Bool, true, false, Option, Some, None, cond, map, refl, ap, sym, subst, ◌∙◌}
 use Rattle.std.specs.Prelude.{◌==◌, ◌+◌, filter, fold, not}
 use Rattle.std.proofs.lemmas.Bool.{eqb-false}
+use Rattle.std.proofs.lemmas.Option.{none-some, same_Some}
 use Rattle.std.specs.Option.{option_map_or}
 use Rattle.spec_desktop.specs.Objects.{ById, with_id}
 use Rattle.wl_links.specs.Family.{Tied}
@@ -21,7 +22,6 @@ use Rattle.law_desktop.specs.Renaming.{has_surface, renamed, renamed_link, renam
 use Rattle.law_desktop.proofs.ByNames.Names.Done.{commits-surface, destroys-surface, desynchronises, unlinks}
 use Rattle.spec_desktop.specs.Desktop.{Resident}
 use Rattle.spec_desktop.specs.Framing.{AreFramed}
-use Rattle.law_desktop.proofs.Lists.Keys.{none-some, some-same}
 use Rattle.law_desktop.proofs.Soundness.Moves.{found-left}
 use Rattle.law_desktop.specs.Freed.{AreFreedOf}
 use Rattle.law_desktop.specs.Owning.{AreKept, by_number, number_in}
@@ -221,7 +221,7 @@ module _ (numbers : ById ℕ) (slots new : Slots) (tied after : Tied) (r : Resid
       (desynchronises-named (number_in numbers) slots new tied after r.owned.surfaces link.number link here lives standing (by-child (λ number link. desynchronised_in number) makes)))
       (ap (λ (x : Surfaces). x.surfaces)
       (desynchronises (number_in numbers) r.owned.surfaces standing.renaming link.number
-      (λ l f. ap (λ (m : Link). m.has_ended) (sym (some-same link l (sym here ∙ f))) ∙ lives)).same)
+      (λ l f. ap (λ (m : Link). m.has_ended) (sym (same_Some link l (sym here ∙ f))) ∙ lives)).same)
       waits frees shows
 
   -- wl_subsurface.destroy

@@ -5,6 +5,7 @@ use Rattle.std.specs.List.{list_any}
 use Rattle.std.specs.Option.{option_map}
 use Rattle.std.proofs.Math.Path.{fun_ext}
 use Rattle.std.proofs.lemmas.Bool.{eqb-true}
+use Rattle.std.proofs.lemmas.Option.{none-some}
 use Rattle.wl_proto.specs.declared.interface.Interface.TheVariants.{WlSurface}
 use Rattle.spec_desktop.specs.Objects.{with_id}
 use Rattle.spec_desktop.specs.Peer.{Peer, Queues, QueuesOr, ended, has_room, queued}
@@ -29,7 +30,6 @@ use Rattle.law_desktop.specs.RoleNames.{names_of}
 use Rattle.law_desktop.proofs.Keeping.FramingWaits.{framed-more, framed-same, is-new}
 use Rattle.law_desktop.proofs.Soundness.ObjectsCalls.{any-filtered, is_left}
 use Rattle.law_desktop.proofs.Keeping.OwningSurfaces.{surface-read, surfaces-changed, surfaces-made}
-use Rattle.law_desktop.proofs.Lists.Keys.{none-some}
 
 -- the surfaces of a client, by the numbers that its table names
 abbrev pub numbered : Held → Resident → Numbered

@@ -4,7 +4,7 @@ use Rattle.std.specs.Prelude.{◌==◌, ◌||◌, fold, if◌then◌else◌}
 use Rattle.std.specs.List.{list_any}
 use Rattle.std.specs.Option.{option_and_then, option_map}
 use Rattle.std.proofs.Math.Path.{fun_ext}
-use Rattle.std.proofs.lemmas.Bool.{eqb-true}
+use Rattle.std.proofs.lemmas.Bool.{eqb-true, true≢false}
 use Rattle.wl_proto.specs.declared.interface.Interface.{Interface}
 use Rattle.wl_proto.specs.declared.interface.Interface.TheVariants.{WlCallback, WlSurface, XdgPopup, XdgSurface, XdgToplevel}
 use Rattle.wl_table.specs.Objects.{Held, entry_of}
@@ -25,10 +25,9 @@ use Rattle.law_desktop.specs.InOrder.{OwnsKnown}
 use Rattle.law_desktop.specs.Owning.{AreKept, target_as, targets_in, with_surface}
 use Rattle.law_desktop.specs.RoleNames.{is_of_role, names_of, role_target, roles_in}
 use Rattle.std.proofs.lemmas.List.{append-nil}
-use Rattle.law_desktop.proofs.Soundness.ObjectsKeys.{any-of-filter}
-use Rattle.law_desktop.proofs.Lists.Keys.{differ}
 use Rattle.wl_requests.proofs.Roles.{names-with}
 use Rattle.law_desktop.proofs.Keeping.OwningSurfaces.{surface-read}
+use Rattle.law_desktop.proofs.Lists.Left.{any-there}
 use Rattle.wl_requests.proofs.Framing.{numbered}
 use Rattle.wl_requests.proofs.Shelling.{entry-named}
 
@@ -102,8 +101,8 @@ turned a b = at (a == b) (b == a) refl refl
     at : (x y : Bool) → (a == b) ≡ x → (b == a) ≡ y → x ≡ y
     at true true e f = refl
     at false false e f = refl
-    at true false e f = absurd (differ (sym (eq-eqb b a (sym (eqb-true a b e))) ∙ f))
-    at false true e f = absurd (differ (sym (eq-eqb a b (sym (eqb-true b a f))) ∙ e))
+    at true false e f = absurd (true≢false (sym (eq-eqb b a (sym (eqb-true a b e))) ∙ f))
+    at false true e f = absurd (true≢false (sym (eq-eqb a b (sym (eqb-true b a f))) ∙ e))
 
 any-ids : (other : ℕ) (cs : List Callback) → list_any (λ i. other == i) (map (λ (c : Callback). c.id) cs) ≡ list_any (λ (c : Callback). c.id == other) cs
 any-ids other [] = refl
@@ -115,7 +114,7 @@ pub are-heard : (id : ℕ) (r : Resident) (held : Held) (calls : List ℕ) → O
 are-heard id r held calls only same ids other any =
     ap (λ objects. is_of WlCallback (objects other)) same
     ∙ only.callbacks.1 other
-    (any-of-filter (λ (c : Callback). c.id == other) (is_in (frames_asked (history_in id r.owned.surfaces))) r.callbacks
+    (any-there (λ (c : Callback). c.id == other) (is_in (frames_asked (history_in id r.owned.surfaces))) r.callbacks
     (sym (any-ids other (callbacks_of id r)) ∙ ap (list_any (λ i. other == i)) (sym ids) ∙ any))
 
 -- what was asked for of a surface, by its number and by its id

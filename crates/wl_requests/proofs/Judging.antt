@@ -1,9 +1,10 @@
 -- What is judged of a link that is asked for, by what is kept of a client.
 use Rattle.std.proofs.Common.{◌≡◌, ℕ, List, ◌∷◌, ◌++◌, Bool, true, false, Option, Some, None, Result, Ok, Err, refl, ap, ap₂, sym, subst, ◌∙◌, eq-eqb, eqb-true, Bor, []}
+use Rattle.std.proofs.lemmas.Option.{same_Some}
 use Rattle.std.specs.Prelude.{◌==◌, ◌||◌, IsErrAnd, find, if◌then◌else◌, is_some, slice_index_or}
 use Rattle.std.specs.Option.{option_and_then, option_copied}
 use Rattle.wl_links.specs.Family.{HangTogether, IsTooDeep, Tied, links_in}
-use Rattle.law_desktop.proofs.Lists.Keys.{any-found, found-any, some-same}
+use Rattle.law_desktop.proofs.Lists.Keys.{any-found, found-any}
 use Rattle.wl_surface.specs.Linked.{IsRefused, Stand, is_other_role, is_taken, link_refusal}
 use Rattle.wl_surface.proofs.Refusing.{both-refuse}
 use Rattle.law_desktop.proofs.ByNames.Reading.{refuses-named}
@@ -145,7 +146,7 @@ module _ {A : Type 0} (v : Kept A) (names : Names) (r : Resident) (child below p
       let found = any-found (λ id (s : Subsurface). s.id == id) (λ s. is_of_child child s.surface) r.subsurfaces two.orderly.order.own.ids has in
       let named = two.subsurfaces.named found.0.id child
       (ap (option_and_then (λ (s : Subsurface). s.surface)) (found.2 found.0.id (eq-eqb found.0.id found.0.id refl)) ∙ of-child found.0.surface child found.1) in
-      let same : named.0 ≡ below = some-same named.0 below (sym named.1 ∙ two.child_named) in
+      let same : named.0 ≡ below = same_Some named.0 below (sym named.1 ∙ two.child_named) in
       ap is_some (ap (λ n. slice_index_or v.subsurfaces n None) (sym same) ∙ named.2)
 
   has-is : is_some (slice_index_or v.subsurfaces below None) ≡ has_subsurface child r

@@ -3,13 +3,12 @@ use Rattle.std.proofs.Common.{◌≡◌, ◌<◌, ◌≤◌, ℕ, ◌+◌, zero,
 use Rattle.std.proofs.Common.{subst, sym, ◌∙◌, arith, slice_index_or}
 use Rattle.std.specs.Prelude.{◌==◌, ◌||◌, not, filter, find, fold, is_some}
 use Rattle.std.specs.List.{list_any}
-use Rattle.std.proofs.lemmas.Bool.{eqb-true}
+use Rattle.std.proofs.lemmas.Bool.{eqb-true, true≢false}
 use Rattle.std.proofs.lemmas.List.{drop_all}
 use Rattle.std.proofs.lemmas.List.Folds.{list_any-append}
 use Rattle.wl_client.proofs.Queueing.{over-now, queues-over, queues-then}
 use Rattle.std.proofs.Math.Seq.{drop-cons, take-suc}
 use Rattle.wl_surface.specs.Tree.{AreOnce, is_among as among}
-use Rattle.law_desktop.proofs.Lists.Keys.{differ}
 use Rattle.law_desktop.specs.Freed.{freed_of}
 use Rattle.spec_desktop.specs.Peer.{Peer, Queues, released}
 use Rattle.spec_desktop.specs.Told.{Said}
@@ -88,7 +87,7 @@ freed-more numbers i d shown less =
 -- ---- each of them once
 
 or-none : (a b : Bool) → (a || b) ≡ false → (a ≡ false) × (b ≡ false)
-or-none true b e = absurd (differ e)
+or-none true b e = absurd (true≢false e)
 or-none false b e = (refl, e)
 
 found-number : (number : ℕ) (shown : List Buffer) (b : Buffer) → find (has number) shown ≡ Some b → b.number ≡ number
@@ -227,4 +226,4 @@ all-told f ids i all p mid past so = at mid.status refl
 
 pub lives-of : (o : Option Cause) → is_some o ≡ false → o ≡ None
 lives-of None e = refl
-lives-of (Some cause) e = absurd (differ e)
+lives-of (Some cause) e = absurd (true≢false e)

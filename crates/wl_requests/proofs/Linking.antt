@@ -1,10 +1,11 @@
 -- A wl_subsurface and its link, by what is kept of a client.
 use Rattle.std.proofs.Common.{◌≡◌, ℕ, List, [], ◌∷◌, Bool, true, false, cond, Option, Some, None, refl, ap, sym, ◌∙◌, eq-eqb}
+use Rattle.std.proofs.lemmas.Option.{none-some, same_Some}
 use Rattle.std.specs.Prelude.{◌==◌, ◌&&◌, find, is_some, not}
 use Rattle.std.specs.Option.{option_and_then, option_map}
 use Rattle.wl_proto.specs.declared.interface.Interface.TheVariants.{WlSurface}
 use Rattle.wl_links.specs.Family.{links_in}
-use Rattle.law_desktop.proofs.Lists.Keys.{found-by, none-some, some-same}
+use Rattle.law_desktop.proofs.Lists.Keys.{found-by}
 use Rattle.law_desktop.specs.Soundness.{IsLive}
 use Rattle.law_desktop.specs.InOrder.{OwnsInOrder}
 use Rattle.law_desktop.proofs.ByNames.Linking.{ends-there}
@@ -43,7 +44,7 @@ live-some number l (k ∷ ks) e lives = at (k.number == number) e (λ later. liv
     at : (b : Bool) → cond b (Some k) (find (λ k. k.number == number) ks) ≡ Some l
         → (find (λ k. k.number == number) ks ≡ Some l → is_some (find (λ k. not k.has_ended && k.child == l.child) ks) ≡ true)
         → is_some (cond (not k.has_ended && k.child == l.child) (Some k) (find (λ k. not k.has_ended && k.child == l.child) ks)) ≡ true
-    at true e rest = ap (λ b. is_some (cond b (Some k) (find (λ k. not k.has_ended && k.child == l.child) ks))) (passes k (some-same k l e))
+    at true e rest = ap (λ b. is_some (cond b (Some k) (find (λ k. not k.has_ended && k.child == l.child) ks))) (passes k (same_Some k l e))
     at false e rest = either (not k.has_ended && k.child == l.child) (find (λ k. not k.has_ended && k.child == l.child) ks) (rest e)
 
 -- the surface that a wl_subsurface has
@@ -58,7 +59,7 @@ child-named r id s link owns here live =
     let mine = found-by (λ number (t : Subsurface). t.link == number) (λ t. t.id == id) s.link r.subsurfaces s owns.own.links here (eq-eqb s.link s.link refl) in
     let other = found-by (λ number (t : Subsurface). t.link == number) (λ t. t.id == its.subsurface.id) s.link r.subsurfaces its.subsurface owns.own.links its.here
     (eq-eqb its.subsurface.link s.link its.link) in
-    ap (λ (t : Subsurface). t.surface) (some-same s its.subsurface (sym mine ∙ other)) ∙ its.surface
+    ap (λ (t : Subsurface). t.surface) (same_Some s its.subsurface (sym mine ∙ other)) ∙ its.surface
 
 -- The link of a wl_subsurface that lives, where its child has this number.
 pub record IsLinkOf {A : Type 0} (v : Kept A) (r : Resident) (object child : ℕ) : Type 0 where
@@ -102,7 +103,7 @@ module _ {A : Type 0} (v : Kept A) (r : Resident) (is : IsResident v r) (orderly
       (ap (is_of_child known.0) mine.2 ∙ eq-eqb known.0 known.0 refl) in
       let second = found-by (λ surface (s : Subsurface). is_of_child surface s.surface) (λ s. s.id == its.subsurface.id) known.0 r.subsurfaces its.subsurface orderly.order.own.surfaces its.here
       (ap (is_of_child known.0) its.surface ∙ eq-eqb one.0.child known.0 finds.of_child) in
-      let same : mine.0 ≡ its.subsurface = some-same mine.0 its.subsurface (sym first ∙ second) in
+      let same : mine.0 ≡ its.subsurface = same_Some mine.0 its.subsurface (sym first ∙ second) in
       record {
         link = one.0;
         here = finds.here;

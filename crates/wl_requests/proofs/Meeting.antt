@@ -1,5 +1,5 @@
 -- What is demanded is done and told, as where nobody points.
-use Rattle.std.proofs.Common.{◌≡◌, ℕ, ◌+◌, ◌≤◌, List, ◌++◌, arith, Bool, true, false, Result, refl, ap, subst, sym, ◌∙◌, inl, inr}
+use Rattle.std.proofs.Common.{Bool, List, Result, ap, append-nil, arith, false, inl, inr, refl, subst, sym, true, ℕ, ◌++◌, ◌+◌, ◌∙◌, ◌≡◌, ◌≤◌}
 use Rattle.std.specs.Prelude.{Ok, Err}
 use Rattle.spec_desktop.specs.Peer.{Errs, LacksMemory, Peer, Queues, WantsOr, counted}
 use Rattle.spec_desktop.specs.Told.{Said}
@@ -16,7 +16,6 @@ use Rattle.spec_desktop.specs.Step.{changed_by, takes_memory, with_peer}
 use Rattle.spec_desktop.specs.LeftOut.{nothing_left_out}
 use Rattle.law_desktop.specs.InOrder.{may_dismiss}
 use Rattle.law_desktop.proofs.InOrder.Dismissed.{others_dismiss_none}
-use Rattle.law_desktop.proofs.KeptRecords.Toplevels.Buffers.{nothing-after}
 use Rattle.law_desktop.proofs.KeptRecords.Toplevels.Releases.{asked-told}
 use Rattle.law_desktop.proofs.KeptRecords.Toplevels.Simply.{told_alone}
 use Rattle.law_desktop.specs.Ordered.{OwnsOrdered}
@@ -68,7 +67,7 @@ module _ {A : Type 0} (old new : Kept A) (c : ℕ) (d : Desktop) where
     events-same : replies nothing_left_out c demand r (changed_for c demand r (unpointed d)) (all_windows d) (unpointed d) ≡ told_for c demand r d
     events-same =
         ap (λ more. own_answers c demand r (all_windows d) (unpointed d) ++ releases r (changed_for c demand r (unpointed d)) ++ more) (others_dismiss_none c demand r (unpointed d) none)
-        ∙ nothing-after (told_for c demand r d)
+        ∙ append-nil (told_for c demand r d)
 
     queues-same : (q : Peer) → Queues (told_for c demand r d) (changed_for c demand r (unpointed d)).peer q
         → Queues (replies nothing_left_out c demand r (changed_for c demand r (unpointed d)) (all_windows d) (unpointed d)) (changed_for c demand r (unpointed d)).peer q

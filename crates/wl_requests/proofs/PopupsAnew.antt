@@ -1,5 +1,5 @@
 -- A popup is placed anew: what is demanded is done and told (xdg-shell.xml, xdg_popup.reposition).
-use Rattle.std.proofs.Common.{◌≡◌, ◌≤◌, ℕ, List, ◌++◌, Bool, true, false, Option, Some, None, Result, refl, ap, subst, sym, ◌∙◌, inr}
+use Rattle.std.proofs.Common.{Bool, List, None, Option, Result, Some, ap, append-nil, false, inr, refl, subst, sym, true, ℕ, ◌++◌, ◌∙◌, ◌≡◌, ◌≤◌}
 use Rattle.std.specs.Prelude.{ℤ, ◌&&◌, Ok, Err, if◌then◌else◌, is_some}
 use Rattle.std.specs.Option.{option_and_then, option_map}
 use Rattle.wl_proto.specs.declared.interface.Interface.TheVariants.{XdgPopup}
@@ -23,7 +23,6 @@ use Rattle.spec_desktop.specs.Desktop.{Desktop, Resident, unpointed}
 use Rattle.spec_desktop.specs.Replies.{own_answers}
 use Rattle.spec_desktop.specs.Stacked.{all_windows}
 use Rattle.spec_desktop.specs.Step.{with_peer, xdg_changed}
-use Rattle.law_desktop.proofs.KeptRecords.Toplevels.Buffers.{nothing-after}
 use Rattle.law_desktop.proofs.KeptRecords.Toplevels.Releases.{still-released}
 use Rattle.law_desktop.specs.Ordered.{OwnsOrdered}
 use Rattle.law_desktop.specs.Owning.{IsXdg, kept_base, shell_refusal}
@@ -131,7 +130,7 @@ module _ {A : Type 0} (old new : Kept A) (c : ℕ) (r : Resident) (d : Desktop) 
       let requests : after.peer.requests ≡ (counted r.peer).requests = ap (λ (q : Peer). q.requests) peer ∙ drawn-requests (is_some placed) (counted r.peer) in
       let own = own_answers c demand counted_one (all_windows d) (unpointed d) in
       let events : told_for c demand counted_one d ≡ anew_told placed token r.peer.serial p.object.id x.id =
-      ap (λ (es : List Said). own ++ es) (still-released counted_one after surfaces) ∙ nothing-after own ∙ both.0 in
+      ap (λ (es : List Said). own ++ es) (still-released counted_one after surfaces) ∙ append-nil own ∙ both.0 in
       let queues : Queues (told_for c demand counted_one d) after.peer queued.0 =
       subst (λ (q : Peer). Queues (told_for c demand counted_one d) q queued.0) (sym peer)
       (subst (λ (es : List Said). Queues es (drawn_if (is_some placed) (counted r.peer)) queued.0) (sym events) queued.1) in

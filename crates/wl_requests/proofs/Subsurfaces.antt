@@ -3,11 +3,11 @@ use Rattle.std.proofs.Common.{◌≡◌, ℕ, List, [], ◌∷◌, ◌++◌, Boo
 use Rattle.std.specs.Prelude.{◌==◌, filter, find, not, slice_index_or}
 use Rattle.std.specs.Option.{option_and_then}
 use Rattle.std.proofs.lemmas.Bool.{eqb-false, eqb-true, ne_eqb}
+use Rattle.std.proofs.lemmas.Option.{none-some, same_Some}
 use Rattle.spec_desktop.specs.Objects.{ById, with_id}
 use Rattle.spec_desktop.specs.Changing.{without_child}
 use Rattle.spec_desktop.specs.Desktop.{Subsurface}
 use Rattle.wl_links.specs.Subsurfaces.{IsSetAt}
-use Rattle.law_desktop.proofs.Lists.Keys.{none-some, some-same}
 use Rattle.law_desktop.specs.Subsurfaces.{AreOfSurfaces, child_of}
 use Rattle.law_desktop.proofs.Keeping.OwningNames.{with_id-other}
 
@@ -237,5 +237,5 @@ pub only-number : (ids : List (Option ℕ)) (numbers : ById ℕ) (ss : List Subs
 only-number ids numbers ss id a b are here there =
     let one = are.known a id here in
     let other = are.known b id there in
-    let same : one.0 ≡ other.0 = some-same one.0 other.0 (sym one.2 ∙ other.2) in
-    some-same a b (sym one.1 ∙ ap numbers same ∙ other.1)
+    let same : one.0 ≡ other.0 = same_Some one.0 other.0 (sym one.2 ∙ other.2) in
+    same_Some a b (sym one.1 ∙ ap numbers same ∙ other.1)

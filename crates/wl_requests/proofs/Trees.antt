@@ -1,10 +1,11 @@
 -- What a call makes of a client that changes several of its surfaces: which stores of buffers go, which buffers are released, and what is told.
 use Rattle.std.proofs.Common.{◌≡◌, ℕ, ◌<◌, zero, suc, List, [], ◌∷◌, ◌++◌, Bool, true, false, Option, Some, None, cond, length, map, refl, ap, sym, subst, ◌∙◌, arith, inl, inr, eq-eqb}
 use Rattle.std.specs.Prelude.{◌==◌, ◌||◌, ◌⊎◌, filter, find, fold, is_some, not, slice_index_or}
-use Rattle.std.proofs.lemmas.Bool.{eqb-true}
+use Rattle.std.proofs.lemmas.Bool.{eqb-true, true≢false}
 use Rattle.std.proofs.lemmas.List.Elements.{filter-append}
 use Rattle.std.specs.List.{Contains, list_any}
 use Rattle.std.proofs.lemmas.List.{append-nil}
+use Rattle.std.proofs.lemmas.Option.{none-some, same_Some}
 use Rattle.wl_client.specs.Agreement.{IsPeer}
 use Rattle.wl_client.specs.View.{ClientView}
 use Rattle.wl_client.proofs.Queueing.{queues-over, queues-then}
@@ -25,17 +26,17 @@ use Rattle.spec_desktop.specs.Desktop.{Resident}
 use Rattle.spec_desktop.specs.Releases.{let_if}
 use Rattle.spec_desktop.specs.Step.{each_once, is_over, letting_go, without_buffer}
 use Rattle.law_desktop.specs.Apart.{AreApartBy}
-use Rattle.law_desktop.proofs.Lists.Keys.{differ, none-some, some-same}
 use Rattle.law_desktop.proofs.Lists.Surfaces.{has_id}
 use Rattle.law_desktop.specs.OneBuffer.{HasOneBuffer, IsAmong, IsAttachedBy, IsAttachedTo}
 use Rattle.law_desktop.proofs.OneBuffer.Attached.{had-by}
 use Rattle.law_desktop.specs.TreeBuffersLaws.{AreOne, had_in, has_number}
-use Rattle.law_desktop.proofs.TreeBuffers.Lists.{any-in, each-in, first-in, in-any, later-in, truth}
+use Rattle.law_desktop.proofs.TreeBuffers.Lists.{any-in, each-in, first-in, in-any, later-in}
 use Rattle.law_desktop.specs.Freed.{AreFreedOf, freed_of}
 use Rattle.law_desktop.proofs.Keeping.Freeing.{flat-in, found-in, freed-has, freed-in, in-flat, left-in, lets-go-freed}
 use Rattle.law_desktop.proofs.Keeping.Ids.{KeepsWaiting, waiting}
 use Rattle.law_desktop.proofs.Keeping.Letting.{had-each, letting-none, used-stays}
-use Rattle.law_desktop.proofs.Marks.Stacks.{Each}
+use Rattle.law_desktop.proofs.Truth.{truth}
+use Rattle.law_desktop.proofs.Lists.Each.{Each}
 use Rattle.wl_requests.proofs.Letting.{going-last}
 
 -- ---- what is told
@@ -133,7 +134,7 @@ in-left {X} p (z ∷ xs) x c passes = at c.0 c.1 c.2 (λ inner. in-left p xs x i
   where
     kept : (b : Bool) → b ≡ true → Contains (cond b (z ∷ filter p xs) (filter p xs)) z
     kept true e = first-in z (filter p xs)
-    kept false e = absurd (differ (sym e))
+    kept false e = absurd (true≢false (sym e))
 
     more : (b : Bool) → Contains (filter p xs) x → Contains (cond b (z ∷ filter p xs) (filter p xs)) x
     more true c = later-in z (filter p xs) x c
@@ -175,7 +176,7 @@ destroy-lets-go r then left id s freed shown one apart found are keeps is =
       where
         at : (c : Bool) → (t.id == id) ≡ c → (is_used b.number then.owned.surfaces ≡ true) ⊎ (has_number b.number (listed (pending s.history).buffer) ≡ true)
         at true same =
-            let it : s ≡ t = some-same s t (sym found ∙ one-found id r.owned.surfaces.surfaces t apart there same) in
+            let it : s ≡ t = same_Some s t (sym found ∙ one-found id r.owned.surfaces.surfaces t apart there same) in
             inr (ap (λ (o : Option Buffer). has_number b.number (listed o)) (ap (λ (x : Surface). (pending x.history).buffer) it ∙ e)
             ∙ ap (λ c. c || false) (eq-eqb b.number b.number refl))
         at false other =

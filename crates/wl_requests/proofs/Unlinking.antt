@@ -4,13 +4,14 @@ use Rattle.std.specs.Prelude.{◌==◌, ◌&&◌, filter, find, fold, not}
 use Rattle.std.specs.List.{list_any}
 use Rattle.std.specs.Option.{option_and_then, option_map}
 use Rattle.std.proofs.lemmas.Bool.{eqb-true}
+use Rattle.std.proofs.lemmas.Option.{same_Some}
 use Rattle.wl_surface.specs.Surfaces.{Link, Surfaces, link_at}
 use Rattle.wl_surface.specs.Trees.{ended_in, unlinked}
 use Rattle.wl_surface.specs.Hanging.{AreNumbered}
 use Rattle.spec_desktop.specs.Changing.{link_with_id, unlinked_at}
 use Rattle.spec_desktop.specs.Desktop.{Resident, Subsurface}
 use Rattle.spec_desktop.specs.WlSubsurface.{link_of_subsurface, living, subsurface_at}
-use Rattle.law_desktop.proofs.Lists.Keys.{found-passes, some-same}
+use Rattle.law_desktop.proofs.Lists.Keys.{found-passes}
 use Rattle.law_desktop.proofs.ByNames.Linking.{none-living}
 
 -- where none of that number lives, none ends
@@ -44,7 +45,7 @@ link-number id r link found = at (subsurface_at id r) found
   where
     lives : (l : Link) (b : Bool) → cond b None (Some l) ≡ Some link → l ≡ link
     lives l true e = absurd (cc)
-    lives l false e = some-same l link e
+    lives l false e = same_Some l link e
 
     here : (n : ℕ) (o : Option Link) → link_at n r.owned.surfaces ≡ o → option_and_then living o ≡ Some link → n ≡ link.number
     here n None is e = absurd (cc)

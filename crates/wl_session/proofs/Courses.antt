@@ -1,7 +1,7 @@
 -- The events that a session's steps are.
 use Rattle.std.proofs.Common.{◌≡◌, ℕ, zero, suc, Bool, true, false, List, [], ◌∷◌, ◌++◌, Option, Some, None, refl, ap, sym, subst, ◌∙◌, inl, inr}
 use Rattle.std.specs.Prelude.{ℤ, replicate, ◌<◌, ◌||◌, pos}
-use Rattle.std.proofs.lemmas.Bool.{or_left}
+use Rattle.std.proofs.lemmas.Bool.{or_left, true≢false}
 use Rattle.std.proofs.lemmas.List.{map-append}
 use Rattle.spec_desktop.specs.declared.cause.Cause.{Cause}
 use Rattle.spec_desktop.specs.Peer.{with_rest}
@@ -18,7 +18,6 @@ use Rattle.spec_desktop.specs.Marks.{AreDistinct}
 use Rattle.spec_desktop.specs.Moments.{marks_at_least, marks_at_most_through}
 use Rattle.spec_desktop.specs.Stacked.{all_windows}
 use Rattle.spec_desktop.specs.Step.{with_peer}
-use Rattle.law_desktop.proofs.Lists.Keys.{differ}
 use Rattle.law_desktop.proofs.Marks.Through.{marked_through}
 use Rattle.law_desktop.proofs.Runs.Through.{happens_leads_through, messages_lead_through}
 use Rattle.wl_scene.specs.Marking.{IsAsLarge as HasItsSides}
@@ -127,7 +126,7 @@ starved-course client piece done old new before d same frame sides a led happens
       marks = subst (λ (m : Damaged). MarksThroughBy (raised_by (Starve client) d) d led.path m new.damage) same led.marks;
     } in
     event-course (Feed client piece) done (Starve client) old new d led.desktop led.path a led.agrees happens (inr (inl refl)) led.leads
-    (led-marks (Starve client) old new d a from frame (subst (λ (m : Damaged). HasItsSides m new.damage) same sides) (λ no. absurd (differ (sym no))))
+    (led-marks (Starve client) old new d a from frame (subst (λ (m : Damaged). HasItsSides m new.damage) same sides) (λ no. absurd (true≢false (sym no))))
 
 -- A frame: what was to be painted was handed over, and nothing was to be painted then.
 pub tick-course : (time : ℕ) (old new : SessionView) (none : Damaged) → ((x y : ℕ) → has none x y ≡ false) → HasItsSides old.damage none → HasItsSides none new.damage
@@ -178,7 +177,7 @@ served-more client old mid new d s frame sides led =
     let e : Desktop = led.desktop in
     let serves : Serves nothing_left_out client s.desktop e = (messages_lead_through nothing_left_out client s.desktop e).0 led.path led.leads in
     let event : Event = record { happening = Message client; before = moment s.desktop mid; path = led.path; after = moment e new } in
-    let marks : IsMarked (Message client) (moment s.desktop mid) led.path (moment e new) = led-marks (Message client) mid new s.desktop s.agrees led frame sides (λ no. absurd (differ (sym no))) in
+    let marks : IsMarked (Message client) (moment s.desktop mid) led.path (moment e new) = led-marks (Message client) mid new s.desktop s.agrees led frame sides (λ no. absurd (true≢false (sym no))) in
     let last : AreEvents nothing_left_out (moment s.desktop mid) (event ∷ []) (moment e new) = (refl, record { leads = led.leads; paints = marks }, refl) in
     record {
       count = suc s.count;

@@ -1,5 +1,6 @@
 -- Where nobody points, what happens to one client leaves the others as they were, with their popups and wl_pointers, whatever is left out.
 use Rattle.std.proofs.Common.{◌≡◌, ◌≢◌, ℕ, zero, suc, ◌+◌, List, ◌++◌, Bool, true, false, Option, Some, None, Result, drop, take, refl, ap, subst, sym, ◌∙◌, inl, inr}
+use Rattle.std.proofs.lemmas.Bool.{true≢false}
 use Rattle.std.specs.Prelude.{Ok, Err, ◌-◌}
 use Rattle.wl_wire.specs.Wire.{split_of}
 use Rattle.wl_wire.specs.declared.header.Split.{Split}
@@ -29,7 +30,6 @@ use Rattle.spec_desktop.specs.Step.{with_peer}
 use Rattle.law_desktop.specs.Others.{client_of}
 use Rattle.law_desktop.proofs.Isolation.Messages.{with-left}
 use Rattle.law_desktop.proofs.Isolation.Others.{IsLeft, become-left, left-then, same-left}
-use Rattle.law_desktop.proofs.Lists.Keys.{differ}
 use Rattle.law_desktop.proofs.Runs.Forms.{after_why, Answers, Becomes, ChangesAt, ConnectsAt, Does, LeavesAt, ServesAt, Takes, WantsOr}
 use Rattle.law_desktop.proofs.Runs.Serves.{done-clients_stay}
 use Rattle.law_desktop.proofs.Soundness.RunSteady.{changed-steady}
@@ -61,7 +61,7 @@ stacked-still c demand r windows d still = still
 
 -- ---- one other client
 
-module _ (left : LeftOut) (c other : ℕ) (differ : c ≢ other) where
+module _ (left : LeftOut) (c other : ℕ) (true≢false : c ≢ other) where
   -- the other client is as it was, with its toplevels, and nobody points
   abbrev Stays-so : Desktop → Desktop → Type 0
   Stays-so d e = IsLeft other d e × (e.pointer ≡ first_pointer)
@@ -73,11 +73,11 @@ module _ (left : LeftOut) (c other : ℕ) (differ : c ≢ other) where
   then-so d mid e first next = (left-then other d mid e first next.0, next.1)
 
   with-so : (x : Option Resident) (d e : Desktop) → d.pointer ≡ first_pointer → e ≡ with_client c x d → Stays-so d e
-  with-so x d e still same = then-so d (with_client c x d) e (with-left c other x d differ) (same-so (with_client c x d) e still same)
+  with-so x d e still same = then-so d (with_client c x d) e (with-left c other x d true≢false) (same-so (with_client c x d) e still same)
 
   become-so : (r : Resident) (q : Peer) (d e : Desktop) → d.pointer ≡ first_pointer → e ≡ become c r q d → Stays-so d e
   become-so r q d e still same =
-      then-so d (become c r q d) e (become-left c other r q d differ) (same-so (become c r q d) e (by-pointer q.status c r q d ∙ still) same)
+      then-so d (become c r q d) e (become-left c other r q d true≢false) (same-so (become c r q d) e (by-pointer q.status c r q d ∙ still) same)
 
   -- what it becomes is settled at once
   settled-so : (r : Resident) (q : Peer) (d e : Desktop) → d.pointer ≡ first_pointer → EndsAndSettles (unstruck (becomes c r q d)) e → Stays-so d e
@@ -109,7 +109,7 @@ module _ (left : LeftOut) (c other : ℕ) (differ : c ≢ other) where
         let there : client_at c on ≡ Some r = ap (λ (rs : List (Option Resident)). client_in rs c) clients ∙ is in
         let first : IsDone events c made on e = subst (λ (x : Desktop). IsDone events c made x e) (done-still c demand now d still) h in
         then-so d on e
-        (ap (λ (rs : List (Option Resident)). client_in rs other) clients, stacked-others c other demand now (all_windows d) d differ)
+        (ap (λ (rs : List (Option Resident)). client_in rs other) clients, stacked-others c other demand now (all_windows d) d true≢false)
         (done-so events made r on e there (stacked-still c demand now (all_windows d) d still) ((changed-steady c demand d now).0 ∙ alive) first)
 
     wants-so : (b : Bool) (demand : Demand) (now : Resident) → now.peer.status ≡ None → WantsOr b (Does left c demand now d e) c now d e → Stays-so d e
@@ -153,7 +153,7 @@ module _ (left : LeftOut) (c other : ℕ) (differ : c ≢ other) where
       let come : Resident = with_peer (with_rest (r.peer.rest ++ piece) r.peer) r in
       let from : Desktop = with_client c (Some come) d in
       let first = reaches-so h.0 from h.1 still h.2 in
-      then-so d from e (with-left c other (Some come) d differ)
+      then-so d from e (with-left c other (Some come) d true≢false)
       (then-so from h.1 e first.0 (stops-so (client_at c h.1) h.1 e first.1 h.3))
 
   fed-so : (piece : List ℕ) (o : Option Resident) (d : Desktop) (done : Done) (e : Desktop) → d.pointer ≡ first_pointer → IsFedAt left c piece o d done e → Stays-so d e
@@ -199,7 +199,7 @@ unpointed-stay left (Store c store at bytes) done old new other untimed leaves s
     (changes-so left c other (λ same. apart (ap (λ (n : ℕ). Some n) same)) (IsStored store at bytes) _ done (client_at c old) old new still h).0
 unpointed-stay left (Leave c) done old new other untimed leaves still h apart =
     (leaves-so left c other (λ same. apart (ap (λ (n : ℕ). Some n) same)) (client_at c old) old new done still h).0
-unpointed-stay left (Tick time) done old new other untimed leaves still h apart = absurd (differ untimed)
+unpointed-stay left (Tick time) done old new other untimed leaves still h apart = absurd (true≢false untimed)
 unpointed-stay left (Send c n) done old new other untimed leaves still h apart =
     (changes-so left c other (λ same. apart (ap (λ (n : ℕ). Some n) same)) (IsSent n) _ done (client_at c old) old new still h).0
 unpointed-stay left (Close c) done old new other untimed leaves still h apart =

@@ -1,5 +1,7 @@
 -- Whoever keeps its promises hides no change: in a store write, and in what the user does and as bytes come, where nothing is asked of anyone.
 use Rattle.std.proofs.Common.{◌≡◌, ◌≢◌, ◌++◌, ℕ, Bool, true, false, List, [], ◌∷◌, Option, Some, None, refl, ap, sym, subst, ◌∙◌, inl, inr}
+use Rattle.std.proofs.lemmas.Bool.{and_from}
+use Rattle.std.proofs.lemmas.Option.{none-some}
 use Rattle.std.specs.Prelude.{◌==◌, ◌&&◌, ◌⊎◌, nat_lt, not}
 use Rattle.wl_store.specs.declared.color.Argb.{Argb}
 use Rattle.spec_desktop.specs.declared.cause.Cause.{Cause}
@@ -16,13 +18,13 @@ use Rattle.spec_desktop.specs.Act.{Act, Connect, Feed, Leave, Send, Close, Store
 use Rattle.spec_desktop.specs.Happens.{Happens}
 use Rattle.law_desktop.specs.Others.{client_of}
 use Rattle.law_desktop.specs.Own.{KeepsItsOwn, KeepsItsOwnBy, KeepsItsOwnSo, LivesOrEnds}
-use Rattle.law_desktop.proofs.Lists.Keys.{none-some}
-use Rattle.law_desktop.proofs.Marks.Stacks.{Each, and-both, same-number}
+use Rattle.law_desktop.proofs.Marks.Stacks.{same-number}
 use Rattle.law_desktop.proofs.Runs.Places.{number-other, number-same}
 use Rattle.law_desktop.proofs.Marks.ShownWindows.{all-shown}
 use Rattle.law_desktop.proofs.Runs.Through.{happens_leads_through}
 use Rattle.law_desktop.proofs.Runs.Fates.{same-or}
 use Rattle.law_desktop.proofs.Isolation.Own.{own_stays}
+use Rattle.law_desktop.proofs.Lists.Each.{Each}
 use Rattle.wl_session.specs.Promises.{KeepBut, KeepsBuffers, KeepsDamage, busy_in, bytes_by, bytes_in, is_rewritten_at, is_same_color}
 use Rattle.wl_session.specs.StoreWrites.{PromisesAreEnough}
 use Rattle.wl_session.specs.Unmarked.{AllDamageBut}
@@ -32,8 +34,8 @@ use Rattle.wl_session.proofs.StoreWrites.{IsKept, any-none, hides-nothing, kept-
 
 color-self : (c : Argb) → is_same_color c c ≡ true
 color-self c =
-    and-both ((c.a == c.a) && (c.r == c.r)) ((c.g == c.g) && (c.b == c.b))
-    (and-both (c.a == c.a) (c.r == c.r) (same-number c.a) (same-number c.r)) (and-both (c.g == c.g) (c.b == c.b) (same-number c.g) (same-number c.b))
+    and_from ((c.a == c.a) && (c.r == c.r)) ((c.g == c.g) && (c.b == c.b))
+    (and_from (c.a == c.a) (c.r == c.r) (same-number c.a) (same-number c.r)) (and_from (c.g == c.g) (c.b == c.b) (same-number c.g) (same-number c.b))
 
 not-and : (a b : Bool) → b ≡ true → (a && not b) ≡ false
 not-and true true e = refl

@@ -5,7 +5,7 @@ use Rattle.std.proofs.Math.Bool.{and-false, or-false}
 use Rattle.std.proofs.lemmas.Bool.{cases_lt, eq-eqb, le-leb, le-ltb, lt-leb, lt-ltb}
 use Rattle.wl_paint.specs.Damage.{IsFirstRun}
 use Rattle.law_desktop.proofs.Lists.Standings.{any-last}
-use Rattle.law_desktop.proofs.Marks.Stacks.{differ}
+use Rattle.law_desktop.proofs.Truth.{differ}
 use Rattle.wl_session.specs.Run.{AllLieIn, AreInOrder, AreRuns, IsBefore, IsBeforeAll, LiesIn, in_runs}
 use Rattle.wl_session.specs.declared.shots.Run.{Run}
 

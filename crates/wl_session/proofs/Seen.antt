@@ -15,7 +15,7 @@ use Rattle.law_desktop.proofs.Soundness.Orderly.{AreOrderly}
 use Rattle.law_desktop.proofs.Soundness.Run.{empty-orderly}
 use Rattle.law_desktop.proofs.Soundness.RunIsSound.{orderly-is-sound}
 use Rattle.law_desktop.proofs.Soundness.Windows.{sound_is_distinct}
-use Rattle.law_desktop.proofs.Marks.Stacks.{differ}
+use Rattle.law_desktop.proofs.Truth.{differ}
 use Rattle.wl_session.specs.Events.{AreApart, AreEvents, Event, IsEvent, IsMarked, IsShown, Moment, PaintsIf, frames_of, is_frame}
 use Rattle.wl_session.specs.Liars.{AreLiars, HoldsLiars, IsRightBut, gives_back}
 use Rattle.wl_session.specs.Run.{Film, in_runs}

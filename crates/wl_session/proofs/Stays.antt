@@ -2,8 +2,8 @@
 use Rattle.std.proofs.Common.{◌≡◌, ◌<◌, ℕ, Bool, true, false, List, [], ◌∷◌, Option, Some, None, refl, ap, sym, subst, ◌∙◌, get_or}
 use Rattle.std.specs.Prelude.{ℤ, pos, ◌-ℤ◌, ◌==◌, ◌&&◌, ◌||◌, not, is_some, slice_get}
 use Rattle.std.specs.List.{list_any}
-use Rattle.std.proofs.lemmas.Bool.{eqb-true}
-use Rattle.std.proofs.lemmas.Option.{slice_get-get_or}
+use Rattle.std.proofs.lemmas.Bool.{eqb-true, false_from_ne_true}
+use Rattle.std.proofs.lemmas.Option.{none-some, slice_get-get_or}
 use Rattle.wl_blend.specs.declared.color.Rgb.{Rgb}
 use Rattle.spec_desktop.specs.declared.cause.Cause.{Cause}
 use Rattle.spec_desktop.specs.Told.{Output}
@@ -27,10 +27,11 @@ use Rattle.spec_desktop.specs.Scratch.{color_in, scratch}
 use Rattle.spec_desktop.specs.Stacked.{all_windows}
 use Rattle.spec_desktop.specs.Through.{ending_through}
 use Rattle.law_desktop.proofs.Marks.Through.{leads-output}
-use Rattle.law_desktop.proofs.Lists.Keys.{none-some}
 use Rattle.law_desktop.proofs.Runs.Places.{number-same}
 use Rattle.law_desktop.proofs.Marks.ShownWindows.{IsShown as ShowsBuffer, all-shown}
-use Rattle.law_desktop.proofs.Marks.Stacks.{and-left, and-right, differ, each-map, or-left, or-right, same-number, unless}
+use Rattle.law_desktop.proofs.Marks.Stacks.{same-number}
+use Rattle.law_desktop.proofs.Truth.{and-left, and-right, differ, or-left, or-right}
+use Rattle.law_desktop.proofs.Lists.Each.{each-map}
 use Rattle.wl_clients.proofs.Away.{within-output}
 use Rattle.wl_session.specs.Events.{Event, IsEvent, IsMarked, IsShown, Moment, PaintsIf, is_frame}
 use Rattle.wl_session.specs.Liars.{HoldsLiars, IsRightBut, closes, gives_back, was_closed}
@@ -52,7 +53,7 @@ pub no-window : (c : ℕ) (d : Desktop) → client_at c d ≡ None → list_any 
 no-window c d gone =
     any-none (λ (w : Window). w.owner.client == c) (all_windows d)
     (each-map (ShowsBuffer (owned_in d)) (λ w. (w.owner.client == c) ≡ false)
-    (λ w shown. unless (w.owner.client == c) (λ e. no-history w shown.0 d c gone (eqb-true w.owner.client c e) shown.1)) (all_windows d) (all-shown d))
+    (λ w shown. false_from_ne_true (w.owner.client == c) (λ e. no-history w shown.0 d c gone (eqb-true w.owner.client c e) shown.1)) (all_windows d) (all-shown d))
 
 -- ---- numbers that are given back
 

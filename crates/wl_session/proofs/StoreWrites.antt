@@ -17,7 +17,7 @@ use Rattle.wl_surface.specs.Surface.{Surface, listed}
 use Rattle.wl_surface.specs.Surfaces.{Surfaces, history_in}
 use Rattle.spec_desktop.specs.Stacking.{Owned, nothing_owned}
 use Rattle.spec_desktop.specs.Windows.{Window, contains}
-use Rattle.std.proofs.lemmas.Bool.{eqb-false, eqb-true}
+use Rattle.std.proofs.lemmas.Bool.{eqb-false, eqb-true, false_from_ne_true}
 use Rattle.spec_desktop.specs.Peer.{Peer, stored_at}
 use Rattle.spec_desktop.specs.Desktop.{Desktop, Resident, Showing, client_at, owned_in, owned_of, with_client}
 use Rattle.spec_desktop.specs.Stacked.{all_windows}
@@ -25,10 +25,12 @@ use Rattle.spec_desktop.specs.Step.{with_peer}
 use Rattle.law_desktop.proofs.Runs.Forms.{ChangesAt}
 use Rattle.spec_desktop.specs.Scratch.{bytes_now, color_in, pixel_at}
 use Rattle.law_desktop.proofs.Runs.Places.{number-other, number-same}
-use Rattle.law_desktop.proofs.Marks.Stacks.{Each, Fields, and-left, and-right, differ, each-map, fields, or-left, or-right, unless}
+use Rattle.law_desktop.proofs.Marks.Stacks.{Fields, fields}
 use Rattle.law_desktop.proofs.Marks.Painted.{each-kept}
 use Rattle.law_desktop.proofs.Runs.Following.{Owns}
 use Rattle.law_desktop.proofs.Marks.ShownWindows.{IsShown, all-shown}
+use Rattle.law_desktop.proofs.Truth.{and-left, and-right, differ, or-left, or-right}
+use Rattle.law_desktop.proofs.Lists.Each.{Each, each-map}
 use Rattle.spec_desktop.specs.Marks.{has_same_record}
 use Rattle.spec_desktop.specs.declared.answers.Done.{Done}
 use Rattle.spec_desktop.specs.declared.answers.Done.TheVariants as gave
@@ -195,7 +197,7 @@ any-none p (x ∷ xs) e = go (p x) e.0 (any-none p xs e.1) where
 not-hidden : (old new : Desktop) (c : ℕ) (x y : ℤ) (w v : Window) → IsKept c old new → (w.owner.client == c) ≡ true → (v.owner.client == c) ≡ true → IsShown (owned_in old) w → IsShown (owned_in new) v
     → is_hidden_in old new x y w v ≡ false
 not-hidden old new c x y w v keeps of of' s t =
-    unless (is_hidden_in old new x y w v)
+    false_from_ne_true (is_hidden_in old new x y w v)
     (λ e. let rest = and-right (has_same_record w v) _ e in
     let f = fields w v (and-left (has_same_record w v) _ e) in
     let here = and-left (contains v x y) _ rest in

@@ -2,7 +2,7 @@
 use Rattle.std.proofs.Common.{◌≡◌, ℕ, zero, suc, Bool, true, false, List, [], ◌∷◌, Option, Some, None, refl, ap, sym, subst, ◌∙◌}
 use Rattle.std.specs.Prelude.{ℤ, ◌-ℤ◌, ◌==◌, ◌&&◌, ◌||◌, not, filter, cond, slice_get}
 use Rattle.std.specs.List.{list_any}
-use Rattle.std.proofs.lemmas.Bool.{eqb-true}
+use Rattle.std.proofs.lemmas.Bool.{and_from, eqb-true, false_from_ne_true}
 use Rattle.wl_store.specs.declared.color.Argb.{Argb}
 use Rattle.spec_desktop.specs.Windows.{contains}
 use Rattle.spec_desktop.specs.Desktop.{Desktop, Showing}
@@ -11,7 +11,9 @@ use Rattle.spec_desktop.specs.Marks.{has_same_record, is_changed_at, is_kept_in}
 use Rattle.spec_desktop.specs.Moments.{applied_between, marks_at_least_of}
 use Rattle.spec_desktop.specs.Scratch.{color_in}
 use Rattle.law_desktop.proofs.Marks.Painted.{contains-same, marked-none, scratch_stays}
-use Rattle.law_desktop.proofs.Marks.Stacks.{and-both, and-left, and-right, any-each, any-more, differ, each-false, equal-numbers, fields, or-left, or-right, same-number, unless}
+use Rattle.law_desktop.proofs.Marks.Stacks.{equal-numbers, fields, same-number}
+use Rattle.law_desktop.proofs.Truth.{and-left, and-right, differ, or-left, or-right}
+use Rattle.law_desktop.proofs.Lists.Tests.{any-each, any-more, each-false}
 use Rattle.wl_session.specs.Promises.{is_hidden_in, is_same_color, windows_by}
 use Rattle.wl_session.specs.Unmarked.{AllDamageBut, UnmarkedStays, covers_at, in_output_of, is_covered}
 
@@ -98,10 +100,10 @@ covered-still shown liars old new x y inside unmarked clear =
     let all = marked-none (in_output_of old x y) _ unmarked inside in
     let changed = or-left (list_any (is_changed_at (shown new) x y) (shown old) || list_any (is_changed_at (shown old) x y) (shown new)) _ all in
     let gone = or-left (list_any (is_changed_at (shown new) x y) (shown old)) _ changed in
-    unless (is_covered shown liars old x y)
+    false_from_ne_true (is_covered shown liars old x y)
     (λ covered. any-each (covers_at liars x y) (is_changed_at (shown new) x y) (shown old) covered (each-false (is_changed_at (shown new) x y) (shown old) gone)
-    (λ w e. and-both (contains w x y) (not (is_kept_in (shown new) w)) (and-right (liars w.owner.client) (contains w x y) e)
-    (ap not (unless (is_kept_in (shown new) w) (λ kept. differ (sym clear ∙ any-more (has_same_record w) (covers_at liars x y)
-    (λ v same. and-both (liars v.owner.client) (contains v x y) (sym (ap liars (fields w v same).client) ∙ and-left (liars w.owner.client) (contains w x y) e) (sym (contains-same x y w v same)
+    (λ w e. and_from (contains w x y) (not (is_kept_in (shown new) w)) (and-right (liars w.owner.client) (contains w x y) e)
+    (ap not (false_from_ne_true (is_kept_in (shown new) w) (λ kept. differ (sym clear ∙ any-more (has_same_record w) (covers_at liars x y)
+    (λ v same. and_from (liars v.owner.client) (contains v x y) (sym (ap liars (fields w v same).client) ∙ and-left (liars w.owner.client) (contains w x y) e) (sym (contains-same x y w v same)
     ∙ and-right (liars w.owner.client) (contains w x y) e))
     (shown new) kept))))))

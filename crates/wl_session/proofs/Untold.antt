@@ -1,6 +1,8 @@
 -- A client without wl_pointers stays as it is as others take their steps; and as the pointer comes and a button is pressed or released, where
 -- nobody points and no client holds a grab.
 use Rattle.std.proofs.Common.{◌≡◌, ◌≢◌, ℕ, ◌+◌, List, [], ◌∷◌, Bool, true, false, Option, Some, None, map, refl, ap, subst, sym, ◌∙◌, inl, inr}
+use Rattle.std.proofs.lemmas.Bool.{true≢false}
+use Rattle.std.proofs.lemmas.Option.{none-some}
 use Rattle.std.specs.Prelude.{ℤ, ◌&&◌, ◌||◌, fold, if◌then◌else◌, is_some}
 use Rattle.std.specs.List.{list_any}
 use Rattle.spec_desktop.specs.declared.cause.Cause.{Cause}
@@ -32,11 +34,10 @@ use Rattle.law_desktop.proofs.Isolation.Others.{IsLeft, same-left}
 use Rattle.law_desktop.proofs.Isolation.Own.{AllShift, moves, pressed-so, released-so}
 use Rattle.law_desktop.proofs.Isolation.Settling.{Stays}
 use Rattle.law_desktop.proofs.Isolation.Told.{TellsBy, told-nothing}
-use Rattle.law_desktop.proofs.Lists.Keys.{differ, none-some}
-use Rattle.law_desktop.proofs.Marks.Stacks.{or-left, or-right}
 use Rattle.law_desktop.proofs.Runs.Forms.{Buttons, ConnectsAt, MovesTo, PressesIf, ReleasesIf}
 use Rattle.law_desktop.proofs.InOrder.Dismissed.{others_dismiss_none}
 use Rattle.law_desktop.proofs.NobodyPoints.Grabs.{holds-nobody}
+use Rattle.law_desktop.proofs.Truth.{or-left, or-right}
 use Rattle.wl_session.specs.Laws.{HasNoPointers, OthersStay}
 use Rattle.wl_session.proofs.Others.{unpointed-stay}
 
@@ -192,7 +193,7 @@ module _ (other : ℕ) (old : Desktop) (nowhere : old.pointer ≡ first_pointer)
   -- what happens that is no client's step, and no frame, leaves the client as it was
   no-client : (left : LeftOut) (act : Act) (new : Desktop) (done : Done) → is_tick act ≡ false → client_of act done ≡ None → Happens left act done old new → IsLeft other old new
   no-client left Connect new done untimed none h = same-left other old new (nobody (lowest old.clients) new done none h)
-  no-client left (Tick time) new done untimed none h = absurd (differ untimed)
+  no-client left (Tick time) new done untimed none h = absurd (true≢false untimed)
   no-client left (Motion time x y) new done untimed none h = moves-same time x y new h.1
   no-client left (Button time button pressed) new done untimed none h = buttons-same pressed time button new h.1
   no-client left (Feed c piece) new done untimed none h = absurd (none-some c (sym none))

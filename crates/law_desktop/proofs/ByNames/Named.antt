@@ -1,5 +1,5 @@
 -- What is kept of surfaces under numbers stands for them by their ids after each call.
-use Rattle.std.proofs.Common.{◌≡◌, ℕ, ◌==◌, Bool, true, false, cond, Option, Some, None, is_some, refl, ap, sym, subst, ◌∙◌}
+use Rattle.std.proofs.Common.{◌≡◌, ℕ, ◌==◌, Bool, true, false, cond, None, is_some, refl, ap, sym, subst, ◌∙◌}
 use Rattle.std.specs.Option.{option_map}
 use Rattle.wl_links.specs.Stacks.{Stacks}
 use Rattle.wl_links.specs.Family.{Tied, stacks_in}
@@ -16,16 +16,13 @@ use Rattle.wl_surface.proofs.Standing.{stand-changed, there-changed}
 use Rattle.law_desktop.specs.Renaming.{IsRenamedAs, IsRenaming, has_surface, renamed, renamed_link, renamed_surface}
 use Rattle.law_desktop.proofs.ByNames.Names.Done.{changes-surface, commits-surface, heed-no-names, links-surfaces}
 use Rattle.law_desktop.proofs.ByNames.Names.Known.{finds-links, reads-surfaces}
+use Rattle.law_desktop.proofs.ByNames.Names.Changing.{some-mapped}
 use Rattle.law_desktop.specs.Named.{AsksNamed, CommitsNamed, LinksNamed, RolesNamed, StandBy, StaysNamed}
 
 -- ---- what was made by numbers was made by ids
 
 pub named-as : (names : ℕ → ℕ) (new : Slots) (after : Tied) {here there : Surfaces} → IsRenamedAs names here there → Stand new after there → StandBy names new after here
 named-as names new after same stands = record { stands = subst (λ (x : Surfaces). Stand new after x) (sym same.same) stands; renaming = same.still }
-
-some-mapped : (f : Surface → Surface) (o : Option Surface) → is_some (option_map f o) ≡ is_some o
-some-mapped f None = refl
-some-mapped f (Some s) = refl
 
 -- a surface that is there is there under its number
 pub there-named : (names : ℕ → ℕ) (all : Surfaces) → IsRenaming names all → (id : ℕ) → has_surface id all ≡ true → has_surface (names id) (renamed names all) ≡ true

@@ -1,7 +1,6 @@
 -- The links that are kept under numbers, and those that live, by ids.
-use Rattle.std.proofs.Common.{◌≡◌, ℕ, ◌==◌, ◌&&◌, ◌||◌, Bool, true, false, cond, not, Option, Some, None, List, [], ◌∷◌, refl, ap, ◌∙◌, eq-eqb, eqb-true, arith}
-use Rattle.std.specs.Prelude.{filter_map, find, take}
-use Rattle.std.specs.List.{AllByRecursion as Each, list_any}
+use Rattle.std.proofs.Common.{◌≡◌, ℕ, ◌==◌, ◌&&◌, ◌||◌, Bool, true, false, not, Option, Some, None, List, [], ◌∷◌, refl, ap, ◌∙◌, eqb-true}
+use Rattle.std.specs.Prelude.{filter_map, take}
 use Rattle.std.specs.Option.{option_map, option_map_or}
 use Rattle.wl_links.specs.declared.placed.Member.TheVariants as kept
 use Rattle.wl_links.specs.declared.placed.Placed.{Placed}
@@ -11,11 +10,10 @@ use Rattle.wl_surface.specs.Request.{Child, Itself, Member, Request}
 use Rattle.wl_surface.specs.State.{History, committed as committed_at, counting, order, position}
 use Rattle.wl_surface.specs.Surfaces.{Link, history_in}
 use Rattle.wl_surface.specs.Trees.{link_of}
-use Rattle.wl_surface.specs.Hanging.{AreNumbered, kids_of, stacks_at}
+use Rattle.wl_surface.specs.Hanging.{kids_of, stacks_at}
 use Rattle.wl_surface.specs.TreeLaws.{is_live_of, links_of}
 use Rattle.wl_surface.specs.Stacks.{Kids, place_of}
 use Rattle.wl_surface.proofs.Hanging.{same-stacks}
-use Rattle.wl_surface.proofs.Changing.{or-false}
 use Rattle.wl_surface.proofs.TreesEnding.{live-parts}
 use Rattle.wl_surface.proofs.Placing.{kept_of, kid-is}
 use Rattle.law_desktop.specs.Renaming.{has_surface, renamed, renamed_link}
@@ -24,6 +22,7 @@ use Rattle.law_desktop.proofs.ByNames.Names.Lists.{each-from, found}
 use Rattle.law_desktop.proofs.ByNames.Names.Reading.{parent-known, same-name}
 use Rattle.law_desktop.specs.Reading.{FindsNamed, SiblingsNamed, StacksNamed, TiesNamed, kept_by, member_by, stack_by, stacks_by}
 use Rattle.law_desktop.proofs.ByNames.Linking.{kids-named, numbered-named}
+use Rattle.law_desktop.proofs.TreeSteps.Descents.{found-number}
 
 pub ties-named : TiesNamed
 ties-named names slots tied all id there by =
@@ -35,27 +34,9 @@ ties-named names slots tied all id there by =
 
 -- ---- a link that lives, by its number
 
-each-none : (q : Link → Bool) (ls : List Link) → list_any q ls ≡ false → Each (λ l. q l ≡ false) ls
-each-none q [] none = tt
-each-none q (l ∷ ls) none = let parts = or-false (q l) (list_any q ls) none in (parts.0, each-none q ls parts.1)
-
-found-numbered : (p : Link → Bool) (ls : List Link) (link : Link) → AreNumbered ls → find p ls ≡ Some link → find (λ (l : Link). l.number == link.number) ls ≡ Some link
-found-numbered p [] link apart e = absurd (cc)
-found-numbered p (l ∷ ls) link apart e = at (p l) e (λ f. found-numbered p ls link apart.1 f)
-  where
-    at : (b : Bool) → cond b (Some l) (find p ls) ≡ Some link → (find p ls ≡ Some link → find (λ (l : Link). l.number == link.number) ls ≡ Some link)
-        → find (λ (l : Link). l.number == link.number) (l ∷ ls) ≡ Some link
-    at true e later =
-        let same : l ≡ link = cc in
-        ap (λ b. cond b (Some l) (find (λ (l : Link). l.number == link.number) ls)) (eq-eqb l.number link.number (ap (λ (l : Link). l.number) same)) ∙ ap (λ (l : Link). Some l) same
-    at false e later =
-        let other = (found p (λ (k : Link). (k.number == l.number) ≡ false) ls (each-none (λ k. k.number == l.number) ls apart.0) link e).0 in
-        let turned : (l.number == link.number) ≡ false = grind (arith, other) in
-        rw turned (later e)
-
 pub finds-named : FindsNamed
 finds-named names slots tied all id link by e =
-    let here = found-numbered (is_live_of id) all.links link (numbered-named names all.links by.stands.hang.1.apart) e in
+    let here = found-number (is_live_of id) all.links link (numbered-named names all.links by.stands.hang.1.apart) e in
     let is = live-parts link.has_ended (link.child == id)
     (found (is_live_of id) (λ (l : Link). Unit {0}) all.links (each-from (λ (l : Link). Unit {0}) (λ l. tt) all.links) link e).1 in
     let child = eqb-true link.child id is.1 in

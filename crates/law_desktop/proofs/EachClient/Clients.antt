@@ -2,6 +2,7 @@
 use Rattle.std.proofs.Common.{◌≡◌, ◌≢◌, ◌≤◌, ℕ, zero, suc, ◌+◌, List, [], ◌∷◌, Bool, true, false, Option, Some, None, refl, ap, sym, subst, ◌∙◌, arith}
 use Rattle.std.specs.Prelude.{◌==◌, filter, not, replicate}
 use Rattle.std.proofs.lemmas.Bool.{eqb-false, eqb-true}
+use Rattle.std.proofs.lemmas.Option.{none-some, same_Some}
 use Rattle.spec_desktop.specs.declared.cause.Cause.{Cause}
 use Rattle.spec_desktop.specs.Peer.{Peer, ended}
 use Rattle.spec_desktop.specs.Told.{Output}
@@ -14,7 +15,6 @@ use Rattle.spec_desktop.specs.Settling.{EndsAndSettles, becomes, unstruck}
 use Rattle.spec_desktop.specs.Step.{with_peer}
 use Rattle.law_desktop.proofs.Isolation.Others.{left_out, one_client}
 use Rattle.law_desktop.proofs.Isolation.Settling.{none_of}
-use Rattle.law_desktop.proofs.Lists.Keys.{none-some, some-same}
 use Rattle.law_desktop.proofs.Runs.Places.{number-other, number-same}
 use Rattle.law_desktop.proofs.KeptRecords.Toplevels.Back.{settled-back}
 use Rattle.law_desktop.proofs.KeptRecords.Toplevels.Serves.{becomes-same}
@@ -128,7 +128,7 @@ module _ (Absent : List Standing → Type 0) (By : Option Cause → Resident →
 -- ---- a client comes
 
 -- the lowest free number is free, and is taken
-comes : (rs : List (Option Resident)) (k : ℕ) (x : Option Resident) → lowest rs ≡ Some k → (place rs k ≡ None) × (place (with_place k x rs) k ≡ x)
+pub comes : (rs : List (Option Resident)) (k : ℕ) (x : Option Resident) → lowest rs ≡ Some k → (place rs k ≡ None) × (place (with_place k x rs) k ≡ x)
 comes [] k x e = absurd (none-some k e)
 comes (None ∷ rs) zero x e = (refl, refl)
 comes (None ∷ rs) (suc k) x e = absurd (cc)
@@ -138,7 +138,7 @@ comes (Some r ∷ rs) k x e = at (lowest rs) e (λ m free. comes rs m x free)
         × (place (with_place k x (Some r ∷ rs)) k ≡ x)
     at None e later = absurd (none-some k e)
     at (Some m) e later =
-        let same = some-same (m + 1) k e in
+        let same = same_Some (m + 1) k e in
         let next : suc m ≡ k = omega (arith, same) in
         subst (λ (n : ℕ). (place (Some r ∷ rs) n ≡ None) × (place (with_place n x (Some r ∷ rs)) n ≡ x)) next (later m refl)
 

@@ -1,5 +1,6 @@
 -- What every client keeps by itself, all keep through each step that leaves the pointer alone, and through each message by itself, whatever is left out.
 use Rattle.std.proofs.Common.{◌≡◌, ◌≢◌, ◌≤◌, ℕ, zero, suc, ◌+◌, ◌-◌, List, ◌++◌, length, Bool, true, false, Option, Some, None, drop, take, refl, ap, subst, sym, ◌∙◌, inl, inr, arith}
+use Rattle.std.proofs.lemmas.Option.{none-some, same_Some}
 use Rattle.std.specs.Prelude.{Result, Ok, Err, nat_le, if◌then◌else◌, not}
 use Rattle.wl_wire.specs.Wire.{split_of}
 use Rattle.wl_wire.specs.declared.header.Split.{Split}
@@ -14,13 +15,13 @@ use Rattle.spec_desktop.specs.Peer.{Errs, LacksMemory, Peer, Queues, counted, en
 use Rattle.spec_desktop.specs.Told.{Said, display_error}
 use Rattle.wl_shell.specs.Shell.{Effect, Stays, Unconfigured, Configures, Maps, Unmaps, xdg_of}
 use Rattle.wl_shell.specs.Popups.{is_toplevel}
-use Rattle.spec_desktop.specs.Pointer.{Pointer, first_pointer}
+use Rattle.spec_desktop.specs.Pointer.{first_pointer}
 use Rattle.spec_desktop.specs.Stacking.{Standing, is_of}
 use Rattle.spec_desktop.specs.Windows.{Window}
 use Rattle.spec_desktop.specs.declared.answers.Done.{Done}
 use Rattle.spec_desktop.specs.Act.{Act, IsClosed, IsSent, IsStored, Connect, Feed, Store, Leave, Tick, Send, Close, Motion, Button, closed_by, lowest}
-use Rattle.spec_desktop.specs.Changing.{changed_for, moving_from, stacked_by, stacked_for}
-use Rattle.spec_desktop.specs.Demand.{Demand, CommitTree, EndToplevel, Move}
+use Rattle.spec_desktop.specs.Changing.{changed_for, stacked_by, stacked_for}
+use Rattle.spec_desktop.specs.Demand.{Demand, CommitTree, EndToplevel}
 use Rattle.spec_desktop.specs.Demanding.{effect_of_commit, judge_all}
 use Rattle.spec_desktop.specs.Desktop.{Desktop, Resident, arrival, become, client_at, client_in, toplevels_of, with_client}
 use Rattle.spec_desktop.specs.Framing.{FramesTold, FramesToldAt, FramesToldBy, done_due}
@@ -31,7 +32,6 @@ use Rattle.spec_desktop.specs.Settling.{EndsAndSettles, becomes, unstruck}
 use Rattle.spec_desktop.specs.Stacked.{all_windows}
 use Rattle.spec_desktop.specs.Step.{with_peer}
 use Rattle.law_desktop.proofs.Isolation.Others.{left_out, on_top, one_surface}
-use Rattle.law_desktop.proofs.Lists.Keys.{none-some, some-same}
 use Rattle.law_desktop.proofs.Runs.Forms.{after_why, Answers, Becomes as StepBecomes, ChangesAt, ConnectsAt, Does, LeavesAt, ServesAt, Takes, WantsOr}
 use Rattle.law_desktop.proofs.Runs.Places.{number-same}
 use Rattle.law_desktop.proofs.Runs.Serves.{done-clients_stay}
@@ -44,6 +44,7 @@ use Rattle.law_desktop.proofs.KeptRecords.Toplevels.Back.{erred, lacking, settle
 use Rattle.law_desktop.proofs.KeptRecords.Toplevels.Serves.{IsDone, after-same, becomes-same, by-pointer, ended_why, kept-still}
 use Rattle.law_desktop.proofs.EachClient.Clients.{AllAre, AreOthers, At, IsKept, IsPeerOf, become-all, comes-at, ends-all, known-by, lives-there, others-of, others-so, settled-all, with-all}
 use Rattle.law_desktop.proofs.EachClient.Told.{told-peer}
+use Rattle.law_desktop.proofs.MessageWays.Told.{stacked-still}
 
 -- ---- the client's peer
 
@@ -83,7 +84,7 @@ stored-is None store at bytes r = by (write_refusal store at (length bytes) r.pe
 stored-keeps : (store at : ℕ) (bytes : List ℕ) → KeepsPeer (IsStored store at bytes)
 stored-keeps store at bytes = record {
   stays = λ r done q h x e.
-      let same = some-same x (stored_at r.peer.status store at bytes r.peer) (sym e ∙ h.0) in
+      let same = same_Some x (stored_at r.peer.status store at bytes r.peer) (sym e ∙ h.0) in
       (ap (λ (y : Peer). y.status) same ∙ stored-status r.peer.status store at bytes r.peer, same-is r x _ same (stored-is r.peer.status store at bytes r));
   goes = λ p done h. absurd (none-some (stored_at p.status store at bytes p) h.0);
 }
@@ -98,7 +99,7 @@ sent-is n r = at (nat_le n (length r.peer.unsent))
 sent-keeps : (n : ℕ) → KeepsPeer (IsSent n)
 sent-keeps n = record {
   stays = λ r done q h x e.
-      let same = some-same x (sent_by n r.peer) (sym e ∙ h.0) in
+      let same = same_Some x (sent_by n r.peer) (sym e ∙ h.0) in
       (ap (λ (y : Peer). y.status) same ∙ sent-status n r.peer, same-is r x _ same (sent-is n r));
   goes = λ p done h. absurd (none-some (sent_by n p) h.0);
 }
@@ -107,7 +108,7 @@ closed-keeps : KeepsPeer IsClosed
 closed-keeps = record { stays = λ r done q h x e. at r r.peer.status q x e h.0; goes = λ p done h. gone p p.status refl h.0 }
   where
     at : (r : Resident) (s : Option Cause) (q : Option Peer) (x : Peer) → q ≡ Some x → q ≡ closed_by s r.peer → (x.status ≡ r.peer.status) × IsPeerOf r x
-    at r None q x e is = let same = some-same x r.peer (sym e ∙ is) in (ap (λ (y : Peer). y.status) same, same-is r x r.peer same (kept-is r r.peer.rest))
+    at r None q x e is = let same = same_Some x r.peer (sym e ∙ is) in (ap (λ (y : Peer). y.status) same, same-is r x r.peer same (kept-is r r.peer.rest))
     at r (Some cause) q x e is = absurd (none-some x (sym is ∙ e))
 
     gone : (p : Peer) (s : Option Cause) → p.status ≡ s → None ≡ closed_by s p → (cause : Cause) × (p.status ≡ Some cause)
@@ -115,25 +116,6 @@ closed-keeps = record { stays = λ r done q h x e. at r r.peer.status q x e h.0;
     gone p (Some cause) e is = (cause, e)
 
 -- ---- the stack of toplevels
-
-by-still : (effect : Effect) (b : Bool) (c id : ℕ) (d : Desktop) → (stacked_by effect b c id d).pointer ≡ d.pointer
-by-still Stays b c id d = refl
-by-still Unconfigured b c id d = refl
-by-still Configures b c id d = refl
-by-still Maps true c id d = refl
-by-still Maps false c id d = refl
-by-still Unmaps true c id d = refl
-by-still Unmaps false c id d = refl
-
--- nothing is held, so nothing is moved
-moves-nothing : (c surface serial : ℕ) (windows : List Window) (p : Pointer) → p ≡ first_pointer → moving_from c surface serial windows p ≡ p
-moves-nothing c surface serial windows p still = subst (λ (q : Pointer). moving_from c surface serial windows q ≡ q) (sym still) refl
-
-stacked-still : (c : ℕ) (demand : Demand) (r : Resident) (windows : List Window) (d : Desktop) → d.pointer ≡ first_pointer → (stacked_for c demand r windows d).pointer ≡ first_pointer
-stacked-still c (CommitTree id) r windows d still = by-still (effect_of_commit r id) (is_toplevel (xdg_of id r.owned.shell)) c id d ∙ still
-stacked-still c (EndToplevel id xdg top) r windows d still = still
-stacked-still c (Move id serial) r windows d still = moves-nothing c id serial windows d.pointer still ∙ still
-stacked-still c demand r windows d still = still
 
 -- where nobody points no toplevel is moved, of which a message would let go
 pub done-still : (c : ℕ) (demand : Demand) (r : Resident) (d : Desktop) → d.pointer ≡ first_pointer → done_for c demand r d ≡ stacked_for c demand r (all_windows d) d

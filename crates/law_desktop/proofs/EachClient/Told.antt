@@ -1,11 +1,11 @@
 -- What is told to a client that lives on changes no more of it than what waits to be sent.
 use Rattle.std.proofs.Common.{◌≡◌, ℕ, List, [], ◌∷◌, Bool, true, false, None, ap, sym, ◌∙◌, inl, inr}
+use Rattle.std.proofs.lemmas.Option.{none-some}
 use Rattle.spec_desktop.specs.declared.cause.Cause.{Cause}
 use Rattle.spec_desktop.specs.Peer.{Peer, Queues, QueuesOr, ended, has_room, queued}
 use Rattle.spec_desktop.specs.Told.{Said}
-use Rattle.law_desktop.proofs.Lists.Keys.{none-some}
 
-over : (cause : Cause) (p q : Peer) → q ≡ ended cause p → q.status ≡ None → ⊥
+pub over : (cause : Cause) (p q : Peer) → q ≡ ended cause p → q.status ≡ None → ⊥
 over cause p q e alive = none-some cause (sym alive ∙ ap (λ (x : Peer). x.status) e)
 
 abbrev IsTold : Peer → Peer → Type 0

@@ -1,5 +1,6 @@
 -- A popup is dismissed by a grab that is refused, and by the end of a toplevel, and by nothing else that is demanded.
 use Rattle.std.proofs.Common.{◌≡◌, ℕ, List, [], ◌∷◌, ◌++◌, Bool, true, false, cond, Option, Some, None, map, refl, ap, sym, ◌∙◌}
+use Rattle.std.proofs.lemmas.Bool.{true≢false}
 use Rattle.std.specs.Prelude.{◌==◌, ◌||◌, filter, flat_map, fold, if◌then◌else◌, nat_lt, not}
 use Rattle.wl_proto.specs.declared.interface.Interface.TheVariants.{XdgPopup}
 use Rattle.wl_proto.specs.Messages.{says}
@@ -9,7 +10,6 @@ use Rattle.wl_shell.specs.Shell.{IsPopup, Kind, Popup, RoleObject, Shell, Toplev
 use Rattle.spec_desktop.specs.Changing.{changed_for}
 use Rattle.spec_desktop.specs.Desktop.{Resident}
 use Rattle.spec_desktop.specs.Replies.{dismissed_in, newest_first}
-use Rattle.law_desktop.proofs.Lists.Keys.{differ}
 use Rattle.law_desktop.proofs.Marks.Stacks.{equal-numbers}
 use Rattle.law_desktop.specs.InOrderLaws.{OthersDismissNone}
 use Rattle.law_desktop.proofs.EachPopup.{IsSteadyOf, OfEach, OfKind, OfRole, each-stays}
@@ -130,7 +130,7 @@ self-in before (p ∷ ps) all = (first p.popup.is_dismissed all, self-in before 
     first : (b : Bool) → ((id : ℕ) → is_among id ((if b then p.object.id ∷ [] else []) ++ flat_map dismissed_of ps) ≡ true → is_among id before ≡ true) → b ≡ true
         → is_among p.object.id before ≡ true
     first true all is = all p.object.id (ap (λ (k : Bool). k || is_among p.object.id (flat_map dismissed_of ps)) (equal-numbers p.object.id p.object.id refl))
-    first false all is = absurd (differ (sym is))
+    first false all is = absurd (true≢false (sym is))
 
     later : (b : Bool) (id : ℕ) → is_among id (flat_map dismissed_of ps) ≡ true → is_among id ((if b then p.object.id ∷ [] else []) ++ flat_map dismissed_of ps) ≡ true
     later true id is = or-later (p.object.id == id) is
@@ -163,7 +163,7 @@ none-left ids (id ∷ more) all = at (is_among id ids) all.0 (none-left ids more
     at : (b : Bool) → b ≡ true → filter (λ id. not (is_among id ids)) more ≡ []
         → cond (not b) (id ∷ filter (λ id. not (is_among id ids)) more) (filter (λ id. not (is_among id ids)) more) ≡ []
     at true is later = later
-    at false is later = absurd (differ (sym is))
+    at false is later = absurd (true≢false (sym is))
 
 pub others_dismiss_none : OthersDismissNone
 others_dismiss_none c demand r d none =
@@ -181,8 +181,8 @@ others_dismiss_none c demand r d none =
 
     after : OfEach (IsIn was) made.owned.shell
     after =
-        each-stays (IsIn was) (in-steady was) c demand r d (λ id parent positioner is. absurd (differ (sym is))) (λ xdg serial allowed id p is. is)
-        (λ may. absurd (differ (sym may ∙ none))) before
+        each-stays (IsIn was) (in-steady was) c demand r d (λ id parent positioner is. absurd (true≢false (sym is))) (λ xdg serial allowed id p is. is)
+        (λ may. absurd (true≢false (sym may ∙ none))) before
 
     in-new : AreIn was (newest_first (dismissed_in made.owned.shell))
     in-new =

@@ -3,7 +3,7 @@ use Rattle.std.proofs.Common.{◌≡◌, ℕ, Bool, true, false, List, [], ◌�
 use Rattle.std.specs.Prelude.{◌==◌, not, is_some, filter, fold}
 use Rattle.std.specs.List.{list_any}
 use Rattle.std.specs.Option.{option_map_or}
-use Rattle.std.proofs.lemmas.Bool.{eqb-true}
+use Rattle.std.proofs.lemmas.Bool.{eqb-true, false_from_ne_true, true≢false}
 use Rattle.wl_proto.specs.declared.interface.Interface.{Interface}
 use Rattle.wl_proto.specs.declared.interface.Interface.TheVariants.{WlBuffer, WlCallback, WlRegion, WlShmPool, WlSubsurface, WlSurface, XdgPositioner}
 use Rattle.spec_desktop.specs.declared.actions.Action.{Action}
@@ -21,15 +21,16 @@ use Rattle.wl_surface.specs.Waiting.{Callback}
 use Rattle.spec_desktop.specs.Changing.{without_child}
 use Rattle.spec_desktop.specs.Desktop.{Resident, Subsurface}
 use Rattle.law_desktop.specs.Apart.{AreObjects}
-use Rattle.law_desktop.proofs.Lists.Keys.{differ, gone, new-elsewhere}
+use Rattle.law_desktop.proofs.Lists.Keys.{gone, new-elsewhere}
 use Rattle.law_desktop.proofs.Lists.Standings.{any-gone}
 use Rattle.law_desktop.proofs.Marks.Stacks.{equal-numbers}
 use Rattle.law_desktop.proofs.Soundness.ObjectsCalls.{is_left, removed-others}
 use Rattle.law_desktop.proofs.Soundness.ObjectsHas.{has_callback, has_sub}
-use Rattle.law_desktop.proofs.Soundness.ObjectsKeys.{any-of-filter, free-none, is-false, objects-filter, objects-gone, objects-map, objects-more, objects-new, of-one, others-kept}
+use Rattle.law_desktop.proofs.Soundness.ObjectsKeys.{free-none, objects-filter, objects-gone, objects-map, objects-more, objects-new, of-one, others-kept}
 use Rattle.law_desktop.proofs.Soundness.ObjectsThere.{There, there-destroyed}
 use Rattle.law_desktop.proofs.Soundness.Orderly.{IsOwn}
 use Rattle.law_desktop.proofs.KeptRecords.Toplevels.Heard.{heard-left, heard-more, left_of}
+use Rattle.law_desktop.proofs.Lists.Left.{any-there}
 
 -- each surface has its wl_surface, and each wl_subsurface and callback its object
 pub record AreHeld (all : Surfaces) (subs : List Subsurface) (calls : List Callback) (objects : Objects) : Type 0 where
@@ -75,7 +76,7 @@ module _ (all : Surfaces) (subs : List Subsurface) (calls : List Callback) (obje
       known key there = at (key == id) refl
         where
           other : (key == id) ≡ false → (id == key) ≡ false
-          other e = is-false (id == key) (λ is. differ (sym (ap (λ n. n == id) (sym (eqb-true id key is)) ∙ same id) ∙ e))
+          other e = false_from_ne_true (id == key) (λ is. true≢false (sym (ap (λ n. n == id) (sym (eqb-true id key is)) ∙ same id) ∙ e))
             where
               same : (n : ℕ) → (n == n) ≡ true
               same n = equal-numbers n n refl
@@ -122,10 +123,10 @@ module _ (all : Surfaces) (subs : List Subsurface) (calls : List Callback) (peer
   pub other-left : (interface : Interface) → (interface_number interface == interface_number WlCallback) ≡ false → (id : ℕ) → is_of interface (peer.objects id) ≡ true
       → is_of interface (Left id) ≡ true
   other-left interface apart id is =
-      ap (is_of interface) (removed-others (filter which calls) peer id (is-false (list_any (has_callback id) (filter which calls)) never)) ∙ is
+      ap (is_of interface) (removed-others (filter which calls) peer id (false_from_ne_true (list_any (has_callback id) (filter which calls)) never)) ∙ is
     where
       never : list_any (has_callback id) (filter which calls) ≡ true → ⊥
-      never any = differ (sym (held.callbacks.1 id (any-of-filter (has_callback id) which calls any)) ∙ of-one interface WlCallback (peer.objects id) apart is)
+      never any = true≢false (sym (held.callbacks.1 id (any-there (has_callback id) which calls any)) ∙ of-one interface WlCallback (peer.objects id) apart is)
 
   pub held-left : AreHeld all subs Rest Left
   held-left = record {
@@ -136,7 +137,7 @@ module _ (all : Surfaces) (subs : List Subsurface) (calls : List Callback) (peer
 
 -- ---- a surface goes
 
-child-id : (surface : ℕ) (s : Subsurface) → (without_child surface s).id ≡ s.id
+pub child-id : (surface : ℕ) (s : Subsurface) → (without_child surface s).id ≡ s.id
 child-id surface s = at (option_map_or (λ child. child == surface) s.surface false)
   where
     at : (b : Bool) → (cond b (record s { surface = None }) s).id ≡ s.id
@@ -156,7 +157,7 @@ held-destroyed surface all subs calls objects is held = record {
   where
     at : (key : ℕ) → is_some (surface_at key (destroyed_in surface all)) ≡ true → (b : Bool) → (key == surface) ≡ b → is_of WlSurface (cond b None (objects key)) ≡ true
     at key there true e =
-        absurd (differ (sym there ∙ ap is_some (ap (λ n. surface_at n (destroyed_in surface all)) (eqb-true key surface e)
+        absurd (true≢false (sym there ∙ ap is_some (ap (λ n. surface_at n (destroyed_in surface all)) (eqb-true key surface e)
         ∙ gone (λ s. s.id == surface) (fold ended_in all (links_with surface all)).surfaces)))
     at key there false e = held.known key (sym (there-destroyed surface all key e) ∙ there)
 

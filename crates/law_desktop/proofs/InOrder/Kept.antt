@@ -1,10 +1,9 @@
 -- What a client that lives owns stays in order as it comes, as its peer changes, as frames are shown, and as its messages are accepted.
-use Rattle.std.proofs.Common.{◌≡◌, ◌≤◌, ℕ, ◌+◌, List, [], Bool, true, false, Some, None, refl, ap, sym, subst, ◌∙◌, arith}
-use Rattle.std.specs.Prelude.{Ok, if◌then◌else◌, ◌==◌}
-use Rattle.wl_proto.specs.declared.interface.Interface.TheVariants.{WlDisplay, WlSurface}
-use Rattle.spec_desktop.specs.Objects.{ById, is_of}
+use Rattle.std.proofs.Common.{◌≡◌, ◌≤◌, ℕ, ◌+◌, List, [], refl, ap, sym, subst, ◌∙◌, arith}
+use Rattle.std.specs.Prelude.{Ok}
+use Rattle.spec_desktop.specs.Objects.{ById}
 use Rattle.spec_desktop.specs.Buffers.{Buffer as Made}
-use Rattle.spec_desktop.specs.Peer.{Peer, newcomer, object_at_version}
+use Rattle.spec_desktop.specs.Peer.{Peer, newcomer}
 use Rattle.spec_desktop.specs.Told.{Output}
 use Rattle.wl_surface.specs.Frames.{frames_counting}
 use Rattle.wl_surface.specs.Surfaces.{Surfaces}
@@ -44,28 +43,19 @@ use Rattle.law_desktop.proofs.OneBuffer.Running.{arrival-has}
 use Rattle.law_desktop.proofs.XdgRoots.Keeping.{messages-hold}
 use Rattle.law_desktop.proofs.XdgRoots.Subsurfaces.{AreOwn, own-first, own-keeps}
 use Rattle.law_desktop.proofs.XdgRoots.Tied.{HangTogether, tied-first, tied-keeps}
+use Rattle.law_desktop.proofs.Truth.{differ}
+use Rattle.law_desktop.proofs.Soundness.Run.{no-surface}
 
 -- ---- a client comes
-
-none-there : false ≡ true → ⊥
-none-there e = absurd (cc)
-
--- a newcomer has no surfaces
-no-surface : (output : Output) (id : ℕ) → is_of WlSurface ((newcomer output).objects id) ≡ false
-no-surface output id = at (id == 1)
-  where
-    at : (b : Bool) → is_of WlSurface (if b then Some (object_at_version WlDisplay 1) else None) ≡ false
-    at true = refl
-    at false = refl
 
 pub arrival-knows : (output : Output) → OwnsKnown (arrival output)
 arrival-knows output =
     record {
       apart = tt;
-      known = λ id there. absurd (none-there there);
-      subsurfaces = (tt, λ id there. absurd (none-there there));
+      known = λ id there. absurd (differ there);
+      subsurfaces = (tt, λ id there. absurd (differ there));
       children = tt;
-      callbacks = (tt, λ id there. absurd (none-there there));
+      callbacks = (tt, λ id there. absurd (differ there));
     }
 
 arrival-whole : (output : Output) → IsWhole (arrival output)
@@ -79,13 +69,13 @@ arrival-whole output =
       own = own-first 1;
       buffers = arrival-has output;
       known = arrival-knows output;
-      subsurfaces = record { roles = λ surface has. absurd (none-there has); bare = λ surface has. absurd (none-there has) };
+      subsurfaces = record { roles = λ surface has. absurd (differ has); bare = λ surface has. absurd (differ has) };
       apart = tt;
-      early = λ number any. absurd (none-there any);
+      early = λ number any. absurd (differ any);
     }
 
 pub arrival-lives : (output : Output) → Lives (arrival output) []
-arrival-lives output = (of-whole (arrival output) (arrival-whole output), record { apart = tt; mapped = λ surface there. absurd (none-there there) })
+arrival-lives output = (of-whole (arrival output) (arrival-whole output), record { apart = tt; mapped = λ surface there. absurd (differ there) })
 
 -- ---- its peer changes
 

@@ -2,7 +2,7 @@
 use Rattle.std.proofs.Common.{◌≡◌, ℕ, Bool, true, false, List, [], ◌∷◌, ◌++◌, Option, Some, None, cond, refl, ap, sym, ◌∙◌, map, inl, inr}
 use Rattle.std.specs.Prelude.{◌==◌, not, is_some, filter}
 use Rattle.std.specs.Option.{option_map_or}
-use Rattle.std.proofs.lemmas.Bool.{eqb-true}
+use Rattle.std.proofs.lemmas.Bool.{eqb-true, true≢false}
 use Rattle.wl_proto.specs.declared.interface.Interface.{Interface}
 use Rattle.wl_proto.specs.declared.interface.Interface.TheVariants.{WlCallback, WlPointer, WlSubcompositor, WlSubsurface, WlSurface, XdgPopup, XdgSurface, XdgToplevel, XdgWmBase}
 use Rattle.spec_desktop.specs.Objects.{Objects, is_of, with_id}
@@ -29,8 +29,8 @@ use Rattle.spec_desktop.specs.Desktop.{Desktop, Resident, Subsurface}
 use Rattle.spec_desktop.specs.Step.{changed_by, making, toplevel_given, with_peer, with_shell, with_surfaces, xdg_changed}
 use Rattle.spec_desktop.specs.WlSubsurface.{has_subsurface, is_of_child}
 use Rattle.law_desktop.specs.Apart.{AreApartBy}
-use Rattle.law_desktop.proofs.Lists.Keys.{apart-left, differ, new-apart}
-use Rattle.law_desktop.proofs.Soundness.ObjectsKeys.{apart-less, none-found}
+use Rattle.law_desktop.proofs.Lists.Keys.{apart-left, new-apart}
+use Rattle.law_desktop.proofs.Soundness.ObjectsKeys.{apart-less}
 use Rattle.law_desktop.proofs.Soundness.ObjectsThere.{there-changed, there-committed, there-desynchronised, there-linked, there-unlinked}
 use Rattle.law_desktop.proofs.Soundness.Orderly.{IsAllowed, IsAsked}
 use Rattle.law_desktop.specs.InOrder.{OwnsKnown}
@@ -38,6 +38,7 @@ use Rattle.law_desktop.proofs.InOrder.Held.{AreHeld, IsBare, Left, Rest, bare-ne
 use Rattle.law_desktop.proofs.InOrder.Held.{held-destroyed, held-left, held-subsurface, held-surface, held-there, held-without, other-left}
 use Rattle.law_desktop.proofs.InOrder.Held.{own-held}
 use Rattle.law_desktop.proofs.InOrder.Ids.{AreApart, apart-changed, apart-committed, apart-desynchronised, apart-destroyed, apart-linked, apart-new, apart-unlinked}
+use Rattle.law_desktop.proofs.Lists.Tests.{find-none}
 
 abbrev AreOnce : List Subsurface → Type 0
 AreOnce subs = AreApartBy (λ surface s. is_of_child surface s.surface) subs
@@ -55,11 +56,11 @@ owns-by r apart once held =
 -- ---- wl_subsurfaces
 
 -- what was of no surface or of another isn't of one that goes
-inert-less : (surface key : ℕ) (s : Subsurface) → is_of_child key (without_child surface s).surface ≡ true → is_of_child key s.surface ≡ true
+pub inert-less : (surface key : ℕ) (s : Subsurface) → is_of_child key (without_child surface s).surface ≡ true → is_of_child key s.surface ≡ true
 inert-less surface key s is = at (option_map_or (λ child. child == surface) s.surface false) is
   where
     at : (b : Bool) → is_of_child key (cond b (record s { surface = None }) s).surface ≡ true → is_of_child key s.surface ≡ true
-    at true is = absurd (differ (sym is))
+    at true is = absurd (true≢false (sym is))
     at false is = is
 
 once-inert : (surface : ℕ) (subs : List Subsurface) → AreOnce subs → AreOnce (map (without_child surface) subs)
@@ -69,7 +70,7 @@ once-more : (id link child : ℕ) (r : Resident) → has_subsurface child r ≡ 
     → AreOnce (r.subsurfaces ++ record { id = id; link = link; surface = Some child } ∷ [])
 once-more id link child r none once =
     new-apart (λ key s. is_of_child key s.surface) r.subsurfaces (record { id = id; link = link; surface = Some child })
-    (λ key is. none-found (λ s. is_of_child key s.surface) r.subsurfaces (ap (λ n. has_subsurface n r) (sym (eqb-true child key is)) ∙ none)) once
+    (λ key is. find-none (λ s. is_of_child key s.surface) r.subsurfaces (ap (λ n. has_subsurface n r) (sym (eqb-true child key is)) ∙ none)) once
 
 -- ---- what is asked
 
@@ -132,7 +133,7 @@ asks-owns (Own action) r ok owns =
     (own-held r.owned.surfaces r.subsurfaces r.callbacks (λ number. is_used number r.owned.surfaces) action r ok (held-of r owns))
 asks-owns (CreateSurface id version) r ok owns =
     let bare = bare-new r.peer.objects id ok in
-    let none : surface_at id r.owned.surfaces ≡ None = absent (surface_at id r.owned.surfaces) (λ there. differ (sym (owns.known id there) ∙ bare.surface)) in
+    let none : surface_at id r.owned.surfaces ≡ None = absent (surface_at id r.owned.surfaces) (λ there. true≢false (sym (owns.known id there) ∙ bare.surface)) in
     owns-by (changed_by (CreateSurface id version) r) (apart-new id r.owned.surfaces none owns.apart) owns.children
     (held-surface r.owned.surfaces r.subsurfaces r.callbacks r.peer.objects (held-of r owns) id version bare)
 asks-owns (AskSurface id request) r ok owns =

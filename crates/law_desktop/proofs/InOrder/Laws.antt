@@ -20,7 +20,7 @@ use Rattle.law_desktop.proofs.InOrder.Numbered.{numbers-apart, numbers-early}
 abbrev pub NoneStands : List Standing → Type 0
 NoneStands tops = tops ≡ []
 
-keeps-order : (s : Option Cause) (r : Resident) (p : Peer) (tops : List Standing) → IsPeerOf r p → InOrderBy s r tops → InOrderBy s (with_peer p r) tops
+pub keeps-order : (s : Option Cause) (r : Resident) (p : Peer) (tops : List Standing) → IsPeerOf r p → InOrderBy s r tops → InOrderBy s (with_peer p r) tops
 keeps-order None r p tops same lives = peer-lives r p tops same lives
 keeps-order (Some cause) r p tops same over = (ap (λ (q : Resident). with_peer p q) over.0, over.1)
 
@@ -34,7 +34,7 @@ in-order-kept = record {
   framed = framed-lives;
 }
 
-demands-in-order : (left : LeftOut) → DemandsKeep left InOrderBy
+pub demands-in-order : (left : LeftOut) → DemandsKeep left InOrderBy
 demands-in-order left c r rest object opcode body demand d judged still lives = (
   demand-owns left c r rest object opcode body demand d judged lives.0,
   demand-stands left c r rest object opcode body demand d judged lives.0 lives.1,

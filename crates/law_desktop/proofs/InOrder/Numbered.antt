@@ -1,15 +1,15 @@
 -- The popups of a client in order of creation have the numbers of those of its xdg_surfaces.
 use Rattle.std.proofs.Common.{◌≡◌, ℕ, List, [], ◌∷◌, ◌++◌, Bool, true, false, cond, Option, Some, None, refl, ap, sym, subst, ◌∙◌}
-use Rattle.std.specs.Prelude.{◌==◌, ◌||◌, find, flat_map, fold, if◌then◌else◌, nat_lt}
+use Rattle.std.specs.Prelude.{◌==◌, find, flat_map, fold, if◌then◌else◌, nat_lt}
 use Rattle.std.specs.List.{list_any}
-use Rattle.std.proofs.lemmas.Bool.{eqb-true}
+use Rattle.std.proofs.lemmas.Bool.{eqb-true, true≢false}
 use Rattle.wl_shell.specs.Popups.{Popped, by_number, popped_kind, popped_of, popped_role, popups_of}
 use Rattle.wl_shell.specs.Shell.{IsPopup, Kind, RoleObject, Shell, Toplevel, XdgSurface as Xdg}
 use Rattle.law_desktop.specs.Apart.{AreApartBy}
-use Rattle.law_desktop.proofs.Lists.Keys.{differ, none-first, none-later}
+use Rattle.law_desktop.proofs.Lists.Keys.{none-first, none-later}
 use Rattle.law_desktop.proofs.Marks.Stacks.{equal-numbers}
-use Rattle.law_desktop.proofs.Soundness.ObjectsKeys.{none-found}
 use Rattle.law_desktop.proofs.InOrder.Numbers.{AreNumbered, has_number}
+use Rattle.law_desktop.proofs.Lists.Tests.{find-none, none-any}
 
 abbrev numbered : ℕ → Popped → Bool
 numbered number p = p.popup.number == number
@@ -19,7 +19,7 @@ abbrev LacksNumber : ℕ → List Popped → Type 0
 LacksNumber number ps = find (numbered number) ps ≡ None
 
 found-first : (b : Bool) (p : Popped) (o : Option Popped) → b ≡ false → o ≡ None → cond b (Some p) o ≡ None
-found-first true p o none rest = absurd (differ none)
+found-first true p o none rest = absurd (true≢false none)
 found-first false p o none rest = rest
 
 -- ---- one more in order
@@ -41,7 +41,7 @@ turned : (p q : Popped) → numbered p.popup.number q ≡ false → numbered q.p
 turned p q other = at (numbered q.popup.number p) refl
   where
     at : (b : Bool) → numbered q.popup.number p ≡ b → numbered q.popup.number p ≡ false
-    at true is = absurd (differ (sym (equal-numbers q.popup.number p.popup.number (sym (eqb-true p.popup.number q.popup.number is))) ∙ other))
+    at true is = absurd (true≢false (sym (equal-numbers q.popup.number p.popup.number (sym (eqb-true p.popup.number q.popup.number is))) ∙ other))
     at false is = is
 
 apart-among : (p : Popped) (ps : List Popped) → LacksNumber p.popup.number ps → AreApartBy numbered ps → AreApartBy numbered (by_number p ps)
@@ -129,20 +129,12 @@ numbers-apart shell apart = apart-ordered [] (flat_map popped_of shell) tt (apar
 
 -- ---- a number that one of them has
 
-pub found-none : {X : Type 0} (test : X → Bool) (xs : List X) → find test xs ≡ None → list_any test xs ≡ false
-found-none test [] none = refl
-found-none test (x ∷ xs) none = at (test x) none (found-none test xs)
-  where
-    at : (b : Bool) → cond b (Some x) (find test xs) ≡ None → (find test xs ≡ None → list_any test xs ≡ false) → (b || list_any test xs) ≡ false
-    at true e later = absurd (differ (none-first true x (find test xs) e))
-    at false e later = later e
-
 pub numbers-early : (number : ℕ) (shell : Shell) → list_any (λ p. p.popup.number == number) (popups_of shell) ≡ true → list_any (has_number number) shell ≡ true
 numbers-early number shell any = at (list_any (has_number number) shell) refl
   where
     at : (b : Bool) → list_any (has_number number) shell ≡ b → list_any (has_number number) shell ≡ true
     at true is = is
     at false is =
-        absurd (differ (sym any
-        ∙ found-none (numbered number) (popups_of shell)
-        (none-ordered number [] (flat_map popped_of shell) refl (none-popped number shell (none-found (has_number number) shell is)))))
+        absurd (true≢false (sym any
+        ∙ none-any (numbered number) (popups_of shell)
+        (none-ordered number [] (flat_map popped_of shell) refl (none-popped number shell (find-none (has_number number) shell is)))))

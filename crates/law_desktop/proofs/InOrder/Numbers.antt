@@ -3,7 +3,7 @@ use Rattle.std.proofs.Common.{◌≡◌, ◌≤◌, ℕ, ◌+◌, Bool, true, fa
 use Rattle.std.specs.Prelude.{◌==◌, ◌||◌, if◌then◌else◌, not}
 use Rattle.std.specs.List.{list_any}
 use Rattle.std.specs.Option.{option_map}
-use Rattle.std.proofs.lemmas.Bool.{eqb-true}
+use Rattle.std.proofs.lemmas.Bool.{eqb-true, false_from_ne_true, or_left, or_right, true≢false}
 use Rattle.wl_shell.specs.Popups.{Popped, dismiss, dismissed_among, dismissed_with, dismissing, is_among, is_parent_of, new_popup, orphan, orphaning, placing, popup_changed, with_effect}
 use Rattle.wl_shell.specs.Popups.{with_grab, with_popup, with_popup_role, arrive, arriving, copying, is_configured, popup_at, repositioning, unmapped, waiting_in}
 use Rattle.wl_shell.specs.Positioner.{Placed, Positioner}
@@ -20,11 +20,12 @@ use Rattle.spec_desktop.specs.Demanding.{effect_of_commit}
 use Rattle.spec_desktop.specs.Desktop.{Desktop, Resident}
 use Rattle.spec_desktop.specs.Step.{asked_so_far, changed_by, toplevel_given, xdg_changed}
 use Rattle.law_desktop.specs.Apart.{AreApartBy}
-use Rattle.law_desktop.proofs.Lists.Keys.{apart-left, changed-apart, differ, new-apart}
+use Rattle.law_desktop.proofs.Lists.Keys.{apart-left, changed-apart, new-apart}
 use Rattle.law_desktop.proofs.Marks.Stacks.{equal-numbers}
-use Rattle.law_desktop.proofs.Soundness.ObjectsKeys.{apart-less, none-found}
+use Rattle.law_desktop.proofs.Soundness.ObjectsKeys.{apart-less}
 use Rattle.law_desktop.specs.InOrder.{is_kind_numbered, is_popup_numbered}
 use Rattle.law_desktop.proofs.EachPopup.{IsSteadyOf, OfEach, OfKind, OfRole, each-stays}
+use Rattle.law_desktop.proofs.Lists.Tests.{find-none}
 
 -- the popup of this number is that of the xdg_surface
 abbrev pub has_number : ℕ → Xdg → Bool
@@ -67,10 +68,10 @@ orphan-number xdg p = at (is_parent_of xdg p) p
     at false p = refl
 
 none-without : BringsNone without_role
-none-without key x is = absurd (differ (sym is))
+none-without key x is = absurd (true≢false (sym is))
 
 none-toplevel : (id since : ℕ) → BringsNone (new_toplevel id since)
-none-toplevel id since key x is = absurd (differ (sym is))
+none-toplevel id since key x is = absurd (true≢false (sym is))
 
 -- a placement that waits comes into force
 none-arriving : (o : Option Placed) (key : ℕ) (x : Xdg) → is_popup_numbered key (arriving o x).role ≡ is_popup_numbered key x.role
@@ -132,7 +133,7 @@ apart-asked (Own action) r apart = apart
 apart-asked (CreateSurface id version) r apart = apart
 apart-asked (AskSurface id request) r apart = apart
 apart-asked (EndObject id) r apart = apart
-apart-asked (GetXdgSurface id version base surface) r apart = new-apart has_number r.owned.shell _ (λ key is. absurd (differ (sym is))) apart
+apart-asked (GetXdgSurface id version base surface) r apart = new-apart has_number r.owned.shell _ (λ key is. absurd (true≢false (sym is))) apart
 apart-asked (DestroyXdgSurface id) r apart = apart-left has_number (λ x. not (x.id == id)) r.owned.shell apart
 apart-asked (GetToplevel id version xdg) r apart = apart-toplevel id xdg (xdg_at xdg r.owned.shell) r apart
 apart-asked (Acknowledge xdg serial) r apart = apart-changed xdg (acknowledging serial) (λ key x is. sym (none-acknowledged (up_to serial x.configures) key x.role) ∙ is) r.owned.shell apart
@@ -149,7 +150,7 @@ apart-popup : (id xdg parent : ℕ) (p : Positioner) (o : Option Xdg) (r : Resid
 apart-popup id xdg parent p None r ids none found apart = apart
 apart-popup id xdg parent p (Some x) r ids none found apart =
     changed-apart (λ id x. x.id == id) xdg x (new_popup id parent p r.peer.requests _) has_number r.owned.shell ids found apart
-    (λ key is. none-found (has_number key) r.owned.shell (ap (λ (n : ℕ). list_any (has_number n) r.owned.shell) (sym (eqb-true r.peer.requests key is)) ∙ none))
+    (λ key is. find-none (has_number key) r.owned.shell (ap (λ (n : ℕ). list_any (has_number n) r.owned.shell) (sym (eqb-true r.peer.requests key is)) ∙ none))
 
 apart-repositioned : (where_to : Placing) (p : Positioner) (o : Option Popped) (r : Resident) → AreNumbered r.owned.shell → AreNumbered (popup_repositioned where_to p o r).owned.shell
 apart-repositioned where_to p None r apart = apart
@@ -201,23 +202,16 @@ up-to-steady n = record {
 abbrev pub AreEarly : ℕ → Shell → Type 0
 AreEarly n shell = (number : ℕ) → list_any (has_number number) shell ≡ true → number ≤ n
 
-or-first : (a b : Bool) → a ≡ true → (a || b) ≡ true
-or-first a b e = ap (λ k. k || b) e
-
-or-second : (a b : Bool) → b ≡ true → (a || b) ≡ true
-or-second true b e = refl
-or-second false b e = e
-
 each-early : (n : ℕ) (shell : Shell) → OfEach (IsUpTo n) shell → AreEarly n shell
-each-early n [] all number any = absurd (differ (sym any))
+each-early n [] all number any = absurd (true≢false (sym any))
 each-early n (x ∷ xs) all number any = at (has_number number x) refl any (each-early n xs all.1 number)
   where
     kind : (id : ℕ) (k : Kind) → OfKind (IsUpTo n) id k → is_kind_numbered number k ≡ true → number ≤ n
-    kind id Toplevel low is = absurd (differ (sym is))
+    kind id Toplevel low is = absurd (true≢false (sym is))
     kind id (IsPopup popup) low is = subst (λ (m : ℕ). m ≤ n) (eqb-true popup.number number is) low
 
     role : (o : Option RoleObject) → OfRole (IsUpTo n) o → is_popup_numbered number o ≡ true → number ≤ n
-    role None low is = absurd (differ (sym is))
+    role None low is = absurd (true≢false (sym is))
     role (Some object) low is = kind object.id object.kind low is
 
     at : (b : Bool) → has_number number x ≡ b → (b || list_any (has_number number) xs) ≡ true → (list_any (has_number number) xs ≡ true → number ≤ n) → number ≤ n
@@ -227,8 +221,8 @@ each-early n (x ∷ xs) all number any = at (has_number number x) refl any (each
 early-each : (n : ℕ) (shell : Shell) → AreEarly n shell → OfEach (IsUpTo n) shell
 early-each n [] early = tt
 early-each n (x ∷ xs) early = (
-  role x.role (λ number is. early number (or-first (has_number number x) (list_any (has_number number) xs) is)),
-  early-each n xs (λ number any. early number (or-second (has_number number x) (list_any (has_number number) xs) any)),
+  role x.role (λ number is. early number (or_left (has_number number x) (list_any (has_number number) xs) is)),
+  early-each n xs (λ number any. early number (or_right (has_number number x) (list_any (has_number number) xs) any)),
 )
   where
     same : (k : ℕ) → (k == k) ≡ true
@@ -242,16 +236,12 @@ early-each n (x ∷ xs) early = (
     role None low = tt
     role (Some object) low = kind object.id object.kind low
 
-none-any : (b : Bool) → (b ≡ true → ⊥) → b ≡ false
-none-any true never = absurd (never refl)
-none-any false never = refl
-
 past : (n k : ℕ) → n ≡ k + 1 → n ≤ k → ⊥
 past n k e le = absurd (omega (arith, e, le))
 
 -- so the number of a request that is counted is no popup's yet
 pub none-numbered : (n k : ℕ) (shell : Shell) → n ≡ k + 1 → AreEarly k shell → list_any (has_number n) shell ≡ false
-none-numbered n k shell next early = none-any (list_any (has_number n) shell) (λ any. past n k next (early n any))
+none-numbered n k shell next early = false_from_ne_true (list_any (has_number n) shell) (λ any. past n k next (early n any))
 
 le-next : (a n k : ℕ) → n ≡ k + 1 → a ≤ k → a ≤ n
 le-next a n k next le = omega (arith, next, le)

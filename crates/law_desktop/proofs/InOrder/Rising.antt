@@ -2,14 +2,14 @@
 use Rattle.std.proofs.Common.{◌≡◌, ◌≢◌, ◌≤◌, ◌<◌, ℕ, List, [], ◌∷◌, Bool, true, false, refl, ap, sym, ◌∙◌, inl, inr, arith}
 use Rattle.std.specs.Prelude.{◌==◌, ◌||◌, ◌⊎◌, flat_map, fold, if◌then◌else◌, nat_lt}
 use Rattle.std.specs.List.{list_any}
-use Rattle.std.proofs.lemmas.Bool.{eqb-true, ltb-false, ltb-true, or_cases}
+use Rattle.std.proofs.lemmas.Bool.{eqb-true, ltb-false, ltb-true, or_cases, true≢false}
 use Rattle.wl_shell.specs.Popups.{Popped, by_number, popped_of, popups_of}
 use Rattle.law_desktop.specs.Apart.{AreApartBy}
-use Rattle.law_desktop.proofs.Lists.Keys.{differ}
 use Rattle.law_desktop.proofs.Marks.Stacks.{equal-numbers}
 use Rattle.law_desktop.specs.InOrder.{AreRising}
 use Rattle.law_desktop.specs.InOrderLaws.{PopupsRise}
-use Rattle.law_desktop.proofs.InOrder.Numbered.{found-none, numbers-apart}
+use Rattle.law_desktop.proofs.InOrder.Numbered.{numbers-apart}
+use Rattle.law_desktop.proofs.Lists.Tests.{none-any}
 
 abbrev numbered : ℕ → Popped → Bool
 numbered number p = p.popup.number == number
@@ -54,7 +54,7 @@ less-least : (a b : ℕ) → a < b → a ≤ b
 less-least a b lower = omega (arith, lower)
 
 sorted-among : (p : Popped) (ps : List Popped) → AreSorted ps → AreSorted (by_number p ps)
-sorted-among p [] sorted = (λ number any. absurd (differ (sym any)), tt)
+sorted-among p [] sorted = (λ number any. absurd (true≢false (sym any)), tt)
 sorted-among p (q ∷ qs) sorted = at (nat_lt p.popup.number q.popup.number) refl (sorted-among p qs sorted.1)
   where
     first : p.popup.number < q.popup.number → (number : ℕ) → (numbered number q ≡ true) ⊎ (list_any (numbered number) qs ≡ true) → p.popup.number ≤ number
@@ -89,10 +89,10 @@ rising [] sorted apart = tt
 rising (p ∷ ps) sorted apart = (λ number any. strictly p.popup.number number (other number any) (sorted.0 number any), rising ps sorted.1 apart.1)
   where
     none : list_any (numbered p.popup.number) ps ≡ false
-    none = found-none (numbered p.popup.number) ps (apart.0 p.popup.number (equal-numbers p.popup.number p.popup.number refl))
+    none = none-any (numbered p.popup.number) ps (apart.0 p.popup.number (equal-numbers p.popup.number p.popup.number refl))
 
     other : (number : ℕ) → list_any (numbered number) ps ≡ true → p.popup.number ≢ number
-    other number any same = differ (sym any ∙ ap (λ n. list_any (numbered n) ps) (sym same) ∙ none)
+    other number any same = true≢false (sym any ∙ ap (λ n. list_any (numbered n) ps) (sym same) ∙ none)
 
 pub popups_rise : PopupsRise
 popups_rise r owns =

@@ -3,12 +3,13 @@ use Rattle.std.proofs.Common.{◌≡◌, ◌≢◌, ℕ, List, [], ◌∷◌, �
 use Rattle.std.specs.Prelude.{◌==◌, ◌⊎◌, ◌||◌, is_some, not}
 use Rattle.std.specs.List.{list_any}
 use Rattle.std.specs.Option.{option_and_then, option_map_or}
-use Rattle.std.proofs.lemmas.Bool.{eqb-true, ne_eqb, or_cases}
+use Rattle.std.proofs.lemmas.Bool.{eqb-true, ne_eqb, or_cases, true≢false}
+use Rattle.std.proofs.lemmas.Option.{none-some}
 use Rattle.wl_proto.specs.declared.interface.Interface.TheVariants.{WlPointer, WlSurface, XdgPopup}
 use Rattle.spec_desktop.specs.Objects.{is_of}
 use Rattle.wl_surface.specs.declared.role.Role.{Role}
 use Rattle.wl_surface.specs.declared.role.Role.TheVariants.{Cursor as AsCursor, Popup as AsPopup, Subsurface as AsSubsurface, Toplevel as AsToplevel}
-use Rattle.wl_surface.specs.Request.{AddChild, Frame}
+use Rattle.wl_surface.specs.Request.{Frame}
 use Rattle.wl_surface.specs.Surface.{Surface, new_surface, with_role}
 use Rattle.wl_surface.specs.Surfaces.{Surfaces, surface_at, with_change, with_new}
 use Rattle.wl_surface.specs.Trees.{linked}
@@ -26,15 +27,17 @@ use Rattle.spec_desktop.specs.Desktop.{Desktop, Resident, Subsurface}
 use Rattle.spec_desktop.specs.Step.{asked_so_far, changed_by, making, toplevel_given, with_surfaces, xdg_changed}
 use Rattle.spec_desktop.specs.WlPointer.{is_no_cursor}
 use Rattle.spec_desktop.specs.WlSubsurface.{has_subsurface, is_of_child}
-use Rattle.spec_desktop.specs.XdgShell.{is_foreign, role_of}
-use Rattle.law_desktop.proofs.Lists.Keys.{differ, new-elsewhere, none-some}
+use Rattle.spec_desktop.specs.XdgShell.{role_of}
+use Rattle.law_desktop.proofs.Lists.Keys.{new-elsewhere}
 use Rattle.law_desktop.proofs.Lists.Standings.{any-last}
 use Rattle.law_desktop.proofs.Soundness.Moves.{destroyed-role, trees-asked, trees-committed, trees-desynchronised, trees-synchronised, trees-unlinked}
-use Rattle.law_desktop.proofs.Soundness.ObjectsKeys.{any-less, any-map, any-of-filter}
+use Rattle.law_desktop.proofs.Soundness.ObjectsKeys.{any-less, any-map}
 use Rattle.law_desktop.proofs.Soundness.Orderly.{IsAllowed, IsAsked, role_in}
-use Rattle.law_desktop.proofs.Soundness.Roles.{KeepsShell, StaysChild, has_surface, no-child, role-else, role-now, role-still, shell-changed, shell-dismissed, shell-more, shell-orphaned}
-use Rattle.law_desktop.proofs.Soundness.Roles.{shell-same, shell-without, arriving-surface, repositioning-surface}
-use Rattle.law_desktop.proofs.Soundness.Standing.{found-first}
+use Rattle.law_desktop.proofs.Soundness.Roles.{KeepsShell, StaysChild, cursor-not, foreign-not, has_surface, linked-child, linked-role, no-child, role-else, shell-changed, shell-dismissed, shell-more, shell-orphaned}
+use Rattle.law_desktop.proofs.Soundness.Roles.{shell-same, shell-without}
+use Rattle.law_desktop.proofs.Soundness.Standing.{arriving-surface, found-first, repositioned-surface}
+use Rattle.law_desktop.proofs.Lists.Left.{any-there}
+use Rattle.law_desktop.proofs.InOrder.Known.{inert-less}
 
 pub record AreSubsurfaces (r : Resident) : Type 0 where
   pub roles : (surface : ℕ) → has_subsurface surface r ≡ true → role_of r surface ≡ Some AsSubsurface
@@ -61,12 +64,6 @@ created : (id surface : ℕ) (all : Surfaces) → role_in surface all ≡ Some A
 created id surface all e =
     some-role (role_in surface (with_new id all) ≡ Some AsSubsurface) AsSubsurface (surface_at surface all) e
     (λ s found role. ap (option_and_then (λ (s : Surface). s.role)) (found-first (λ (s : Surface). s.id == surface) all.surfaces (new_surface id) s found) ∙ role)
-
-foreign : (o : Option Role) → is_foreign o ≡ false → o ≡ Some AsSubsurface → ⊥
-foreign o none is = differ (sym (ap is_foreign is) ∙ none)
-
-no-cursor : (o : Option Role) → is_no_cursor o ≡ false → o ≡ Some AsSubsurface → ⊥
-no-cursor o none is = differ (sym (ap is_no_cursor is) ∙ none)
 
 popup-given : (id xdg parent : ℕ) (p : Positioner) (o : Option Xdg) (r : Resident) → xdg_at xdg r.owned.shell ≡ o → AreSubsurfaces r → AreSubsurfaces (popup_given_to id xdg parent p o r)
 popup-given id xdg parent p None r found are = are
@@ -110,7 +107,7 @@ asked (GetXdgSurface id version base surface) r ok are =
       λ role bare. (
         role,
         new-elsewhere (has_surface other) r.owned.shell (record { id = id; base = base; surface = surface; role = None; configures = []; since = 0 })
-            (ne_eqb surface other (λ same. foreign (role_of r surface) ok.1 (ap (role_of r) same ∙ role))) ∙ bare,
+            (ne_eqb surface other (λ same. foreign-not (role_of r surface) ok.1 (ap (role_of r) same ∙ role))) ∙ bare,
       ),
     )) are
 asked (DestroyXdgSurface id) r ok are = kept r (changed_by (DestroyXdgSurface id) r) (λ id. refl) (shell-without id r.owned.shell) refl are
@@ -129,17 +126,10 @@ cursor surface r none are =
     step r (with_surfaces (with_change surface (with_role AsCursor) r.owned.surfaces) r)
     (λ other has. (
       has,
-      λ role bare. (role-else surface AsCursor r.owned.surfaces other AsSubsurface (λ same. no-cursor (role_of r surface) none (ap (role_of r) same ∙ role)) role, bare),
+      λ role bare. (role-else surface AsCursor r.owned.surfaces other AsSubsurface (λ same. cursor-not (role_of r surface) none (ap (role_of r) same ∙ role)) role, bare),
     )) are
 
 -- ---- a surface goes
-
-inert-of : (surface key : ℕ) (s : Subsurface) → is_of_child key (without_child surface s).surface ≡ true → is_of_child key s.surface ≡ true
-inert-of surface key s = at (option_map_or (λ child. child == surface) s.surface false)
-  where
-    at : (b : Bool) → is_of_child key (cond b (record s { surface = None }) s).surface ≡ true → is_of_child key s.surface ≡ true
-    at true is = absurd (differ (sym is))
-    at false is = is
 
 inert-none : (surface : ℕ) (s : Subsurface) → is_of_child surface (without_child surface s).surface ≡ false
 inert-none surface s = at (option_map_or (λ child. child == surface) s.surface false) refl
@@ -152,7 +142,7 @@ inert-none surface s = at (option_map_or (λ child. child == surface) s.surface 
     at true e = refl
     at false e = never s.surface e
 
-none-of : (p : Subsurface → Bool) (ss : List Subsurface) → ((s : Subsurface) → p s ≡ false) → list_any p ss ≡ false
+pub none-of : (p : Subsurface → Bool) (ss : List Subsurface) → ((s : Subsurface) → p s ≡ false) → list_any p ss ≡ false
 none-of p [] none = refl
 none-of p (s ∷ ss) none = ap (λ b. b || list_any p ss) (none s) ∙ none-of p ss none
 
@@ -167,30 +157,15 @@ destroyed : (id : ℕ) (r : Resident) → AreSubsurfaces r → AreSubsurfaces (s
 destroyed id r are =
     step r (surface_ended id r)
     (λ surface has. (
-      any-less (of surface) (without_child id) r.subsurfaces (λ s is. inert-of id surface s is) has,
+      any-less (of surface) (without_child id) r.subsurfaces (λ s is. inert-less id surface s is) has,
       λ role bare. (destroyed-role id surface r.owned.surfaces (other surface has) ∙ role, bare),
     )) are
   where
     other : (surface : ℕ) → list_any (of surface) (map (without_child id) r.subsurfaces) ≡ true → surface ≢ id
     other surface has same =
-        differ (sym has ∙ ap (λ n. list_any (of n) (map (without_child id) r.subsurfaces)) same ∙ inert-else id r.subsurfaces)
+        true≢false (sym has ∙ ap (λ n. list_any (of n) (map (without_child id) r.subsurfaces)) same ∙ inert-else id r.subsurfaces)
 
 -- ---- a wl_subsurface comes
-
--- the new link alone
-abbrev with_link_more : ℕ → ℕ → ℕ → Surfaces → Surfaces
-with_link_more number child parent all =
-    record all { links = all.links ++ record { number = number; child = child; parent = parent; synchronised = true; has_ended = false } ∷ [] }
-
-linked-role : (number child parent id : ℕ) (all : Surfaces) → role_in id all ≡ Some AsSubsurface → role_in id (linked number child parent all) ≡ Some AsSubsurface
-linked-role number child parent id all e =
-    (trees-asked parent (AddChild number) (with_change child (with_role AsSubsurface) (with_link_more number child parent all))).surfaces.roles id
-    ∙ role-still child AsSubsurface (with_link_more number child parent all) id e
-
-linked-child : (number child parent : ℕ) (all : Surfaces) → is_some (surface_at child all) ≡ true → role_in child (linked number child parent all) ≡ Some AsSubsurface
-linked-child number child parent all there =
-    (trees-asked parent (AddChild number) (with_change child (with_role AsSubsurface) (with_link_more number child parent all))).surfaces.roles child
-    ∙ role-now child AsSubsurface (with_link_more number child parent all) there
 
 joined : (id version child parent : ℕ) (r : Resident) → is_some (surface_at child r.owned.surfaces) ≡ true → xdg_of child r.owned.shell ≡ None → AreSubsurfaces r
     → AreSubsurfaces (subsurface_given id version child parent r)
@@ -250,7 +225,7 @@ repositioned-kept where_to p (Some q) r are =
     let step : Xdg → Xdg = repositioning (is_configured q) r.peer.serial (where_to (copying p q.popup)) p in
     let now : Resident = xdg_changed q.xdg.id step r in
     drawn-kept (is_configured q) now
-    (kept r now (λ id. refl) (shell-changed q.xdg.id step r.owned.shell (repositioning-surface (is_configured q) r.peer.serial (where_to (copying p q.popup)) p)) refl are)
+    (kept r now (λ id. refl) (shell-changed q.xdg.id step r.owned.shell (repositioned-surface (is_configured q) r.peer.serial (where_to (copying p q.popup)) p)) refl are)
 
 grabbed-kept : (b : Bool) (xdg : ℕ) (r : Resident) → AreSubsurfaces r → AreSubsurfaces (grabbed b xdg r)
 grabbed-kept true xdg r are = kept r (grabbed true xdg r) (λ id. refl) (shell-changed xdg (popup_changed with_grab) r.owned.shell (λ x. refl)) refl are
@@ -270,7 +245,7 @@ demanded-subsurfaces c (GetSubsurface id version child parent) r d there ok are 
 demanded-subsurfaces c (EndSubsurface id) r d there ok are =
     step r (subsurface_ended id r)
     (λ surface has. (
-      any-of-filter (of surface) (λ s. not (s.id == id)) r.subsurfaces has,
+      any-there (of surface) (λ s. not (s.id == id)) r.subsurfaces has,
       λ role bare. ((trees-unlinked (link_with_id id r) r.owned.surfaces).surfaces.roles surface ∙ role, bare),
     )) are
 demanded-subsurfaces c (SetMode link synchronised) r d there ok are = mode-kept link synchronised r are

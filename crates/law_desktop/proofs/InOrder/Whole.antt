@@ -1,20 +1,17 @@
 -- What is in order of a client that lives is what the laws of runs keep of it.
-use Rattle.std.proofs.Common.{◌≡◌, ◌≤◌, ◌<◌, ℕ, ◌+◌, List, [], ◌∷◌, Bool, true, Option, Some, None, refl, ap, sym, ◌∙◌, arith}
+use Rattle.std.proofs.Common.{◌≡◌, ◌≤◌, ◌<◌, ℕ, ◌+◌, List, [], Bool, true, Option, Some, None, refl, ap, sym, ◌∙◌, arith}
 use Rattle.std.specs.Prelude.{◌==◌, ◌&&◌, is_some}
 use Rattle.std.specs.List.{list_any}
-use Rattle.std.proofs.lemmas.Bool.{eqb-true}
-use Rattle.wl_surface.specs.Surfaces.{Link}
-use Rattle.wl_surface.specs.Hanging.{AreNumbered, AreTied}
+use Rattle.std.proofs.lemmas.Bool.{and_from, eqb-true, true≢false}
+use Rattle.wl_surface.specs.Hanging.{AreTied}
 use Rattle.wl_shell.specs.Shell.{RoleObject, Shell, XdgSurface as Xdg, xdg_of}
 use Rattle.spec_desktop.specs.Stacking.{Standing}
 use Rattle.spec_desktop.specs.Desktop.{Resident, Subsurface}
 use Rattle.spec_desktop.specs.WlSubsurface.{has_subsurface, is_of_child}
-use Rattle.law_desktop.specs.Apart.{AreApartBy}
 use Rattle.law_desktop.specs.Soundness.{IsNoChild}
-use Rattle.law_desktop.proofs.Lists.Keys.{any-found, differ, found-any}
-use Rattle.law_desktop.proofs.Marks.Stacks.{and-both, and-left, and-right, equal-numbers}
+use Rattle.law_desktop.proofs.Lists.Keys.{any-found, found-any}
+use Rattle.law_desktop.proofs.Marks.Stacks.{equal-numbers}
 use Rattle.law_desktop.proofs.Soundness.Linked.{forest-trees}
-use Rattle.law_desktop.proofs.Soundness.ObjectsKeys.{none-found}
 use Rattle.law_desktop.proofs.Soundness.Orderly.{HasObjects, HasRoles, IsForest, IsMapped, IsMappedRole, IsOrderly, StandsSo}
 use Rattle.law_desktop.specs.OneBuffer.{HasOneBuffer}
 use Rattle.law_desktop.specs.Roots.{AreOwnSubsurfaces, HasSubsurface}
@@ -24,6 +21,8 @@ use Rattle.law_desktop.specs.InOrder.{OwnsInOrder, OwnsKnown}
 use Rattle.law_desktop.specs.Standing.{AreMappedOnce, HasMappedToplevel, IsMappedToplevel}
 use Rattle.law_desktop.proofs.InOrder.Numbers.{AreEarly, AreNumbered as AreNumberedPopups}
 use Rattle.law_desktop.proofs.InOrder.Subsurfaces.{AreSubsurfaces}
+use Rattle.law_desktop.proofs.Truth.{and-left, and-right}
+use Rattle.law_desktop.proofs.ShownSurfaces.Roots.{numbers-apart}
 
 pub record IsWhole (r : Resident) : Type 0 where
   pub objects : HasObjects r
@@ -47,7 +46,7 @@ bare-orderly r w = record {
   objects = w.objects;
   forest = w.forest;
   roles = w.hanging;
-  standing = record { apart = tt; mapped = λ surface there. absurd (differ (sym there)) };
+  standing = record { apart = tt; mapped = λ surface there. absurd (true≢false (sym there)) };
 }
 
 below-next : (k n : ℕ) → k ≤ n → k < n + 1
@@ -74,19 +73,10 @@ so-mapped (Some x) is = role x.role is
     role None is = absurd is
     role (Some object) is = is
 
--- ---- links
-
-numbers-apart : (ls : List Link) → AreNumbered ls → AreApartBy (λ number l. l.number == number) ls
-numbers-apart [] numbered = tt
-numbers-apart (l ∷ ls) numbered = (
-  λ key is. none-found (λ k. k.number == key) ls (ap (λ n. list_any (λ (k : Link). k.number == n) ls) (sym (eqb-true l.number key is)) ∙ numbered.0),
-  numbers-apart ls numbered.1,
-)
-
 -- ---- wl_subsurfaces
 
 named-child : (child : ℕ) (o : Option ℕ) → is_of_child child o ≡ true → o ≡ Some child
-named-child child None is = absurd (differ (sym is))
+named-child child None is = absurd (true≢false (sym is))
 named-child child (Some k) is = ap (λ n. Some n) (eqb-true k child is)
 
 module _ (r : Resident) (number child : ℕ) where
@@ -113,7 +103,7 @@ module _ (r : Resident) (number child : ℕ) where
   names-there : HasSubsurface r number child → list_any names r.subsurfaces ≡ true
   names-there h =
       found-any (λ s. s.id == h.subsurface.id) names r.subsurfaces h.subsurface h.here
-      (and-both (h.subsurface.link == number) (is_of_child child h.subsurface.surface) (equal-numbers h.subsurface.link number h.link) (is-of h))
+      (and_from (h.subsurface.link == number) (is_of_child child h.subsurface.surface) (equal-numbers h.subsurface.link number h.link) (is-of h))
 
   pub child-there : HasSubsurface r number child → has_subsurface child r ≡ true
   child-there h = found-any (λ s. s.id == h.subsurface.id) (λ s. is_of_child child s.surface) r.subsurfaces h.subsurface h.here (is-of h)
@@ -219,4 +209,4 @@ of-whole r w =
 
     roots : (surface : ℕ) → is_some (xdg_of surface r.owned.shell) ≡ true → IsNoChild surface r.owned.surfaces
     roots surface has number link live same =
-        differ (sym has ∙ ap is_some (ap (λ n. xdg_of n r.owned.shell) (sym same) ∙ w.hanging.bare number link live))
+        true≢false (sym has ∙ ap is_some (ap (λ n. xdg_of n r.owned.shell) (sym same) ∙ w.hanging.bare number link live))

@@ -3,7 +3,7 @@ use Rattle.std.proofs.Common.{◌≡◌, ℕ, List, [], ◌∷◌, ◌++◌, Boo
 use Rattle.std.specs.Prelude.{◌==◌, ◌⊎◌, fold, if◌then◌else◌, map}
 use Rattle.std.specs.List.{list_any}
 use Rattle.std.specs.Option.{option_map}
-use Rattle.std.proofs.lemmas.Bool.{eqb-true}
+use Rattle.std.proofs.lemmas.Bool.{eqb-true, false_from_ne_true}
 use Rattle.spec_desktop.specs.declared.cause.Cause.{Cause}
 use Rattle.spec_desktop.specs.declared.cause.Cause.TheVariants.{Memory, Slow}
 use Rattle.spec_desktop.specs.Peer.{Peer, has_room, queued, removed}
@@ -21,8 +21,9 @@ use Rattle.spec_desktop.specs.Settling.{QueuesFirst, QueuesTo, leave_drawn, note
 use Rattle.spec_desktop.specs.Happens.{callbacks_due, frames_told, is_counting}
 use Rattle.law_desktop.specs.Own.{AreSameOrDismissed, HasItsOwn, IsSameOrDismissed, LivesOn}
 use Rattle.law_desktop.proofs.Lists.Standings.{none-left}
-use Rattle.law_desktop.proofs.Marks.Stacks.{equal-numbers, or-left, or-right, unless}
+use Rattle.law_desktop.proofs.Marks.Stacks.{equal-numbers}
 use Rattle.law_desktop.proofs.Isolation.Told.{TellsBy, TellsFocus}
+use Rattle.law_desktop.proofs.Truth.{or-left, or-right}
 
 -- ---- its streams and tables
 
@@ -197,7 +198,7 @@ gone-peer [] p = lives-on p
 gone-peer (k ∷ ks) p = lives-then p (removed k.id p) _ (lives-else p (removed k.id p) refl) (gone-peer ks (removed k.id p))
 
 unequal : (a b : ℕ) → (a == b) ≡ false → (b == a) ≡ false
-unequal a b none = unless (b == a) (λ e. both (sym none ∙ equal-numbers a b (sym (eqb-true b a e))))
+unequal a b none = false_from_ne_true (b == a) (λ e. both (sym none ∙ equal-numbers a b (sym (eqb-true b a e))))
   where
     both : false ≡ true → ⊥
     both e = absurd (cc)

@@ -1,5 +1,6 @@
 -- A step of one client leaves every other alone, where every request is served.
 use Rattle.std.proofs.Common.{◌≡◌, ◌≢◌, ℕ, ◌+◌, List, Option, Some, None, refl, ap, sym, ◌∙◌, inl, inr}
+use Rattle.std.proofs.lemmas.Option.{same_Some}
 use Rattle.spec_desktop.specs.declared.cause.Cause.{Cause}
 use Rattle.spec_desktop.specs.Peer.{ended}
 use Rattle.spec_desktop.specs.Stacking.{Standing}
@@ -8,7 +9,6 @@ use Rattle.spec_desktop.specs.Desktop.{Desktop, Resident, arrival, client_at, re
 use Rattle.spec_desktop.specs.Act.{Connect, Feed, Store, Leave, Tick, Send, Close, Motion, Button, lowest}
 use Rattle.law_desktop.proofs.Runs.Forms.{ConnectsAt}
 use Rattle.law_desktop.specs.Others.{HasEndedUntold, IsLeftAlone, IsLeftBy, IsLeftLiving, IsLeftSo, IsNotQueued, IsToldOfFocus, OthersAreLeftAlone, client_of}
-use Rattle.law_desktop.proofs.Lists.Keys.{some-same}
 use Rattle.law_desktop.proofs.Isolation.Others.{IsLeft, left-then, same-left}
 use Rattle.law_desktop.proofs.Isolation.Messages.{changes-in, fed-in, leaves-in, with-left}
 use Rattle.law_desktop.proofs.Isolation.Settling.{Stays}
@@ -45,7 +45,7 @@ gone-stays r cause before is_over = record {
   where
     alive_too : (p : Resident) → p.peer.status ≡ None → Some p ≡ Some r → ⊥
     alive_too p alive same =
-        let one : p ≡ r = some-same p r same in
+        let one : p ≡ r = same_Some p r same in
         let e : p.peer.status ≡ Some cause = ap (λ (x : Resident). x.peer.status) one ∙ is_over in
         absurd (cc)
 
@@ -97,7 +97,7 @@ connects c other None d done new of h differ = same-left other d new h.1
 connects c other (Some k) d done new of (inl h) differ = same-left other d new h.1
 connects c other (Some k) d done new of (inr h) differ =
     let come : Option Resident = Some (arrival d.output) in
-    let it : k + 1 ≡ c = some-same (k + 1) c (sym (ap (λ (x : Done). client_of Connect x) h.0) ∙ of) in
+    let it : k + 1 ≡ c = same_Some (k + 1) c (sym (ap (λ (x : Done). client_of Connect x) h.0) ∙ of) in
     left-then other d (with_client (k + 1) come d) new (with-left (k + 1) other come d (λ e. differ (sym it ∙ e)))
     (same-left other (with_client (k + 1) come d) new h.1)
 
@@ -109,7 +109,7 @@ carried other old new left A P stays known = rw (left.0, left.1) known
 
 -- another than the one is another than the other
 else-than : (a c other : ℕ) → Some a ≡ Some c → c ≢ other → a ≢ other
-else-than a c other same differ e = differ (sym (some-same a c same) ∙ e)
+else-than a c other same differ e = differ (sym (same_Some a c same) ∙ e)
 
 pub others_are_left_alone : OthersAreLeftAlone
 others_are_left_alone out Connect done c other old new of h differ =

@@ -1,5 +1,6 @@
 -- Whatever happens leaves a client what it has, but for its own steps.
-use Rattle.std.proofs.Common.{◌≡◌, ◌≢◌, ℕ, zero, suc, ◌+◌, List, [], ◌∷◌, ◌++◌, Bool, true, false, cond, Option, Some, None, refl, ap, sym, ◌∙◌, inl, inr}
+use Rattle.std.proofs.Common.{◌≡◌, ◌≢◌, ℕ, zero, suc, ◌+◌, List, [], ◌∷◌, ◌++◌, Bool, true, false, Option, Some, None, refl, ap, sym, ◌∙◌, inl, inr}
+use Rattle.std.proofs.lemmas.Option.{same_Some}
 use Rattle.std.specs.Prelude.{◌==◌, ◌&&◌, ◌||◌, ◌⊎◌, ℤ, filter, flat_map, if◌then◌else◌}
 use Rattle.std.specs.List.{list_any}
 use Rattle.spec_desktop.specs.declared.cause.Cause.{Cause}
@@ -24,12 +25,13 @@ use Rattle.law_desktop.proofs.Runs.Forms.{ConnectsAt, MovesTo, PressesIf, Releas
 use Rattle.spec_desktop.specs.Happens.{Happens, MovesThen, PressedThen, ReleasedThen, ShowsThen, TellsFrames, callbacks_due, ending, frames_told, placed, point_in, settling, with_press, with_release}
 use Rattle.law_desktop.specs.Others.{IsLeftAlone, IsLeftBy, IsLeftSo, IsNotQueued, IsToldTimes, client_of, told_once}
 use Rattle.law_desktop.specs.Own.{HasEndedLate, HasItsOwn, KeepsItsOwn, KeepsItsOwnBy, KeepsItsOwnSo, LivesOrEnds, StandTheSame, OwnStays}
-use Rattle.law_desktop.proofs.Lists.Keys.{some-same}
-use Rattle.law_desktop.proofs.Lists.Standings.{any-last}
 use Rattle.law_desktop.proofs.Isolation.LeftAlone.{others_are_left_alone}
 use Rattle.law_desktop.proofs.Isolation.Kept.{StaysOwn, TellsDone, TellsPointer, own-all, own-drawn, own-frames, own-more, own-same, own-then}
 use Rattle.law_desktop.proofs.Isolation.Settling.{IsIn, IsWithin, Stays, ending-in, enters-in, leaves-in, settles-in, settling-in, tells-in, within-same}
-use Rattle.law_desktop.proofs.Marks.Stacks.{differ, equal-numbers}
+use Rattle.law_desktop.proofs.Marks.Stacks.{equal-numbers}
+use Rattle.law_desktop.proofs.Truth.{differ}
+use Rattle.law_desktop.proofs.Lists.Left.{any-filtered}
+use Rattle.law_desktop.proofs.PointerAside.Moved.{any-raised}
 
 -- ---- what stays of a client
 
@@ -61,7 +63,7 @@ gone-stays r cause is_over = record {
   where
     alive_too : (p : Resident) → p.peer.status ≡ None → Some p ≡ Some r → ⊥
     alive_too p alive same =
-        let one : p ≡ r = some-same p r same in
+        let one : p ≡ r = same_Some p r same in
         let e : p.peer.status ≡ Some cause = ap (λ (x : Resident). x.peer.status) one ∙ is_over in
         absurd (cc)
 
@@ -93,29 +95,6 @@ living-stays r before = record {
 
 -- ---- which toplevels stand
 
--- what passes of those that are left
-pub any-kept : {X : Type 0} (p q : X → Bool) (xs : List X) → list_any p (filter q xs) ≡ list_any (λ x. q x && p x) xs
-any-kept p q [] = refl
-any-kept p q (x ∷ xs) = at (q x) (any-kept p q xs)
-  where
-    at : (b : Bool) → list_any p (filter q xs) ≡ list_any (λ x. q x && p x) xs → list_any p (cond b (x ∷ filter q xs) (filter q xs)) ≡ ((b && p x) || list_any (λ x. q x && p x) xs)
-    at true e = ap (λ (b : Bool). p x || b) e
-    at false e = e
-
-or-turned : (a b : Bool) → (a || b) ≡ (b || a)
-or-turned true true = refl
-or-turned true false = refl
-or-turned false true = refl
-or-turned false false = refl
-
-pub any-raised : (p : Standing → Bool) (c surface : ℕ) (ss : List Standing) → list_any p (raised c surface ss) ≡ list_any p ss
-any-raised p c surface [] = refl
-any-raised p c surface (s ∷ ss) = at (is_of c surface s) (any-raised p c surface ss)
-  where
-    at : (b : Bool) → list_any p (raised c surface ss) ≡ list_any p ss → list_any p (if b then ss ++ s ∷ [] else s ∷ raised c surface ss) ≡ (p s || list_any p ss)
-    at true e = any-last p ss s ∙ or-turned (list_any p ss) (p s)
-    at false e = ap (λ (b : Bool). p s || b) e
-
 pub any-moved : (p : Standing → Bool) → ((s : Standing) (place : Place) → p (record s { place = place }) ≡ p s) → (c surface : ℕ) (place : Place) (ss : List Standing)
     → list_any p (moved_to c surface place ss) ≡ list_any p ss
 any-moved p same c surface place [] = refl
@@ -135,7 +114,7 @@ of c ss = filter (λ s. s.client == c) ss
 
 stand-same : (c : ℕ) (before after : List Standing) → ((surface : ℕ) → list_any (its c surface) after ≡ list_any (its c surface) before) → StandTheSame (of c before) (of c after)
 stand-same c before after same surface =
-    any-kept (λ s. s.surface == surface) (λ s. s.client == c) after ∙ same surface ∙ sym (any-kept (λ s. s.surface == surface) (λ s. s.client == c) before)
+    any-filtered (λ s. s.surface == surface) (λ s. s.client == c) after ∙ same surface ∙ sym (any-filtered (λ s. s.surface == surface) (λ s. s.client == c) before)
 
 pub stand-raised : (c k surface : ℕ) (ss : List Standing) → StandTheSame (of c ss) (of c (raised k surface ss))
 stand-raised c k surface ss = stand-same c ss (raised k surface ss) (λ other. any-raised (its c other) k surface ss)

@@ -1,5 +1,6 @@
 -- A message that is refused ends its client alone, where every request is served.
 use Rattle.std.proofs.Common.{◌≡◌, ℕ, zero, suc, ◌-◌, take, drop, List, [], Bool, true, false, Option, Some, None, Result, ap, subst, ◌∙◌, inl, inr}
+use Rattle.std.proofs.lemmas.Option.{same_Some}
 use Rattle.std.specs.Prelude.{Ok, Err}
 use Rattle.wl_wire.specs.Wire.{split_of}
 use Rattle.wl_wire.specs.declared.header.Split.{Split}
@@ -19,7 +20,6 @@ use Rattle.spec_desktop.specs.Step.{with_peer}
 use Rattle.spec_desktop.specs.Happens.{Reaches, StopsAt}
 use Rattle.law_desktop.proofs.Runs.Forms.{Answers, Becomes, ServesAt, Takes}
 use Rattle.law_desktop.specs.Others.{HasErred, IsTheLast, RefusedAlone, refusal_of, refused_for}
-use Rattle.law_desktop.proofs.Lists.Keys.{some-same}
 use Rattle.law_desktop.proofs.Runs.Places.{number-same}
 use Rattle.law_desktop.proofs.Isolation.LeftAlone.{Is, Never, gone-stays, left_alone}
 use Rattle.law_desktop.proofs.Isolation.Messages.{serves-in}
@@ -66,7 +66,7 @@ answered-so : (out : LeftOut) (judged : Result Demand Refusal) (refusal : Refusa
     → Answers out judged c r d new → (q : Peer) × Errs refusal r.peer q × (client_at c new ≡ Some (resident_of q)) × (toplevels_of c new ≡ [])
 answered-so out (Ok demand) refusal c r there d new is found h = absurd (cc)
 answered-so out (Err other) refusal c r there d new is found h =
-    let same : other ≡ refusal = some-same other refusal is in
+    let same : other ≡ refusal = same_Some other refusal is in
     let k = erred other c r there r.peer d new found h in
     (k.0, subst (λ (x : Refusal). Errs x r.peer k.0) same k.1, k.2, k.3)
 
@@ -76,7 +76,7 @@ taken-so out (Message object opcode size) refusal c r d new is found h =
     let k = answered-so out (judge_all out r object opcode (take (size - 8) (drop 8 r.peer.rest))) refusal c (with_peer (with_rest (drop size r.peer.rest) r.peer) r) r d new is found h in
     (k.0, rest-apart refusal (drop size r.peer.rest) r.peer k.0 k.1, k.2, k.3)
 taken-so out Bad refusal c r d new is found h =
-    let same : display_error InvalidMethod ≡ refusal = some-same (display_error InvalidMethod) refusal is in
+    let same : display_error InvalidMethod ≡ refusal = same_Some (display_error InvalidMethod) refusal is in
     let k = erred (display_error InvalidMethod) c r r r.peer d new found h in
     (k.0, subst (λ (x : Refusal). Errs x r.peer k.0) same k.1, k.2, k.3)
 taken-so out More refusal c r d new is found h = absurd h
@@ -86,7 +86,7 @@ taken-so out More refusal c r d new is found h = absurd h
 not_served : (out : LeftOut) (c : ℕ) (o : Option Resident) (r : Resident) (cause : Cause) (d new : Desktop) → o ≡ Some r → r.peer.status ≡ Some cause → ServesAt out c o d new → ⊥
 not_served out c None r cause d new there e h = h
 not_served out c (Some p) r cause d new there e h =
-    let same : p.peer.status ≡ Some cause = ap (λ (x : Resident). x.peer.status) (some-same p r there) ∙ e in
+    let same : p.peer.status ≡ Some cause = ap (λ (x : Resident). x.peer.status) (same_Some p r there) ∙ e in
     let alive : p.peer.status ≡ None = h.0 in
     absurd (cc)
 
@@ -100,7 +100,7 @@ stops-none : (c : ℕ) (o : Option Resident) (r : Resident) (cause : Cause) (mid
 stops-none c None r cause mid end there e h = absurd h
 stops-none c (Some p) r cause mid end there e (inl h) = h.0
 stops-none c (Some p) r cause mid end there e (inr h) =
-    let same : p.peer.status ≡ Some cause = ap (λ (x : Resident). x.peer.status) (some-same p r there) ∙ e in
+    let same : p.peer.status ≡ Some cause = ap (λ (x : Resident). x.peer.status) (same_Some p r there) ∙ e in
     let alive : p.peer.status ≡ None = h.0 in
     absurd (cc)
 

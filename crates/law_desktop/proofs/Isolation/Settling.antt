@@ -16,8 +16,9 @@ use Rattle.spec_desktop.specs.Settling.{ended_by, in_order, is_struck, struck_by
 use Rattle.law_desktop.proofs.Isolation.Others.{left_out, one_client}
 use Rattle.law_desktop.proofs.Runs.Focus.{settles-keeps}
 use Rattle.law_desktop.proofs.Runs.Places.{number-other, number-same}
-use Rattle.law_desktop.proofs.Marks.Stacks.{equal-numbers, or-left, or-right}
+use Rattle.law_desktop.proofs.Marks.Stacks.{equal-numbers}
 use Rattle.law_desktop.proofs.Isolation.Told.{TellsBy, TellsFocus}
+use Rattle.law_desktop.proofs.Truth.{or-left, or-right}
 
 -- What is known of a client and of its toplevels, and of why it is to end: it stays so as the client is told, and as it ends.
 pub record Stays (T : Resident → Resident → Option Cause → Type 0) (A : Option Resident → List Standing → Type 0) (P : Resident → Cause → Type 0) : Type 0 where

@@ -1,5 +1,6 @@
 -- What a client is told of the pointer's focus, and what that leaves of it.
-use Rattle.std.proofs.Common.{◌≡◌, ℕ, List, [], ◌∷◌, ◌++◌, Bool, true, false, Option, Some, None, refl, ap, sym, ◌∙◌, inl, inr, append_assoc}
+use Rattle.std.proofs.Common.{Bool, List, None, Option, Some, [], ap, append-nil, append_assoc, false, inl, inr, refl, sym, true, ℕ, ◌++◌, ◌∙◌, ◌∷◌, ◌≡◌}
+use Rattle.std.proofs.lemmas.Bool.{or_right}
 use Rattle.std.specs.Prelude.{◌==◌, ◌&&◌, ◌||◌, if◌then◌else◌, flat_map, is_some}
 use Rattle.wl_wire.specs.Wire.{Word}
 use Rattle.wl_proto.specs.declared.interface.Interface.TheVariants.{WlPointer}
@@ -18,12 +19,9 @@ use Rattle.spec_desktop.specs.Replies.{entered_at}
 use Rattle.spec_desktop.specs.Settling.{QueuesFirst, QueuesTo, leave_drawn, told_drawn}
 use Rattle.law_desktop.specs.Others.{AreOfFocus, IsOfFocus, IsToldOfFocus, IsToldTimes, told_once}
 use Rattle.law_desktop.proofs.Marks.Stacks.{equal-numbers}
+use Rattle.law_desktop.proofs.Truth.{and-right}
 
 -- ---- lists
-
-append-none : {X : Type 0} (xs : List X) → xs ++ [] ≡ xs
-append-none [] = refl
-append-none (x ∷ xs) = ap (λ ys. x ∷ ys) (append-none xs)
 
 focus-append : (pointers : List ℕ) (serial : ℕ) (xs ys : List Said) → AreOfFocus pointers serial xs → AreOfFocus pointers serial ys → AreOfFocus pointers serial (xs ++ ys)
 focus-append pointers serial [] ys f g = g
@@ -47,7 +45,7 @@ unqueued-so pointers p q why other e f u = rw (f, e) u
 
 stops-here : (pointers : List ℕ) (serial : ℕ) (p q : Peer) (why other : Option Cause) → q ≡ p → why ≡ other → Unqueued other pointers p.unsent → IsQueuedTo pointers serial p q why
 stops-here pointers serial p q why other e f u =
-    ([], tt, e ∙ ap (λ bytes. record p { unsent = bytes }) (sym (append-none p.unsent)), unqueued-so pointers p q why other e f u)
+    ([], tt, e ∙ ap (λ bytes. record p { unsent = bytes }) (sym (append-nil p.unsent)), unqueued-so pointers p q why other e f u)
 
 past_limit : (pointers : List ℕ) (serial : ℕ) (event : Said) (unsent : List ℕ) → IsOfFocus pointers serial event → has_room unsent event ≡ false → Unqueued (Some Slow) pointers unsent
 past_limit pointers serial event unsent f e = (serial, event, f, sym (ap (λ (b : Bool). if b then Memory else Slow) e))
@@ -87,10 +85,6 @@ drawn-told false events r q why f has none h =
     let k : QueuesTo [] r.peer q why = rw (none refl) at h in
     (([], ap (λ (p : Peer). record r { peer = p }) k.0), unqueued-so r.pointers r.peer q why None k.0 k.1 tt)
 
-or-later : (a b : Bool) → b ≡ true → (a || b) ≡ true
-or-later true b e = refl
-or-later false b e = e
-
 -- it is told so of each of its wl_pointers
 abbrev MakesFocus : List ℕ → ℕ → (ℕ → List Said) → Type 0
 MakesFocus pointers serial event = (p : ℕ) → is_among p pointers ≡ true → AreOfFocus pointers serial (event p)
@@ -100,7 +94,7 @@ to-pointers : (all : List ℕ) (serial : ℕ) (event : ℕ → List Said) → Ma
 to-pointers all serial event makes [] among = tt
 to-pointers all serial event makes (p ∷ ps) among =
     focus-append all serial (event p) (flat_map event ps) (makes p (among p (ap (λ (b : Bool). b || is_among p ps) (equal-numbers p p refl))))
-    (to-pointers all serial event makes ps (λ other is. among other (or-later (p == other) (is_among other ps) is)))
+    (to-pointers all serial event makes ps (λ other is. among other (or_right (p == other) (is_among other ps) is)))
 
 -- nothing is told where there is none
 unless_pointers : (event : ℕ → List Said) (r : Resident) → has_pointers r ≡ false → to_pointers event r ≡ []
@@ -148,15 +142,11 @@ pub record TellsFocus (T : Resident → Resident → Option Cause → Type 0) : 
   pub leave : (surface : ℕ) → TellsBy T (leave_drawn surface) (left_surface surface)
   pub enter : (at : Option Place) (w : Option Window) → TellsBy T told_drawn (entered_surface at w)
 
-both-of : (a b : Bool) → (a && b) ≡ true → b ≡ true
-both-of true b e = e
-both-of false b e = absurd (cc)
-
 pub told-focus : TellsFocus ToldSo
 told-focus = record {
   leave = λ surface r q why h.
       drawn-told (is_some (history_in surface r.owned.surfaces) && has_pointers r) (left_surface surface r) r q why (left-focus surface r)
-      (both-of (is_some (history_in surface r.owned.surfaces)) (has_pointers r)) (left-none surface r) h;
+      (and-right (is_some (history_in surface r.owned.surfaces)) (has_pointers r)) (left-none surface r) h;
   enter = λ at w r q why h.
       drawn-told (has_pointers r) (entered_surface at w r) r q why (entered-focus at w r) (λ has. has) (λ none. unless_pointers (λ pointer. entered_at pointer r.peer.serial at w) r none) h;
 }

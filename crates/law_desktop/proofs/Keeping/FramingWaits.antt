@@ -3,7 +3,7 @@ use Rattle.std.proofs.Common.{◌≡◌, ℕ, ◌+◌, ◌<◌, ◌≤◌, List,
 use Rattle.std.specs.Prelude.{◌==◌, ◌||◌, ◌⊎◌}
 use Rattle.std.specs.List.{list_any}
 use Rattle.std.specs.Option.{option_map}
-use Rattle.std.proofs.lemmas.Bool.{eqb-true}
+use Rattle.std.proofs.lemmas.Bool.{eqb-true, false_from_ne_true, true≢false}
 use Rattle.std.proofs.lemmas.Grind.{flat_map-append}
 use Rattle.std.proofs.lemmas.List.Folds.{list_any-append}
 use Rattle.wl_surface.specs.declared.frames.Waiting.{Waiting}
@@ -14,7 +14,6 @@ use Rattle.wl_surface.specs.Surface.{Surface, asking}
 use Rattle.wl_surface.specs.Waiting.{AreWaiting, Callback, IsNewNumber, counted_at, frames_at}
 use Rattle.wl_surface.proofs.Counting.{waiting-same}
 use Rattle.spec_desktop.specs.Framing.{AreFramed}
-use Rattle.law_desktop.proofs.Lists.Keys.{differ}
 
 -- where neither what was asked for nor what is held or counts changes
 pub framed-same : (frames : List Waiting) (all now : Numbered) (bound more : ℕ) (cs : List Callback) → ((number : ℕ) → frames_at (now number) ≡ frames_at (all number))
@@ -29,10 +28,6 @@ framed-same frames all now bound more cs asked counts le f =
 abbrev has : ℕ → List ℕ → Bool
 has number ns = list_any (λ n. n == number) ns
 
-unless : (b : Bool) → (b ≡ true → ⊥) → b ≡ false
-unless true never = absurd (never refl)
-unless false never = refl
-
 -- each callback has a number of a frame request
 none-has : (frames : List Waiting) (all : Numbered) (bound n : ℕ) (cs : List Callback) → bound ≤ n → AreFramed frames all bound cs → list_any (λ (c : Callback). n == c.number) cs ≡ false
 none-has [] all bound n [] le f = refl
@@ -40,7 +35,7 @@ none-has [] all bound n (c ∷ cs) le f = absurd f.waits
 none-has (w ∷ ws) all bound n [] le f = absurd f.waits
 none-has (w ∷ ws) all bound n (c ∷ cs) le f =
     let less = f.early w.surface c.number (f.waits.0.asked w.surface ∙ here w.surface) in
-    ap (λ b. b || list_any (λ (x : Callback). n == x.number) cs) (unless (n == c.number) (λ e. let same = eqb-true n c.number e in omega (arith, le, less, same)))
+    ap (λ b. b || list_any (λ (x : Callback). n == x.number) cs) (false_from_ne_true (n == c.number) (λ e. let same = eqb-true n c.number e in omega (arith, le, less, same)))
     ∙ none-has ws all bound n cs le (record { waits = f.waits.1; early = f.early })
   where
     here : (k : ℕ) → (k == k) ≡ true
@@ -49,7 +44,7 @@ none-has (w ∷ ws) all bound n (c ∷ cs) le f =
 -- a number that isn't below is new
 pub is-new : (frames : List Waiting) (all : Numbered) (bound n : ℕ) (cs : List Callback) → bound ≤ n → AreFramed frames all bound cs → IsNewNumber n all cs
 is-new frames all bound n cs le f = (
-  λ surface. unless (has n (frames_at (all surface))) (λ any. let less = f.early surface n any in omega (arith, le, less)),
+  λ surface. false_from_ne_true (has n (frames_at (all surface))) (λ any. let less = f.early surface n any in omega (arith, le, less)),
   none-has frames all bound n cs le f,
 )
 
@@ -90,4 +85,4 @@ pub framed-less : (frames new : List Waiting) (all : Numbered) (bound : ℕ) (cs
 framed-less frames new all bound cs less f waits = record { waits = waits; early = f.early }
 
 pub framed-none : (all : Numbered) (bound : ℕ) → ((number : ℕ) → all number ≡ None) → AreFramed [] all bound []
-framed-none all bound none = record { waits = tt; early = λ surface number any. absurd (differ (sym any ∙ ap (λ at. has number (frames_at at)) (none surface))) }
+framed-none all bound none = record { waits = tt; early = λ surface number any. absurd (true≢false (sym any ∙ ap (λ at. has number (frames_at at)) (none surface))) }

@@ -1,7 +1,7 @@
 -- Of the buffers that a client's surfaces had, those that are over after a call let their stores go, and those that aren't busy any more are
 -- released: it is enough to look at those that the call tells to be freed, and at a pending buffer that went with its surface.
 use Rattle.std.proofs.Common.{◌≡◌, ℕ, ◌<◌, zero, suc, List, ◌∷◌, ◌++◌, Bool, true, false, Option, Some, None, cond, length, map, refl, ap, sym, subst, ◌∙◌, eq-eqb, arith, inl, inr, []}
-use Rattle.std.proofs.lemmas.Bool.{eqb-true, or_left}
+use Rattle.std.proofs.lemmas.Bool.{eqb-true, or_left, or_right, true≢false}
 use Rattle.std.proofs.lemmas.List.Sums.{length-filter}
 use Rattle.std.specs.Prelude.{◌==◌, ◌&&◌, ◌||◌, ◌⊎◌, not, count_by, filter, find, flat_map, slice_index_or}
 use Rattle.std.specs.List.{Contains, list_any}
@@ -23,7 +23,7 @@ use Rattle.law_desktop.specs.TreeBuffersLaws.{AreOne, had_in, has_number, shown_
 use Rattle.law_desktop.proofs.TreeBuffers.After.{after-these}
 use Rattle.law_desktop.proofs.TreeBuffers.Lists.{any-in, first-in, in-any, later-in}
 use Rattle.law_desktop.proofs.TreeBuffers.Releasing.{rise}
-use Rattle.law_desktop.proofs.Lists.Keys.{differ, found-passes}
+use Rattle.law_desktop.proofs.Lists.Keys.{found-passes}
 use Rattle.law_desktop.specs.Freed.{AreFreedOf, freed_of}
 
 -- ---- lists
@@ -108,10 +108,6 @@ any-find {X} p (x ∷ xs) any = at (p x) any (λ later. any-find p xs later)
     at true any rest = (x, refl)
     at false any rest = rest any
 
-or-last : (a c : Bool) → c ≡ true → (a || c) ≡ true
-or-last true c e = refl
-or-last false c e = e
-
 -- ---- the buffers that are looked at
 
 -- each of them was shown
@@ -126,7 +122,7 @@ freed-in (n ∷ ns) shown b c = by (either-in (listed (find (λ b. b.number == n
           found-in (λ b. b.number == n) shown b found,
           or_left (n == b.number) (list_any (λ m. m == b.number) ns) (eq-eqb n b.number (sym (eqb-true b.number n (found-passes (λ b. b.number == n) shown b found)))),
         )
-    by (inr there) rest = let it = rest there in (it.0, or-last (n == b.number) (list_any (λ m. m == b.number) ns) it.1)
+    by (inr there) rest = let it = rest there in (it.0, or_right (n == b.number) (list_any (λ m. m == b.number) ns) it.1)
 
 -- and one of each number that was shown is among them
 pub freed-has : (numbers : List ℕ) (shown : List Buffer) (number : ℕ) → list_any (λ n. n == number) numbers ≡ true → has_number number shown ≡ true → has_number number (freed_of numbers shown) ≡ true
@@ -174,7 +170,7 @@ shown-or-waiting all b c =
             → (is_busy b.number all ≡ true) ⊎ ((s : Surface) × Contains all.surfaces s × ((pending s.history).buffer ≡ Some b))
         at (inl first) = inr (s, within, listed-in (pending s.history).buffer b first)
         at (inr second) =
-            inl (busy-by s within (or-last (names b.number (applied s.history).buffer) (names b.number (held s.history).buffer)
+            inl (busy-by s within (or_right (names b.number (applied s.history).buffer) (names b.number (held s.history).buffer)
             (named (held s.history).buffer (listed-in (held s.history).buffer b second))))
 
 -- what is shown is had
@@ -199,7 +195,7 @@ shown-busy all b c =
     named o e = ap (names b.number) e ∙ eq-eqb b.number b.number refl
 
     by : (s : Surface) → Contains (listed (held s.history).buffer) b ⊎ Contains (listed (applied s.history).buffer) b → shows b.number s.history ≡ true
-    by s (inl first) = or-last (names b.number (applied s.history).buffer) (names b.number (held s.history).buffer) (named (held s.history).buffer (listed-in (held s.history).buffer b first))
+    by s (inl first) = or_right (names b.number (applied s.history).buffer) (names b.number (held s.history).buffer) (named (held s.history).buffer (listed-in (held s.history).buffer b first))
     by s (inr second) =
         or_left (names b.number (applied s.history).buffer) (names b.number (held s.history).buffer) (named (applied s.history).buffer (listed-in (applied s.history).buffer b second))
 
@@ -222,8 +218,8 @@ module _ (old new : Resident) (numbers : List ℕ) (shown : List Buffer) (one : 
     where
       at : (a d : Bool) → is_busy b.number new.owned.surfaces ≡ d → (a && not d) ≡ true → is_busy b.number new.owned.surfaces ≡ false
       at a false same e = same
-      at true true same e = absurd (differ (sym e))
-      at false true same e = absurd (differ (sym e))
+      at true true same e = absurd (true≢false (sym e))
+      at false true same e = absurd (true≢false (sym e))
 
   -- Where each surface that had a pending buffer has it still, but one whose pending buffer is looked at too.
   pub lets-go-freed : (extra : Option Buffer) → ((b : Buffer) → extra ≡ Some b → Contains (had_in old.owned.surfaces) b)
@@ -251,9 +247,9 @@ module _ (old new : Resident) (numbers : List ℕ) (shown : List Buffer) (one : 
           in-any (λ b. b.number == number) (freed_of numbers shown ++ listed extra) it.item (right-in (freed_of numbers shown) (listed extra) it.item it.within) it.passes
 
       unused : (a c : Bool) → (a && not c) ≡ true → c ≡ false
-      unused true true e = absurd (differ (sym e))
+      unused true true e = absurd (true≢false (sym e))
       unused true false e = refl
-      unused false c e = absurd (differ (sym e))
+      unused false c e = absurd (true≢false (sym e))
 
       covered : (b : Buffer) → Contains (had_in old.owned.surfaces) b → is_over new b ≡ true → has_number b.number (freed_of numbers shown ++ listed extra) ≡ true
       covered b had over = by (shown-or-waiting old.owned.surfaces b had)
@@ -268,8 +264,8 @@ module _ (old new : Resident) (numbers : List ℕ) (shown : List Buffer) (one : 
               at false e = e
               at true e =
                   let it = any-in (λ (s : Surface). shows b.number s.history) new.owned.surfaces.surfaces e in
-                  absurd (differ (sym (in-any (λ (s : Surface). names b.number (pending s.history).buffer || shows b.number s.history) new.owned.surfaces.surfaces it.item it.within
-                  (or-last (names b.number (pending it.item.history).buffer) (shows b.number it.item.history) it.passes)) ∙ gone))
+                  absurd (true≢false (sym (in-any (λ (s : Surface). names b.number (pending s.history).buffer || shows b.number s.history) new.owned.surfaces.surfaces it.item it.within
+                  (or_right (names b.number (pending it.item.history).buffer) (shows b.number it.item.history) it.passes)) ∙ gone))
 
           by : (is_busy b.number old.owned.surfaces ≡ true) ⊎ ((s : Surface) × Contains old.owned.surfaces.surfaces s × ((pending s.history).buffer ≡ Some b))
               → has_number b.number (freed_of numbers shown ++ listed extra) ≡ true
@@ -277,7 +273,7 @@ module _ (old new : Resident) (numbers : List ℕ) (shown : List Buffer) (one : 
           by (inr it) = either (waits it.0 b it.1 it.2)
             where
               either : (is_used b.number new.owned.surfaces ≡ true) ⊎ (has_number b.number (listed extra) ≡ true) → has_number b.number (freed_of numbers shown ++ listed extra) ≡ true
-              either (inl used) = absurd (differ (sym used ∙ gone))
+              either (inl used) = absurd (true≢false (sym used ∙ gone))
               either (inr extra_has) = behind b.number extra_has
 
   -- Those are released whose wl_buffers live.

@@ -3,6 +3,7 @@ use Rattle.std.proofs.Common.{◌≡◌, ℕ, zero, suc, Bool, true, false, List
 use Rattle.std.specs.Prelude.{◌==◌, ◌&&◌, ◌||◌, find, is_some, not, filter, fold}
 use Rattle.std.proofs.lemmas.Grind.{flat_map-append}
 use Rattle.std.proofs.lemmas.List.{append-nil}
+use Rattle.std.proofs.lemmas.Option.{same_Some}
 use Rattle.wl_surface.specs.declared.role.Role.TheVariants.{Subsurface}
 use Rattle.wl_surface.specs.Request.{AddChild, Buffer, Commit}
 use Rattle.wl_surface.specs.FrameRequests.{frames_of}
@@ -13,8 +14,8 @@ use Rattle.wl_surface.specs.Trees.{applied_tree, applied_unless, behaves_synchro
 use Rattle.wl_surface.specs.Trees.{released_in, with_link}
 use Rattle.wl_surface.proofs.Records.{values-asked}
 use Rattle.law_desktop.specs.Apart.{AreApartBy}
-use Rattle.law_desktop.proofs.Lists.Keys.{some-same}
 use Rattle.law_desktop.proofs.Lists.Surfaces.{has_id}
+use Rattle.law_desktop.proofs.Truth.{none-there}
 use Rattle.spec_desktop.specs.Changing.{unlinked_at}
 
 -- ---- ids
@@ -41,10 +42,6 @@ there-among id (s ∷ ss) = at (s.id == id) (there-among id ss)
 -- so the same are there
 pub same-there : (all new : Surfaces) → HasSameIds all new → (id : ℕ) → is_some (surface_at id new) ≡ is_some (surface_at id all)
 same-there all new same id = there-among id new.surfaces ∙ ap (is_among id) same ∙ sym (there-among id all.surfaces)
-
-none-there : {X : Type 0} (o : Option X) → is_some o ≡ false → o ≡ None
-none-there None e = refl
-none-there (Some x) e = absurd (cc)
 
 -- told apart by them as well
 apart-by : (xs ys : List Surface) → ids_of ys ≡ ids_of xs → AreApartBy has_id xs → AreApartBy has_id ys
@@ -162,7 +159,7 @@ found-key {X} key named reads id (x ∷ xs) (y ∷ ys) same s found =
         → (find (has_id id) xs ≡ Some s → (t : Surface) × (find (has_id id) ys ≡ Some t) × (key t ≡ key s))
         → (t : Surface) × (cond (y.id == id) (Some y) (find (has_id id) ys) ≡ Some t) × (key t ≡ key s)
     at true here e first later =
-        (y, ap (λ b. cond b (Some y) (find (has_id id) ys)) (ap (λ i. i == id) (sym (reads y) ∙ ap named first ∙ reads x) ∙ here), first ∙ ap key (some-same x s e))
+        (y, ap (λ b. cond b (Some y) (find (has_id id) ys)) (ap (λ i. i == id) (sym (reads y) ∙ ap named first ∙ reads x) ∙ here), first ∙ ap key (same_Some x s e))
     at false here e first later =
         let it = later e in
         (it.0, ap (λ b. cond b (Some y) (find (has_id id) ys)) (ap (λ i. i == id) (sym (reads y) ∙ ap named first ∙ reads x) ∙ here) ∙ it.1, it.2)

@@ -1,6 +1,6 @@
 -- Stores of buffers that are over: a request that leaves a surface its buffers lets none go.
-use Rattle.std.proofs.Common.{◌≡◌, ℕ, ◌≤◌, List, [], ◌∷◌, ◌++◌, Bool, true, false, Option, Some, None, cond, length, refl, ap, subst, sym, ◌∙◌, eq-eqb}
-use Rattle.std.specs.Prelude.{◌==◌, ◌&&◌, ◌||◌, not, filter, fold, map}
+use Rattle.std.proofs.Common.{◌≡◌, ℕ, ◌≤◌, List, [], ◌++◌, Bool, true, false, Option, Some, cond, length, refl, ap, subst, sym, ◌∙◌}
+use Rattle.std.specs.Prelude.{◌==◌, ◌&&◌, ◌||◌, not, fold, map}
 use Rattle.spec_desktop.specs.Buffers.{Buffer as Made}
 use Rattle.spec_desktop.specs.Peer.{released}
 use Rattle.wl_store.specs.Stores.{Stock}
@@ -13,41 +13,16 @@ use Rattle.spec_desktop.specs.Desktop.{Resident}
 use Rattle.spec_desktop.specs.Step.{after_surface, asked_of, buffers_had, each_once, is_number, is_over, letting_go, with_peer}
 use Rattle.std.specs.Option.{option_map}
 use Rattle.law_desktop.proofs.Lists.Keys.{found-any, found-map, found-passes}
-use Rattle.law_desktop.proofs.Marks.Stacks.{Each, each-map}
-
-pub each-more : {X : Type 0} (P : X → Type 0) (xs ys : List X) → Each P xs → Each P ys → Each P (xs ++ ys)
-each-more P [] ys a b = b
-each-more P (x ∷ xs) ys a b = (a.0, each-more P xs ys a.1 b)
-
-left-if : {X : Type 0} (P : X → Type 0) (b : Bool) (x : X) (ys : List X) → P x → Each P ys → Each P (cond b (x ∷ ys) ys)
-left-if P true x ys p a = (p, a)
-left-if P false x ys p a = a
-
-each-left : {X : Type 0} (P : X → Type 0) (q : X → Bool) (xs : List X) → Each P xs → Each P (filter q xs)
-each-left P q [] a = a
-each-left P q (x ∷ xs) a = left-if P (q x) x (filter q xs) a.0 (each-left P q xs a.1)
-
-pub each-once : (P : Buffer → Type 0) (bs : List Buffer) → Each P bs → Each P (each_once bs)
-each-once P [] a = a
-each-once P (b ∷ bs) a = (a.0, each-left P (λ c. not (c.number == b.number)) (each_once bs) (each-once P bs a.1))
-
-pub none-left : {X : Type 0} (q : X → Bool) (xs : List X) → Each (λ x. q x ≡ false) xs → filter q xs ≡ []
-none-left q [] a = refl
-none-left q (x ∷ xs) a = ap (λ b. cond b (x ∷ filter q xs) (filter q xs)) a.0 ∙ none-left q xs a.1
+use Rattle.law_desktop.proofs.Truth.{and-false, or-true}
+use Rattle.law_desktop.proofs.Lists.Each.{Each, each-append, each-map}
+use Rattle.law_desktop.proofs.Lists.Left.{filter-none-each}
+use Rattle.law_desktop.proofs.KeptRecords.Keeping.Letting.{each-once, listed-each, named-so}
 
 -- where none of them is over, no store goes
 pub letting-none : (bs : List Buffer) (r : Resident) → Each (λ b. is_over r b ≡ false) bs → letting_go bs r ≡ r
 letting-none bs r none =
     ap (λ (over : List Buffer). with_peer (record r.peer { stores = fold (λ (stores : Stock) b. released b.store stores) r.peer.stores over }) r)
-    (none-left (is_over r) (each_once bs) (each-once (λ b. is_over r b ≡ false) bs none))
-
-and-false : (b : Bool) → (b && false) ≡ false
-and-false true = refl
-and-false false = refl
-
-pub or-any : (b : Bool) → (b || true) ≡ true
-or-any true = refl
-or-any false = refl
+    (filter-none-each (is_over r) (each_once bs) (each-once (λ b. is_over r b ≡ false) bs none))
 
 -- a buffer that is used isn't over
 pub used-stays : (r : Resident) (b : Buffer) → is_used b.number r.owned.surfaces ≡ true → is_over r b ≡ false
@@ -57,23 +32,16 @@ used-stays r b used =
 
 -- ---- the buffers of a surface
 
-pub named-so : (b : Buffer) → names b.number (Some b) ≡ true
-named-so b = eq-eqb b.number b.number refl
-
-pub listed-each : (P : Buffer → Type 0) (o : Option Buffer) → ((b : Buffer) → o ≡ Some b → P b) → Each P (listed o)
-listed-each P None p = tt
-listed-each P (Some b) p = (p b refl, tt)
-
 -- it has each of them
 pub had-each : (h : History) → Each (λ b. has b.number h ≡ true) (buffers_of h)
 had-each h =
-    each-more Had (listed (pending h).buffer ++ listed (held h).buffer) (listed (applied h).buffer)
-    (each-more Had (listed (pending h).buffer) (listed (held h).buffer)
+    each-append Had (listed (pending h).buffer ++ listed (held h).buffer) (listed (applied h).buffer)
+    (each-append Had (listed (pending h).buffer) (listed (held h).buffer)
     (listed-each Had (pending h).buffer (λ b e. ap (λ x. x || shows b.number h) (ap (names b.number) e ∙ named-so b)))
     (listed-each Had (held h).buffer (λ b e. ap (λ x. names b.number (pending h).buffer || (names b.number (applied h).buffer || x)) (ap (names b.number) e ∙ named-so b)
-    ∙ ap (λ x. names b.number (pending h).buffer || x) (or-any (names b.number (applied h).buffer)) ∙ or-any (names b.number (pending h).buffer))))
+    ∙ ap (λ x. names b.number (pending h).buffer || x) (or-true (names b.number (applied h).buffer)) ∙ or-true (names b.number (pending h).buffer))))
     (listed-each Had (applied h).buffer (λ b e. ap (λ x. names b.number (pending h).buffer || (x || names b.number (held h).buffer)) (ap (names b.number) e ∙ named-so b)
-    ∙ or-any (names b.number (pending h).buffer)))
+    ∙ or-true (names b.number (pending h).buffer)))
   where
     Had : Buffer → Type 0
     Had b = has b.number h ≡ true

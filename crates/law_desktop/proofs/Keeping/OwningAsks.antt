@@ -47,12 +47,14 @@ use Rattle.law_desktop.proofs.Keeping.OwningSurfaces.{AreKept-left, AreKept-then
 use Rattle.law_desktop.proofs.Keeping.OwningTies.{asked-by, committed-by, left-by, role-by}
 use Rattle.law_desktop.proofs.Keeping.Roots.{agree-child, agree-committed}
 use Rattle.law_desktop.proofs.Keeping.OwningXdg.{histories-same, xdg-of, xdg-of-none}
-use Rattle.spec_desktop.specs.Changing.{drawing, effect_placing, is_configure, tree_committed}
+use Rattle.spec_desktop.specs.Changing.{effect_placing, is_configure, tree_committed}
 use Rattle.spec_desktop.specs.Demand.{Asks, EndSurface, MakeCursor}
 use Rattle.spec_desktop.specs.Demanding.{effect_on_xdg}
 use Rattle.law_desktop.specs.Simple.{changed_simply}
 use Rattle.law_desktop.proofs.Keeping.OwningReads.{effect-by-role}
 use Rattle.law_desktop.proofs.OwnedPopups.Stepping.{histories-to, popup-keeps, same-role}
+use Rattle.law_desktop.proofs.Soundness.Standing.{arriving-surface}
+use Rattle.law_desktop.proofs.Runs.Following.{drawing-owned}
 
 -- ---- changes of an xdg_surface
 
@@ -72,10 +74,6 @@ configuring-keeps serial = record { id = λ x. refl; surface = λ x. refl; role 
 arriving-id : (waiting : Option Placed) (x : XdgSurface) → (arriving waiting x).id ≡ x.id
 arriving-id None x = refl
 arriving-id (Some placed) x = refl
-
-arriving-surface : (waiting : Option Placed) (x : XdgSurface) → (arriving waiting x).surface ≡ x.surface
-arriving-surface None x = refl
-arriving-surface (Some placed) x = refl
 
 arriving-role : (waiting : Option Placed) (object : ℕ) (x : XdgSurface) → is_role object (arriving waiting x).role ≡ is_role object x.role
 arriving-role None object x = refl
@@ -107,14 +105,10 @@ effect-keeps serial since where_to Unmaps = record {
   role = λ object x. (popup-keeps unmapped).role object (unmapping since x) ∙ (stage-keeps Fresh).role object x;
 }
 
-pub drawn-owned : (b : Bool) (r : Resident) → (drawing b r).owned ≡ r.owned
-drawn-owned true r = refl
-drawn-owned false r = refl
-
 -- what a commit comes to, as one change
 effect-owned : (where_to : Popup → Option Placed) (id : ℕ) (effect : Effect) (x : XdgSurface) (r : Resident)
     → (effect_placing where_to id effect (Some x) r).owned ≡ record r.owned { shell = with_change x.id (with_effect r.peer.serial (asked_so_far id r) where_to effect) r.owned.shell }
-effect-owned where_to id effect x r = drawn-owned (is_configure effect) (xdg_changed x.id (with_effect r.peer.serial (asked_so_far id r) where_to effect) r)
+effect-owned where_to id effect x r = drawing-owned (is_configure effect) (xdg_changed x.id (with_effect r.peer.serial (asked_so_far id r) where_to effect) r)
 
 -- ---- what is asked
 

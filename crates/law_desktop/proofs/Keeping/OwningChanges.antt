@@ -3,7 +3,8 @@ use Rattle.std.proofs.Common.{◌≡◌, ◌≢◌, ℕ, ◌+◌, ◌≤◌, Boo
 use Rattle.std.specs.Prelude.{◌==◌, find, is_some, not}
 use Rattle.std.specs.Option.{option_and_then, option_map}
 use Rattle.std.proofs.Math.Path.{fun_ext}
-use Rattle.std.proofs.lemmas.Bool.{eqb-true, eqb-false, ne_eqb}
+use Rattle.std.proofs.lemmas.Bool.{eqb-false, eqb-true, ne_eqb, true≢false}
+use Rattle.std.proofs.lemmas.Option.{none-some, same_Some}
 use Rattle.spec_desktop.specs.Objects.{ById, with_id}
 use Rattle.wl_surface.specs.Kept.{Kept as KeptSurface}
 use Rattle.wl_links.specs.Family.{Tied}
@@ -19,12 +20,13 @@ use Rattle.wl_shell.proofs.Shells.{shells_stand}
 use Rattle.spec_desktop.specs.Stacking.{Owned}
 use Rattle.law_desktop.specs.Owning.{AreKept, IsOwned, IsXdg, KeepsRole, Names, by_id, by_number, number_of, with_surface, with_toplevel, with_xdg}
 use Rattle.law_desktop.specs.Apart.{AreApartBy}
-use Rattle.law_desktop.proofs.Lists.Keys.{apart-left, apart-map, changed-apart, changed-elsewhere, changed-gone, changed-here, differ, found-map, gone, left-elsewhere, new-apart, new-elsewhere}
-use Rattle.law_desktop.proofs.Lists.Keys.{new-here, none-some, some-same}
+use Rattle.law_desktop.proofs.Lists.Keys.{apart-left, apart-map, changed-apart, changed-elsewhere, changed-gone, changed-here, found-map, gone, left-elsewhere, new-apart, new-elsewhere}
+use Rattle.law_desktop.proofs.Lists.Keys.{new-here}
 use Rattle.law_desktop.proofs.Keeping.OwningNames.{with_id-other}
 use Rattle.law_desktop.proofs.Keeping.OwningSurfaces.{AreKept-made, surface-absent, surface-named, surface-read, unnumbered}
-use Rattle.law_desktop.proofs.Keeping.OwningXdg.{by_id-changing, by_id-with, has_role, has_surface, has_xdg, histories-made, toplevel-unnamed, xdg-found, xdg-kept-none, xdg-of-nobody, xdg-unnamed}
+use Rattle.law_desktop.proofs.Keeping.OwningXdg.{by_id-changing, by_id-with, has_role, histories-made, toplevel-unnamed, xdg-found, xdg-kept-none, xdg-of-nobody, xdg-unnamed}
 use Rattle.law_desktop.proofs.Keeping.OwningXdg.{xdgs-apart}
+use Rattle.law_desktop.proofs.KeptRecords.Keeping.OwningXdg.{has_surface, has_xdg}
 
 -- ---- what is kept of nobody stays
 
@@ -41,7 +43,7 @@ same-number a b None same = refl
 same-number a b (Some x) same = same x refl
 
 -- the surface of what changes is the same
-number-kept : (numbers : ById ℕ) (f : XdgSurface → XdgSurface) (o : Option XdgSurface) → ((x : XdgSurface) → (f x).surface ≡ x.surface) → number_of numbers (option_map f o) ≡ number_of numbers o
+pub number-kept : (numbers : ById ℕ) (f : XdgSurface → XdgSurface) (o : Option XdgSurface) → ((x : XdgSurface) → (f x).surface ≡ x.surface) → number_of numbers (option_map f o) ≡ number_of numbers o
 number-kept numbers f None keeps = refl
 number-kept numbers f (Some x) keeps = ap numbers (keeps x)
 
@@ -54,7 +56,7 @@ cut-within (Some k) (Some s) h stands there =
     let first = stands.history.cut_within in
     let second = stands.history.commits_within in
     let all : s.history.cut ≤ length s.history.requests = omega (arith, first, second) in
-    subst (λ (g : History). g.cut ≤ length g.requests) (some-same s.history h there) all
+    subst (λ (g : History). g.cut ≤ length g.requests) (same_Some s.history h there) all
 
 -- of each surface that has an xdg_surface both say the same
 abbrev pub AgreeFor : Shell → (ℕ → Option History) → (ℕ → Option History) → Type 0
@@ -82,7 +84,7 @@ module _ (names : Names) (slots : Slots) (tied : Tied) (kept : ℕ → Option Ke
   agree-but id h none histories same = λ surface has. at surface has (surface == id) refl ∙ sym (ap (λ (hs : ℕ → Option History). hs surface) same)
     where
       at : (surface : ℕ) → is_some (xdg_of surface o.shell) ≡ true → (b : Bool) → (surface == id) ≡ b → history_in surface o.surfaces ≡ cond b h (history_in surface o.surfaces)
-      at surface has true here = absurd (differ (sym has ∙ ap (λ i. is_some (xdg_of i o.shell)) (eqb-true surface id here) ∙ ap is_some none))
+      at surface has true here = absurd (true≢false (sym has ∙ ap (λ i. is_some (xdg_of i o.shell)) (eqb-true surface id here) ∙ ap is_some none))
       at surface has false here = refl
 
   -- other numbers of surfaces, by which what is kept of the xdg_surfaces is the same
@@ -141,13 +143,13 @@ module _ (names : Names) (slots : Slots) (tied : Tied) (kept : ℕ → Option Ke
       (fun_ext (λ other. same other (other == id) refl))
       (λ x there found. sym (with_id-other id x.surface None names.surfaces (ne_eqb x.surface id (λ e. none-some x (sym none_of ∙ ap (λ i. xdg_of i o.shell) (sym e) ∙ found)))))
       (λ other some. let was = is.known other some in
-      (was.0, with_id-other id was.0 None names.surfaces (ne_eqb was.0 id (λ e. away other some (some-same other number (sym was.1 ∙ ap names.surfaces e ∙ named)))) ∙ was.1))
+      (was.0, with_id-other id was.0 None names.surfaces (ne_eqb was.0 id (λ e. away other some (same_Some other number (sym was.1 ∙ ap names.surfaces e ∙ named)))) ∙ was.1))
     where
       nobody : kept number ≡ None
       nobody = xdg-kept-none names slots tied kept o is id number named none_of
 
       away : (other : ℕ) → is_some (kept other) ≡ true → other ≡ number → ⊥
-      away other some same = differ (sym some ∙ ap (λ n. is_some (kept n)) same ∙ ap is_some nobody)
+      away other some same = true≢false (sym some ∙ ap (λ n. is_some (kept n)) same ∙ ap is_some nobody)
 
       same : (other : ℕ) (b : Bool) → (other == id) ≡ b → option_and_then kept (cond b None (names.surfaces other)) ≡ option_and_then kept (names.surfaces other)
       same other true here = sym (ap (option_and_then kept) (ap names.surfaces (eqb-true other id here) ∙ named) ∙ nobody)
@@ -292,7 +294,7 @@ module _ (names : Names) (slots : Slots) (tied : Tied) (kept : ℕ → Option Ke
       known = known-after change;
       named = named-after step keeps_id keeps_surface;
       toplevels = λ other. at other (other == id) refl;
-      roles = changed-apart has_xdg x.id x step has_role o.shell apart one.at_id is.roles (λ other here. absurd (differ (sym here ∙ ap (is_role other) now)));
+      roles = changed-apart has_xdg x.id x step has_role o.shell apart one.at_id is.roles (λ other here. absurd (true≢false (sym here ∙ ap (is_role other) now)));
     }
       where
         apart : AreApartBy has_xdg o.shell
@@ -328,7 +330,7 @@ module _ (names : Names) (slots : Slots) (tied : Tied) (kept : ℕ → Option Ke
         apart = xdgs-apart names slots tied kept o is
 
         known : (other : ℕ) (b : Bool) → (other == number) ≡ b → is_some (cond b None (kept other)) ≡ true → (id : ℕ) × (names.surfaces id ≡ Some other)
-        known other true here some = absurd (differ (sym some))
+        known other true here some = absurd (true≢false (sym some))
         known other false here some = is.known other some
 
         at : (other : ℕ) (b : Bool) → (other == x.id) ≡ b → cond b None (names.shell other) ≡ number_of names.surfaces (xdg_at other (without_xdg x.id o.shell))

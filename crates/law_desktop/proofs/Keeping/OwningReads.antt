@@ -1,5 +1,6 @@
 -- What is read of what is kept of a client is what the plain desktop asks.
 use Rattle.std.proofs.Common.{◌≡◌, ◌≢◌, ℕ, List, Bool, true, false, Option, Some, None, Result, refl, ap, sym, subst, ◌∙◌}
+use Rattle.std.proofs.lemmas.Option.{none-some, same_Some}
 use Rattle.std.specs.Prelude.{ℤ, ◌==◌, ◌&&◌, ◌||◌, int_lt, pos, IfSome, IsSomeAnd, Ok, Err, is_some, if◌then◌else◌}
 use Rattle.std.specs.List.{list_any}
 use Rattle.std.specs.Option.{option_and_then, option_map, option_map_or}
@@ -31,7 +32,6 @@ use Rattle.law_desktop.specs.Owning.{IsOwned, IsXdg, Names, asks_by, asks_unless
 use Rattle.spec_desktop.specs.WlSurface.{is_whole_state, refuse, refuse_limit, will_be_whole, will_show}
 use Rattle.spec_desktop.specs.XdgShell.{acknowledged_by, base_destroyed, configured_again, geometry_set, has_any, is_foreign, is_no_toplevel, role_of, toplevel_made, xdg_surface_destroyed}
 use Rattle.spec_desktop.specs.XdgShell.{xdg_surface_made}
-use Rattle.law_desktop.proofs.Lists.Keys.{none-some, some-same}
 use Rattle.law_desktop.proofs.Keeping.OwningSurfaces.{surface-read}
 use Rattle.law_desktop.proofs.Keeping.OwningXdg.{xdg-of, xdg-of-none, xdg-there}
 use Rattle.spec_desktop.specs.Demand.{EndSurface, CommitTree}
@@ -263,7 +263,7 @@ free-made false false None e = (refl, refl, refl)
 -- a toplevel's role is refused to none that has no other
 pub role-fits : (role : Option Role) → is_no_toplevel role ≡ false → ((other : Role) × (role ≡ Some other) × (other ≢ AsToplevel)) → ⊥
 role-fits None fits other = none-some other.0 other.1
-role-fits (Some AsToplevel) fits other = other.2 (some-same other.0 AsToplevel (sym other.1))
+role-fits (Some AsToplevel) fits other = other.2 (same_Some other.0 AsToplevel (sym other.1))
 role-fits (Some AsPopup) fits other = absurd (cc)
 role-fits (Some AsSubsurface) fits other = absurd (cc)
 role-fits (Some AsCursor) fits other = absurd (cc)

@@ -3,7 +3,8 @@ use Rattle.std.proofs.Common.{◌≡◌, ◌≢◌, ℕ, ◌+◌, List, ◌∷�
 use Rattle.std.specs.Prelude.{◌==◌, find, is_some, not}
 use Rattle.std.specs.List.{list_any}
 use Rattle.std.specs.Option.{option_map}
-use Rattle.std.proofs.lemmas.Bool.{eqb-true, eqb-false, false_from_ne_true, ne_eqb}
+use Rattle.std.proofs.lemmas.Bool.{eqb-false, eqb-true, false_from_ne_true, ne_eqb, true≢false}
+use Rattle.std.proofs.lemmas.Option.{none-some, same_Some}
 use Rattle.wl_geom.specs.declared.rect.Rect.{Rect}
 use Rattle.spec_desktop.specs.Objects.{ById, with_id}
 use Rattle.wl_links.specs.Family.{Tied}
@@ -17,12 +18,13 @@ use Rattle.law_desktop.specs.Named.{StandBy}
 use Rattle.law_desktop.specs.Owning.{AreKept, by_number, number_in}
 use Rattle.law_desktop.specs.Apart.{AreApartBy}
 use Rattle.spec_desktop.specs.Step.{is_number}
-use Rattle.law_desktop.proofs.Lists.Keys.{any-found, apart-left, differ, found-any, found-by, found-fails, found-map, found-none, found-passes, left-elsewhere, length-left}
-use Rattle.law_desktop.proofs.Lists.Keys.{length-new, new-apart, new-elsewhere, new-here, none-first, none-later, none-some, some-same, gone}
+use Rattle.law_desktop.proofs.Lists.Keys.{any-found, apart-left, found-any, found-by, found-fails, found-map, found-none, found-passes, left-elsewhere, length-left}
+use Rattle.law_desktop.proofs.Lists.Keys.{length-new, new-apart, new-elsewhere, new-here, none-first, none-later, gone}
 use Rattle.law_desktop.proofs.Keeping.Ids.{HasSameIds, same-apart, same-length, same-there}
 use Rattle.law_desktop.proofs.Keeping.OwningNames.{with_id-here, with_id-other}
 use Rattle.law_desktop.proofs.Keeping.OwningTies.{count-left, count-same, is-kept, made-by, stand-kept, there-kept}
 use Rattle.law_desktop.proofs.Lists.Surfaces.{has_id}
+use Rattle.law_desktop.proofs.Truth.{there-some, truth}
 
 -- ---- numbers
 
@@ -32,10 +34,6 @@ is-number number o e = ap (is_number number) e ∙ eq-eqb number number refl
 pub number-is : (number : ℕ) (o : Option ℕ) → is_number number o ≡ true → o ≡ Some number
 number-is number None e = absurd (cc)
 number-is number (Some other) e = ap Some (eqb-true other number e)
-
-is-there : {X : Type 0} (o : Option X) → is_some o ≡ true → (x : X) × (o ≡ Some x)
-is-there None e = absurd (cc)
-is-there (Some x) e = (x, refl)
 
 -- the tests by id and by number
 abbrev pub has_number : ById ℕ → ℕ → Surface → Bool
@@ -49,17 +47,11 @@ numbers-apart numbers (x ∷ xs) once apart = (λ number is. found-none (has_num
     never : (number : ℕ) → has_number numbers number x ≡ true → (y : Surface) → find (has_number numbers number) xs ≡ Some y → ⊥
     never number is y found =
         let same : y.id ≡ x.id = once y.id x.id number (number-is number (numbers y.id) (found-passes (has_number numbers number) xs y found)) (number-is number (numbers x.id) is) in
-        differ (sym (eq-eqb y.id x.id same) ∙ found-fails (has_id x.id) (has_number numbers number) xs y found (apart.0 x.id (eq-eqb x.id x.id refl)))
+        true≢false (sym (eq-eqb y.id x.id same) ∙ found-fails (has_id x.id) (has_number numbers number) xs y found (apart.0 x.id (eq-eqb x.id x.id refl)))
 
 -- something is kept under the numbers of surfaces, and under no others
 kept-at : (slots : Slots) (all : Numbered) → StandForAll slots all → (number : ℕ) → is_some (kept_at slots number) ≡ is_some (all number)
 kept-at slots all stand number = is-kept (kept_at slots number) (all number) (stand number)
-
-both : (a b : Bool) → (a ≡ true → b ≡ true) → (b ≡ true → a ≡ true) → a ≡ b
-both true true to from = refl
-both false false to from = refl
-both true false to from = absurd (differ (sym (to refl)))
-both false true to from = absurd (differ (sym (from refl)))
 
 module _ (numbers : ById ℕ) (slots : Slots) (tied : Tied) (all : Surfaces) (is : AreKept numbers slots tied all) where
   pub told-apart : AreApartBy (has_number numbers) all.surfaces
@@ -68,7 +60,7 @@ module _ (numbers : ById ℕ) (slots : Slots) (tied : Tied) (all : Surfaces) (is
   -- a number names a surface that is there
   pub surface-named : (id number : ℕ) → numbers id ≡ Some number → (s : Surface) × (surface_at id all ≡ Some s) × (s.id ≡ id)
   surface-named id number named =
-      let there = is-there (surface_at id all) (sym (is.numbered id) ∙ ap is_some named) in
+      let there = there-some (surface_at id all) (sym (is.numbered id) ∙ ap is_some named) in
       (there.0, there.1, eqb-true there.0.id id (found-passes (has_id id) all.surfaces there.0 there.1))
 
   -- it is the one that is kept under this number
@@ -90,7 +82,7 @@ module _ (numbers : ById ℕ) (slots : Slots) (tied : Tied) (all : Surfaces) (is
     where
       at : (o : Option Surface) → is_some o ≡ false → o ≡ None
       at None e = refl
-      at (Some s) e = absurd (differ e)
+      at (Some s) e = absurd (true≢false e)
 
   -- whether one of them has a property is whether one under some number does
   pub any-read : (property : Surface → Bool) (at : Option Surface → Bool) (b : Bool) → at None ≡ false → ((s : Surface) → at (Some s) ≡ property s) → IsAny at (by_number numbers all) b
@@ -98,16 +90,16 @@ module _ (numbers : ById ℕ) (slots : Slots) (tied : Tied) (all : Surfaces) (is
   any-read property at true none some any = one (by_number numbers all any.0) refl any.1
     where
       one : (o : Option Surface) → by_number numbers all any.0 ≡ o → at o ≡ true → list_any property all.surfaces ≡ true
-      one None e has = absurd (differ (sym has ∙ none))
+      one None e has = absurd (true≢false (sym has ∙ none))
       one (Some s) e has = found-any (has_number numbers any.0) property all.surfaces s e (sym (some s) ∙ has)
   any-read property at false none some any = false_from_ne_true (list_any property all.surfaces) never
     where
       never : list_any property all.surfaces ≡ true → ⊥
       never e =
           let one = any-found has_id property all.surfaces is.apart e in
-          let there = is-there (numbers one.0.id) (is.numbered one.0.id ∙ ap is_some (one.2 one.0.id (eq-eqb one.0.id one.0.id refl))) in
+          let there = there-some (numbers one.0.id) (is.numbered one.0.id ∙ ap is_some (one.2 one.0.id (eq-eqb one.0.id one.0.id refl))) in
           let found : by_number numbers all there.0 ≡ Some one.0 = surface-read one.0.id there.0 there.1 ∙ one.2 one.0.id (eq-eqb one.0.id one.0.id refl) in
-          differ (sym one.1 ∙ sym (some one.0) ∙ sym (ap at found) ∙ any there.0)
+          true≢false (sym one.1 ∙ sym (some one.0) ∙ sym (ap at found) ∙ any there.0)
 
   pub used-read : (buffer : ℕ) (b : Bool) → IsAny (has_at buffer) (by_number numbers all) b → is_used buffer all ≡ b
   used-read buffer b any = any-read (λ s. has buffer s.history) (has_at buffer) b refl (λ s. refl) any
@@ -121,13 +113,13 @@ module _ (numbers : ById ℕ) (slots : Slots) (tied : Tied) (all : Surfaces) (is
       either true e =
           let one = any-found has_id property all.surfaces is.apart e in
           let found = one.2 one.0.id (eq-eqb one.0.id one.0.id refl) in
-          let there = is-there (numbers one.0.id) (is.numbered one.0.id ∙ ap is_some found) in
+          let there = there-some (numbers one.0.id) (is.numbered one.0.id ∙ ap is_some found) in
           (there.0, ap at (surface-read one.0.id there.0 there.1 ∙ found) ∙ some one.0 ∙ one.1)
       either false e = λ number. lacks number (by_number numbers all number) refl
         where
           lacks : (number : ℕ) (o : Option Surface) → by_number numbers all number ≡ o → at o ≡ false
           lacks number None found = none
-          lacks number (Some s) found = some s ∙ false_from_ne_true (property s) (λ has. differ (sym (found-any (has_number numbers number) property all.surfaces s found has) ∙ e))
+          lacks number (Some s) found = some s ∙ false_from_ne_true (property s) (λ has. true≢false (sym (found-any (has_number numbers number) property all.surfaces s found has) ∙ e))
 
   pub busy-is : (buffer : ℕ) → IsAny (shows_at buffer) (by_number numbers all) (is_busy buffer all)
   busy-is buffer = any-is (λ s. shows buffer s.history) (shows_at buffer) refl (λ s. refl)
@@ -156,7 +148,7 @@ module _ (numbers : ById ℕ) (slots : Slots) (tied : Tied) (all : Surfaces) (is
             let it : s.id ≡ id = is.once s.id id number ((surface-numbered other s found).0 ∙ ap Some (eqb-true other number same)) named in
             ap (λ b. Some (cond b (change s) s)) (eq-eqb s.id id it)
         at (Some s) false found same =
-            let another : s.id ≢ id = λ it. eqb-false other number same (some-same other number (sym (surface-numbered other s found).0 ∙ ap numbers it ∙ named)) in
+            let another : s.id ≢ id = λ it. eqb-false other number same (same_Some other number (sym (surface-numbered other s found).0 ∙ ap numbers it ∙ named)) in
             ap (λ b. Some (cond b (change s) s)) (ne_eqb s.id id another)
 
   -- ---- what becomes of them keeps their ids
@@ -170,16 +162,16 @@ module _ (numbers : ById ℕ) (slots : Slots) (tied : Tied) (all : Surfaces) (is
 
     -- under the same numbers one is there
     same-numbered : (other : ℕ) → is_some (by_number numbers all_new other) ≡ is_some (by_number numbers all other)
-    same-numbered other = both (is_some (by_number numbers all_new other)) (is_some (by_number numbers all other)) (one-there all_new all apart-new is.apart numbered-then is.numbered)
+    same-numbered other = truth (is_some (by_number numbers all_new other)) (is_some (by_number numbers all other)) (one-there all_new all apart-new is.apart numbered-then is.numbered)
         (one-there all all_new is.apart apart-new is.numbered numbered-then)
       where
         one-there : (these those : Surfaces) → AreApartBy has_id these.surfaces → AreApartBy has_id those.surfaces
             → ((id : ℕ) → is_some (numbers id) ≡ is_some (surface_at id these)) → ((id : ℕ) → is_some (numbers id) ≡ is_some (surface_at id those))
             → is_some (by_number numbers these other) ≡ true → is_some (by_number numbers those other) ≡ true
         one-there these those apart_these apart_those named_these named_those e =
-            let one = is-there (by_number numbers these other) e in
+            let one = there-some (by_number numbers these other) e in
             let number = number-is other (numbers one.0.id) (found-passes (has_number numbers other) these.surfaces one.0 one.1) in
-            let there = is-there (surface_at one.0.id those) (sym (named_those one.0.id) ∙ ap is_some number) in
+            let there = there-some (surface_at one.0.id those) (sym (named_those one.0.id) ∙ ap is_some number) in
             ap is_some (found-by (has_number numbers) (has_id one.0.id) other those.surfaces there.0 (numbers-apart numbers those.surfaces is.once apart_those) there.1
             (is-number other (numbers there.0.id) (ap numbers (eqb-true there.0.id one.0.id (found-passes (has_id one.0.id) those.surfaces there.0 there.1)) ∙ number)))
 
@@ -286,7 +278,7 @@ module _ (numbers : ById ℕ) (slots : Slots) (tied : Tied) (all : Surfaces) (is
     -- the one that goes
     going : (s : Surface) × (surface_at id all_left ≡ Some s) × (s.id ≡ id)
     going =
-        let there = is-there (surface_at id all_left) (same-there all all_left same_ids id ∙ sym (is.numbered id) ∙ ap is_some named) in
+        let there = there-some (surface_at id all_left) (same-there all all_left same_ids id ∙ sym (is.numbered id) ∙ ap is_some named) in
         (there.0, there.1, eqb-true there.0.id id (found-passes (has_id id) all_left.surfaces there.0 there.1))
 
     numbered-after : (other : ℕ) → is_some (after other) ≡ is_some (surface_at other (without_surface id all_left))
@@ -335,27 +327,27 @@ module _ (numbers : ById ℕ) (slots : Slots) (tied : Tied) (all : Surfaces) (is
 
             nobody : is_some (by_number after all_after number) ≡ false
             nobody = false_from_ne_true (is_some (by_number after all_after number)) (λ e.
-                let one = is-there (by_number after all_after number) e in
+                let one = there-some (by_number after all_after number) e in
                 let its = was one.0.id number (number-is number (after one.0.id) (found-passes (has_number after number) all_after.surfaces one.0 one.1)) in
-                differ (sym (eq-eqb one.0.id id (is.once one.0.id id number its.0 named)) ∙ its.1))
+                true≢false (sym (eq-eqb one.0.id id (is.once one.0.id id number its.0 named)) ∙ its.1))
 
             elsewhere : (other : ℕ) → (other == number) ≡ false → is_some (by_number numbers all other) ≡ is_some (by_number after all_after other)
             elsewhere other away =
-                both (is_some (by_number numbers all other)) (is_some (by_number after all_after other)) to from
+                truth (is_some (by_number numbers all other)) (is_some (by_number after all_after other)) to from
               where
                 to : is_some (by_number numbers all other) ≡ true → is_some (by_number after all_after other) ≡ true
                 to e =
-                    let one = is-there (by_number numbers all other) e in
+                    let one = there-some (by_number numbers all other) e in
                     let its = surface-numbered other one.0 one.1 in
-                    let apart : (one.0.id == id) ≡ false = ne_eqb one.0.id id (λ same. eqb-false other number away (some-same other number (sym its.0 ∙ ap numbers same ∙ named))) in
+                    let apart : (one.0.id == id) ≡ false = ne_eqb one.0.id id (λ same. eqb-false other number away (same_Some other number (sym its.0 ∙ ap numbers same ∙ named))) in
                     let now : after one.0.id ≡ Some other = with_id-other id one.0.id None numbers apart ∙ its.0 in
-                    let there = is-there (surface_at one.0.id all_after) (sym (numbered-after one.0.id) ∙ ap is_some now) in
+                    let there = there-some (surface_at one.0.id all_after) (sym (numbered-after one.0.id) ∙ ap is_some now) in
                     ap is_some (found-by (has_number after) (has_id one.0.id) other all_after.surfaces there.0 (numbers-apart after all_after.surfaces once-after apart-after) there.1
                     (is-number other (after there.0.id) (ap after (eqb-true there.0.id one.0.id (found-passes (has_id one.0.id) all_after.surfaces there.0 there.1)) ∙ now)))
 
                 from : is_some (by_number after all_after other) ≡ true → is_some (by_number numbers all other) ≡ true
                 from e =
-                    let one = is-there (by_number after all_after other) e in
+                    let one = there-some (by_number after all_after other) e in
                     let its = was one.0.id other (number-is other (after one.0.id) (found-passes (has_number after other) all_after.surfaces one.0 one.1)) in
                     let there = surface-named one.0.id other its.0 in
                     ap is_some (surface-read one.0.id other its.0 ∙ there.1)

@@ -4,7 +4,7 @@ use Rattle.std.specs.Prelude.{◌==◌, count_by, find, fold, is_some, map}
 use Rattle.std.specs.List.{AllByRecursion as Each}
 use Rattle.std.specs.Option.{option_map, option_map_or}
 use Rattle.std.proofs.Math.Path.{fun_ext}
-use Rattle.std.proofs.lemmas.Bool.{eqb-false, eqb-true, false_from_ne_true, ne_eqb}
+use Rattle.std.proofs.lemmas.Bool.{eqb-false, eqb-true, false_from_ne_true, ne_eqb, true≢false}
 use Rattle.std.proofs.lemmas.List.Sums.{sum_by-cons}
 use Rattle.spec_desktop.specs.Objects.{ById, with_id}
 use Rattle.wl_links.specs.Family.{Tied, is_there}
@@ -26,10 +26,11 @@ use Rattle.law_desktop.proofs.ByNames.Named.{asks-named, commits-named, roles-na
 use Rattle.law_desktop.proofs.ByNames.Reading.{numbers-named}
 use Rattle.law_desktop.proofs.ByNames.Renaming.{creates-named, renames-named}
 use Rattle.spec_desktop.specs.Step.{is_number}
-use Rattle.law_desktop.proofs.Lists.Keys.{differ, gone}
+use Rattle.law_desktop.proofs.Lists.Keys.{gone}
 use Rattle.law_desktop.proofs.Lists.Surfaces.{has_id}
 use Rattle.law_desktop.specs.Owning.{AreKept, by_number, number_in}
 use Rattle.law_desktop.proofs.Keeping.OwningNames.{with_id-other}
+use Rattle.law_desktop.proofs.Truth.{there-some}
 
 -- ---- how many are kept
 
@@ -71,7 +72,7 @@ next-apart n k away = ne_eqb (suc n) (suc k) (λ e. eqb-false n k away (omega (a
 -- one fewer, where one goes
 pub count-left : (xs ys : List (Option Kept)) (number : ℕ) → is_some (place_at xs number) ≡ true → is_some (place_at ys number) ≡ false
     → ((n : ℕ) → (n == number) ≡ false → is_some (place_at xs n) ≡ is_some (place_at ys n)) → count_by is_some ys + 1 ≡ count_by is_some xs
-count-left [] ys number here went same = absurd (differ (sym here ∙ ap is_some (nothing-at number)))
+count-left [] ys number here went same = absurd (true≢false (sym here ∙ ap is_some (nothing-at number)))
 count-left (x ∷ xs) [] zero here went same =
     let rest = count-same xs [] (λ n. same (suc n) (no-zero n) ∙ sym (ap is_some (nothing-at n))) in
     let more = count-more x xs ∙ ap (λ b. cond b 1 0 + count_by is_some xs) here in
@@ -115,10 +116,6 @@ stands-renamed-back f None None t = tt
 stands-renamed-back f (Some k) None t = absurd t
 stands-renamed-back f None (Some s) t = absurd t
 stands-renamed-back f (Some k) (Some s) t = record { history = t.history; role = t.role }
-
-there-some : {X : Type 0} (o : Option X) → is_some o ≡ true → (x : X) × (o ≡ Some x)
-there-some None e = absurd (cc)
-there-some (Some x) e = (x, refl)
 
 pub number-of-name : (numbers : ById ℕ) (id number : ℕ) → numbers id ≡ Some number → number_in numbers id ≡ number
 number-of-name numbers id number e = ap (λ (o : Option ℕ). option_map_or (λ n. n) o 0) e
@@ -229,7 +226,7 @@ module _ (numbers : ById ℕ) (slots : Slots) (tied : Tied) (all : Surfaces) (is
       where
         elsewhere : (other : ℕ) → has_surface other (destroyed_in id all) ≡ true → (other == id) ≡ false
         elsewhere other there = false_from_ne_true (other == id)
-            (λ e. differ (sym there ∙ ap is_some (ap (λ i. surface_at i (destroyed_in id all)) (eqb-true other id e) ∙ gone (has_id id) (fold ended_in all (links_with id all)).surfaces)))
+            (λ e. true≢false (sym there ∙ ap is_some (ap (λ i. surface_at i (destroyed_in id all)) (eqb-true other id e) ∙ gone (has_id id) (fold ended_in all (links_with id all)).surfaces)))
 
   -- ---- one comes
 

@@ -4,6 +4,7 @@ use Rattle.std.specs.Prelude.{◌==◌, find, is_some}
 use Rattle.std.specs.Option.{option_and_then, option_map}
 use Rattle.std.proofs.Math.Path.{fun_ext}
 use Rattle.std.proofs.lemmas.Bool.{eqb-true, eqb-false, ne_eqb}
+use Rattle.std.proofs.lemmas.Option.{none-some, same_Some}
 use Rattle.spec_desktop.specs.Objects.{ById}
 use Rattle.wl_links.specs.Family.{Tied}
 use Rattle.wl_surface.specs.Slots.{Slots}
@@ -17,15 +18,9 @@ use Rattle.wl_shell.proofs.Agreeing.{found-surface}
 use Rattle.spec_desktop.specs.Stacking.{Owned}
 use Rattle.law_desktop.specs.Owning.{IsOwned, IsXdg, Names, by_id, number_of}
 use Rattle.law_desktop.specs.Apart.{AreApartBy}
-use Rattle.law_desktop.proofs.Lists.Keys.{found-by, found-map, found-none, found-passes, new-elsewhere, new-here, none-some, some-same}
+use Rattle.law_desktop.proofs.Lists.Keys.{found-by, found-map, found-none, found-passes, new-elsewhere, new-here}
 use Rattle.law_desktop.proofs.Lists.Surfaces.{has_id}
-
--- the tests by id, by surface and by role object
-abbrev pub has_xdg : ℕ → XdgSurface → Bool
-has_xdg id x = x.id == id
-
-abbrev pub has_surface : ℕ → XdgSurface → Bool
-has_surface surface x = x.surface == surface
+use Rattle.law_desktop.proofs.KeptRecords.Keeping.OwningXdg.{has_surface, has_xdg}
 
 abbrev pub has_role : ℕ → XdgSurface → Bool
 has_role object x = is_role object x.role
@@ -88,7 +83,7 @@ histories-changed id change all s keeps found =
     at other None true e here = absurd (none-some s (sym e ∙ ap (λ i. surface_at i all) (eqb-true other id here) ∙ found))
     at other None false e here = refl
     at other (Some x) true e here =
-        let same : x ≡ s = some-same x s (sym e ∙ ap (λ i. surface_at i all) (eqb-true other id here) ∙ found) in
+        let same : x ≡ s = same_Some x s (sym e ∙ ap (λ i. surface_at i all) (eqb-true other id here) ∙ found) in
         ap (λ b. Some (cond b (change x) x).history) (eq-eqb x.id id (eqb-true x.id other (found-passes (has_id other) all.surfaces x e) ∙ eqb-true other id here))
         ∙ ap (λ (y : Surface). Some (change y).history) same
     at other (Some x) false e here =
@@ -161,7 +156,7 @@ module _ (names : Names) (slots : Slots) (tied : Tied) (kept : ℕ → Option Ke
   xdg-numbered p number e =
       let at = numbered-xdg names.surfaces (find p o.shell) number e in
       let one = xdg-found p at.0 at.1 in
-      let same : one.0 ≡ number = some-same one.0 number (sym one.3.surface ∙ at.2) in
+      let same : one.0 ≡ number = same_Some one.0 number (sym one.3.surface ∙ at.2) in
       (one.1, at.0, one.2, subst (λ n. IsXdg names kept o n one.1 at.0 one.2) same one.3, at.1)
 
   xdg-unnumbered : (p : XdgSurface → Bool) → number_of names.surfaces (find p o.shell) ≡ None → find p o.shell ≡ None
@@ -194,8 +189,8 @@ module _ (names : Names) (slots : Slots) (tied : Tied) (kept : ℕ → Option Ke
       ∙ here) (is.shell.each id)) in
       let one = xdg-found (has_surface id) there.0 there.1 in
       let surface : there.0.surface ≡ id = found-surface id o.shell there.0 there.1 in
-      let same : one.0 ≡ number = some-same one.0 number (sym one.3.surface ∙ ap names.surfaces surface ∙ named) in
-      let kept_is : one.1 ≡ k = some-same one.1 k (sym one.3.here ∙ ap kept same ∙ here) in
+      let same : one.0 ≡ number = same_Some one.0 number (sym one.3.surface ∙ ap names.surfaces surface ∙ named) in
+      let kept_is : one.1 ≡ k = same_Some one.1 k (sym one.3.here ∙ ap kept same ∙ here) in
       (there.0, one.2, subst (λ (y : Kept). IsXdg names kept o number y there.0 one.2) kept_is (subst (λ n. IsXdg names kept o n one.1 there.0 one.2) same one.3), there.1, surface)
 
   pub xdg-of-none : (id number : ℕ) → names.surfaces id ≡ Some number → kept number ≡ None → xdg_of id o.shell ≡ None

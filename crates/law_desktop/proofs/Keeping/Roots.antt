@@ -1,50 +1,23 @@
 -- What is done to a surface, and to those that descend from it, changes nothing of the other surfaces that have an xdg_surface: none of them
 -- has a parent (xdg-shell.xml, xdg_wm_base.get_xdg_surface; wayland.xml, wl_surface: a surface has one role).
-use Rattle.std.proofs.Common.{◌≡◌, ℕ, Bool, true, false, cond, Option, Some, None, refl, ap, sym, ◌∙◌, eq-eqb}
+use Rattle.std.proofs.Common.{◌≡◌, ℕ, Bool, true, false, cond, Option, Some, None, refl, ap, sym, ◌∙◌}
 use Rattle.std.specs.Prelude.{◌==◌, is_some}
 use Rattle.std.specs.Option.{option_map}
-use Rattle.std.proofs.lemmas.Bool.{eqb-false, eqb-true, false_from_ne_true}
+use Rattle.std.proofs.lemmas.Bool.{eqb-false, eqb-true, false_from_ne_true, true≢false}
 use Rattle.wl_surface.specs.Request.{Commit}
 use Rattle.wl_surface.specs.State.{History, apply}
-use Rattle.wl_surface.specs.Surface.{asking}
-use Rattle.wl_surface.specs.Surfaces.{Link, Surfaces, history_in, with_change}
-use Rattle.wl_surface.specs.Trees.{applied_unless, behaves_synchronised, committed_in, descends_from, levels, link_of}
+use Rattle.wl_surface.specs.Surfaces.{Link, Surfaces, history_in}
+use Rattle.wl_surface.specs.Trees.{committed_in, descends_from, levels, link_of}
 use Rattle.wl_surface.specs.Hanging.{AreNumbered}
 use Rattle.wl_surface.specs.TreeLaws.{AreOnceLinked}
-use Rattle.wl_surface.proofs.TreesApplying.{applies-descendants}
-use Rattle.wl_surface.proofs.Coming.{history-applied}
 use Rattle.law_desktop.specs.TreeStepsLaws.{KeepsOthers}
-use Rattle.law_desktop.proofs.TreeSteps.Commits.{asked_more, commit-keeps-others, history-asked}
-use Rattle.law_desktop.proofs.TreeSteps.Descents.{at-top, is-top, no-child-is-top}
+use Rattle.law_desktop.proofs.TreeSteps.Commits.{asked_more, commit-keeps-others}
+use Rattle.law_desktop.proofs.TreeSteps.Descents.{is-top, no-child-is-top}
 use Rattle.wl_shell.specs.Agreement.{with_history}
 use Rattle.wl_shell.specs.Shell.{Shell, xdg_of}
 use Rattle.law_desktop.specs.Soundness.{IsLive, IsNoChild}
-use Rattle.law_desktop.proofs.Lists.Keys.{differ}
 use Rattle.law_desktop.proofs.Keeping.OwningChanges.{AgreeFor}
-
--- ---- a surface without a parent is committed
-
-not-synchronised : (surface : ℕ) (all : Surfaces) → link_of surface all ≡ None → behaves_synchronised levels all surface ≡ false
-unfolding behaves_synchronised
-not-synchronised surface all none = rw none refl
-
-here-applied : (b c : Bool) (o : Option History) → b ≡ true → c ≡ true → option_map (λ h. cond c (apply h) h) (option_map (λ h. cond b (asked_more Commit h) h) o)
-    ≡ option_map (λ h. apply (asked_more Commit h)) o
-here-applied true true None e f = refl
-here-applied true true (Some h) e f = refl
-here-applied true false o e f = absurd (differ (sym f))
-here-applied false c o e f = absurd (differ (sym e))
-
--- all that was asked of it counts
-pub root-committed : (surface : ℕ) (all : Surfaces) → AreOnceLinked all.links → link_of surface all ≡ None
-    → history_in surface (committed_in surface all) ≡ option_map (λ h. apply (asked_more Commit h)) (history_in surface all)
-root-committed surface all once none =
-    ap (λ b. history_in surface (applied_unless b surface (with_change surface (asking Commit) all))) (not-synchronised surface all none)
-    ∙ ap (history_in surface) (applies-descendants (with_change surface (asking Commit) all) once 16 surface)
-    ∙ history-applied surface (descends_from 16 (with_change surface (asking Commit) all) surface) (with_change surface (asking Commit) all)
-    ∙ ap (option_map (λ h. cond (descends_from 16 (with_change surface (asking Commit) all) surface surface) (apply h) h)) (history-asked surface surface Commit all)
-    ∙ here-applied (surface == surface) (descends_from 16 (with_change surface (asking Commit) all) surface surface) (history_in surface all) (eq-eqb surface surface refl)
-    (at-top 16 (with_change surface (asking Commit) all) surface surface refl)
+use Rattle.law_desktop.proofs.ShownSurfaces.Roots.{root-committed}
 
 -- ---- the surfaces that have xdg_surfaces
 
@@ -65,7 +38,7 @@ module _ (all : Surfaces) (shell : Shell) (once : AreOnceLinked all.links) (numb
     where
       apart : (b : Bool) → (surface == id) ≡ b → (surface == id) ≡ false
       apart false e = e
-      apart true e = absurd (differ (sym has ∙ ap (λ i. is_some (xdg_of i shell)) (eqb-true surface id e) ∙ ap is_some none))
+      apart true e = absurd (true≢false (sym has ∙ ap (λ i. is_some (xdg_of i shell)) (eqb-true surface id e) ∙ ap is_some none))
 
   -- so it is where the child of a link that lives is the one
   pub agree-linked : (number : ℕ) (link : Link) (new : Surfaces) → IsLive number link all → KeepsOthers link.child all new

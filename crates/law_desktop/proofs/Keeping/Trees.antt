@@ -3,6 +3,7 @@
 use Rattle.std.proofs.Common.{◌≡◌, ℕ, ◌<◌, ◌≤◌, suc, List, [], ◌∷◌, ◌++◌, Bool, true, false, Option, Some, None, cond, length, refl, ap, sym, ◌∙◌, eq-eqb, arith, inl, inr}
 use Rattle.std.specs.Prelude.{◌==◌, ◌&&◌, ◌||◌, ◌⊎◌, count_by, filter, not}
 use Rattle.std.proofs.lemmas.List.Sums.{length-filter}
+use Rattle.std.proofs.lemmas.Bool.{true≢false}
 use Rattle.std.specs.List.{Contains, list_any}
 use Rattle.spec_desktop.specs.Objects.{ById}
 use Rattle.wl_links.specs.Family.{Tied}
@@ -20,7 +21,6 @@ use Rattle.law_desktop.specs.Renaming.{renamed}
 use Rattle.spec_desktop.specs.Framing.{AreFramed}
 use Rattle.spec_desktop.specs.Replies.{buffers_shown}
 use Rattle.law_desktop.specs.TreeBuffersLaws.{has_number, shown_in}
-use Rattle.law_desktop.proofs.Lists.Keys.{differ}
 use Rattle.law_desktop.proofs.Lists.Surfaces.{has_id}
 use Rattle.law_desktop.specs.Freed.{AreFreedOf}
 use Rattle.law_desktop.specs.Owning.{AreKept, by_number, number_in}
@@ -127,7 +127,7 @@ module _ (numbers then_numbers : ById ℕ) (slots new : Slots) (tied after : Tie
       }
     where
       at : (surface number : ℕ) (o : Option Surface) → by_number then_numbers then surface ≡ o → list_any (λ n. n == number) (frames_at o) ≡ true → number < bound
-      at surface number None found any = absurd (differ (sym any))
+      at surface number None found any = absurd (true≢false (sym any))
       at surface number (Some t) found any =
           let it = surface-numbered then_numbers new after then then_is surface t found in
           let was = asked t.id surface t it.0 it.1 in

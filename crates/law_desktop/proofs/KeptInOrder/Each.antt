@@ -1,14 +1,14 @@
 -- What is said of each xdg_surface of a client, as they change, come and go.
 use Rattle.std.proofs.Common.{◌≡◌, ◌≤◌, ℕ, ◌+◌, List, [], ◌∷◌, ◌++◌, Bool, true, false, Option, Some, None, cond, length, refl, ap, ap₂, sym, subst, ◌∙◌, map, arith}
 use Rattle.std.specs.Prelude.{◌==◌, not, is_some, IfSome, find, filter}
-use Rattle.std.proofs.lemmas.Bool.{eqb-true}
+use Rattle.std.proofs.lemmas.Bool.{eqb-true, true≢false}
 use Rattle.wl_shell.specs.Popups.{popup_in}
 use Rattle.wl_shell.specs.Shell.{Popup, Shell, XdgSurface as Xdg}
 use Rattle.wl_shell.specs.InOrder.{AreReleased}
 use Rattle.law_desktop.specs.Apart.{AreApartBy}
-use Rattle.law_desktop.proofs.Lists.Keys.{differ, none-first, none-later}
+use Rattle.law_desktop.proofs.Lists.Keys.{none-first, none-later}
 use Rattle.law_desktop.proofs.Marks.Stacks.{equal-numbers}
-use Rattle.law_desktop.proofs.Soundness.ObjectsThere.{found-left}
+use Rattle.law_desktop.proofs.Lists.Left.{find-filter}
 use Rattle.law_desktop.specs.Ordered.{OfEach}
 
 -- `P` is said of the popup of an xdg_surface, if it has one
@@ -83,10 +83,10 @@ each-only P id x (y ∷ ys) apart found is = at (y.id == id) refl found (λ e. e
         → (find (λ z. z.id == id) ys ≡ Some x → OfEach (λ z. (z.id == id) ≡ true → P z) ys) → OfEach (λ z. (z.id == id) ≡ true → P z) (y ∷ ys)
     at true here e later = (
       λ has. subst P (sym (same e)) is,
-      each-so (λ z. (z.id == id) ≡ false) (λ z. (z.id == id) ≡ true → P z) (λ z away has. absurd (differ (sym has ∙ away))) ys
+      each-so (λ z. (z.id == id) ≡ false) (λ z. (z.id == id) ≡ true → P z) (λ z away has. absurd (true≢false (sym has ∙ away))) ys
           (each-unfound (λ z. z.id == id) ys (apart.0 id here)),
     )
-    at false away e later = (λ has. absurd (differ (sym has ∙ away)), later e)
+    at false away e later = (λ has. absurd (true≢false (sym has ∙ away)), later e)
 
 -- two changes that come to the same for each
 pub each-alike : (f g : Xdg → Xdg) (xs : Shell) → OfEach (λ x. f x ≡ g x) xs → map f xs ≡ map g xs
@@ -115,7 +115,7 @@ AreKeyed key other ys [] = Unit {0}
 AreKeyed key other ys (x ∷ xs) = (is_some (find (λ y. other y == key x) ys) ≡ true) × AreKeyed key other ys xs
 
 one-less : {Y : Type 0} (q : Y → Bool) (ys : List Y) → is_some (find q ys) ≡ true → length (filter (λ y. not (q y)) ys) + 1 ≤ length ys
-one-less q [] found = absurd (differ (sym found))
+one-less q [] found = absurd (true≢false (sym found))
 one-less {Y} q (y ∷ ys) found = at (q y) found (one-less q ys)
   where
     fewer : (zs : List Y) → length (filter (λ y. not (q y)) zs) ≤ length zs
@@ -140,7 +140,7 @@ module _ {X Y : Type 0} (key : X → ℕ) (other : Y → ℕ) where
   keyed-left k ys [] none all = tt
   keyed-left k ys (x ∷ xs) none all =
       let away = none-first (has k x) x (find (has k) xs) none in (
-        ap is_some (found-left (λ y. other y == key x) (λ y. not (other y == k)) ys (λ y is. ap (λ n. not (n == k)) (eqb-true (other y) (key x) is) ∙ ap not away)) ∙ all.0,
+        ap is_some (find-filter (λ y. other y == key x) (λ y. not (other y == k)) ys (λ y is. ap (λ n. not (n == k)) (eqb-true (other y) (key x) is) ∙ ap not away)) ∙ all.0,
         keyed-left k ys xs (none-later (has k x) x (find (has k) xs) none) all.1,
       )
 
@@ -166,7 +166,7 @@ found-keyed {X} {Y} key other xs ys so = go xs (λ k is. so k is)
       where
         here : (b : Bool) → b ≡ true → is_some (cond b (Some z) (find (λ x. key x == key z) zs)) ≡ true
         here true e = refl
-        here false e = absurd (differ (sym e))
+        here false e = absurd (true≢false (sym e))
 
         there : (k : ℕ) (b : Bool) → is_some (find (λ x. key x == k) zs) ≡ true → is_some (cond b (Some z) (find (λ x. key x == k) zs)) ≡ true
         there k true e = refl

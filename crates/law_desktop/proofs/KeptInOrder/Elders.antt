@@ -2,7 +2,7 @@
 use Rattle.std.proofs.Common.{◌≡◌, ◌≤◌, ℕ, List, [], ◌∷◌, Bool, true, false, Option, Some, None, cond, refl, ap, sym, subst, ◌∙◌, map, ◌+◌, ◌++◌, arith}
 use Rattle.std.specs.Prelude.{◌==◌, not, is_some, IfSome, IsSomeAnd, nat_lt, if◌then◌else◌}
 use Rattle.std.specs.Option.{option_and_then, option_map}
-use Rattle.std.proofs.lemmas.Bool.{eqb-true}
+use Rattle.std.proofs.lemmas.Bool.{eqb-true, false_from_ne_true, true≢false}
 use Rattle.std.proofs.lemmas.Bool.Decides.{nat_tests}
 use Rattle.wl_shell.specs.Popups.{dismiss, dismissed_among, dismissed_with, first_popup, kind_popup, is_among, is_parent_of, new_popup, orphan, orphaning, placing, popup_changed, popup_in}
 use Rattle.wl_shell.specs.Popups.{first_of, popped_kind, popped_of, popped_role, popup_at, with_effect, Popped, with_grab, with_popup, with_popup_role}
@@ -14,11 +14,11 @@ use Rattle.wl_shell.specs.Shell.{acknowledging, at_stage, configuring, in_stage,
 use Rattle.wl_shell.specs.Shell.{Configure, acknowledged, awaiting, configuring_with, later_than, latest_placement, up_to}
 use Rattle.spec_desktop.specs.XdgPopup.{may_be_parent}
 use Rattle.law_desktop.specs.Apart.{AreApartBy}
-use Rattle.law_desktop.proofs.Lists.Keys.{differ, found-map, found-passes}
-use Rattle.law_desktop.proofs.Soundness.ObjectsThere.{found-left}
+use Rattle.law_desktop.proofs.Lists.Keys.{found-map, found-passes}
 use Rattle.law_desktop.proofs.Soundness.Orderly.{HasNoRole}
 use Rattle.law_desktop.specs.Ordered.{HasElder, HaveElders, OfEach, age_at, age_in, age_of, is_older}
 use Rattle.law_desktop.proofs.KeptInOrder.Each.{IsReleased, OfPopup, each-alike, each-both, each-found, each-left, each-map, each-more, each-of, each-only, each-so, some-both, some-so}
+use Rattle.law_desktop.proofs.Lists.Left.{find-filter}
 
 -- ---- changes that keep ids, surfaces and ages, and bring no parent, and no grab to what was dismissed
 
@@ -230,7 +230,7 @@ orphaned-gentle xdg = record {
     number p false = refl
 
     parent : (key : ℕ) (p : Popup) (b : Bool) → is_parent_of key (if b then record p { parent = None } else p) ≡ true → is_parent_of key p ≡ true
-    parent key p true is = absurd (differ (sym is))
+    parent key p true is = absurd (true≢false (sym is))
     parent key p false is = is
 
     grab : (p : Popup) (b : Bool) → IsReleased p → IsReleased (if b then record p { parent = None } else p)
@@ -260,7 +260,7 @@ taking-gentle = record {
 
     grab : (p : Popup) (b : Bool) → p.is_dismissed ≡ b → IsReleased p → IsReleased (if b then p else with_grab p)
     grab p true e so gone = so gone
-    grab p false e so gone = absurd (differ (sym gone ∙ e))
+    grab p false e so gone = absurd (true≢false (sym gone ∙ e))
 
 abbrev pub IsLiving : Popup → Type 0
 IsLiving popup = popup.is_dismissed ≡ false
@@ -363,16 +363,12 @@ IsNoParentOf xdg p = is_parent_of xdg p ≡ false
 abbrev pub IsNoParent : ℕ → Shell → Type 0
 IsNoParent xdg shell = OfEach (OfPopup (IsNoParentOf xdg)) shell
 
-unless : (b : Bool) → (b ≡ true → ⊥) → b ≡ false
-unless true never = absurd (never refl)
-unless false never = refl
-
 -- without a role object it is none
 pub bare-no-parent : (xdg : ℕ) (shell : Shell) → age_at xdg shell ≡ None → HaveElders shell → IsNoParent xdg shell
 bare-no-parent xdg shell none elders = each-so (OfPopup (HasElder shell)) (OfPopup (IsNoParentOf xdg)) (λ x. some-so (HasElder shell) (IsNoParentOf xdg) of (popup_in x.role)) shell elders
   where
     of : (p : Popup) → HasElder shell p → IsNoParentOf xdg p
-    of p has = unless (is_parent_of xdg p) (λ is. differ (sym (has xdg is) ∙ ap (λ (o : Option ℕ). is_older o p.number) none))
+    of p has = false_from_ne_true (is_parent_of xdg p) (λ is. true≢false (sym (has xdg is) ∙ ap (λ (o : Option ℕ). is_older o p.number) none))
 
 pub bare-age : (xdg : ℕ) (shell : Shell) → HasNoRole (xdg_at xdg shell) → age_at xdg shell ≡ None
 bare-age xdg shell = at (xdg_at xdg shell)
@@ -399,7 +395,7 @@ orphaned-no-parent xdg shell = each-map (λ x. Unit {0}) (OfPopup (IsNoParentOf 
 
 -- so the ages of parents stay
 kept-parent : (xdg : ℕ) (p : Popup) → IsNoParentOf xdg p → (key : ℕ) → is_parent_of key p ≡ true → (key == xdg) ≡ false
-kept-parent xdg p none key is = unless (key == xdg) (λ same. differ (sym is ∙ ap (λ (n : ℕ). is_parent_of n p) (eqb-true key xdg same) ∙ none))
+kept-parent xdg p none key is = false_from_ne_true (key == xdg) (λ same. true≢false (sym is ∙ ap (λ (n : ℕ). is_parent_of n p) (eqb-true key xdg same) ∙ none))
 
 elders-as : (old new : Shell) (p : Popup) → ((key : ℕ) → is_parent_of key p ≡ true → age_at key new ≡ age_at key old) → HasElder old p → HasElder new p
 elders-as old new p same has key is = ap (λ (o : Option ℕ). is_older o p.number) (same key is) ∙ has key is
@@ -446,7 +442,7 @@ elders-left id shell none elders =
         elders-as shell (without_xdg id shell) p
         (λ key is.
         ap (option_and_then (λ (x : Xdg). age_in x.role))
-        (found-left (λ (x : Xdg). x.id == key) (λ (x : Xdg). not (x.id == id)) shell
+        (find-filter (λ (x : Xdg). x.id == key) (λ (x : Xdg). not (x.id == id)) shell
         (λ x here. ap (λ (n : ℕ). not (n == id)) (eqb-true x.id key here) ∙ ap not (kept-parent id p both.1 key is)))) both.0
 
 -- one more
@@ -466,7 +462,7 @@ elders-more id base surface shell elders =
 
     of : (key number : ℕ) (o : Option Xdg) → xdg_at key shell ≡ o → is_older (option_and_then (λ (x : Xdg). age_in x.role) o) number ≡ true
         → is_older (age_at key (with_new id base surface shell)) number ≡ true
-    of key number None e is = absurd (differ (sym is))
+    of key number None e is = absurd (true≢false (sym is))
     of key number (Some x) e is = ap (λ (o : Option Xdg). is_older (option_and_then (λ (x : Xdg). age_in x.role) o) number) (found key shell _ x e) ∙ is
 
     so : (p : Popup) → HasElder shell p → HasElder (with_new id base surface shell) p
@@ -493,21 +489,21 @@ parent-older parent k shell up may = at (xdg_at parent shell) refl may
     kind (IsPopup p) low = below p.number low
 
     role : (o : Option RoleObject) → IfSome (popup_in o) (IsUpTo k) → is_some o ≡ true → is_older (age_in o) (k + 1) ≡ true
-    role None low is = absurd (differ (sym is))
+    role None low is = absurd (true≢false (sym is))
     role (Some object) low is = kind object.kind low
 
     at : (o : Option Xdg) → xdg_at parent shell ≡ o → may_be_parent o ≡ true → is_older (option_and_then (λ (x : Xdg). age_in x.role) o) (k + 1) ≡ true
-    at None e is = absurd (differ (sym is))
+    at None e is = absurd (true≢false (sym is))
     at (Some x) e is = role x.role (each-found (OfPopup (IsUpTo k)) (λ y. y.id == parent) x shell e up) is
 
 -- it isn't the parent of itself
 pub parent-away : (parent xdg : ℕ) (shell : Shell) → HasNoRole (xdg_at xdg shell) → may_be_parent (xdg_at parent shell) ≡ true → (parent == xdg) ≡ false
 parent-away parent xdg shell bare may =
-    unless (parent == xdg) (λ same. clash (xdg_at xdg shell) bare (ap (λ (n : ℕ). may_be_parent (xdg_at n shell)) (sym (eqb-true parent xdg same)) ∙ may))
+    false_from_ne_true (parent == xdg) (λ same. clash (xdg_at xdg shell) bare (ap (λ (n : ℕ). may_be_parent (xdg_at n shell)) (sym (eqb-true parent xdg same)) ∙ may))
   where
     clash : (o : Option Xdg) → HasNoRole o → may_be_parent o ≡ true → ⊥
     clash None bare may = bare
-    clash (Some x) bare may = differ (sym may ∙ ap is_some bare)
+    clash (Some x) bare may = true≢false (sym may ∙ ap is_some bare)
 
 pub popup-elder : (parent number : ℕ) (positioner : Positioner) (shell : Shell) → is_older (age_at parent shell) number ≡ true → HasElder shell (first_popup parent positioner number)
 popup-elder parent number positioner shell older key is = ap (λ (n : ℕ). is_older (age_at n shell) number) (sym (eqb-true parent key is)) ∙ older

@@ -12,7 +12,6 @@ use Rattle.spec_desktop.specs.Replies.{popups_done}
 use Rattle.spec_desktop.specs.Settling.{Midstep, TellsAt, TellsResident, TellsUnless, is_struck, without_grabs}
 use Rattle.spec_desktop.specs.Step.{with_peer}
 use Rattle.law_desktop.proofs.Isolation.Kept.{has-more}
-use Rattle.law_desktop.proofs.Marks.Stacks.{differ, or-left}
 use Rattle.law_desktop.proofs.Runs.Places.{number-same}
 use Rattle.law_desktop.specs.InOrder.{InOrderAt, InOrderBy, OwnsInOrder}
 use Rattle.law_desktop.proofs.EachClient.Clients.{AllAre, At, IsKept, IsPeerOf, empty-all, lives-there, settled-all, with-all}
@@ -25,6 +24,7 @@ use Rattle.law_desktop.specs.OrderedLaws.{OrderedStays, PeersKeepOrdered, Pieces
 use Rattle.law_desktop.proofs.KeptInOrder.Dismissed.{dismissed-order, dismissed-ordered, dismissed-stands}
 use Rattle.law_desktop.proofs.KeptInOrder.Moved.{moved-in-order, raised-in-order}
 use Rattle.law_desktop.proofs.KeptInOrder.Owning.{demand-ordered, peer-ordered}
+use Rattle.law_desktop.proofs.Truth.{differ, or-left}
 
 -- ---- a client by itself
 

@@ -1,16 +1,14 @@
 -- The toplevels of a client that stand are mapped, each once, as one is raised or moved.
-use Rattle.std.proofs.Common.{◌≡◌, ℕ, ◌+◌, List, [], ◌∷◌, Bool, true, false, cond, Option, Some, None, refl, sym, subst, ◌∙◌}
-use Rattle.std.specs.Prelude.{◌==◌, ◌&&◌, if◌then◌else◌}
-use Rattle.std.specs.List.{list_any}
+use Rattle.std.proofs.Common.{◌≡◌, ℕ, ◌+◌, List, [], Option, Some, None, refl, sym, subst, ◌∙◌}
 use Rattle.spec_desktop.specs.declared.cause.Cause.{Cause}
-use Rattle.spec_desktop.specs.Stacking.{Standing, is_of, moved_to, raised}
+use Rattle.spec_desktop.specs.Stacking.{Standing, moved_to, raised}
 use Rattle.spec_desktop.specs.Windows.{Place}
 use Rattle.spec_desktop.specs.Desktop.{Desktop, Resident, client_at}
 use Rattle.law_desktop.specs.Laws.{AreApart}
 use Rattle.law_desktop.specs.Own.{StandTheSame}
-use Rattle.law_desktop.proofs.Isolation.Own.{any-kept, any-moved, none-stand, of, stand-moved, stand-raised}
+use Rattle.law_desktop.proofs.Isolation.Own.{none-stand, of, stand-moved, stand-raised}
 use Rattle.law_desktop.proofs.Soundness.Orderly.{IsOrderly, IsOrderlyBy}
-use Rattle.law_desktop.proofs.Soundness.RunTops.{orderly-shifting}
+use Rattle.law_desktop.proofs.Soundness.RunTops.{apart-moved, orderly-shifting}
 use Rattle.law_desktop.specs.InOrder.{InOrder, InOrderAt, InOrderBy, OwnsInOrder}
 use Rattle.law_desktop.specs.Standing.{AreMappedOnce}
 use Rattle.law_desktop.proofs.InOrder.Whole.{bare-orderly, to-stands, to-whole}
@@ -25,31 +23,6 @@ apart-raised c k surface r ss alive owns mapped =
     (orderly-shifting c).raises (record { client = k; surface = surface }) (Some r) ss (subst (λ (s : Option Cause). IsOrderlyBy s r (of c ss)) (sym alive) before) in
     let now : IsOrderly (r.peer.requests + 1) r (of c (raised k surface ss)) = subst (λ (s : Option Cause). IsOrderlyBy s r (of c (raised k surface ss))) alive after in
     now.standing.apart
-
--- ---- moved
-
-apart-moved : (c k surface : ℕ) (place : Place) (ss : List Standing) → AreApart (of c ss) → AreApart (of c (moved_to k surface place ss))
-apart-moved c k surface place [] apart = tt
-apart-moved c k surface place (s ∷ ss) apart = at (is_of k surface s) (apart-moved c k surface place ss)
-  where
-    here : (b : Bool) → AreApart (cond b (s ∷ of c ss) (of c ss)) → AreApart (cond b (record s { place = place } ∷ of c ss) (of c ss))
-    here true apart = apart
-    here false apart = apart
-
-    same : list_any (is_of s.client s.surface) (of c (moved_to k surface place ss)) ≡ list_any (is_of s.client s.surface) (of c ss)
-    same =
-        any-kept (is_of s.client s.surface) (λ t. t.client == c) (moved_to k surface place ss)
-        ∙ any-moved (λ t. (t.client == c) && is_of s.client s.surface t) (λ t place. refl) k surface place ss
-        ∙ sym (any-kept (is_of s.client s.surface) (λ t. t.client == c) ss)
-
-    on : (b : Bool) → (AreApart (of c ss) → AreApart (of c (moved_to k surface place ss))) → AreApart (cond b (s ∷ of c ss) (of c ss))
-        → AreApart (cond b (s ∷ of c (moved_to k surface place ss)) (of c (moved_to k surface place ss)))
-    on true later apart = (same ∙ apart.0, later apart.1)
-    on false later apart = later apart
-
-    at : (b : Bool) → (AreApart (of c ss) → AreApart (of c (moved_to k surface place ss))) → AreApart (of c (if b then record s { place = place } ∷ ss else s ∷ moved_to k surface place ss))
-    at true later = here (s.client == c) apart
-    at false later = on (s.client == c) later apart
 
 -- ---- all clients
 

@@ -2,7 +2,7 @@
 use Rattle.std.proofs.Common.{◌≡◌, ◌≤◌, ℕ, ◌+◌, List, [], ◌∷◌, Bool, true, false, Option, Some, None, length, refl, ap, sym, subst, ◌∙◌, arith}
 use Rattle.std.specs.Prelude.{Ok, ◌==◌, ◌||◌, is_some, IfSome, nat_le, fold}
 use Rattle.std.specs.List.{list_any}
-use Rattle.std.proofs.lemmas.Bool.{eqb-true}
+use Rattle.std.proofs.lemmas.Bool.{eqb-true, true≢false}
 use Rattle.std.proofs.lemmas.Bool.Decides.{nat_tests}
 use Rattle.spec_desktop.specs.Peer.{Peer}
 use Rattle.wl_surface.specs.Surface.{Surface, new_surface}
@@ -18,7 +18,7 @@ use Rattle.spec_desktop.specs.Desktop.{Desktop, Resident}
 use Rattle.spec_desktop.specs.LeftOut.{nothing_left_out}
 use Rattle.spec_desktop.specs.Step.{with_peer}
 use Rattle.law_desktop.specs.Apart.{AreApartBy}
-use Rattle.law_desktop.proofs.Lists.Keys.{differ, gone, length-new}
+use Rattle.law_desktop.proofs.Lists.Keys.{gone, length-new}
 use Rattle.law_desktop.proofs.Marks.Stacks.{equal-numbers}
 use Rattle.law_desktop.proofs.Soundness.Allowed.{allowed}
 use Rattle.law_desktop.proofs.Soundness.Message.{allowed-counted}
@@ -93,7 +93,7 @@ destroyed-there surface id all there = at (id == surface) refl
 
     at : (b : Bool) → (id == surface) ≡ b → IsThere all id
     at true same =
-        absurd (differ (sym there ∙ ap (λ (n : ℕ). is_some (surface_at n (destroyed_in surface all))) (eqb-true id surface same) ∙ ap is_some gone-now))
+        absurd (true≢false (sym there ∙ ap (λ (n : ℕ). is_some (surface_at n (destroyed_in surface all))) (eqb-true id surface same) ∙ ap is_some gone-now))
     at false away = sym (there-destroyed surface all id away) ∙ there
 
 le-trans : (a b n : ℕ) → a ≤ b → b ≤ n → a ≤ n

@@ -18,7 +18,6 @@ use Rattle.spec_desktop.specs.Desktop.{Desktop, Resident}
 use Rattle.spec_desktop.specs.Step.{asked_so_far, changed_by, toplevel_given, xdg_changed}
 use Rattle.spec_desktop.specs.XdgPopup.{may_be_parent}
 use Rattle.law_desktop.specs.Apart.{AreApartBy}
-use Rattle.law_desktop.proofs.Marks.Stacks.{or-left, or-right}
 use Rattle.law_desktop.proofs.Soundness.Orderly.{HasNoRole, IsAllowed, IsAsked}
 use Rattle.law_desktop.specs.Ordered.{HaveElders, OfEach}
 use Rattle.law_desktop.proofs.KeptInOrder.Each.{IsReleased, OfPopup, each-left, each-map, each-more}
@@ -26,6 +25,7 @@ use Rattle.law_desktop.proofs.KeptInOrder.Elders.{HasLiving, IsGentle, IsNoParen
 use Rattle.law_desktop.proofs.KeptInOrder.Elders.{elders-popup, elders-toplevel, bare-age, bare-no-parent, one-gentle, orphaned-no-parent, orphaning-gentle, popup-gentle, taken, taking, taking-gentle}
 use Rattle.law_desktop.proofs.KeptInOrder.Elders.{repositioned-gentle}
 use Rattle.law_desktop.proofs.KeptInOrder.Heard.{IsFit}
+use Rattle.law_desktop.proofs.Truth.{or-left, or-right}
 
 -- `P` is said of the surface of each xdg_surface
 abbrev pub OfSurfaces : (ℕ → Type 0) → Shell → Type 0

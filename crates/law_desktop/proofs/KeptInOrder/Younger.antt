@@ -3,7 +3,7 @@ use Rattle.std.proofs.Common.{◌≡◌, ◌<◌, ℕ, List, [], ◌∷◌, Bool
 use Rattle.std.specs.Prelude.{◌==◌, ◌||◌, IfSome}
 use Rattle.std.specs.List.{list_any}
 use Rattle.std.specs.Option.{option_and_then}
-use Rattle.std.proofs.lemmas.Bool.{ltb-true}
+use Rattle.std.proofs.lemmas.Bool.{false_from_ne_true, ltb-true, or_from}
 use Rattle.wl_shell.specs.Popups.{Popped, is_parent_of, popup_in, popups_of}
 use Rattle.wl_shell.specs.Shell.{IsPopup, Kind, Popup, RoleObject, Shell, Toplevel, XdgSurface as Xdg}
 use Rattle.wl_shell.specs.Agreement.{AreApart}
@@ -11,12 +11,12 @@ use Rattle.wl_shell.specs.Descent.{AreYounger}
 use Rattle.wl_shell.proofs.Agreeing.{found-at}
 use Rattle.wl_shell.proofs.Ordered.{Each, IsIts, all-its, each-map, popup-of}
 use Rattle.spec_desktop.specs.Desktop.{Resident}
-use Rattle.law_desktop.specs.Apart.{AreApartBy}
 use Rattle.law_desktop.proofs.Marks.Stacks.{equal-numbers}
 use Rattle.law_desktop.specs.InOrder.{AreRising, OwnsInOrder}
 use Rattle.law_desktop.proofs.InOrder.Rising.{popups_rise}
 use Rattle.law_desktop.specs.Ordered.{HasElder, HaveElders, age_at, age_in, is_older}
 use Rattle.law_desktop.proofs.KeptInOrder.Each.{OfPopup, each-found}
+use Rattle.law_desktop.proofs.ShownSurfaces.Found.{told-apart}
 
 -- ---- the popups in order
 
@@ -56,14 +56,6 @@ all-aged shell apart elders = each-map (IsIts shell) (IsAged shell) aged (popups
 
 -- ---- younger than their parents
 
-unless : (b : Bool) → (b ≡ true → ⊥) → b ≡ false
-unless true never = absurd (never refl)
-unless false never = refl
-
-or-none : (a b : Bool) → a ≡ false → b ≡ false → (a || b) ≡ false
-or-none true b e f = e
-or-none false b e f = f
-
 module _ (shell : Shell) where
   -- a parent among them is older
   older : (p q : Popped) → IsAged shell p → IsAged shell q → is_parent_of q.xdg.id p.popup ≡ true → q.popup.number < p.popup.number
@@ -80,8 +72,8 @@ module _ (shell : Shell) where
       → ((number : ℕ) → list_any (λ q. q.popup.number == number) qs ≡ true → p.popup.number < number) → list_any (λ q. is_parent_of q.xdg.id p.popup) qs ≡ false
   none-after p aged [] all rises = refl
   none-after p aged (q ∷ qs) all rises =
-      or-none (is_parent_of q.xdg.id p.popup) (list_any (λ r. is_parent_of r.xdg.id p.popup) qs)
-      (unless (is_parent_of q.xdg.id p.popup)
+      or_from (is_parent_of q.xdg.id p.popup) (list_any (λ r. is_parent_of r.xdg.id p.popup) qs)
+      (false_from_ne_true (is_parent_of q.xdg.id p.popup)
       (λ is. both-below q.popup.number p.popup.number (older p q aged all.0 is) (rises q.popup.number (first (equal-numbers q.popup.number q.popup.number refl)))))
       (none-after p aged qs all.1 (λ number any. rises number (later (q.popup.number == number) any)))
     where
@@ -95,20 +87,15 @@ module _ (shell : Shell) where
   younger : (ps : List Popped) → AreRising ps → Each (IsAged shell) ps → AreYounger ps
   younger [] rising all = tt
   younger (p ∷ ps) rising all = (
-    or-none (is_parent_of p.xdg.id p.popup) (list_any (λ q. is_parent_of q.xdg.id p.popup) ps)
-        (unless (is_parent_of p.xdg.id p.popup) (λ is. below-itself p.popup.number (older p p all.0 all.0 is)))
+    or_from (is_parent_of p.xdg.id p.popup) (list_any (λ q. is_parent_of q.xdg.id p.popup) ps)
+        (false_from_ne_true (is_parent_of p.xdg.id p.popup) (λ is. below-itself p.popup.number (older p p all.0 all.0 is)))
         (none-after p all.0 ps all.1 rising.0),
     younger ps rising.1 all.1,
   )
 
 -- ---- of a client in order
 
-apart-both : (xs : Shell) → AreApartBy (λ id x. x.id == id) xs → AreApartBy (λ surface x. x.surface == surface) xs → AreApart xs
-apart-both [] ids surfaces = tt
-apart-both (x ∷ xs) ids surfaces =
-    (ids.0 x.id (equal-numbers x.id x.id refl), surfaces.0 x.surface (equal-numbers x.surface x.surface refl), apart-both xs ids.1 surfaces.1)
-
 pub are-younger : (r : Resident) → OwnsInOrder r → HaveElders r.owned.shell → AreYounger (popups_of r.owned.shell)
 are-younger r order elders =
     younger r.owned.shell (popups_of r.owned.shell) (popups_rise r order)
-    (all-aged r.owned.shell (apart-both r.owned.shell order.xdg_surfaces.0 order.xdg_apart) elders)
+    (all-aged r.owned.shell (told-apart r.owned.shell order.xdg_surfaces.0 order.xdg_apart) elders)

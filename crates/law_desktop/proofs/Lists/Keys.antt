@@ -1,19 +1,11 @@
 -- Lists whose elements are told apart by keys: what is found of one that changes, comes or goes.
 use Rattle.std.proofs.Common.{◌≡◌, ℕ, ◌+◌, List, ◌∷◌, ◌++◌, Bool, true, false, Option, Some, None, cond, length, refl, ap, sym, subst, ◌∙◌, map, arith, []}
-use Rattle.std.proofs.lemmas.Bool.{false_from_ne_true, or_left, or_right}
+use Rattle.std.proofs.lemmas.Bool.{false_from_ne_true, or_left, or_right, true≢false}
+use Rattle.std.proofs.lemmas.Option.{none-some, same_Some}
 use Rattle.std.specs.Prelude.{◌||◌, not, find, filter}
 use Rattle.std.specs.List.{list_any}
 use Rattle.std.specs.Option.{option_map}
 use Rattle.law_desktop.specs.Apart.{AreApartBy}
-
-pub differ : true ≡ false → ⊥
-differ e = absurd (cc)
-
-pub none-some : {X : Type 0} (x : X) → None ≡ Some x → ⊥
-none-some x e = absurd (cc)
-
-pub some-same : {X : Type 0} (x y : X) → Some x ≡ Some y → x ≡ y
-some-same x y e = cc
 
 pub none-first : {X : Type 0} (b : Bool) (x : X) (o : Option X) → cond b (Some x) o ≡ None → b ≡ false
 none-first true x o e = absurd (cc)
@@ -29,7 +21,7 @@ found-passes p [] x e = absurd (cc)
 found-passes p (y ∷ ys) x e = at (p y) refl e (found-passes p ys x)
   where
     at : (b : Bool) → p y ≡ b → cond b (Some y) (find p ys) ≡ Some x → (find p ys ≡ Some x → p x ≡ true) → p x ≡ true
-    at true here e rest = ap p (sym (some-same y x e)) ∙ here
+    at true here e rest = ap p (sym (same_Some y x e)) ∙ here
     at false here e rest = rest e
 
 -- what a test finds fails one that finds none
@@ -38,7 +30,7 @@ found-fails p q [] x found none = absurd (cc)
 found-fails p q (y ∷ ys) x found none = at (q y) found (λ e. found-fails p q ys x e (none-later (p y) y (find p ys) none))
   where
     at : (b : Bool) → cond b (Some y) (find q ys) ≡ Some x → (find q ys ≡ Some x → p x ≡ false) → p x ≡ false
-    at true e rest = ap p (sym (some-same y x e)) ∙ none-first (p y) y (find p ys) none
+    at true e rest = ap p (sym (same_Some y x e)) ∙ none-first (p y) y (find p ys) none
     at false e rest = rest e
 
 -- what is found by one test is found by another that tells it apart
@@ -48,7 +40,7 @@ found-by has p key (y ∷ ys) x apart e is = at (p y) (has key y) refl refl e (�
   where
     at : (b c : Bool) → p y ≡ b → has key y ≡ c → cond b (Some y) (find p ys) ≡ Some x → (find p ys ≡ Some x → find (has key) ys ≡ Some x) → cond c (Some y) (find (has key) ys) ≡ Some x
     at true true passes here e rest = e
-    at true false passes here e rest = absurd (differ (sym is ∙ ap (has key) (sym (some-same y x e)) ∙ here))
+    at true false passes here e rest = absurd (true≢false (sym is ∙ ap (has key) (sym (same_Some y x e)) ∙ here))
     at false true passes here e rest = absurd (none-some x (sym (apart.0 key here) ∙ rest e))
     at false false passes here e rest = rest e
 
@@ -66,7 +58,7 @@ found-any p r [] x found is = absurd (cc)
 found-any p r (y ∷ ys) x found is = at (p y) found (λ e. found-any p r ys x e is)
   where
     at : (b : Bool) → cond b (Some y) (find p ys) ≡ Some x → (find p ys ≡ Some x → list_any r ys ≡ true) → (r y || list_any r ys) ≡ true
-    at true e rest = or_left (r y) (list_any r ys) (ap r (some-same y x e) ∙ is)
+    at true e rest = or_left (r y) (list_any r ys) (ap r (same_Some y x e) ∙ is)
     at false e rest = or_right (r y) (list_any r ys) (rest e)
 
 -- one of them is found by its key
@@ -120,7 +112,7 @@ new-apart has (y ∷ ys) x new apart = (
 )
   where
     another : (key : ℕ) → has key y ≡ true → (b : Bool) → has key x ≡ b → has key x ≡ false
-    another key is true e = absurd (differ (sym is ∙ none-first (has key y) y (find (has key) ys) (new key e)))
+    another key is true e = absurd (true≢false (sym is ∙ none-first (has key y) y (find (has key) ys) (new key e)))
     another key is false e = e
 
 pub length-new : {X : Type 0} (xs : List X) (x : X) → length (xs ++ x ∷ []) ≡ length xs + 1
@@ -175,7 +167,7 @@ module _ {X : Type 0} (ids : ℕ → X → Bool) (id : ℕ) (x : X) where
     where
       at : (b : Bool) → ids id y ≡ b → cond b (Some y) (find (ids id) ys) ≡ Some x → (find (ids id) ys ≡ Some x → P ys) → P (y ∷ ys)
       at true here e rest =
-          let same = some-same y x e in
+          let same = same_Some y x e in
           subst (λ (z : X). P (z ∷ ys)) (sym same) (first ys (ap (ids id) (sym same) ∙ here) (apart.0 id here))
       at false here e rest = later y ys here e (rest e)
 
@@ -254,7 +246,7 @@ module _ {X : Type 0} (ids : ℕ → X → Bool) (id : ℕ) (x : X) where
         (λ ys here none apart told new. subst (AreApartBy has) (sym (changed-first ys here none)) (λ key is. none-later (has key x) x (find (has key) ys) (new key is), told.1))
         (λ y ys not_it found rest apart told new.
         subst (AreApartBy has) (sym (changed-later y ys not_it)) (
-          λ key is. mapped key ys apart.1 found (told.0 key is) (false_from_ne_true (has key (change x)) (λ e. differ (sym is ∙ none-first (has key y) y (find (has key) ys) (new key e)))),
+          λ key is. mapped key ys apart.1 found (told.0 key is) (false_from_ne_true (has key (change x)) (λ e. true≢false (sym is ∙ none-first (has key y) y (find (has key) ys) (new key e)))),
           rest apart.1 told.1 (λ key is. none-later (has key y) y (find (has key) ys) (new key is)),
         )) apart told new
       where

@@ -2,12 +2,12 @@
 use Rattle.std.proofs.Common.{◌≡◌, ◌≢◌, ℕ, List, [], ◌∷◌, ◌++◌, Bool, true, false, cond, refl, ap, sym, ◌∙◌}
 use Rattle.std.specs.Prelude.{◌==◌, ◌||◌, not, filter}
 use Rattle.std.specs.List.{list_any}
-use Rattle.std.proofs.lemmas.Bool.{eqb-true}
+use Rattle.std.proofs.lemmas.Bool.{and_from, eqb-true, false_from_ne_true, true≢false}
 use Rattle.spec_desktop.specs.Stacking.{Standing, is_of, with_mapped, without_client, without_surface_of}
 use Rattle.spec_desktop.specs.Windows.{mapping_place}
 use Rattle.law_desktop.specs.Laws.{AreApart}
-use Rattle.law_desktop.proofs.Lists.Keys.{differ}
-use Rattle.law_desktop.proofs.Marks.Stacks.{and-both, and-left, and-right, equal-numbers, or-left, or-right, unless}
+use Rattle.law_desktop.proofs.Marks.Stacks.{equal-numbers}
+use Rattle.law_desktop.proofs.Truth.{and-left, and-right, or-assoc, or-false, or-left, or-right, or-true}
 
 -- ---- lists
 
@@ -19,7 +19,7 @@ any-left p q keeps (x ∷ xs) = at (p x) (q x) refl refl (any-left p q keeps xs)
     at : (a b : Bool) → p x ≡ a → q x ≡ b → list_any p (filter q xs) ≡ list_any p xs → list_any p (cond b (x ∷ filter q xs) (filter q xs)) ≡ (a || list_any p xs)
     at true true e f rest = ap (λ c. c || list_any p (filter q xs)) e
     at false true e f rest = ap (λ c. c || list_any p (filter q xs)) e ∙ rest
-    at true false e f rest = absurd (differ (sym (keeps x e) ∙ f))
+    at true false e f rest = absurd (true≢false (sym (keeps x e) ∙ f))
     at false false e f rest = rest
 
 -- what passes is left out
@@ -28,7 +28,7 @@ any-gone p q goes [] = refl
 any-gone p q goes (x ∷ xs) = at (p x) (q x) refl refl (any-gone p q goes xs)
   where
     at : (a b : Bool) → p x ≡ a → q x ≡ b → list_any p (filter q xs) ≡ false → list_any p (cond b (x ∷ filter q xs) (filter q xs)) ≡ false
-    at true true e f rest = absurd (differ (sym f ∙ goes x e))
+    at true true e f rest = absurd (true≢false (sym f ∙ goes x e))
     at false true e f rest = ap (λ c. c || list_any p (filter q xs)) e ∙ rest
     at a false e f rest = rest
 
@@ -40,14 +40,6 @@ none-left p q (x ∷ xs) none = at (q x) (none-left p q xs (or-right (p x) (list
     at : (b : Bool) → list_any p (filter q xs) ≡ false → list_any p (cond b (x ∷ filter q xs) (filter q xs)) ≡ false
     at true rest = ap (λ c. c || list_any p (filter q xs)) (or-left (p x) (list_any p xs) none) ∙ rest
     at false rest = rest
-
-or-assoc : (a b c : Bool) → (a || (b || c)) ≡ ((a || b) || c)
-or-assoc true b c = refl
-or-assoc false b c = refl
-
-or-false : (b : Bool) → (b || false) ≡ b
-or-false true = refl
-or-false false = refl
 
 pub any-last : {X : Type 0} (p : X → Bool) (xs : List X) (x : X) → list_any p (xs ++ x ∷ []) ≡ (list_any p xs || p x)
 any-last p [] x = or-false (p x)
@@ -62,11 +54,11 @@ pub of-surface : (c surface : ℕ) (s : Standing) → is_of c surface s ≡ true
 of-surface c surface s is = eqb-true s.surface surface (and-right (s.client == c) (s.surface == surface) is)
 
 pub of-it : (c surface : ℕ) (s : Standing) → s.client ≡ c → s.surface ≡ surface → is_of c surface s ≡ true
-of-it c surface s is here = and-both (s.client == c) (s.surface == surface) (equal-numbers s.client c is) (equal-numbers s.surface surface here)
+of-it c surface s is here = and_from (s.client == c) (s.surface == surface) (equal-numbers s.client c is) (equal-numbers s.surface surface here)
 
 -- it isn't of another surface
 pub of-another : (c surface : ℕ) (s : Standing) → s.surface ≢ surface → is_of c surface s ≡ false
-of-another c surface s other = unless (is_of c surface s) (λ is. other (of-surface c surface s is))
+of-another c surface s other = false_from_ne_true (is_of c surface s) (λ is. other (of-surface c surface s is))
 
 -- ---- none stands twice
 
@@ -81,13 +73,13 @@ apart-left q (s ∷ ss) apart = at (q s) (apart-left q ss apart.1)
 pub apart-last : (ss : List Standing) (t : Standing) → AreApart ss → list_any (is_of t.client t.surface) ss ≡ false → AreApart (ss ++ t ∷ [])
 apart-last [] t apart none = (refl, tt)
 apart-last (s ∷ ss) t apart none = (
-  any-last (is_of s.client s.surface) ss t ∙ ap (λ b. b || is_of s.client s.surface t) apart.0 ∙ unless (is_of s.client s.surface t) turned,
+  any-last (is_of s.client s.surface) ss t ∙ ap (λ b. b || is_of s.client s.surface t) apart.0 ∙ false_from_ne_true (is_of s.client s.surface t) turned,
   apart-last ss t apart.1 (or-right (is_of t.client t.surface s) (list_any (is_of t.client t.surface) ss) none),
 )
   where
     turned : is_of s.client s.surface t ≡ true → ⊥
     turned is =
-        differ (sym (of-it t.client t.surface s (sym (of-client s.client s.surface t is)) (sym (of-surface s.client s.surface t is)))
+        true≢false (sym (of-it t.client t.surface s (sym (of-client s.client s.surface t is)) (sym (of-surface s.client s.surface t is)))
         ∙ or-left (is_of t.client t.surface s) (list_any (is_of t.client t.surface) ss) none)
 
 -- ---- one is mapped
@@ -95,10 +87,6 @@ apart-last (s ∷ ss) t apart none = (
 -- the toplevel that is mapped
 abbrev newest : ℕ → ℕ → ℕ → Standing
 newest m c surface = record { client = c; surface = surface; place = mapping_place m }
-
-or-true : (b : Bool) → (b || true) ≡ true
-or-true true = refl
-or-true false = refl
 
 pub mapped-apart : (m c surface : ℕ) (ss : List Standing) → AreApart ss → list_any (is_of c surface) ss ≡ false → AreApart (with_mapped m c surface ss)
 mapped-apart m c surface ss apart none = apart-last ss (newest m c surface) apart none
@@ -134,4 +122,4 @@ ended-here c surface ss = any-gone (is_of c surface) (λ s. not (s.client == c))
 
 pub ended-other : (c client surface : ℕ) (ss : List Standing) → c ≢ client → list_any (is_of client surface) (without_client c ss) ≡ list_any (is_of client surface) ss
 ended-other c client surface ss apart =
-    any-left (is_of client surface) (λ s. not (s.client == c)) (λ s is. ap (λ b. not b) (unless (s.client == c) (λ e. apart (sym (eqb-true s.client c e) ∙ of-client client surface s is)))) ss
+    any-left (is_of client surface) (λ s. not (s.client == c)) (λ s is. ap (λ b. not b) (false_from_ne_true (s.client == c) (λ e. apart (sym (eqb-true s.client c e) ∙ of-client client surface s is)))) ss

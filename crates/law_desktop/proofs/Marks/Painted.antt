@@ -1,5 +1,6 @@
 -- A point that a step doesn't mark is painted as before, if the windows there show the colours that they did.
 use Rattle.std.proofs.Common.{◌≡◌, ℕ, suc, Bool, true, false, List, [], ◌∷◌, Some, refl, ap, sym, ◌∙◌}
+use Rattle.std.proofs.lemmas.Bool.{and_from, false_from_ne_true, or_left}
 use Rattle.std.specs.Prelude.{ℤ, pos, ◌-ℤ◌, ◌&&◌, ◌||◌, not, filter, fold, cond, slice_get, if◌then◌else◌}
 use Rattle.std.specs.List.{list_any}
 use Rattle.wl_geom.specs.Rect.{in_rect}
@@ -11,7 +12,11 @@ use Rattle.law_desktop.specs.Laws.{ColorsStay, ScratchStays}
 use Rattle.spec_desktop.specs.Marks.{AreDistinct, has_moved_past, has_same_record, in_output, is_before, is_changed_at, is_damaged_at, is_kept_in, is_restacked_at, is_same_surface, shared_by}
 use Rattle.spec_desktop.specs.Moments.{applied_between}
 use Rattle.spec_desktop.specs.Scratch.{color_in, over}
-use Rattle.law_desktop.proofs.Marks.Stacks.{AreSame, Each, and-both, before-cons, differ, each-both, each-false, each-map, fields, or-left, or-right, same-stack, surface-self, unless}
+use Rattle.law_desktop.proofs.Marks.Stacks.{AreSame, before-cons, fields, same-stack, surface-self}
+use Rattle.law_desktop.proofs.Truth.{and-left, and-right, differ, or-left, or-right}
+use Rattle.law_desktop.proofs.Lists.Each.{Each, each-both, each-map}
+use Rattle.law_desktop.proofs.Lists.Tests.{each-false}
+use Rattle.law_desktop.proofs.Lists.Left.{any-there}
 
 -- ---- the windows that hold the point
 
@@ -44,20 +49,12 @@ any-kept c p f (x ∷ xs) e = go (c x) (p x) refl refl e (any-kept c p f xs) whe
   go false true is has g next = absurd (differ (sym is ∙ f x has))
   go false false is has g next = next g
 
-any-whole : {X : Type 0} (c p : X → Bool) (xs : List X) → list_any p (filter c xs) ≡ true → list_any p xs ≡ true
-any-whole c p [] e = e
-any-whole c p (x ∷ xs) e = go (c x) (p x) refl e (any-whole c p xs) where
-  go : (b d : Bool) → p x ≡ d → list_any p (cond b (x ∷ filter c xs) (filter c xs)) ≡ true → (list_any p (filter c xs) ≡ true → list_any p xs ≡ true) → (d || list_any p xs) ≡ true
-  go b true has g next = refl
-  go true false has g next = next (rw has at g)
-  go false false has g next = next g
-
-before-whole : (c : Window → Bool) (w v : Window) (xs : List Window) → is_before w v (filter c xs) ≡ true → is_before w v xs ≡ true
+pub before-whole : (c : Window → Bool) (w v : Window) (xs : List Window) → is_before w v (filter c xs) ≡ true → is_before w v xs ≡ true
 before-whole c w v [] e = e
 before-whole c w v (x ∷ xs) e = go (c x) e (before-whole c w v xs) where
   same : (b : Bool) → (if b then list_any (is_same_surface v) (filter c xs) else is_before w v (filter c xs)) ≡ true → (is_before w v (filter c xs) ≡ true → is_before w v xs ≡ true)
       → (if b then list_any (is_same_surface v) xs else is_before w v xs) ≡ true
-  same true g next = any-whole c (is_same_surface v) xs g
+  same true g next = any-there (is_same_surface v) c xs g
   same false g next = next g
 
   go : (b : Bool) → is_before w v (cond b (x ∷ filter c xs) (filter c xs)) ≡ true → (is_before w v (filter c xs) ≡ true → is_before w v xs ≡ true) → is_before w v (x ∷ xs) ≡ true
@@ -68,7 +65,7 @@ pub distinct-kept : (c : Window → Bool) (xs : List Window) → AreDistinct xs 
 distinct-kept c [] e = tt
 distinct-kept c (x ∷ xs) e = go (c x) (distinct-kept c xs e.1) where
   go : (b : Bool) → AreDistinct (filter c xs) → AreDistinct (cond b (x ∷ filter c xs) (filter c xs))
-  go true rest = (unless (list_any (is_same_surface x) (filter c xs)) (λ f. differ (sym e.0 ∙ any-whole c (is_same_surface x) xs f)), rest)
+  go true rest = (false_from_ne_true (list_any (is_same_surface x) (filter c xs)) (λ f. differ (sym e.0 ∙ any-there (is_same_surface x) c xs f)), rest)
   go false rest = rest
 
 -- each of these windows that holds the point is among them
@@ -83,7 +80,7 @@ members c (x ∷ xs) = go (c x) refl (members c xs) where
 
   go : (b : Bool) → c x ≡ b → Each (λ w. list_any (λ a. is_same_surface w a && c a) xs ≡ true) (filter c xs)
       → Each (λ w. ((is_same_surface w x && c x) || list_any (λ a. is_same_surface w a && c a) xs) ≡ true) (cond b (x ∷ filter c xs) (filter c xs))
-  go true is rest = (first (is_same_surface x x && c x) (and-both (is_same_surface x x) (c x) (surface-self x) is), each-map _ _ further (filter c xs) rest) where
+  go true is rest = (first (is_same_surface x x && c x) (and_from (is_same_surface x x) (c x) (surface-self x) is), each-map _ _ further (filter c xs) rest) where
     first : (a : Bool) → a ≡ true → (a || list_any (λ b. is_same_surface x b && c b) xs) ≡ true
     first true f = refl
     first false f = absurd (differ f)
@@ -104,19 +101,6 @@ kept-ones x y others ws e =
       is-kept true false e f = absurd (cc)
       is-kept false b e f = absurd (differ e)
 
--- two windows of which one moved past the other would be marked where they share the point
-both-left : (p q : Bool) → (p && q) ≡ true → p ≡ true
-both-left true q f = refl
-both-left false q f = f
-
-both-right : (p q : Bool) → (p && q) ≡ true → q ≡ true
-both-right true q f = f
-both-right false q f = absurd (differ f)
-
-first-of : (p q : Bool) → p ≡ true → (p || q) ≡ true
-first-of true q f = refl
-first-of false q f = absurd (differ f)
-
 module _ (x y : ℤ) (old new : List Window) where
   abbrev holds-point : Window → Bool
   holds-point w = contains w x y
@@ -132,12 +116,12 @@ module _ (x y : ℤ) (old new : List Window) where
 
   stays : (a : Window) → There a → (b : Window) → moves a b ≡ false → There b → Stays a b
   stays a at b none there =
-      unless (is_before a b (filter holds-point old) && is_before b a (filter holds-point new))
-      (λ f. differ (sym none ∙ and-both (has_moved_past old new a b) (shared_by old a b x y || shared_by new a b x y)
-      (and-both (is_before a b old) (is_before b a new)
-      (before-whole holds-point a b old (both-left (is_before a b (filter holds-point old)) _ f))
-      (before-whole holds-point b a new (both-right (is_before a b (filter holds-point old)) _ f)))
-      (first-of (shared_by old a b x y) (shared_by new a b x y) (and-both (list_any (λ z. is_same_surface a z && holds-point z) old) _ at there))))
+      false_from_ne_true (is_before a b (filter holds-point old) && is_before b a (filter holds-point new))
+      (λ f. differ (sym none ∙ and_from (has_moved_past old new a b) (shared_by old a b x y || shared_by new a b x y)
+      (and_from (is_before a b old) (is_before b a new)
+      (before-whole holds-point a b old (and-left (is_before a b (filter holds-point old)) _ f))
+      (before-whole holds-point b a new (and-right (is_before a b (filter holds-point old)) _ f)))
+      (or_left (shared_by old a b x y) (shared_by new a b x y) (and_from (list_any (λ z. is_same_surface a z && holds-point z) old) _ at there))))
 
   all-stay : (a : Window) → Each (λ b. moves a b ≡ false) old → There a → Each (Stays a) (filter holds-point old)
   all-stay a none at =
@@ -198,7 +182,7 @@ module _ (shown : Showing) (old new : Desktop) (x y : ℤ) where
   undamaged : (v : Window) → list_any (has_same_record v) (filter at-point (shown old)) ≡ true → (at-point v ≡ true) × (is_damaged_at (applied_between old new) (shown old) x y v ≡ false)
       → is_applied v ≡ false
   undamaged v kept h =
-      marked-none (contains v x y) (is_applied v) (marked-none (is_kept_in (shown old) v) (contains v x y && is_applied v) h.1 (any-whole at-point (has_same_record v) (shown old) kept)) h.0
+      marked-none (contains v x y) (is_applied v) (marked-none (is_kept_in (shown old) v) (contains v x y && is_applied v) h.1 (any-there (has_same_record v) at-point (shown old) kept)) h.0
 
   alike : (w v : Window) → at-point w ≡ true → (at-point v ≡ true) × Colored w v → is_applied v ≡ false → Alike w v
   alike w v here h none same under = rw (here, h.0) (ap (blended under) (h.1 same h.0 none))

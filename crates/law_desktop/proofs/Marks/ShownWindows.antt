@@ -1,5 +1,5 @@
 -- Each window shows the buffer that its surface has applied.
-use Rattle.std.proofs.Common.{◌≡◌, ℕ, zero, suc, Bool, true, false, List, [], ◌∷◌, ◌++◌, Option, Some, None, refl}
+use Rattle.std.proofs.Common.{◌≡◌, ℕ, zero, suc, Bool, true, false, List, [], ◌∷◌, Option, Some, None, refl}
 use Rattle.std.specs.Prelude.{◌+ℤ◌, flat_map, cond, map}
 use Rattle.wl_surface.specs.Request.{Buffer, Member, Itself, Child}
 use Rattle.wl_surface.specs.State.{History, applied, counting, height_of, order, position, width_of}
@@ -10,16 +10,12 @@ use Rattle.spec_desktop.specs.Windows.{window_with, windows, windows_of}
 use Rattle.spec_desktop.specs.Desktop.{Desktop, owned_in}
 use Rattle.spec_desktop.specs.Popups.{stacked_popups}
 use Rattle.spec_desktop.specs.Stacked.{all_windows}
-use Rattle.law_desktop.proofs.Marks.Stacks.{Each}
+use Rattle.law_desktop.proofs.Lists.Each.{Each, each-append}
 
 abbrev pub IsShown : (ℕ → Owned) → Window → Type 0
 IsShown owned w =
     (h : History) × (history_in w.surface (owned w.owner.client).surfaces ≡ Some h) × ((applied h).buffer ≡ Some w.buffer)
     × (w.width ≡ width_of (Some w.buffer) w.transform w.scale) × (w.height ≡ height_of (Some w.buffer) w.transform w.scale)
-
-each-append : {X : Type 0} (P : X → Type 0) (xs ys : List X) → Each P xs → Each P ys → Each P (xs ++ ys)
-each-append P [] ys e f = f
-each-append P (x ∷ xs) ys e f = (e.0, each-append P xs ys e.1 f)
 
 each-flat : {X Y : Type 0} (P : Y → Type 0) (f : X → List Y) → ((x : X) → Each P (f x)) → (xs : List X) → Each P (flat_map f xs)
 each-flat P f e [] = tt

@@ -2,87 +2,13 @@
 use Rattle.std.proofs.Common.{◌≡◌, ℕ, Bool, true, false, List, [], ◌∷◌, refl, sym, subst, ◌∙◌, arith}
 use Rattle.std.specs.Prelude.{ℤ, ◌==◌, ◌&&◌, ◌||◌, if◌then◌else◌}
 use Rattle.std.specs.List.{list_any}
-use Rattle.std.proofs.lemmas.Bool.{eqb-false, eqb-true}
+use Rattle.std.proofs.lemmas.Bool.{and_from, eqb-false, eqb-true, false_from_ne_true, or_right}
 use Rattle.std.proofs.lemmas.Int.{ints}
 use Rattle.spec_desktop.specs.Windows.{Window}
 use Rattle.spec_desktop.specs.Marks.{AreDistinct, has_same_record, int_eq, is_before, is_same_surface}
-
--- ---- truth
-
-pub differ : false ≡ true → ⊥
-differ e = absurd (cc)
-
-pub and-left : (a b : Bool) → (a && b) ≡ true → a ≡ true
-and-left true b e = refl
-and-left false b e = e
-
-pub and-right : (a b : Bool) → (a && b) ≡ true → b ≡ true
-and-right true b e = e
-and-right false b e = absurd (cc)
-
-pub and-both : (a b : Bool) → a ≡ true → b ≡ true → (a && b) ≡ true
-and-both true true e f = refl
-and-both false b e f = e
-and-both true false e f = f
-
-pub or-left : (a b : Bool) → (a || b) ≡ false → a ≡ false
-or-left true b e = e
-or-left false b e = refl
-
-pub or-right : (a b : Bool) → (a || b) ≡ false → b ≡ false
-or-right true b e = absurd (cc)
-or-right false b e = e
-
-pub or-second : (a b : Bool) → (a || b) ≡ true → a ≡ false → b ≡ true
-or-second true b e f = absurd (cc)
-or-second false b e f = e
-
-or-more : (a b : Bool) → b ≡ true → (a || b) ≡ true
-or-more true b e = refl
-or-more false b e = e
-
-pub unless : (a : Bool) → (a ≡ true → ⊥) → a ≡ false
-unless true f = absurd (f refl)
-unless false f = refl
-
--- ---- lists
-
-abbrev pub Each : {X : Type 0} → (X → Type 0) → List X → Type 0
-Each P [] = Unit {0}
-Each P (x ∷ xs) = P x × Each P xs
-
-pub each-false : {X : Type 0} (p : X → Bool) (xs : List X) → list_any p xs ≡ false → Each (λ x. p x ≡ false) xs
-each-false p [] e = tt
-each-false p (x ∷ xs) e = (or-left (p x) (list_any p xs) e, each-false p xs (or-right (p x) (list_any p xs) e))
-
-pub each-map : {X : Type 0} (P Q : X → Type 0) → ((x : X) → P x → Q x) → (xs : List X) → Each P xs → Each Q xs
-each-map P Q f [] e = tt
-each-map P Q f (x ∷ xs) e = (f x e.0, each-map P Q f xs e.1)
-
-pub each-both : {X : Type 0} (P Q R : X → Type 0) → ((x : X) → P x → Q x → R x) → (xs : List X) → Each P xs → Each Q xs → Each R xs
-each-both P Q R f [] e g = tt
-each-both P Q R f (x ∷ xs) e g = (f x e.0 g.0, each-both P Q R f xs e.1 g.1)
-
-or-first : (a b : Bool) → a ≡ true → (a || b) ≡ true
-or-first true b e = refl
-or-first false b e = absurd (differ e)
-
-pub either-more : (a b c d : Bool) → (a || b) ≡ true → (a ≡ true → c ≡ true) → (b ≡ true → d ≡ true) → (c || d) ≡ true
-either-more true b c d e f g = or-first c d (f refl)
-either-more false b c d e f g = or-more c d (g e)
-
-pub any-more : {X : Type 0} (p q : X → Bool) → ((x : X) → p x ≡ true → q x ≡ true) → (xs : List X) → list_any p xs ≡ true → list_any q xs ≡ true
-any-more p q f [] e = e
-any-more p q f (x ∷ xs) e = either-more (p x) (list_any p xs) (q x) (list_any q xs) e (f x) (any-more p q f xs)
-
-either-none : (a b : Bool) → (a || b) ≡ true → (a ≡ true → ⊥) → (b ≡ true → ⊥) → ⊥
-either-none true b e f g = f refl
-either-none false b e f g = g e
-
--- one that has it, and all that don't
-pub any-each : {X : Type 0} (q P : X → Bool) (xs : List X) → list_any q xs ≡ true → Each (λ x. P x ≡ false) xs → ((x : X) → q x ≡ true → P x ≡ true) → ⊥
-any-each q P [] e none f = differ e
-any-each q P (x ∷ xs) e none f = either-none (q x) (list_any q xs) e (λ g. differ (sym none.0 ∙ f x g)) (λ g. any-each q P xs g none.1 f)
+use Rattle.law_desktop.proofs.Truth.{and-left, and-right, differ, or-second}
+use Rattle.law_desktop.proofs.Lists.Each.{Each, each-both, each-map}
+use Rattle.law_desktop.proofs.Lists.Tests.{any-each, any-more, each-false}
 
 -- ---- windows of one surface, and with one record
 
@@ -134,25 +60,25 @@ equal-ints a b e = subst (λ n. int_eq a n ≡ true) e (int-self a)
 
 pub recorded : (w v : Window) → Fields w v → has_same_record w v ≡ true
 recorded w v f =
-    and-both (is_same_surface w v) _ (and-both (w.owner.client == v.owner.client) _ (equal-numbers w.owner.client v.owner.client f.client) (equal-numbers w.surface v.surface f.surface))
-    (and-both (int_eq w.corner.x v.corner.x && int_eq w.corner.y v.corner.y) _
-    (and-both (int_eq w.corner.x v.corner.x) _ (equal-ints w.corner.x v.corner.x f.x) (equal-ints w.corner.y v.corner.y f.y))
-    (and-both (w.width == v.width && w.height == v.height) _
-    (and-both (w.width == v.width) _ (equal-numbers w.width v.width f.width) (equal-numbers w.height v.height f.height))
-    (and-both (w.transform == v.transform) _ (equal-numbers w.transform v.transform f.transform) (equal-numbers w.scale v.scale f.scale))))
+    and_from (is_same_surface w v) _ (and_from (w.owner.client == v.owner.client) _ (equal-numbers w.owner.client v.owner.client f.client) (equal-numbers w.surface v.surface f.surface))
+    (and_from (int_eq w.corner.x v.corner.x && int_eq w.corner.y v.corner.y) _
+    (and_from (int_eq w.corner.x v.corner.x) _ (equal-ints w.corner.x v.corner.x f.x) (equal-ints w.corner.y v.corner.y f.y))
+    (and_from (w.width == v.width && w.height == v.height) _
+    (and_from (w.width == v.width) _ (equal-numbers w.width v.width f.width) (equal-numbers w.height v.height f.height))
+    (and_from (w.transform == v.transform) _ (equal-numbers w.transform v.transform f.transform) (equal-numbers w.scale v.scale f.scale))))
 
 pub record-surface : (w v : Window) → has_same_record w v ≡ true → is_same_surface w v ≡ true
 record-surface w v e = and-left (is_same_surface w v) _ e
 
 pub surface-self : (w : Window) → is_same_surface w w ≡ true
-surface-self w = and-both (w.owner.client == w.owner.client) _ (same-number w.owner.client) (same-number w.surface)
+surface-self w = and_from (w.owner.client == w.owner.client) _ (same-number w.owner.client) (same-number w.surface)
 
 -- as one of them is to a window, so is the other
 pub surface-as : (w v x : Window) → is_same_surface w v ≡ true → is_same_surface w x ≡ true → is_same_surface v x ≡ true
 surface-as w v x e f =
     let c = sym (eqb-true w.owner.client v.owner.client (and-left (w.owner.client == v.owner.client) _ e)) ∙ eqb-true w.owner.client x.owner.client (and-left (w.owner.client == x.owner.client) _ f) in
     let s = sym (eqb-true w.surface v.surface (and-right (w.owner.client == v.owner.client) _ e)) ∙ eqb-true w.surface x.surface (and-right (w.owner.client == x.owner.client) _ f) in
-    and-both (v.owner.client == x.owner.client) _ (equal-numbers v.owner.client x.owner.client c) (equal-numbers v.surface x.surface s)
+    and_from (v.owner.client == x.owner.client) _ (equal-numbers v.owner.client x.owner.client c) (equal-numbers v.surface x.surface s)
 
 pub surface-turned : (w v : Window) → is_same_surface w v ≡ true → is_same_surface v w ≡ true
 surface-turned w v e = surface-as w v w e (surface-self w)
@@ -176,13 +102,13 @@ before-at : (same rest later : Bool) → same ≡ true → rest ≡ true → (if
 before-at true rest later e f = f
 before-at false rest later e f = absurd (differ e)
 
-before-there : (w v : Window) (xs : List Window) → is_before w v xs ≡ true → list_any (is_same_surface v) xs ≡ true
+pub before-there : (w v : Window) (xs : List Window) → is_before w v xs ≡ true → list_any (is_same_surface v) xs ≡ true
 before-there w v [] e = e
 before-there w v (x ∷ xs) e = at (is_same_surface w x) e (before-there w v xs) where
   at : (same : Bool) → (if same then list_any (is_same_surface v) xs else is_before w v xs) ≡ true → (is_before w v xs ≡ true → list_any (is_same_surface v) xs ≡ true)
       → (is_same_surface v x || list_any (is_same_surface v) xs) ≡ true
-  at true f later = or-more (is_same_surface v x) (list_any (is_same_surface v) xs) f
-  at false f later = or-more (is_same_surface v x) (list_any (is_same_surface v) xs) (later f)
+  at true f later = or_right (is_same_surface v x) (list_any (is_same_surface v) xs) f
+  at false f later = or_right (is_same_surface v x) (list_any (is_same_surface v) xs) (later f)
 
 pub before-cons : (w v x : Window) (xs : List Window) → is_before w v xs ≡ true → is_before w v (x ∷ xs) ≡ true
 before-cons w v x xs e = at (is_same_surface w x) where
@@ -197,8 +123,8 @@ Unmoved old new a b = (is_before a b old && is_before b a new) ≡ false
 
 unmoved-later : (w v a b : Window) (old new : List Window) → Unmoved (w ∷ old) (v ∷ new) a b → Unmoved old new a b
 unmoved-later w v a b old new e =
-    unless (is_before a b old && is_before b a new)
-    (λ f. differ (sym e ∙ and-both (is_before a b (w ∷ old)) (is_before b a (v ∷ new)) (before-cons a b w old (and-left (is_before a b old) _ f))
+    false_from_ne_true (is_before a b old && is_before b a new)
+    (λ f. differ (sym e ∙ and_from (is_before a b (w ∷ old)) (is_before b a (v ∷ new)) (before-cons a b w old (and-left (is_before a b old) _ f))
     (before-cons b a v new (and-right (is_before a b old) _ f))))
 
 -- what is kept is kept by the rest, where it isn't of the first window's surface
@@ -206,7 +132,7 @@ kept-later : (v w o : Window) (vs : List Window) → is_same_surface w v ≡ tru
     → list_any (has_same_record o) vs ≡ true
 kept-later v w o vs same other e =
     or-second (has_same_record o v) (list_any (has_same_record o) vs) e
-    (unless (has_same_record o v) (λ f. differ (sym other ∙ surface-as v w o (surface-turned w v same) (surface-turned o v (record-surface o v f)))))
+    (false_from_ne_true (has_same_record o v) (λ f. differ (sym other ∙ surface-as v w o (surface-turned w v same) (surface-turned o v (record-surface o v f)))))
 
 pub first-same : (w v : Window) (vs : List Window) → is_same_surface w v ≡ true → list_any (is_same_surface v) vs ≡ false → (has_same_record w v || list_any (has_same_record w) vs) ≡ true
     → has_same_record w v ≡ true
@@ -220,10 +146,10 @@ crossed : (w v : Window) (ws vs : List Window) → is_same_surface w v ≡ false
     → (has_same_record v w || list_any (has_same_record v) ws) ≡ true
     → Each (λ b. Unmoved (w ∷ ws) (v ∷ vs) w b) ws → ⊥
 crossed w v ws vs apart e f unmoved =
-    let there = or-second (has_same_record w v) (list_any (has_same_record w) vs) e (unless (has_same_record w v) (λ g. differ (sym apart ∙ record-surface w v g))) in
-    let here = or-second (has_same_record v w) (list_any (has_same_record v) ws) f (unless (has_same_record v w) (λ g. differ (sym apart ∙ surface-turned v w (record-surface v w g)))) in
+    let there = or-second (has_same_record w v) (list_any (has_same_record w) vs) e (false_from_ne_true (has_same_record w v) (λ g. differ (sym apart ∙ record-surface w v g))) in
+    let here = or-second (has_same_record v w) (list_any (has_same_record v) ws) f (false_from_ne_true (has_same_record v w) (λ g. differ (sym apart ∙ surface-turned v w (record-surface v w g)))) in
     any-each (has_same_record v) (λ b. is_before w b (w ∷ ws) && is_before b w (v ∷ vs)) ws here unmoved
-    (λ b g. and-both (is_before w b (w ∷ ws)) (is_before b w (v ∷ vs))
+    (λ b g. and_from (is_before w b (w ∷ ws)) (is_before b w (v ∷ vs))
     (before-at (is_same_surface w w) (list_any (is_same_surface b) ws) (is_before w b ws) (surface-self w) (any-surface v b ws (record-surface v b g) (any-recorded v ws here)))
     (before-at (is_same_surface b v) (list_any (is_same_surface w) vs) (is_before b w vs) (surface-turned v b (record-surface v b g)) (any-recorded w vs there)))
 

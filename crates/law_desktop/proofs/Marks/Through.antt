@@ -1,5 +1,6 @@
 -- What is marked through the desktops of a happening holds what is marked from the first to the last.
 use Rattle.std.proofs.Common.{◌≡◌, ℕ, List, [], ◌∷◌, false, Option, Some, None, refl, ap, subst, sym, ◌∙◌, inl, inr}
+use Rattle.std.proofs.lemmas.Option.{none-some}
 use Rattle.std.specs.Prelude.{◌-ℤ◌, ℤ, int_le, pos, unsigned_abs, ◌&&◌}
 use Rattle.spec_desktop.specs.declared.cause.Cause.TheVariants.{Memory}
 use Rattle.spec_desktop.specs.Peer.{ended}
@@ -17,12 +18,12 @@ use Rattle.spec_desktop.specs.Stacked.{all_windows}
 use Rattle.spec_desktop.specs.Through.{ending_through, settling_through}
 use Rattle.law_desktop.proofs.Runs.Following.{Along, Follow, Owns, ending-follows, settling-follows}
 use Rattle.law_desktop.proofs.Soundness.Happenings.{stops}
-use Rattle.law_desktop.proofs.Lists.Keys.{none-some}
 use Rattle.law_desktop.proofs.Marks.ShownWindows.{IsShown, all-shown}
-use Rattle.law_desktop.proofs.Marks.Stacks.{each-map, or-left, or-right}
 use Rattle.law_desktop.proofs.Runs.Through.{happened, happens_leads_through, messages_lead_through, served}
 use Rattle.law_desktop.proofs.Marks.Together.{unmarked-together}
 use Rattle.law_desktop.proofs.Runs.Output.{happens-output, serves-same, stops-same}
+use Rattle.law_desktop.proofs.Truth.{or-left, or-right}
+use Rattle.law_desktop.proofs.Lists.Each.{each-map}
 
 -- ---- the desktops of a happening
 

@@ -1,36 +1,24 @@
 -- What neither of two steps marks, the two taken as one don't mark.
 use Rattle.std.proofs.Common.{◌≡◌, ℕ, Bool, true, false, List, [], ◌∷◌, refl, sym, ◌∙◌}
+use Rattle.std.proofs.lemmas.Bool.{and_from, false_from_ne_true, or_from}
 use Rattle.std.specs.Prelude.{ℤ, ◌-ℤ◌, ◌&&◌, ◌||◌, not, if◌then◌else◌}
 use Rattle.std.specs.List.{list_any}
 use Rattle.spec_desktop.specs.Windows.{Window, contains}
 use Rattle.spec_desktop.specs.Marks.{Applied, AreDistinct, at_least, has_moved_past, has_same_record, in_output, is_before, is_changed_at, is_damaged_at, is_kept_in, is_restacked_at, is_same_surface}
 use Rattle.spec_desktop.specs.Marks.{shared_by}
 use Rattle.law_desktop.proofs.Marks.Painted.{contains-same, marked-none}
-use Rattle.law_desktop.proofs.Marks.Stacks.{Each, and-both, and-left, and-right, any-more, any-surface, differ, each-both, each-false, each-map, fields, or-left, or-right, record-surface, recorded}
-use Rattle.law_desktop.proofs.Marks.Stacks.{surface-as, surface-turned, unless}
+use Rattle.law_desktop.proofs.Marks.Stacks.{any-surface, fields, record-surface, recorded}
+use Rattle.law_desktop.proofs.Marks.Stacks.{surface-as, surface-turned}
+use Rattle.law_desktop.proofs.Truth.{and-left, and-right, differ, or-left, or-right}
+use Rattle.law_desktop.proofs.Lists.Each.{Each, each-both, each-map}
+use Rattle.law_desktop.proofs.Lists.Tests.{any-more, any-none, each-false}
+use Rattle.law_desktop.proofs.Lists.Left.{any-each-of}
 
 -- ---- truth and lists
-
-or-none : (a b : Bool) → a ≡ false → b ≡ false → (a || b) ≡ false
-or-none true b e f = absurd (differ (sym e))
-or-none false b e f = f
 
 or-either : (a b c : Bool) → (a || b) ≡ true → (a ≡ true → c ≡ true) → (b ≡ true → c ≡ true) → c ≡ true
 or-either true b c e f g = f refl
 or-either false b c e f g = g e
-
-each-none : {X : Type 0} (p : X → Bool) (xs : List X) → Each (λ x. p x ≡ false) xs → list_any p xs ≡ false
-each-none p [] e = refl
-each-none p (x ∷ xs) e = or-none (p x) (list_any p xs) e.0 (each-none p xs e.1)
-
--- from one that has it, and what each of them has
-any-with : {X : Type 0} (R : Type 0) (q : X → Bool) (P : X → Type 0) (xs : List X) → list_any q xs ≡ true → Each P xs
-    → ((x : X) → q x ≡ true → P x → R) → R
-any-with R q P [] e each f = absurd (differ e)
-any-with {X} R q P (x ∷ xs) e each f = at (q x) refl e (λ g. any-with R q P xs g each.1 f) where
-  at : (b : Bool) → q x ≡ b → (b || list_any q xs) ≡ true → (list_any q xs ≡ true → R) → R
-  at true is g next = f x is each.0
-  at false is g next = next g
 
 -- ---- windows that keep their records
 
@@ -77,14 +65,14 @@ module _ (x y : ℤ) where
   kept-through : (w : Window) (mid new : List Window) → contains w x y ≡ true → is_kept_in mid w ≡ true
       → list_any (is_changed_at new x y) mid ≡ false → is_kept_in new w ≡ true
   kept-through w mid new here kept none =
-      any-with (is_kept_in new w ≡ true) (has_same_record w) (λ v. is_changed_at new x y v ≡ false) mid kept
+      any-each-of (is_kept_in new w ≡ true) (has_same_record w) (λ v. is_changed_at new x y v ≡ false) mid kept
       (each-false (is_changed_at new x y) mid none)
       (λ v e unchanged. kept-as w v new e (is-kept (contains v x y) (is_kept_in new v) (contains-as w v e here) unchanged))
 
   unchanged-together : (old mid new : List Window) → list_any (is_changed_at mid x y) old ≡ false → list_any (is_changed_at new x y) mid ≡ false
       → list_any (is_changed_at new x y) old ≡ false
   unchanged-together old mid new none next =
-      each-none (is_changed_at new x y) old
+      any-none (is_changed_at new x y) old
       (each-map (λ w. is_changed_at mid x y w ≡ false) (λ w. is_changed_at new x y w ≡ false)
       (λ w e. is-unchanged (contains w x y) (is_kept_in mid w) (is_kept_in new w) e (λ here kept. kept-through w mid new here kept next)) old
       (each-false (is_changed_at mid x y) old none))
@@ -115,7 +103,7 @@ module _ (x y : ℤ) where
   clear-through : (applied : Applied) (old mid : List Window) (w : Window) → contains w x y ≡ true → is_kept_in mid w ≡ true
       → list_any (is_changed_at old x y) mid ≡ false → list_any (is_damaged_at applied old x y) mid ≡ false → damage-at applied w ≡ false
   clear-through applied old mid w here kept came damaged =
-      any-with (damage-at applied w ≡ false) (has_same_record w) (Clear applied old) mid kept
+      any-each-of (damage-at applied w ≡ false) (has_same_record w) (Clear applied old) mid kept
       (each-both (λ v. is_changed_at old x y v ≡ false) (λ v. is_damaged_at applied old x y v ≡ false) (Clear applied old)
       (λ v e f. (e, f)) mid (each-false (is_changed_at old x y) mid came) (each-false (is_damaged_at applied old x y) mid damaged))
       (λ v e clear. damage-as applied w v e ∙ clear-at applied old v (contains-as w v e here) clear)
@@ -124,7 +112,7 @@ module _ (x y : ℤ) where
       → list_any (is_changed_at mid x y) new ≡ false → list_any (is_changed_at old x y) mid ≡ false
       → list_any (is_damaged_at first old x y) mid ≡ false → list_any (is_damaged_at both old x y) new ≡ false
   undamaged-together first both old mid new less came came' damaged =
-      each-none (is_damaged_at both old x y) new
+      any-none (is_damaged_at both old x y) new
       (each-both (λ w. damage-at first w ≡ false → damage-at both w ≡ false)
       (λ w. is_changed_at mid x y w ≡ false) (λ w. is_damaged_at both old x y w ≡ false)
       (λ w f e. is-undamaged (is_kept_in old w) (contains w x y) (damage-at both w)
@@ -185,9 +173,9 @@ module _ (x y : ℤ) where
   at-through : (w : Window) (old new : List Window) → list_any (is_changed_at new x y) old ≡ false → list_any (is_at w) old ≡ true
       → list_any (is_at w) new ≡ true
   at-through w old new none e =
-      any-with (list_any (is_at w) new ≡ true) (is_at w) (λ a. is_changed_at new x y a ≡ false) old e (each-false (is_changed_at new x y) old none)
+      any-each-of (list_any (is_at w) new ≡ true) (is_at w) (λ a. is_changed_at new x y a ≡ false) old e (each-false (is_changed_at new x y) old none)
       (λ a f unchanged. any-more (has_same_record a) (is_at w)
-      (λ b g. and-both (is_same_surface w b) (contains b x y)
+      (λ b g. and_from (is_same_surface w b) (contains b x y)
       (surface-through w a b (and-left (is_same_surface w a) (contains a x y) f) (record-surface a b g))
       (contains-as x y a b g (and-right (is_same_surface w a) (contains a x y) f)))
       new (is-kept (contains a x y) (is_kept_in new a) (and-right (is_same_surface w a) (contains a x y) f) unchanged))
@@ -195,7 +183,7 @@ module _ (x y : ℤ) where
   shared-through : (w v : Window) (old new : List Window) → list_any (is_changed_at new x y) old ≡ false → shared_by old w v x y ≡ true
       → shared_by new w v x y ≡ true
   shared-through w v old new none e =
-      and-both (list_any (is_at w) new) (list_any (is_at v) new)
+      and_from (list_any (is_at w) new) (list_any (is_at v) new)
       (at-through w old new none (and-left (list_any (is_at w) old) (list_any (is_at v) old) e))
       (at-through v old new none (and-right (list_any (is_at w) old) (list_any (is_at v) old) e))
 
@@ -205,14 +193,14 @@ module _ (x y : ℤ) where
   at-as : (w a : Window) (xs : List Window) → is_same_surface w a ≡ true → list_any (is_at w) xs ≡ true → list_any (is_at a) xs ≡ true
   at-as w a xs s e =
       any-more (is_at w) (is_at a)
-      (λ z f. and-both (is_same_surface a z) (contains z x y)
+      (λ z f. and_from (is_same_surface a z) (contains z x y)
       (surface-as w a z s (and-left (is_same_surface w z) (contains z x y) f)) (and-right (is_same_surface w z) (contains z x y) f)) xs e
 
   restacks-now : (old new : List Window) (w v : Window) → is_before w v old ≡ true → is_before v w new ≡ true
       → (shared_by old w v x y || shared_by new w v x y) ≡ true → restacks old new w v ≡ true
   restacks-now old new w v before after shares =
-      and-both (has_moved_past old new w v) (shared_by old w v x y || shared_by new w v x y)
-      (and-both (is_before w v old) (is_before v w new) before after) shares
+      and_from (has_moved_past old new w v) (shared_by old w v x y || shared_by new w v x y)
+      (and_from (is_before w v old) (is_before v w new) before after) shares
 
   -- two windows, each of a surface that has one among those before, of which one moved past the other and which share the point before
   restacked-for : (w v : Window) (old new : List Window) → is_before w v old ≡ true → is_before v w new ≡ true → shared_by old w v x y ≡ true
@@ -224,7 +212,7 @@ module _ (x y : ℤ) where
       (λ a s. any-more (is_same_surface v) (restacks old new a)
       (λ b t. restacks-now old new a b (before-as w v a b old s t before) (before-as v w b a new t s after)
       (either-first (shared_by old a b x y) (shared_by new a b x y)
-      (and-both (list_any (is_at a) old) (list_any (is_at b) old) (at-as w a old s here) (at-as v b old t there))))
+      (and_from (list_any (is_at a) old) (list_any (is_at b) old) (at-as w a old s here) (at-as v b old t there))))
       old (at-there v old there)) old (at-there w old here) where
         either-first : (p q : Bool) → p ≡ true → (p || q) ≡ true
         either-first true q e = refl
@@ -238,14 +226,14 @@ module _ (x y : ℤ) where
       → list_any (is_changed_at mid x y) new ≡ false → is_restacked_at old mid x y ≡ false → is_restacked_at mid new x y ≡ false
       → is_restacked_at old new x y ≡ false
   restacked-together old mid new apart gone came moved moved' =
-      each-none (λ w. list_any (restacks old new w) old) old
+      any-none (λ w. list_any (restacks old new w) old) old
       (each-map (λ w. list_any (restacks old mid w) old ≡ false) (λ w. list_any (restacks old new w) old ≡ false)
-      (λ w e. each-none (restacks old new w) old
+      (λ w e. any-none (restacks old new w) old
       (each-map (λ v. restacks old mid w v ≡ false) (λ v. restacks old new w v ≡ false) (pair w) old (each-false (restacks old mid w) old e))) old
       (each-false (λ w. list_any (restacks old mid w) old) old moved)) where
         pair : (w v : Window) → restacks old mid w v ≡ false → restacks old new w v ≡ false
         pair w v none =
-            unless (restacks old new w v)
+            false_from_ne_true (restacks old new w v)
             (λ e.
             let past = and-left (has_moved_past old new w v) (shared_by old w v x y || shared_by new w v x y) e in
             let before = and-left (is_before w v old) (is_before v w new) past in
@@ -268,7 +256,7 @@ inside-none true p q r e f g = g e f
 inside-none false p q r e f g = refl
 
 four-none : (a b c d : Bool) → a ≡ false → b ≡ false → c ≡ false → d ≡ false → ((a || b) || (c || d)) ≡ false
-four-none a b c d e f g h = or-none (a || b) (c || d) (or-none a b e f) (or-none c d g h)
+four-none a b c d e f g h = or_from (a || b) (c || d) (or_from a b e f) (or_from c d g h)
 
 -- What neither of two steps marks, the two taken as one don't mark, where what is damaged in both together is damaged in the first.
 pub unmarked-together :

@@ -30,7 +30,7 @@ use Rattle.spec_desktop.specs.Settling.{EndsAndSettles, becomes, unstruck}
 use Rattle.spec_desktop.specs.Stacked.{all_windows}
 use Rattle.spec_desktop.specs.Step.{with_peer}
 use Rattle.law_desktop.proofs.Lists.Standings.{of-client}
-use Rattle.law_desktop.proofs.Marks.Stacks.{differ, equal-numbers}
+use Rattle.law_desktop.proofs.Marks.Stacks.{equal-numbers}
 use Rattle.law_desktop.proofs.Runs.Forms.{Answers, Becomes as StepBecomes, Does, LeavesAt, ServesAt, Takes, WantsOr}
 use Rattle.law_desktop.proofs.Runs.Places.{client-become, number-other, status-become}
 use Rattle.law_desktop.proofs.Soundness.RunSteady.{changed-steady}
@@ -41,6 +41,7 @@ use Rattle.law_desktop.proofs.KeptRecords.Toplevels.Serves.{IsDone as IsTold, be
 use Rattle.law_desktop.specs.WaysLaws.{EndIsGone, EndedIsGone, LeftIsGone, UntoldIsGone}
 use Rattle.law_desktop.specs.Ways.{Becomes, IsGone}
 use Rattle.law_desktop.proofs.MessageWays.Told.{becomes-back, done-back, stacked-still}
+use Rattle.law_desktop.proofs.Truth.{differ}
 
 -- ---- a client becomes one that ended
 

@@ -3,7 +3,7 @@ use Rattle.std.proofs.Common.{◌≡◌, ◌≢◌, ℕ, List, [], ◌∷◌, �
 use Rattle.std.specs.Prelude.{ℤ, ◌==◌, ◌&&◌, filter, flat_map, fold, int_le, not, pos, unsigned_abs}
 use Rattle.std.specs.List.{list_any}
 use Rattle.std.specs.Option.{option_map}
-use Rattle.std.proofs.lemmas.Bool.{eqb-false, or_left}
+use Rattle.std.proofs.lemmas.Bool.{and_from, eqb-false, or_left}
 use Rattle.std.proofs.lemmas.List.Elements.{filter-append}
 use Rattle.wl_surface.specs.Surfaces.{Surfaces, history_in}
 use Rattle.spec_desktop.specs.Popups.{stacked_popups}
@@ -13,16 +13,20 @@ use Rattle.spec_desktop.specs.Desktop.{Desktop, owned_in}
 use Rattle.spec_desktop.specs.Marks.{AreDistinct, at_least}
 use Rattle.spec_desktop.specs.Moments.{applied_between, history_of, marks_at_least}
 use Rattle.spec_desktop.specs.Stacked.{all_windows}
-use Rattle.law_desktop.proofs.Marks.Stacks.{Each, and-both, and-left, and-right, any-more, differ, each-map, equal-numbers, fields}
-use Rattle.law_desktop.proofs.Soundness.Trees.{each-append, each-flat}
+use Rattle.law_desktop.proofs.Marks.Stacks.{equal-numbers, fields}
+use Rattle.law_desktop.proofs.Soundness.Trees.{each-flat}
 use Rattle.law_desktop.proofs.Soundness.Windows.{sound_is_distinct}
 use Rattle.law_desktop.specs.Touching.{has_window_at}
-use Rattle.law_desktop.proofs.TreeSteps.Damage.{and-none, applies-nothing}
+use Rattle.law_desktop.proofs.TreeSteps.Damage.{applies-nothing}
 use Rattle.law_desktop.proofs.TreeSteps.Owners.{tree-owned}
 use Rattle.law_desktop.specs.Changes.{HasTrees}
 use Rattle.law_desktop.specs.WaysLaws.{GoneMarksLeast, GoneMarksMost, GoneWindows}
 use Rattle.law_desktop.specs.Ways.{IsGone}
-use Rattle.law_desktop.proofs.MessageWays.Lists.{filter-all, filter-none, gone-least, is_gone_at, least-gone}
+use Rattle.law_desktop.proofs.MessageWays.Lists.{gone-least, is_gone_at, least-gone}
+use Rattle.law_desktop.proofs.Truth.{and-false, and-left, and-right, differ}
+use Rattle.law_desktop.proofs.Lists.Each.{Each, each-append, each-map}
+use Rattle.law_desktop.proofs.Lists.Tests.{any-more, filter-all}
+use Rattle.law_desktop.proofs.Lists.Left.{filter-none-each}
 
 -- the window is of another client
 abbrev pub is_of_other : ℕ → Window → Bool
@@ -83,7 +87,7 @@ module _ (c : ℕ) (owned new : ℕ → Owned) (others : (other : ℕ) → other
   own-filtered : (s : Standing) (b : Bool) → (s.client == c) ≡ b → cond (not b) (shown_of new (root_of new s)) [] ≡ filter (is_of_other c) (shown_of owned (root_of owned s))
   own-filtered s true is =
       sym (ap (filter (is_of_other c)) (shown-by owned (root_of owned s))
-      ∙ filter-none (is_of_other c) (shown_by (owned s.client) (root_of owned s))
+      ∙ filter-none-each (is_of_other c) (shown_by (owned s.client) (root_of owned s))
       (each-map (λ (w : Window). w.owner.client ≡ s.client) (λ w. is_of_other c w ≡ false) (λ w own. ap (λ n. not (n == c)) own ∙ ap (λ b. not b) is)
       (shown_by (owned s.client) (root_of owned s)) (shown-own (owned s.client) (root_of owned s))))
   own-filtered s false other =
@@ -120,7 +124,7 @@ same-applied d e client surface x y same =
     ap (λ b. (int_le (pos 0) x && int_le (pos 0) y) && b)
     (applies-nothing (history_of d client surface) (history_of e client surface)
     (ap (λ (o : Owned). option_map (λ h. h.cut) (history_in surface o.surfaces)) same) (unsigned_abs x) (unsigned_abs y))
-    ∙ and-none (int_le (pos 0) x && int_le (pos 0) y)
+    ∙ and-false (int_le (pos 0) x && int_le (pos 0) y)
 
 -- a window of another client
 other-client : (c : ℕ) (w : Window) → is_of_other c w ≡ true → w.owner.client ≢ c
@@ -142,13 +146,13 @@ module _ (c : ℕ) (d e : Desktop) (gone : IsGone c d e) (x y : ℤ) where
   from-gone : list_any (is_gone_at (is_of_other c) (all_windows d) x y) (all_windows d) ≡ true → has_window_at c x y d ≡ true
   from-gone any =
       any-more (is_gone_at (is_of_other c) (all_windows d) x y) (λ w. (w.owner.client == c) && contains w x y)
-      (λ w f. and-both (w.owner.client == c) (contains w x y) (its-own c w (and-right (contains w x y) (not (is_of_other c w)) f))
+      (λ w f. and_from (w.owner.client == c) (contains w x y) (its-own c w (and-right (contains w x y) (not (is_of_other c w)) f))
       (and-left (contains w x y) (not (is_of_other c w)) f)) (all_windows d) any
 
   to-gone : has_window_at c x y d ≡ true → list_any (λ w. contains w x y && not (is_of_other c w)) (all_windows d) ≡ true
   to-gone there =
       any-more (λ (w : Window). (w.owner.client == c) && contains w x y) (λ w. contains w x y && not (is_of_other c w))
-      (λ w f. and-both (contains w x y) (not (is_of_other c w)) (and-right (w.owner.client == c) (contains w x y) f)
+      (λ w f. and_from (contains w x y) (not (is_of_other c w)) (and-right (w.owner.client == c) (contains w x y) f)
       (ap (λ b. not (not b)) (and-left (w.owner.client == c) (contains w x y) f))) (all_windows d) there
 
 pub gone_marks_least : GoneMarksLeast

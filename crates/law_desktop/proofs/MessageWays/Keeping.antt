@@ -12,26 +12,21 @@ use Rattle.spec_desktop.specs.Demanding.{judge_all}
 use Rattle.spec_desktop.specs.Desktop.{Desktop, Resident, arrival, become, become_by, client_at, client_in, owned_in, owned_of, toplevels_of}
 use Rattle.spec_desktop.specs.LeftOut.{LeftOut}
 use Rattle.spec_desktop.specs.Stacked.{all_windows}
-use Rattle.spec_desktop.specs.Step.{with_peer}
 use Rattle.law_desktop.specs.Laws.{AreApart}
-use Rattle.law_desktop.proofs.Isolation.Own.{any-kept}
 use Rattle.law_desktop.proofs.Runs.Places.{client-become, other-become}
 use Rattle.law_desktop.proofs.Soundness.Sound.{all-apart}
 use Rattle.law_desktop.specs.InOrder.{InOrder, InOrderAt, InOrderBy, OwnsInOrder}
 use Rattle.law_desktop.specs.Shown.{AreShown, ShownStand}
 use Rattle.law_desktop.proofs.EachClient.Clients.{AllAre, IsKept, IsPeerOf}
-use Rattle.law_desktop.proofs.EachClient.Steps.{DemandsKeep, counted_of, made-keeps, stacked-others}
-use Rattle.law_desktop.proofs.InOrder.Kept.{arrival-lives, demand-owns, demand-stands, framed-lives, peer-lives}
-use Rattle.law_desktop.proofs.InOrder.Laws.{NoneStands, clients_are_in_order}
+use Rattle.law_desktop.proofs.EachClient.Steps.{counted_of, made-keeps, stacked-others}
+use Rattle.law_desktop.proofs.InOrder.Kept.{arrival-lives, framed-lives}
+use Rattle.law_desktop.proofs.InOrder.Laws.{NoneStands, clients_are_in_order, demands-in-order, keeps-order}
 use Rattle.law_desktop.proofs.ShownSurfaces.Fitting.{fit-of, shown-of}
 use Rattle.law_desktop.proofs.ShownSurfaces.Laws.{demand-shown}
 use Rattle.law_desktop.proofs.MessageWays.Ends.{stacked-leaves}
+use Rattle.law_desktop.proofs.Lists.Left.{any-filtered}
 
 -- ---- what each client owns is in order
-
-keeps-order : (s : Option Cause) (r : Resident) (p : Peer) (tops : List Standing) → IsPeerOf r p → InOrderBy s r tops → InOrderBy s (with_peer p r) tops
-keeps-order None r p tops same lives = peer-lives r p tops same lives
-keeps-order (Some cause) r p tops same over = (ap (λ (q : Resident). with_peer p q) over.0, over.1)
 
 in-order-kept : IsKept NoneStands InOrderBy
 in-order-kept = record {
@@ -42,12 +37,6 @@ in-order-kept = record {
   keeps = keeps-order;
   framed = framed-lives;
 }
-
-demands-in-order : (left : LeftOut) → DemandsKeep left InOrderBy
-demands-in-order left c r rest object opcode body demand d judged still lives = (
-  demand-owns left c r rest object opcode body demand d judged lives.0,
-  demand-stands left c r rest object opcode body demand d judged lives.0 lives.1,
-)
 
 to-all : (d : Desktop) → InOrder d → AllAre NoneStands InOrderBy d
 to-all d order = record { pointer = order.pointer; each = order.each }
@@ -101,9 +90,9 @@ module _ (left : LeftOut) (c : ℕ) (r : Resident) (d : Desktop) (is : client_at
     -- the toplevels of the others stand as before
     stands-as : (other surface : ℕ) → c ≢ other → list_any (is_of other surface) On.standing ≡ list_any (is_of other surface) d.standing
     stands-as other surface differ =
-        sym (any-kept (λ s. s.surface == surface) (λ s. s.client == other) On.standing)
+        sym (any-filtered (λ s. s.surface == surface) (λ s. s.client == other) On.standing)
         ∙ ap (λ (tops : List Standing). list_any (λ s. s.surface == surface) tops) (stacked-others c other demand Now (all_windows d) d differ)
-        ∙ any-kept (λ s. s.surface == surface) (λ s. s.client == other) d.standing
+        ∙ any-filtered (λ s. s.surface == surface) (λ s. s.client == other) d.standing
 
     others : (other : ℕ) → c ≢ other → AreShown other (owned_in d other) On.standing
     others other differ =

@@ -1,26 +1,26 @@
 -- What is marked on the ways of a message.
 use Rattle.std.proofs.Common.{◌≡◌, List, [], ◌∷◌, Bool, true, false, None, refl, ap, sym, subst, ◌∙◌, inl, inr}
 use Rattle.std.specs.Prelude.{ℤ, ◌⊎◌, ◌&&◌, ◌||◌}
-use Rattle.std.proofs.lemmas.Bool.{or_left, or_right}
+use Rattle.std.proofs.lemmas.Bool.{false_from_ne_true, or_left, or_right}
 use Rattle.spec_desktop.specs.Told.{Output}
 use Rattle.spec_desktop.specs.Windows.{Window, contains}
 use Rattle.spec_desktop.specs.Desktop.{Desktop}
 use Rattle.spec_desktop.specs.Marks.{at_least, in_output}
 use Rattle.spec_desktop.specs.Moments.{applied_between, marks_at_least, marks_at_least_through, marks_at_most, marks_at_most_through}
 use Rattle.spec_desktop.specs.Stacked.{all_windows}
-use Rattle.law_desktop.proofs.Marks.Stacks.{differ, unless}
 use Rattle.law_desktop.specs.Touching.{has_window_at}
 use Rattle.law_desktop.specs.Changes.{HasTrees}
 use Rattle.law_desktop.specs.WaysLaws.{StruckMarks, TwiceMarks}
 use Rattle.law_desktop.proofs.MessageWays.Gone.{all-distinct, gone_marks_least, gone_marks_most, same-applied}
 use Rattle.law_desktop.proofs.MessageWays.Lists.{any-never, filter-every, is_gone_at, least-gone}
+use Rattle.law_desktop.proofs.Truth.{differ}
 
 -- ---- one desktop that leads to itself
 
 -- where nothing changes, nothing is marked
 pub still-unmarked : (e : Desktop) (x y : ℤ) → HasTrees e → marks_at_least e e x y ≡ false
 still-unmarked e x y has =
-    unless (marks_at_least e e x y)
+    false_from_ne_true (marks_at_least e e x y)
     (λ marked. differ (sym (any-never (is_gone_at (λ w. true) (all_windows e) x y) (λ w. none (contains w x y)) (all_windows e))
     ∙ least-gone (λ w. true) (all_windows e) x y (applied_between e e) (all-distinct e has)
     (λ w kept p q. same-applied e e w.owner.client w.surface p q refl) e.output.width e.output.height

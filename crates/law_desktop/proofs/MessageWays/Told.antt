@@ -21,7 +21,7 @@ use Rattle.law_desktop.specs.Ways.{Becomes}
 
 -- ---- the pointer stays where it is, which is nowhere
 
-by-still : (effect : Effect) (b : Bool) (c id : ℕ) (d : Desktop) → (stacked_by effect b c id d).pointer ≡ d.pointer
+pub by-still : (effect : Effect) (b : Bool) (c id : ℕ) (d : Desktop) → (stacked_by effect b c id d).pointer ≡ d.pointer
 by-still Stays b c id d = refl
 by-still Unconfigured b c id d = refl
 by-still Configures b c id d = refl
@@ -31,7 +31,7 @@ by-still Unmaps true c id d = refl
 by-still Unmaps false c id d = refl
 
 -- nothing is held, so nothing is moved
-moves-nothing : (c surface serial : ℕ) (windows : List Window) (p : Pointer) → p ≡ first_pointer → moving_from c surface serial windows p ≡ p
+pub moves-nothing : (c surface serial : ℕ) (windows : List Window) (p : Pointer) → p ≡ first_pointer → moving_from c surface serial windows p ≡ p
 moves-nothing c surface serial windows p still = subst (λ (q : Pointer). moving_from c surface serial windows q ≡ q) (sym still) refl
 
 pub stacked-still : (c : ℕ) (demand : Demand) (r : Resident) (windows : List Window) (d : Desktop) → d.pointer ≡ first_pointer → (stacked_for c demand r windows d).pointer ≡ first_pointer

@@ -1,14 +1,16 @@
 -- No popup has a grab where no client was told of a button.
 use Rattle.std.proofs.Common.{◌≡◌, ℕ, zero, suc, List, [], ◌∷◌, ◌++◌, Bool, true, false, Option, Some, None, refl, ap, sym, ◌∙◌}
-use Rattle.std.specs.Prelude.{◌||◌, ◌&&◌, nat_lt, if◌then◌else◌, flat_map, fold}
+use Rattle.std.proofs.lemmas.Bool.{or_from, true≢false}
+use Rattle.std.proofs.lemmas.Option.{none-some}
+use Rattle.std.specs.Prelude.{◌&&◌, nat_lt, if◌then◌else◌, flat_map, fold}
 use Rattle.std.specs.List.{list_any}
 use Rattle.wl_shell.specs.Popups.{Popped, by_number, is_parent_of, popped_kind, popped_of, popped_role}
 use Rattle.wl_shell.specs.Shell.{Kind, Toplevel, IsPopup, Popup, RoleObject, Shell, XdgSurface as Xdg}
 use Rattle.spec_desktop.specs.Changing.{changed_for, grab_allowed, grab_holder, holder_from, holds_grab, is_latest, is_serial}
 use Rattle.spec_desktop.specs.Demand.{Demand}
 use Rattle.spec_desktop.specs.Desktop.{Desktop, Resident, client_at, place}
-use Rattle.law_desktop.proofs.Lists.Keys.{differ, none-some}
 use Rattle.law_desktop.proofs.EachPopup.{IsSteadyOf, OfEach, OfKind, OfRole, each-stays}
+use Rattle.law_desktop.proofs.Truth.{or-left, or-right}
 
 -- a popup without a grab
 abbrev pub HasNone : ℕ → Popup → Type 0
@@ -30,26 +32,14 @@ none-steady = record {
 abbrev grab : Popped → Bool
 grab p = p.popup.has_grab
 
-or-none : (a b : Bool) → a ≡ false → b ≡ false → (a || b) ≡ false
-or-none true b e f = e
-or-none false b e f = f
-
-or-left : (a b : Bool) → (a || b) ≡ false → a ≡ false
-or-left true b e = e
-or-left false b e = refl
-
-or-right : (a b : Bool) → (a || b) ≡ false → b ≡ false
-or-right true b e = absurd (differ e)
-or-right false b e = e
-
 -- among those in order, one more
 none-among : (p : Popped) (ps : List Popped) → grab p ≡ false → list_any grab ps ≡ false → list_any grab (by_number p ps) ≡ false
-none-among p [] none all = or-none (grab p) false none refl
+none-among p [] none all = or_from (grab p) false none refl
 none-among p (q ∷ qs) none all = at (nat_lt p.popup.number q.popup.number) (none-among p qs none (or-right (grab q) (list_any grab qs) all))
   where
     at : (b : Bool) → list_any grab (by_number p qs) ≡ false → list_any grab (if b then p ∷ q ∷ qs else q ∷ by_number p qs) ≡ false
-    at true rest = or-none (grab p) (list_any grab (q ∷ qs)) none all
-    at false rest = or-none (grab q) (list_any grab (by_number p qs)) (or-left (grab q) (list_any grab qs) all) rest
+    at true rest = or_from (grab p) (list_any grab (q ∷ qs)) none all
+    at false rest = or_from (grab q) (list_any grab (by_number p qs)) (or-left (grab q) (list_any grab qs) all) rest
 
 among-none : (p : Popped) (ps : List Popped) → list_any grab (by_number p ps) ≡ false → (grab p ≡ false) × (list_any grab ps ≡ false)
 among-none p [] none = (or-left (grab p) false none, refl)
@@ -60,7 +50,7 @@ among-none p (q ∷ qs) none = at (nat_lt p.popup.number q.popup.number) (among-
     at true rest e = (or-left (grab p) (list_any grab (q ∷ qs)) e, or-right (grab p) (list_any grab (q ∷ qs)) e)
     at false rest e =
         let k = rest (or-right (grab q) (list_any grab (by_number p qs)) e) in
-        (k.0, or-none (grab q) (list_any grab qs) (or-left (grab q) (list_any grab (by_number p qs)) e) k.1)
+        (k.0, or_from (grab q) (list_any grab qs) (or-left (grab q) (list_any grab (by_number p qs)) e) k.1)
 
 none-ordered : (acc ps : List Popped) → list_any grab acc ≡ false → list_any grab ps ≡ false → list_any grab (fold (λ qs p. by_number p qs) acc ps) ≡ false
 none-ordered acc [] first all = first
@@ -72,14 +62,14 @@ ordered-none acc [] none = (none, refl)
 ordered-none acc (p ∷ ps) none =
     let k = ordered-none (by_number p acc) ps none in
     let first = among-none p acc k.0 in
-    (first.1, or-none (grab p) (list_any grab ps) first.0 k.1)
+    (first.1, or_from (grab p) (list_any grab ps) first.0 k.1)
 
 none-before : (x : Xdg) (ps : List Popped) → OfRole HasNone x.role → list_any grab ps ≡ false → list_any grab (popped_of x ++ ps) ≡ false
 none-before x ps none all = at x.role none
   where
     kind : (object : RoleObject) (k : Kind) → OfKind HasNone object.id k → list_any grab (popped_kind x object k ++ ps) ≡ false
     kind object Toplevel none = all
-    kind object (IsPopup popup) none = or-none popup.has_grab (list_any grab ps) none all
+    kind object (IsPopup popup) none = or_from popup.has_grab (list_any grab ps) none all
 
     at : (o : Option RoleObject) → OfRole HasNone o → list_any grab (popped_role x o ++ ps) ≡ false
     at None none = all
@@ -119,7 +109,7 @@ none-held [] n none = refl
 none-held (r ∷ rs) n none = at (holds_grab r) (none zero) (none-held rs (suc n) (λ k. none (suc k)))
   where
     at : (b : Bool) → b ≡ false → holder_from (suc n) rs ≡ None → (if b then Some n else holder_from (suc n) rs) ≡ None
-    at true e rest = absurd (differ e)
+    at true e rest = absurd (true≢false e)
     at false e rest = rest
 
 held-none : (rs : List (Option Resident)) (n : ℕ) → holder_from n rs ≡ None → (k : ℕ) → holds_grab (place rs k) ≡ false
@@ -146,10 +136,10 @@ serial-none serial o none = ap (is_serial serial) none
 
 pub none-allowed : (c xdg serial : ℕ) (r : Resident) (d : Desktop) → r.press ≡ None → r.release ≡ None → grab_allowed c xdg serial r d ≡ false
 none-allowed c xdg serial r d press release = at (is_latest serial r)
-    (or-none (is_serial serial r.press) (is_serial serial r.release) (serial-none serial r.press press) (serial-none serial r.release release)) _
+    (or_from (is_serial serial r.press) (is_serial serial r.release) (serial-none serial r.press press) (serial-none serial r.release release)) _
   where
     at : (b : Bool) → b ≡ false → (more : Bool) → (b && more) ≡ false
-    at true e more = absurd (differ e)
+    at true e more = absurd (true≢false e)
     at false e more = refl
 
 -- so what is demanded leaves the client's popups without grabs
@@ -157,4 +147,4 @@ pub none-gained : (c : ℕ) (demand : Demand) (r : Resident) (d : Desktop) → r
     → OfEach HasNone (changed_for c demand r d).owned.shell
 none-gained c demand r d press release none =
     each-stays HasNone none-steady c demand r d (λ id parent positioner. refl)
-    (λ xdg serial allowed. absurd (differ (sym allowed ∙ none-allowed c xdg serial r d press release))) (λ may id p any. refl) none
+    (λ xdg serial allowed. absurd (true≢false (sym allowed ∙ none-allowed c xdg serial r d press release))) (λ may id p any. refl) none

@@ -1,6 +1,7 @@
 -- Whatever happens leaves each client one buffer of each number.
 use Rattle.std.proofs.Common.{◌≡◌, ◌≢◌, ℕ, zero, suc, ◌+◌, ◌-◌, take, drop, List, [], ◌∷◌, ◌++◌, length, Bool, true, false, Option, Some, None, Result, refl, ap, sym, subst, ◌∙◌, inl, inr, arith}
-use Rattle.std.specs.Prelude.{Ok, Err, ◌⊎◌, if◌then◌else◌, nat_le, replicate}
+use Rattle.std.proofs.lemmas.Option.{none-some, same_Some}
+use Rattle.std.specs.Prelude.{Ok, Err, ◌⊎◌, if◌then◌else◌, nat_le}
 use Rattle.wl_store.specs.Stores.{write_refusal}
 use Rattle.wl_store.specs.declared.stores.StoreError.{StoreError}
 use Rattle.wl_wire.specs.Wire.{split_of}
@@ -32,7 +33,6 @@ use Rattle.law_desktop.specs.RunLaws.{Lasts}
 use Rattle.law_desktop.proofs.Isolation.Kept.{StaysOwn, has-more, own-all}
 use Rattle.law_desktop.proofs.Isolation.Own.{own_stays}
 use Rattle.law_desktop.proofs.Isolation.Settling.{AreIn, Stays, ending-in, settling-in}
-use Rattle.law_desktop.proofs.Lists.Keys.{none-some, some-same}
 use Rattle.law_desktop.proofs.Runs.Fates.{same-or}
 use Rattle.law_desktop.proofs.Runs.Places.{number-other, number-same}
 use Rattle.law_desktop.proofs.Runs.Serves.{done-clients_stay}
@@ -41,6 +41,7 @@ use Rattle.law_desktop.specs.OneBuffer.{HasOneBuffer, HaveOneBuffer}
 use Rattle.law_desktop.proofs.OneBuffer.Keeping.{nothing-one}
 use Rattle.law_desktop.proofs.OneBuffer.Messages.{changed-keeps}
 use Rattle.law_desktop.proofs.OneBuffer.Named.{IsFrom, judged-from}
+use Rattle.law_desktop.proofs.Soundness.First.{no-client}
 
 -- ---- one client
 
@@ -252,7 +253,7 @@ comes (Some r ∷ rs) k x e = at (lowest rs) e (λ m free. comes rs m x free)
     at : (o : Option ℕ) → next_of o ≡ Some k → ((m : ℕ) → o ≡ Some m → place (with_place m x rs) m ≡ x) → place (with_place k x (Some r ∷ rs)) k ≡ x
     at None e later = absurd (none-some k e)
     at (Some m) e later =
-        let same = some-same (m + 1) k e in
+        let same = same_Some (m + 1) k e in
         let next : suc m ≡ k = omega (arith, same) in
         subst (λ (n : ℕ). place (with_place n x (Some r ∷ rs)) n ≡ x) next (later m refl)
 
@@ -348,7 +349,7 @@ none-of : (c : ℕ) → None ≢ Some c
 none-of c e = absurd (cc)
 
 another : (a c : ℕ) → a ≢ c → Some a ≢ Some c
-another a c differ e = differ (some-same a c e)
+another a c differ e = differ (same_Some a c e)
 
 feeds : (left : LeftOut) (a c : ℕ) (piece : List ℕ) (done : Done) (d e : Desktop) → Happens left (Feed a piece) done d e → Known c d → Known c e
 feeds left a c piece done d e h known = at (same-or a c)
@@ -384,15 +385,6 @@ of-known d known c r e = subst (λ (o : Option Resident). HasAt o) e (known c)
 
 pub happens-keeps : (left : LeftOut) (act : Act) (done : Done) (old new : Desktop) → HaveOneBuffer old → Happens left act done old new → HaveOneBuffer new
 happens-keeps left act done old new have h = of-known new (λ c. happens-known left act done c old new h (known-of c old have))
-
-no-place : (n k : ℕ) → place (replicate n None) k ≡ None
-no-place zero k = refl
-no-place (suc n) zero = refl
-no-place (suc n) (suc k) = no-place n k
-
-no-client : (output : Output) (c : ℕ) → client_at c (empty output) ≡ None
-no-client output zero = refl
-no-client output (suc k) = no-place 32 k
 
 pub empty-has : (output : Output) → HaveOneBuffer (empty output)
 empty-has output = of-known (empty output) (λ c. known-so c (empty output) None (no-client output c) tt)

@@ -3,6 +3,7 @@ use Rattle.std.proofs.Common.{◌≡◌, ◌≢◌, ℕ, Bool, true, false, Opti
 use Rattle.std.specs.Prelude.{Ok, Err, is_some, if◌then◌else◌}
 use Rattle.std.specs.Option.{option_and_then, option_map_or}
 use Rattle.std.proofs.lemmas.Bool.{eqb-true}
+use Rattle.std.proofs.lemmas.Option.{none-some, same_Some}
 use Rattle.spec_desktop.specs.declared.refusals.ErrorCode.TheVariants as error
 use Rattle.wl_surface.specs.State.{History}
 use Rattle.wl_surface.specs.Surface.{with_role}
@@ -24,15 +25,16 @@ use Rattle.spec_desktop.specs.Step.{asked_so_far}
 use Rattle.spec_desktop.specs.WlSubsurface.{refuses}
 use Rattle.spec_desktop.specs.XdgPopup.{is_no_popup, may_be_parent}
 use Rattle.spec_desktop.specs.XdgShell.{role_of}
-use Rattle.law_desktop.proofs.Lists.Keys.{found-passes, none-some, some-same}
+use Rattle.law_desktop.proofs.Lists.Keys.{found-passes}
 use Rattle.law_desktop.specs.Owning.{IsOwned, Names, asks_by, number_of, shell_refusal, with_toplevel}
 use Rattle.law_desktop.specs.OwnedPopups.{ParentRead, PopupAccepted, PopupAsked, PopupGone, PopupMade, PopupsCome}
 use Rattle.law_desktop.proofs.Keeping.Ids.{ids-changed}
 use Rattle.law_desktop.proofs.Keeping.OwningChanges.{IsOwned-toplevel, IsOwned-untoplevel, agree-same}
 use Rattle.law_desktop.proofs.Keeping.OwningSurfaces.{AreKept-then}
 use Rattle.law_desktop.proofs.Keeping.OwningTies.{role-by}
-use Rattle.law_desktop.proofs.Keeping.OwningXdg.{has_xdg, histories-same, xdg-found}
+use Rattle.law_desktop.proofs.Keeping.OwningXdg.{histories-same, xdg-found}
 use Rattle.law_desktop.proofs.OwnedPopups.Stepping.{histories-to}
+use Rattle.law_desktop.proofs.KeptRecords.Keeping.OwningXdg.{has_xdg}
 
 -- ---- a parent
 
@@ -134,7 +136,7 @@ popup-gone names slots tied kept r number k x h c id d after now is one its keep
 -- a popup's role is refused to none that has no other
 pub role-fits : (role : Option Role) → is_no_popup role ≡ false → ((other : Role) × (role ≡ Some other) × (other ≢ AsPopup)) → ⊥
 role-fits None fits other = none-some other.0 other.1
-role-fits (Some AsPopup) fits other = other.2 (some-same other.0 AsPopup (sym other.1))
+role-fits (Some AsPopup) fits other = other.2 (same_Some other.0 AsPopup (sym other.1))
 role-fits (Some AsToplevel) fits other = absurd (cc)
 role-fits (Some AsSubsurface) fits other = absurd (cc)
 role-fits (Some AsCursor) fits other = absurd (cc)

@@ -1,23 +1,24 @@
 -- Popups are dismissed one after another, and what is kept stands for what is left.
 use Rattle.std.proofs.Common.{◌≡◌, ℕ, List, [], ◌∷◌, ◌++◌, Bool, true, false, Option, map, refl, ap, subst, sym, ◌∙◌}
+use Rattle.std.proofs.lemmas.Option.{same_Some}
 use Rattle.wl_shell.specs.InOrder.{IsNextToGo, goes_with, undismissed, with_dismissed}
 use Rattle.wl_shell.specs.Kept.{Kept, changing, kept_changed}
 use Rattle.wl_shell.specs.Popups.{Popped, dismiss, popup_changed}
 use Rattle.wl_shell.specs.Shell.{Shell}
 use Rattle.wl_shell.proofs.Standing.{changes_stand}
 use Rattle.spec_desktop.specs.Changing.{grabbed}
-use Rattle.law_desktop.proofs.Lists.Keys.{some-same}
 use Rattle.law_desktop.specs.Owning.{IsOwned}
 use Rattle.law_desktop.specs.OwnedPopups.{DismissalsGoOn, EndDismisses, GrabDismisses, PopupDismissed, PopupsAreDismissed, WereDismissed, done_told, grab_done}
-use Rattle.law_desktop.proofs.Keeping.OwningXdg.{has_surface, xdg-found}
+use Rattle.law_desktop.proofs.Keeping.OwningXdg.{xdg-found}
 use Rattle.law_desktop.proofs.OwnedPopups.Done.{end-tells, grab-tells}
 use Rattle.law_desktop.proofs.OwnedPopups.Finding.{next-dismissed}
 use Rattle.law_desktop.proofs.OwnedPopups.Stepping.{popup-keeps, shell-stepped}
+use Rattle.law_desktop.proofs.KeptRecords.Keeping.OwningXdg.{has_surface}
 
 popup-dismissed : PopupDismissed
 popup-dismissed names slots tied kept o gone p after is only named keeps =
     let t = xdg-found names slots tied kept o is (has_surface p.xdg.surface) p.xdg only.found in
-    let same : t.0 ≡ gone = some-same t.0 gone (sym t.3.surface ∙ named) in
+    let same : t.0 ≡ gone = same_Some t.0 gone (sym t.3.surface ∙ named) in
     subst (λ (ks : ℕ → Option Kept). IsOwned names slots tied ks (record o { shell = with_dismissed p.xdg.id o.shell })) (sym keeps)
     (subst (λ n. IsOwned names slots tied (changing n (kept_changed dismiss) kept) (record o { shell = with_dismissed p.xdg.id o.shell })) same
     (shell-stepped names slots tied kept o is t.0 t.1 p.xdg t.2 t.3 (kept_changed dismiss) (popup_changed dismiss) (popup-keeps dismiss)

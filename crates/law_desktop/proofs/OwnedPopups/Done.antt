@@ -1,5 +1,6 @@
 -- Which popups a client is told are done, and in which order: those that go and weren't dismissed, the newest first.
 use Rattle.std.proofs.Common.{◌≡◌, ℕ, List, [], ◌∷◌, ◌++◌, Bool, true, false, Option, Some, None, cond, inl, inr, map, refl, ap, ap₂, subst, sym, ◌∙◌, eq-eqb}
+use Rattle.std.proofs.lemmas.Bool.{or_parts}
 use Rattle.std.specs.Prelude.{◌==◌, ◌&&◌, ◌||◌, filter, flat_map, fold, if◌then◌else◌, nat_lt, not}
 use Rattle.std.specs.List.{list_any}
 use Rattle.std.specs.Option.{option_map}
@@ -22,25 +23,11 @@ use Rattle.spec_desktop.specs.Replies.{dismissed_in, popups_done}
 use Rattle.law_desktop.proofs.Lists.Keys.{found-by}
 use Rattle.law_desktop.specs.Owning.{IsOwned, Names}
 use Rattle.law_desktop.specs.OwnedPopups.{EndTellsDone, GrabTellsDone, done_told, grab_done}
-use Rattle.law_desktop.proofs.Keeping.OwningXdg.{has_role, has_surface}
+use Rattle.law_desktop.proofs.Keeping.OwningXdg.{has_role}
+use Rattle.law_desktop.proofs.Truth.{and-false, or-false, or-true}
+use Rattle.law_desktop.proofs.KeptRecords.Keeping.OwningXdg.{has_surface}
 
 -- ---- tests
-
-or-false : (b : Bool) → (b || false) ≡ b
-or-false true = refl
-or-false false = refl
-
-or-true : (b : Bool) → (b || true) ≡ true
-or-true true = refl
-or-true false = refl
-
-and-false : (b : Bool) → (b && false) ≡ false
-and-false true = refl
-and-false false = refl
-
-or-neither : (a b : Bool) → (a || b) ≡ false → (a ≡ false) × (b ≡ false)
-or-neither true b e = absurd (cc)
-or-neither false b e = (refl, e)
 
 abbrev id_if : Popped → List ℕ
 id_if p = if p.popup.is_dismissed then p.object.id ∷ [] else []
@@ -323,7 +310,7 @@ module _ (names : Names) (slots : Slots) (tied : Tied) (kept : ℕ → Option Ke
     where
       kind : (k : Kind) → list_any (is_of_xdg xdg) (popped_kind x object k) ≡ false → AreAfter goes (popped_kind x object k) []
       kind Toplevel none = tt
-      kind (IsPopup popup) none = absurd (let first = (or-neither (x.id == xdg) false none).0 in cc)
+      kind (IsPopup popup) none = absurd (let first = (or_parts (x.id == xdg) false none).0 in cc)
 
   end-one : (xdg : ℕ) (ids : List ℕ) (x : XdgSurface) → list_any (is_of_xdg xdg) (popped_of x) ≡ false → AreAfter (Goes ids) (popped_of x) (popped_of (then_gone xdg (ended xdg ids x)))
   end-one xdg ids x none = at (is_among x.id ids) (x.id == xdg) refl refl
@@ -355,7 +342,7 @@ module _ (names : Names) (slots : Slots) (tied : Tied) (kept : ℕ → Option Ke
 
   none-each : (test : Popped → Bool) (xs : Shell) → list_any test (flat_map popped_of xs) ≡ false → Each (λ x. list_any test (popped_of x) ≡ false) xs
   none-each test [] none = tt
-  none-each test (x ∷ xs) none = let both = or-neither (list_any test (popped_of x)) (list_any test (flat_map popped_of xs)) (sym (joined (popped_of x)) ∙ none) in (both.0, none-each test xs both.1)
+  none-each test (x ∷ xs) none = let both = or_parts (list_any test (popped_of x)) (list_any test (flat_map popped_of xs)) (sym (joined (popped_of x)) ∙ none) in (both.0, none-each test xs both.1)
     where
       joined : (ps : List Popped) → list_any test (ps ++ flat_map popped_of xs) ≡ (list_any test ps || list_any test (flat_map popped_of xs))
       joined [] = refl

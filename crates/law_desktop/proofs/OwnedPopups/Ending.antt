@@ -3,6 +3,7 @@ use Rattle.std.proofs.Common.{◌≡◌, ℕ, true, Option, Some, None, refl, ap
 use Rattle.std.specs.Prelude.{is_some}
 use Rattle.std.specs.Option.{option_and_then, option_map}
 use Rattle.std.proofs.Math.Path.{fun_ext}
+use Rattle.std.proofs.lemmas.Option.{same_Some}
 use Rattle.wl_links.specs.Family.{Tied}
 use Rattle.spec_desktop.specs.Objects.{ById}
 use Rattle.wl_surface.specs.Slots.{Slots}
@@ -17,18 +18,15 @@ use Rattle.wl_shell.proofs.Standing.{changes_stand}
 use Rattle.spec_desktop.specs.Stacking.{Owned}
 use Rattle.spec_desktop.specs.Changing.{changed_for}
 use Rattle.spec_desktop.specs.Demand.{EndToplevel}
-use Rattle.law_desktop.proofs.Lists.Keys.{apart-map, found-map, some-same}
+use Rattle.law_desktop.proofs.Lists.Keys.{apart-map, found-map}
 use Rattle.law_desktop.specs.Owning.{IsOwned, Names, by_id, number_of, with_toplevel}
 use Rattle.law_desktop.specs.OwnedPopups.{PopupsOrphaned, ToplevelGone, ToplevelsGo}
-use Rattle.law_desktop.proofs.Keeping.OwningChanges.{IsOwned-untoplevel, agree-same}
-use Rattle.law_desktop.proofs.Keeping.OwningXdg.{has_role, has_xdg, histories-same, toplevel-named, xdg-named}
+use Rattle.law_desktop.proofs.Keeping.OwningChanges.{IsOwned-untoplevel, agree-same, number-kept}
+use Rattle.law_desktop.proofs.Keeping.OwningXdg.{has_role, histories-same, toplevel-named, xdg-named}
 use Rattle.law_desktop.proofs.OwnedPopups.Stepping.{popup-keeps}
+use Rattle.law_desktop.proofs.KeptRecords.Keeping.OwningXdg.{has_xdg}
 
 -- ---- no parent any more
-
-same-numbers : (numbers : ById ℕ) (f : XdgSurface → XdgSurface) (o : Option XdgSurface) → ((x : XdgSurface) → (f x).surface ≡ x.surface) → number_of numbers (option_map f o) ≡ number_of numbers o
-same-numbers numbers f None keeps = refl
-same-numbers numbers f (Some x) keeps = ap numbers (keeps x)
 
 some-before : (change : Kept → Kept) (k : Option Kept) → is_some (option_map change k) ≡ true → is_some k ≡ true
 some-before change None some = some
@@ -51,11 +49,11 @@ module _ (names : Names) (slots : Slots) (tied : Tied) (kept : ℕ → Option Ke
     known = λ number some. is.known number (some-before (kept_changed (orphan xdg)) (kept number) some);
     named = λ other.
         is.named other
-        ∙ sym (ap (number_of names.surfaces) (found-map (has_xdg other) step o.shell (λ y. refl)) ∙ same-numbers names.surfaces step (xdg_at other o.shell) (λ y. refl));
+        ∙ sym (ap (number_of names.surfaces) (found-map (has_xdg other) step o.shell (λ y. refl)) ∙ number-kept names.surfaces step (xdg_at other o.shell) (λ y. refl));
     toplevels = λ other.
         is.toplevels other
         ∙ sym (ap (number_of names.surfaces) (found-map (has_role other) step o.shell (λ y. (popup-keeps (orphan xdg)).role other y))
-        ∙ same-numbers names.surfaces step (xdg_with other o.shell) (λ y. refl));
+        ∙ number-kept names.surfaces step (xdg_with other o.shell) (λ y. refl));
     roles = apart-map has_role step o.shell (λ other y. (popup-keeps (orphan xdg)).role other y) is.roles;
   }
     where
@@ -83,7 +81,7 @@ module _ (names : Names) (slots : Slots) (tied : Tied) (kept : ℕ → Option Ke
       let h = t.2 in
       let one = t.3 in
       let surface : u.1.surface ≡ x.surface = is.surfaces.once u.1.surface x.surface number u.3.surface one.surface in
-      let same : u.1 ≡ x = some-same u.1 x (sym u.3.of_surface ∙ ap (λ s. xdg_of s o.shell) surface ∙ one.of_surface) in
+      let same : u.1 ≡ x = same_Some u.1 x (sym u.3.of_surface ∙ ap (λ s. xdg_of s o.shell) surface ∙ one.of_surface) in
       let its : is_role id x.role ≡ true = ap (λ (y : XdgSurface). is_role id y.role) (sym same) ∙ u.5 in
       subst (λ i. IsOwned (with_toplevel id None names) slots tied (changing number kept_without_role kept) (record o { shell = with_change i without_role o.shell })) t.5
       (IsOwned-untoplevel names slots tied kept o is number k x h one id kept_without_role without_role h slots o.surfaces (λ y. refl) (λ y. refl) its refl is.surfaces

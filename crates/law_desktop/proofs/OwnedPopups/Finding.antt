@@ -1,5 +1,6 @@
 -- What the shell finds of popups under the numbers of their surfaces is what there is by ids.
 use Rattle.std.proofs.Common.{◌≡◌, ℕ, List, [], ◌∷◌, Bool, true, false, Option, Some, None, map, refl, ap, ap₂, subst, sym, ◌∙◌}
+use Rattle.std.proofs.lemmas.Option.{none-some, same_Some}
 use Rattle.std.specs.Prelude.{Ok, if◌then◌else◌, is_some}
 use Rattle.std.specs.List.{list_any, AllByRecursion as Each}
 use Rattle.std.specs.Option.{option_and_then, option_map, option_map_or}
@@ -28,7 +29,6 @@ use Rattle.wl_shell.specs.Shell.{RoleObject, Shell, XdgSurface, xdg_at, xdg_of}
 use Rattle.spec_desktop.specs.Stacking.{Owned}
 use Rattle.spec_desktop.specs.Demand.{EndPopup}
 use Rattle.spec_desktop.specs.WlSubsurface.{refuses}
-use Rattle.law_desktop.proofs.Lists.Keys.{none-some, some-same}
 use Rattle.law_desktop.specs.Owning.{IsOwned, IsXdg, Names, asks_by, by_number, number_in, shell_refusal}
 use Rattle.law_desktop.specs.OwnedPopups.{EndAsked, IsNext, NextDismissed, NextIs}
 use Rattle.law_desktop.specs.Twins.{IsKeptByNumbers, by_numbers}
@@ -139,7 +139,7 @@ module _ (names : Names) (slots : Slots) (tied : Tied) (book : Book) (o : Owned)
 
   some-map : (o : Option XdgSurface) (y : XdgSurface) → option_map (renamed_xdg f) o ≡ Some y → (x : XdgSurface) × (o ≡ Some x) × (renamed_xdg f x ≡ y)
   some-map None y e = absurd (none-some y e)
-  some-map (Some x) y e = (x, refl, some-same (renamed_xdg f x) y e)
+  some-map (Some x) y e = (x, refl, same_Some (renamed_xdg f x) y e)
 
   role-known : (k : Option Kept) (k' : Kept) (p : Popped) → k ≡ Some k' → k'.role ≡ Some p.object
       → option_and_then (λ (k : Kept). option_map (λ (object : RoleObject). object.id) k.role) k ≡ Some p.object.id

@@ -3,7 +3,8 @@ use Rattle.std.proofs.Common.{◌≡◌, ℕ, List, [], ◌∷◌, ◌++◌, Boo
 use Rattle.std.specs.Prelude.{◌==◌, ◌&&◌, ◌||◌, flat_map, not}
 use Rattle.std.specs.List.{list_any}
 use Rattle.std.specs.Option.{option_and_then}
-use Rattle.std.proofs.lemmas.Bool.{eqb-true}
+use Rattle.std.proofs.lemmas.Bool.{eqb-true, true≢false}
+use Rattle.std.proofs.lemmas.Option.{same_Some}
 use Rattle.wl_proto.specs.declared.interface.Interface.TheVariants.{XdgPopup, XdgToplevel}
 use Rattle.spec_desktop.specs.Objects.{is_of}
 use Rattle.wl_shell.specs.Descent.{is_of_xdg}
@@ -13,12 +14,13 @@ use Rattle.wl_shell.specs.Popups.{Popped, first_of, is_toplevel_kind, popped_kin
 use Rattle.wl_shell.specs.Shell.{IsPopup, Kind, RoleObject, Shell, Toplevel, XdgSurface, is_role, xdg_at, xdg_with}
 use Rattle.spec_desktop.specs.Desktop.{Resident}
 use Rattle.law_desktop.specs.Apart.{AreApartBy}
-use Rattle.law_desktop.proofs.Lists.Keys.{differ, found-any, found-by, found-passes, none-first, none-later, some-same}
+use Rattle.law_desktop.proofs.Lists.Keys.{found-any, found-by, found-passes, none-first, none-later}
 use Rattle.law_desktop.proofs.Soundness.ObjectsKeys.{of-one}
 use Rattle.law_desktop.specs.InOrder.{AreRising, OwnsInOrder, is_popup_with, is_toplevel_with}
 use Rattle.law_desktop.proofs.InOrder.Rising.{popups_rise}
 use Rattle.law_desktop.specs.OwnedPopups.{OrderKnown, PopupKnown, RolesAreKnown, ToplevelKnown}
-use Rattle.law_desktop.proofs.Keeping.OwningXdg.{has_role, has_xdg}
+use Rattle.law_desktop.proofs.Keeping.OwningXdg.{has_role}
+use Rattle.law_desktop.proofs.KeptRecords.Keeping.OwningXdg.{has_xdg}
 
 module _ (r : Resident) (id : ℕ) (x : XdgSurface) (order : OwnsInOrder r) (found : xdg_with id r.owned.shell ≡ Some x) where
   at-id : xdg_at x.id r.owned.shell ≡ Some x
@@ -43,13 +45,13 @@ module _ (r : Resident) (id : ℕ) (x : XdgSurface) (order : OwnsInOrder r) (fou
           → (p : Popped) × (popup_at x.id r.owned.shell ≡ Some p) × (p.object.id ≡ id)
       kinds object a same Toplevel b =
           let is : is_toplevel_with id x.role ≡ true = ap (is_toplevel_with id) a ∙ ap₂ (λ (b : Bool) (k : Kind). b && is_toplevel_kind k) same b in
-          absurd (differ (sym (toplevel-there is) ∙ of-one XdgPopup XdgToplevel (r.peer.objects id) refl popup))
+          absurd (true≢false (sym (toplevel-there is) ∙ of-one XdgPopup XdgToplevel (r.peer.objects id) refl popup))
       kinds object a same (IsPopup popup) b =
           let p : Popped = record { xdg = x; object = object; popup = popup } in
           (p, here p (ap (popped_role x) a ∙ ap (popped_kind x object) b), eqb-true object.id id same)
 
       at : (o : Option RoleObject) → x.role ≡ o → is_role id o ≡ true → (p : Popped) × (popup_at x.id r.owned.shell ≡ Some p) × (p.object.id ≡ id)
-      at None a same = absurd (differ (sym same))
+      at None a same = absurd (true≢false (sym same))
       at (Some object) a same = kinds object a same object.kind refl
 
   bare : is_of XdgToplevel (r.peer.objects id) ≡ true → popped_of x ≡ []
@@ -59,7 +61,7 @@ module _ (r : Resident) (id : ℕ) (x : XdgSurface) (order : OwnsInOrder r) (fou
       kinds object a same Toplevel b = refl
       kinds object a same (IsPopup popup) b =
           let is : is_popup_with id x.role ≡ true = ap (is_popup_with id) a ∙ ap₂ (λ (b : Bool) (k : Kind). b && not (is_toplevel_kind k)) same b in
-          absurd (differ (sym (popup-there is) ∙ of-one XdgToplevel XdgPopup (r.peer.objects id) refl top))
+          absurd (true≢false (sym (popup-there is) ∙ of-one XdgToplevel XdgPopup (r.peer.objects id) refl top))
 
       at : (o : Option RoleObject) → x.role ≡ o → is_role id o ≡ true → popped_role x o ≡ []
       at None a same = refl
@@ -96,7 +98,7 @@ without-popup x (y ∷ ys) apart found none = at (y.id == x.id) refl found (λ l
     at : (b : Bool) → (y.id == x.id) ≡ b → cond b (Some y) (xdg_at x.id ys) ≡ Some x → (xdg_at x.id ys ≡ Some x → list_any (is_of_xdg x.id) (flat_map popped_of ys) ≡ false)
         → list_any (is_of_xdg x.id) (popped_of y ++ flat_map popped_of ys) ≡ false
     at true here e rest =
-        ap (λ (ps : List Popped). list_any (is_of_xdg x.id) (ps ++ flat_map popped_of ys)) (ap popped_of (some-same y x e) ∙ none) ∙ none-at x.id ys (apart.0 x.id here)
+        ap (λ (ps : List Popped). list_any (is_of_xdg x.id) (ps ++ flat_map popped_of ys)) (ap popped_of (same_Some y x e) ∙ none) ∙ none-at x.id ys (apart.0 x.id here)
     at false away e rest =
         any-joined (is_of_xdg x.id) (popped_of y) (flat_map popped_of ys) ∙ ap₂ (λ (a b : Bool). a || b) (other-popped x.id y y.role away) (rest e)
 

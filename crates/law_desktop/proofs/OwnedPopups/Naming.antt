@@ -4,12 +4,12 @@ use Rattle.std.specs.Prelude.{◌==◌, if◌then◌else◌}
 use Rattle.std.specs.Option.{option_and_then}
 use Rattle.std.proofs.Math.Path.{fun_ext}
 use Rattle.std.proofs.lemmas.Bool.{eqb-false, eqb-true}
+use Rattle.std.proofs.lemmas.Option.{none-some}
 use Rattle.wl_proto.specs.declared.interface.Interface.{Interface}
 use Rattle.wl_proto.specs.declared.interface.Interface.TheVariants.{WlSurface, XdgPopup, XdgSurface, XdgToplevel}
 use Rattle.wl_table.specs.Objects.{Held, HoldsAt, entry_of}
 use Rattle.wl_table.specs.declared.entry.Entry.{Entry}
 use Rattle.spec_desktop.specs.Objects.{ById, interface_number, with_id}
-use Rattle.law_desktop.proofs.Lists.Keys.{none-some}
 use Rattle.law_desktop.specs.Owning.{Names, names_in, target_as, targets_in, with_toplevel}
 use Rattle.law_desktop.specs.RoleNames.{RolesAreNamed, is_of_role, named_at, names_of, role_target, roles_in}
 use Rattle.law_desktop.proofs.Keeping.OwningNames.{targets-with, with_id-same}

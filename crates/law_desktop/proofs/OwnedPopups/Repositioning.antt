@@ -26,10 +26,10 @@ use Rattle.spec_desktop.specs.WlSubsurface.{past_limit, refuses}
 use Rattle.spec_desktop.specs.XdgPopup.{repositioned_by}
 use Rattle.law_desktop.specs.Owning.{IsOwned, IsXdg, KeepsRole, Names, asks_by, shell_refusal}
 use Rattle.law_desktop.specs.OwnedPopups.{PopupsAnew, RepositionAsked, RepositionTold, Repositioned, anew_told}
-use Rattle.law_desktop.proofs.Keeping.OwningAsks.{drawn-owned}
 use Rattle.law_desktop.proofs.OwnedPopups.Committing.{place-now}
 use Rattle.law_desktop.proofs.OwnedPopups.Grabbing.{popped}
 use Rattle.law_desktop.proofs.OwnedPopups.Stepping.{popup-keeps, shell-stepped}
+use Rattle.law_desktop.proofs.Runs.Following.{drawing-owned}
 
 repositioning-keeps : (b : Bool) (serial : ℕ) (placement : Option Placed) (positioner : Positioner) → KeepsRole (repositioning b serial placement positioner)
 repositioning-keeps false serial placement positioner = popup-keeps (copying positioner)
@@ -97,7 +97,7 @@ repositioned names slots tied kept r number k x h c token p positioner bounds at
     let by_x : IsOwned names slots tied (changing number (kept_repositioning placed serial positioner) kept) (drawing b (xdg_changed p.xdg.id step r)).owned =
     subst (λ (i : ℕ). IsOwned names slots tied (changing number (kept_repositioning placed serial positioner) kept) (drawing b (xdg_changed i step r)).owned)
     (ap (λ (y : XdgSurface). y.id) (sym (popped names kept r.owned number k x h one p here).xdg))
-    (subst (λ (o : Owned). IsOwned names slots tied (changing number (kept_repositioning placed serial positioner) kept) o) (sym (drawn-owned b (xdg_changed x.id step r))) stepped) in
+    (subst (λ (o : Owned). IsOwned names slots tied (changing number (kept_repositioning placed serial positioner) kept) o) (sym (drawing-owned b (xdg_changed x.id step r))) stepped) in
     subst (λ (ks : ℕ → Option Kept). IsOwned names slots tied ks (changed_for c (Reposition x.id token positioner) r d).owned) (sym keeps)
     (subst (λ (o : Option Popped). IsOwned names slots tied (changing number (kept_repositioning placed serial positioner) kept) (popup_repositioned where_to positioner o r).owned) (sym here) by_x)
 

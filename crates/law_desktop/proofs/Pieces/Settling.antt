@@ -9,7 +9,6 @@ use Rattle.spec_desktop.specs.Pointer.{Target}
 use Rattle.spec_desktop.specs.PointerActions.{Leave, Enter, focus_or}
 use Rattle.spec_desktop.specs.Stacking.{without_client}
 use Rattle.spec_desktop.specs.Windows.{Place, Window}
-use Rattle.spec_desktop.specs.Changing.{drawing}
 use Rattle.spec_desktop.specs.Desktop.{Desktop, Resident, client_at, resident_of, with_client}
 use Rattle.spec_desktop.specs.Pointing.{entered_surface, has_pointers, left_surface}
 use Rattle.spec_desktop.specs.Replies.{focus_window}
@@ -21,6 +20,7 @@ use Rattle.law_desktop.proofs.Pieces.Behind.{with_behind}
 use Rattle.law_desktop.proofs.Pieces.Changing.{drawing-behind}
 use Rattle.law_desktop.proofs.Runs.Focus.{focus-turns}
 use Rattle.law_desktop.proofs.Pieces.Places.{at-longer, behind, longer, longer_client, longer_in, longer_moving, put-longer, windows-longer}
+use Rattle.law_desktop.proofs.Runs.Ends.{drawn-status}
 
 -- ---- events are queued
 
@@ -60,22 +60,18 @@ pub record IsApart (change : Resident → Resident) (events : Resident → List 
   pub tells : (r : Resident) (rest : List ℕ) → events (with_behind rest r) ≡ events r
   pub lives : (r : Resident) → (change r).peer.status ≡ r.peer.status
 
-drawing-lives : (b : Bool) (r : Resident) → (drawing b r).peer.status ≡ r.peer.status
-drawing-lives true r = refl
-drawing-lives false r = refl
-
 leaves-apart : (surface : ℕ) → IsApart (leave_drawn surface) (left_surface surface)
 leaves-apart surface = record {
   changes = λ r rest. drawing-behind (is_some (history_in surface r.owned.surfaces) && has_pointers r) r rest;
   tells = λ r rest. refl;
-  lives = λ r. drawing-lives (is_some (history_in surface r.owned.surfaces) && has_pointers r) r;
+  lives = λ r. drawn-status (is_some (history_in surface r.owned.surfaces) && has_pointers r) r;
 }
 
 enters-apart : (at : Option Place) (w : Option Window) → IsApart told_drawn (entered_surface at w)
 enters-apart at w = record {
   changes = λ r rest. drawing-behind (has_pointers r) r rest;
   tells = λ r rest. refl;
-  lives = λ r. drawing-lives (has_pointers r) r;
+  lives = λ r. drawn-status (has_pointers r) r;
 }
 
 pub behind-same : (b : Bool) (more : List ℕ) (p q : Peer) → IsKept p q → behind b q.status q.rest more ≡ behind b p.status p.rest more

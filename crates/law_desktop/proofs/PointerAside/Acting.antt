@@ -6,7 +6,6 @@ use Rattle.spec_desktop.specs.Pointer.{Pointer, Target, hit_now, is_same, settle
 use Rattle.spec_desktop.specs.PointerActions.{Press, Went, button_of, dismiss_of, enter_of, leave_of, motion_of, move_of, raise_of}
 use Rattle.spec_desktop.specs.Stacking.{Standing}
 use Rattle.spec_desktop.specs.Windows.{Place, Window}
-use Rattle.spec_desktop.specs.Changing.{drawing}
 use Rattle.spec_desktop.specs.Desktop.{Desktop, Resident}
 use Rattle.spec_desktop.specs.Happens.{placed, released_to, with_press, with_release}
 use Rattle.spec_desktop.specs.Pointing.{button_told, has_pointers, motion_told}
@@ -14,10 +13,11 @@ use Rattle.spec_desktop.specs.Replies.{focus_window}
 use Rattle.spec_desktop.specs.Settling.{AppliesAll, Midstep, PointerActs, Settles, Tells, noted, noted_if, number_of, unstruck, with_standing}
 use Rattle.spec_desktop.specs.Stacked.{all_windows}
 use Rattle.law_desktop.proofs.Runs.Output.{settles-still, tells-still}
-use Rattle.law_desktop.proofs.Runs.Settled.{HasFocus, ShowsSame, has-settled, same-windows, shows-itself}
+use Rattle.law_desktop.proofs.Runs.Settled.{HasFocus, ShowsSame, has-settled, same-target, same-windows, shows-itself}
 use Rattle.law_desktop.specs.Pointed.Acting.{GoesAlong, IsActed, MotionsAct, PressesAct, ReleasesAct, pointer_went, raised_at, standing_along, standing_pressed, stood, went_along}
 use Rattle.law_desktop.proofs.PointerAside.Marking.{same-marks}
-use Rattle.law_desktop.proofs.PointerAside.Rounds.{same-target, told-shows}
+use Rattle.law_desktop.proofs.PointerAside.Rounds.{told-shows}
+use Rattle.law_desktop.proofs.Runs.Following.{drawing-owned}
 
 -- ---- what is shown
 
@@ -52,10 +52,6 @@ told-stays : (change : Resident → Resident) (events : Resident → List Said) 
 told-stays change events keeps c old new h =
     let told = told-shows change events keeps c old new h in
     record { pointer = told.0; shows = told.1; output = tells-still change events c old new h }
-
-drawing-owned : (b : Bool) (r : Resident) → (drawing b r).owned ≡ r.owned
-drawing-owned true r = refl
-drawing-owned false r = refl
 
 noted-owned : (b pressed : Bool) (r : Resident) → (noted_if b pressed r).owned ≡ r.owned
 noted-owned false pressed r = refl

@@ -1,5 +1,6 @@
 -- Clients that ended stay so, and each round ends one that lives.
 use Rattle.std.proofs.Common.{◌≡◌, ◌≢◌, ℕ, zero, suc, ◌≤◌, List, [], ◌∷◌, ◌++◌, length, false, true, Option, Some, None, refl, ap, ap₂, subst, sym, ◌∙◌, arith, inl, inr}
+use Rattle.std.proofs.lemmas.Option.{none-some, same_Some}
 use Rattle.std.specs.Prelude.{◌⊎◌, is_some}
 use Rattle.spec_desktop.specs.declared.cause.Cause.{Cause}
 use Rattle.spec_desktop.specs.declared.cause.Cause.TheVariants as cause
@@ -15,7 +16,6 @@ use Rattle.spec_desktop.specs.LeftOut.{LeftOut}
 use Rattle.spec_desktop.specs.Settling.{Midstep, Strike, becomes, ended_at, ended_by, unstruck}
 use Rattle.spec_desktop.specs.Step.{with_peer}
 use Rattle.spec_desktop.specs.Through.{ending_through}
-use Rattle.law_desktop.proofs.Lists.Keys.{none-some, some-same}
 use Rattle.law_desktop.proofs.Runs.Ends.{acts-lead, ended-after}
 use Rattle.law_desktop.proofs.Runs.Fates.{AreStruck, Follows, Lives, follows-on, lasting, one_more, same-or, still}
 use Rattle.law_desktop.proofs.Runs.OneRun.{few-of}
@@ -141,7 +141,7 @@ module _ (left : LeftOut) (d : Desktop) (path : List Desktop) (e : Desktop) (c :
   closes a done apart h = at (same-or a c)
     where
       at : (a ≡ c) ⊎ (a ≢ c) → status_in c e ≡ Some why
-      at (inr away) = single (Close a) done (λ same. away (some-same a c (ap closed same))) h
+      at (inr away) = single (Close a) done (λ same. away (same_Some a c (ap closed same))) h
       at (inl here) =
           let own : Leads left (Single (Close c) done) d path e = subst (λ (n : ℕ). Leads left (Single (Close n) done) d path e) here h in
           absurd (apart (ap₂ (λ (n : ℕ) (x : Done). Single (Close n) x) here (granted done (client_at c d) is own)))

@@ -1,6 +1,7 @@
 -- wl_seat.get_pointer of the client that has the focus, with the pointer put aside, and then put back.
 use Rattle.std.proofs.Common.{◌≡◌, ℕ, List, [], ◌∷◌, ◌++◌, filter, map, drop, take, Bool, true, false, Option, Some, None, Result, refl, ap, ap₂, subst, sym, ◌∙◌, inl, inr, eq-eqb}
 use Rattle.std.proofs.lemmas.Bool.{or_right}
+use Rattle.std.proofs.lemmas.Option.{none-some, same_Some}
 use Rattle.std.specs.Prelude.{◌-◌, ◌==◌, ◌||◌, is_some, not, fold, ◌⊎◌, Ok, Err}
 use Rattle.wl_wire.specs.Wire.{split_of}
 use Rattle.wl_wire.specs.declared.header.Split.{Split}
@@ -25,8 +26,6 @@ use Rattle.spec_desktop.specs.Settling.{Midstep, QueuesTo, Strike, TellsAt, Tell
 use Rattle.spec_desktop.specs.Stacked.{all_windows}
 use Rattle.spec_desktop.specs.Step.{making, with_peer}
 use Rattle.spec_desktop.specs.Through.{settling_through}
-use Rattle.law_desktop.proofs.Lists.Keys.{none-some, some-same}
-use Rattle.law_desktop.proofs.Marks.Stacks.{Each, each-map}
 use Rattle.law_desktop.proofs.Runs.Places.{client-twice, number-same}
 use Rattle.law_desktop.proofs.Runs.Settled.{put-shows, same-windows}
 use Rattle.law_desktop.proofs.Runs.Through.{messages_lead_through, settling-with}
@@ -35,6 +34,8 @@ use Rattle.law_desktop.specs.Pointed.Entering.{NewPointerApart, NewPointerApartT
 use Rattle.law_desktop.specs.Pointed.Pointed.{MovedStands, asked, asked_by, asked_first, asked_of, pointer_asked, put_back}
 use Rattle.law_desktop.proofs.PointerAside.Messages.{becomes-put, becomes-still, put-is}
 use Rattle.law_desktop.proofs.PointerAside.Pointers.{settled-nowhere}
+use Rattle.law_desktop.proofs.Lists.Each.{Each, each-map}
+use Rattle.law_desktop.proofs.Runs.Serves.{lacking}
 
 -- ---- nothing else is told of it
 
@@ -78,10 +79,6 @@ pub told-alone : (b : Bool) (told : List Said) (old new : Resident) → new.owne
 told-alone b told old new same =
     ap₂ (λ (xs ys : List Said). told ++ xs ++ ys) (none-let b old new (ap (λ o. o.surfaces) same)) (ap (λ o. popups_done old (record old { owned = o })) same ∙ none-done old)
     ∙ (more-none (told ++ []) ∙ more-none told)
-
-pub lacking : (p q : Peer) → LacksMemory p q → q.status ≡ Some Memory
-lacking p q (inl h) = ap (λ (x : Peer). x.status) h
-lacking p q (inr h) = ap (λ (x : Peer). x.status) h.1
 
 -- the middle of a step, by its parts
 abbrev midstep : Desktop → List Strike → Midstep
@@ -177,7 +174,7 @@ module _ (left : LeftOut) (c id version : ℕ) (d : Desktop) (path : List Deskto
   unfolding demand
   answered (Err refusal) r asked-is alive owns h = absurd (none-some demand asked-is)
   answered (Ok other) r asked-is alive owns h =
-      let same : other ≡ GetPointer id version = some-same other demand asked-is in
+      let same : other ≡ GetPointer id version = same_Some other demand asked-is in
       subst (λ (x : Demand). Both (λ later new. AnswersThen left (Ok x) c r d (settling_through later new))) (sym same)
       (by (with_peer (counted r.peer) r) alive owns (subst (λ (x : Demand). AnswersThen left (Ok x) c r (unpointed d) (settling_through path e)) same h))
     where

@@ -1,5 +1,6 @@
 -- What is noted of a client that lives, whatever happened: it is what was noted before, but for what its own message asked.
 use Rattle.std.proofs.Common.{◌≡◌, ◌≢◌, ℕ, ◌+◌, List, drop, take, Bool, true, false, Option, Some, None, Result, refl, ap, subst, sym, ◌∙◌, inl, inr}
+use Rattle.std.proofs.lemmas.Option.{none-some, same_Some}
 use Rattle.std.specs.Prelude.{◌-◌, ◌⊎◌, ◌++◌, Ok, Err}
 use Rattle.wl_wire.specs.Wire.{split_of}
 use Rattle.wl_wire.specs.declared.header.Split.{Split}
@@ -27,7 +28,6 @@ use Rattle.spec_desktop.specs.LeftOut.{LeftOut}
 use Rattle.spec_desktop.specs.Settling.{Midstep, PointerActs, Settles, after_status, becomes, unstruck}
 use Rattle.spec_desktop.specs.Step.{with_peer}
 use Rattle.spec_desktop.specs.Through.{ending_through, settling_through}
-use Rattle.law_desktop.proofs.Lists.Keys.{none-some, some-same}
 use Rattle.law_desktop.proofs.Runs.Fates.{same-or}
 use Rattle.law_desktop.proofs.Runs.Places.{number-other, number-same, status-become}
 use Rattle.law_desktop.proofs.Runs.Serves.{done-clients_stay}
@@ -118,7 +118,7 @@ module _ {X : Type 0} (of : Resident → X) (heeds : HeedsNothing of) (after : D
 -- ---- whatever else happens
 
 closed-same : (s : Option Cause) (p q : Peer) → Some q ≡ closed_by s p → q ≡ p
-closed-same None p q e = some-same q p e
+closed-same None p q e = same_Some q p e
 closed-same (Some why) p q e = absurd (none-some q (sym e))
 
 -- a client's peer becomes one that lives or not as it did
@@ -228,7 +228,7 @@ module _ {X : Type 0} (of : Resident → X) (heeds : HeedsNothing of) (after : D
       heard (took of heeds after changes left c d path e r there a (of q) sits (split_of r.peer.rest) r (ap (asked_by left) there) refl h.1)
     where
       heard : IsHeard of after left c d r a (of q) → After (Message c)
-      heard (inl k) = inl (k.1, λ same. k.0 (some-same c a (ap taken_of same)))
+      heard (inl k) = inl (k.1, λ same. k.0 (same_Some c a (ap taken_of same)))
       heard (inr k) =
           inr (inl (ap Message k.0, r, k.1, subst (λ (n : ℕ). client_at n d ≡ Some r) k.0 there, h.0, subst (λ (n : ℕ). asked left n d ≡ Some k.1) k.0 k.2, k.3))
 
@@ -260,14 +260,14 @@ module _ {X : Type 0} (of : Resident → X) (heeds : HeedsNothing of) (after : D
   happened (Single (Store c store at bytes) done) none leads =
       quiet (Single (Store c store at bytes) done) refl
       (changed of heeds d path e (IsStored store at bytes)
-      (λ p done q h. ap (λ (x : Peer). x.status) (some-same q (stored_at p.status store at bytes p) h.0) ∙ stored-status p.status store at bytes p) _ c (client_at c d) done refl leads)
+      (λ p done q h. ap (λ (x : Peer). x.status) (same_Some q (stored_at p.status store at bytes p) h.0) ∙ stored-status p.status store at bytes p) _ c (client_at c d) done refl leads)
   happened (Single (Leave c) done) none leads = quiet (Single (Leave c) done) refl (gone of heeds d path e c (client_at c d) done refl leads)
   happened (Single (Tick time) done) none leads =
       quiet (Single (Tick time) done) refl
       (had-on of d leads.1.0.desktop e (kept-had of d leads.1.0.desktop (frames-keep of heeds time 32 1 (unstruck d) leads.1.0 leads.1.1)) (settling-had of heeds path e leads.1.0 leads.1.2))
   happened (Single (Send c n) done) none leads =
       quiet (Single (Send c n) done) refl
-      (changed of heeds d path e (IsSent n) (λ p done q h. ap (λ (x : Peer). x.status) (some-same q (sent_by n p) h.0) ∙ sent-status n p) _ c (client_at c d) done refl leads)
+      (changed of heeds d path e (IsSent n) (λ p done q h. ap (λ (x : Peer). x.status) (same_Some q (sent_by n p) h.0) ∙ sent-status n p) _ c (client_at c d) done refl leads)
   happened (Single (Close c) done) none leads =
       quiet (Single (Close c) done) refl
       (changed of heeds d path e IsClosed (λ p done q h. ap (λ (x : Peer). x.status) (closed-same p.status p q h.0)) _ c (client_at c d) done refl leads)

@@ -1,5 +1,6 @@
 -- What happens beside messages, motions and buttons, with the pointer put aside, and put back.
 use Rattle.std.proofs.Common.{ℕ, ◌+◌, List, [], ◌∷◌, ◌++◌, Bool, true, false, Option, Some, None, refl, ap, subst, sym, inl, inr, map}
+use Rattle.std.proofs.lemmas.Bool.{true≢false}
 use Rattle.spec_desktop.specs.declared.cause.Cause.{Cause}
 use Rattle.spec_desktop.specs.declared.cause.Cause.TheVariants as cause
 use Rattle.spec_desktop.specs.Peer.{Peer, ended}
@@ -12,7 +13,6 @@ use Rattle.spec_desktop.specs.Happens.{ChangesThen, ConnectsThen, LeavesThen}
 use Rattle.spec_desktop.specs.Settling.{Midstep, becomes, pointer_without, unstruck}
 use Rattle.spec_desktop.specs.Step.{with_peer}
 use Rattle.spec_desktop.specs.Through.{ending_through, settling_through}
-use Rattle.law_desktop.proofs.Lists.Keys.{differ}
 use Rattle.law_desktop.proofs.Runs.Through.{settling-with, settling-without}
 use Rattle.law_desktop.specs.Pointed.Apart.{SettlesOn}
 use Rattle.law_desktop.specs.Pointed.Happenings.{EndedApart, EndsApart, QuietApart}
@@ -54,7 +54,7 @@ module _ (d : Desktop) (path : List Desktop) (e : Desktop) where
       → LeavesThen c (Some (so s r)) d (gave.Gone false) (settling_through (pointed d.pointer e ∷ []) (pointed d.pointer e)) Back
   unfolding lived
   was_gone c (Some why) r h = (h.0, over (unpointed d) h.1)
-  was_gone c None r h = absurd (differ (sym (ap lived h.0)))
+  was_gone c None r h = absurd (true≢false (sym (ap lived h.0)))
 
   gone : (c : ℕ) (o : Option Resident) → LeavesThen c o (unpointed d) (gave.Gone false) (settling_through path e) Aside
       → LeavesThen c o d (gave.Gone false) (settling_through (pointed d.pointer e ∷ []) (pointed d.pointer e)) Back
@@ -67,19 +67,19 @@ module _ (d : Desktop) (path : List Desktop) (e : Desktop) where
 
 pub quiet-apart : QuietApart
 quiet-apart left (Receive c piece) d path e quiet h = received d path e c piece (client_at c d) h
-quiet-apart left (Message c) d path e quiet h = absurd (differ (sym quiet))
-quiet-apart left (Starve c) d path e quiet h = absurd (differ (sym quiet))
+quiet-apart left (Message c) d path e quiet h = absurd (true≢false (sym quiet))
+quiet-apart left (Starve c) d path e quiet h = absurd (true≢false (sym quiet))
 quiet-apart left (Single Connect done) d path e quiet h = connected d path e (lowest d.clients) done h
 quiet-apart left (Single (Feed c piece) done) d path e quiet h = absurd h
 quiet-apart left (Single (Store c store at bytes) done) d path e quiet h = changed d path e (IsStored store at bytes) _ c (client_at c d) done h
-quiet-apart left (Single (Leave c) (gave.Gone true)) d path e quiet h = absurd (differ (sym quiet))
+quiet-apart left (Single (Leave c) (gave.Gone true)) d path e quiet h = absurd (true≢false (sym quiet))
 quiet-apart left (Single (Leave c) (gave.Gone false)) d path e quiet h = gone d path e c (client_at c d) h
-quiet-apart left (Single (Leave c) done) d path e quiet h = absurd (differ (sym quiet))
-quiet-apart left (Single (Tick time) done) d path e quiet h = absurd (differ (sym quiet))
+quiet-apart left (Single (Leave c) done) d path e quiet h = absurd (true≢false (sym quiet))
+quiet-apart left (Single (Tick time) done) d path e quiet h = absurd (true≢false (sym quiet))
 quiet-apart left (Single (Send c n) done) d path e quiet h = changed d path e (IsSent n) _ c (client_at c d) done h
 quiet-apart left (Single (Close c) done) d path e quiet h = changed d path e IsClosed _ c (client_at c d) done h
-quiet-apart left (Single (Motion time x y) done) d path e quiet h = absurd (differ (sym quiet))
-quiet-apart left (Single (Button time button pressed) done) d path e quiet h = absurd (differ (sym quiet))
+quiet-apart left (Single (Motion time x y) done) d path e quiet h = absurd (true≢false (sym quiet))
+quiet-apart left (Single (Button time button pressed) done) d path e quiet h = absurd (true≢false (sym quiet))
 
 -- ---- a client ends
 
@@ -100,12 +100,12 @@ module _ (c : ℕ) (d : Desktop) (path : List Desktop) (e : Desktop) where
 
   left_so : (s : Option Cause) (r : Resident) → Leaving (unpointed d) (Some (so d path e s r)) path e → SettlesOn put (Leaving d (Some (so d path e s r))) path e
   unfolding lived
-  left_so (Some why) r h = absurd (differ (ap (lived d path e) h.0))
+  left_so (Some why) r h = absurd (true≢false (ap (lived d path e) h.0))
   left_so None r h = let on = ends cause.Gone (so d path e None r) h.1 in (on.0, on.1, λ later new k. (h.0, on.2 later new k))
 
   leaves : (o : Option Resident) → Leaving (unpointed d) o path e → SettlesOn put (Leaving d o) path e
   unfolding lived
-  leaves None h = absurd (differ (ap (lived d path e) h.0))
+  leaves None h = absurd (true≢false (ap (lived d path e) h.0))
   leaves (Some r) h = left_so r.peer.status r h
 
 pub ended-apart : EndedApart

@@ -1,7 +1,8 @@
 -- The surface that has the focus, and the window that the pointer hits, are of clients that live.
 use Rattle.std.proofs.Common.{◌≡◌, ℕ, List, [], ◌∷◌, Bool, true, false, Option, Some, None, refl, ap, ap₂, subst, sym, ◌∙◌}
 use Rattle.std.specs.List.{list_any}
-use Rattle.std.proofs.lemmas.Bool.{eqb-true}
+use Rattle.std.proofs.lemmas.Bool.{and_from, eqb-true}
+use Rattle.std.proofs.lemmas.Option.{none-some, same_Some}
 use Rattle.std.specs.Prelude.{ℤ, ◌==◌, ◌&&◌, ◌||◌, if◌then◌else◌, flat_map, fold, is_some, map}
 use Rattle.spec_desktop.specs.declared.cause.Cause.{Cause}
 use Rattle.wl_surface.specs.Surfaces.{Surfaces, history_in}
@@ -12,11 +13,12 @@ use Rattle.spec_desktop.specs.Windows.{Place, Root, StackedPopup, Window, has_pa
 use Rattle.spec_desktop.specs.Desktop.{Desktop, Resident, client_at, owned_in, owned_of}
 use Rattle.spec_desktop.specs.Stacked.{all_windows}
 use Rattle.law_desktop.specs.Focus.{EndedAreBare}
-use Rattle.law_desktop.proofs.Lists.Keys.{none-some, some-same}
 use Rattle.law_desktop.proofs.Marks.ShownWindows.{IsShown, all-shown}
-use Rattle.law_desktop.proofs.Marks.Stacks.{Each, and-both, differ, each-map, equal-numbers, same-number}
-use Rattle.law_desktop.proofs.Soundness.Trees.{each-append, each-flat}
+use Rattle.law_desktop.proofs.Marks.Stacks.{equal-numbers, same-number}
+use Rattle.law_desktop.proofs.Soundness.Trees.{each-flat}
 use Rattle.law_desktop.proofs.TreeSteps.Owners.{tree-owned}
+use Rattle.law_desktop.proofs.Truth.{differ}
+use Rattle.law_desktop.proofs.Lists.Each.{Each, each-append, each-map}
 use Rattle.law_desktop.specs.Pointed.Lives.{FocusLives, HitLives}
 use Rattle.law_desktop.specs.Pointed.Rounds.{Lives}
 
@@ -93,7 +95,7 @@ module _ (owned : ℕ → Owned) where
   first-in : (s : Standing) (ss : List Standing) (w : Window) → IsWith s w → StandsIn (s ∷ ss) w
   first-in s ss w is =
       ap (λ (b : Bool). b || list_any (is_of w.owner.client w.owner.toplevel) ss)
-      (and-both (s.client == w.owner.client) (s.surface == w.owner.toplevel) (equal-numbers s.client w.owner.client (sym is.0)) (equal-numbers s.surface w.owner.toplevel (sym is.1)))
+      (and_from (s.client == w.owner.client) (s.surface == w.owner.toplevel) (equal-numbers s.client w.owner.client (sym is.0)) (equal-numbers s.surface w.owner.toplevel (sym is.1)))
 
   or-later : (a b : Bool) → b ≡ true → (a || b) ≡ true
   or-later true b e = refl
@@ -116,7 +118,7 @@ hit-each P x y [] found each is w e = is w e
 hit-each P x y (v ∷ vs) found each is w e = hit-each P x y vs (hit_after x y found v) each.1 (λ u. at (is_hit x y v) u) w e
   where
     at : (b : Bool) (u : Window) → (if b then Some v else found) ≡ Some u → P u
-    at true u e = subst P (some-same v u e) each.0
+    at true u e = subst P (same_Some v u e) each.0
     at false u e = is u e
 
 by-hit : (P : Window → Type 0) (at : Option Place) (ws : List Window) → Each P ws → (w : Window) → hit_now at ws ≡ Some w → P w
@@ -129,7 +131,7 @@ named w = record { client = w.owner.client; surface = w.surface }
 -- each is among them
 itself-stacked : (w : Window) (ws : List Window) → is_stacked (named w) (w ∷ ws) ≡ true
 itself-stacked w ws =
-    ap (λ (b : Bool). b || is_stacked (named w) ws) (and-both (w.owner.client == w.owner.client) (w.surface == w.surface) (same-number w.owner.client) (same-number w.surface))
+    ap (λ (b : Bool). b || is_stacked (named w) ws) (and_from (w.owner.client == w.owner.client) (w.surface == w.surface) (same-number w.owner.client) (same-number w.surface))
 
 more-stacked : (t : Target) (v : Window) (ws : List Window) → is_stacked t ws ≡ true → is_stacked t (v ∷ ws) ≡ true
 more-stacked t v ws e = at ((v.owner.client == t.client) && (v.surface == t.surface)) e
@@ -169,10 +171,10 @@ settled-stacked p ws t e = at p.buttons e
     hits : (o : Option Window) → hit_now p.place ws ≡ o → target_of o ≡ Some t → is_stacked t ws ≡ true
     hits None is e = absurd (none-some t e)
     hits (Some w) is e =
-        subst (λ (u : Target). is_stacked u ws ≡ true) (some-same (named w) t e) (by-hit (λ v. is_stacked (named v) ws ≡ true) p.place ws (each-stacked ws) w is)
+        subst (λ (u : Target). is_stacked u ws ≡ true) (same_Some (named w) t e) (by-hit (λ v. is_stacked (named v) ws ≡ true) p.place ws (each-stacked ws) w is)
 
     kept : (u : Target) (b : Bool) → is_stacked u ws ≡ b → (if b then Some u else None) ≡ Some t → is_stacked t ws ≡ true
-    kept u true is e = subst (λ (v : Target). is_stacked v ws ≡ true) (some-same u t e) is
+    kept u true is e = subst (λ (v : Target). is_stacked v ws ≡ true) (same_Some u t e) is
     kept u false is e = absurd (none-some t e)
 
     keeps : (o : Option Target) → kept_focus o ws ≡ Some t → is_stacked t ws ≡ true

@@ -1,6 +1,7 @@
 -- What is marked where the windows stay, and through the desktops of a step where the pointer is put aside.
 use Rattle.std.proofs.Common.{◌≡◌, ℕ, zero, suc, List, [], ◌∷◌, ◌++◌, map, filter, Bool, true, false, Option, None, refl, ap, ap₂, sym, ◌∙◌}
 use Rattle.std.proofs.Math.Path.{fun_ext}
+use Rattle.std.proofs.lemmas.Bool.{and_right}
 use Rattle.std.specs.List.{list_any}
 use Rattle.std.specs.Option.{option_map}
 use Rattle.std.specs.Prelude.{ℤ, ◌&&◌, ◌||◌, int_le, not, pos, unsigned_abs}
@@ -12,27 +13,25 @@ use Rattle.spec_desktop.specs.Windows.{Window, contains, windows}
 use Rattle.wl_surface.specs.Surfaces.{history_in}
 use Rattle.spec_desktop.specs.Changing.{drawing}
 use Rattle.spec_desktop.specs.Desktop.{Desktop, unpointed}
-use Rattle.spec_desktop.specs.Marks.{Applied, AreDistinct, at_least, at_most, has_changed_tree, in_output, is_allowed_at, is_of_tree, same_records}
+use Rattle.spec_desktop.specs.Marks.{Applied, AreDistinct, at_least, at_most, has_changed_tree, in_output, is_allowed_at, is_of_tree}
 use Rattle.spec_desktop.specs.Moments.{applied_between, history_of, is_applied_by, marks_at_least_of, marks_at_least_through, marks_at_most_of, marks_at_most_through}
 use Rattle.spec_desktop.specs.Settling.{Midstep, ended_by, unstruck}
 use Rattle.spec_desktop.specs.Stacked.{all_windows}
 use Rattle.law_desktop.proofs.Runs.Settled.{ShowsSame, has-settled, same-windows}
 use Rattle.law_desktop.specs.TreeMarksLaws.{AreUndamaged}
 use Rattle.law_desktop.proofs.TreeMarks.Damage.{marks-damage-alone}
-use Rattle.law_desktop.proofs.TreeMarks.Lists.{any-none, each-of}
-use Rattle.law_desktop.proofs.TreeMarks.Records.{record-self}
+use Rattle.law_desktop.proofs.Lists.Tests.{any-none}
+use Rattle.law_desktop.proofs.TreeMarks.Records.{records-self}
 use Rattle.law_desktop.proofs.TreeSteps.Damage.{applies-nothing}
 use Rattle.law_desktop.proofs.PointerAside.Rounds.{told-shows}
+use Rattle.law_desktop.proofs.Lists.Each.{each-of}
+use Rattle.law_desktop.proofs.Truth.{or-assoc, or-false}
 use Rattle.law_desktop.specs.Pointed.Entering.{new_entered}
 use Rattle.law_desktop.specs.Pointed.Marking.{LastMarksNothing, MarksApart, MarksInParts, RoundsMarkEnds, RoundsMarkInTurn, SettlingMarksNothing, last_of, MarksOwnThenRounds, NewPointerMarks}
 use Rattle.law_desktop.specs.Pointed.Pointed.{pointed}
 use Rattle.law_desktop.specs.Pointed.Rounds.{AreRounds}
 
 -- ---- where the windows stay
-
-none-of-both : (a b : Bool) → b ≡ false → (a && b) ≡ false
-none-of-both true b e = e
-none-of-both false b e = refl
 
 none-applied : (applied : Applied) → ((c surface : ℕ) (x y : ℤ) → applied c surface x y ≡ false) → (ws : List Window) → AreUndamaged applied ws
 none-applied applied none ws x y =
@@ -41,28 +40,24 @@ none-applied applied none ws x y =
 least-same : (width height : ℕ) (applied : Applied) (ws : List Window) (x y : ℤ) → AreDistinct ws → ((c surface : ℕ) (x y : ℤ) → applied c surface x y ≡ false)
     → at_least width height applied ws ws x y ≡ false
 least-same width height applied ws x y apart none =
-    marks-damage-alone [] ws [] [] applied apart (none-applied applied none ws) refl width height x y ∙ none-of-both (in_output width height x y) false refl
-
-records-self : (ws : List Window) → same_records ws ws ≡ true
-records-self [] = refl
-records-self (w ∷ ws) = ap (λ (b : Bool). b && same_records ws ws) (record-self w) ∙ records-self ws
+    marks-damage-alone [] ws [] [] applied apart (none-applied applied none ws) refl width height x y ∙ and_right (in_output width height x y) false refl
 
 none-allowed : (old ws : List Window) (x y : ℤ) → list_any (is_allowed_at old old None x y) ws ≡ false
 none-allowed old ws x y =
     any-none (is_allowed_at old old None x y) ws
     (each-of (λ w. is_allowed_at old old None x y w ≡ false)
-    (λ w. none-of-both (contains w x y) (has_changed_tree old old w || false) (ap (λ (b : Bool). not b || false) (records-self (filter (is_of_tree w) old)))) ws)
+    (λ w. and_right (contains w x y) (has_changed_tree old old w || false) (ap (λ (b : Bool). not b || false) (records-self (filter (is_of_tree w) old)))) ws)
 
 most-same : (width height : ℕ) (applied : Applied) (ws : List Window) (x y : ℤ) → AreDistinct ws → ((c surface : ℕ) (x y : ℤ) → applied c surface x y ≡ false)
     → at_most width height applied None ws ws x y ≡ false
 most-same width height applied ws x y apart none =
     ap₂ (λ (a b : Bool). a || (in_output width height x y && (b || b))) (least-same width height applied ws x y apart none) (none-allowed ws ws x y)
-    ∙ none-of-both (in_output width height x y) false refl
+    ∙ and_right (in_output width height x y) false refl
 
 -- each client owns what it did, so nothing is applied
 same-applied : (d e : Desktop) → ShowsSame d e → (c surface : ℕ) (x y : ℤ) → applied_between d e c surface x y ≡ false
 same-applied d e same c surface x y =
-    none-of-both (int_le (pos 0) x && int_le (pos 0) y) (is_applied_by (history_of d c surface) (history_of e c surface) (unsigned_abs x) (unsigned_abs y))
+    and_right (int_le (pos 0) x && int_le (pos 0) y) (is_applied_by (history_of d c surface) (history_of e c surface) (unsigned_abs x) (unsigned_abs y))
     (applies-nothing (history_of d c surface) (history_of e c surface) (ap (λ o. option_map (λ (h : History). h.cut) (history_in surface o.surfaces)) (same.owned c)) (unsigned_abs x) (unsigned_abs y))
 
 least-shown : (d e : Desktop) → ShowsSame d e → AreDistinct (all_windows d) → (x y : ℤ) → marks_at_least_of all_windows d e x y ≡ false
@@ -82,21 +77,13 @@ settling-marks-nothing old new x y apart h =
 
 -- ---- through desktops
 
-or-both : (a b c : Bool) → (a || (b || c)) ≡ ((a || b) || c)
-or-both true b c = refl
-or-both false b c = refl
-
-none-more : (a : Bool) → (a || false) ≡ a
-none-more true = refl
-none-more false = refl
-
 least-parts : (d : Desktop) (before later : List Desktop) (x y : ℤ)
     → marks_at_least_through all_windows d (before ++ later) x y
     ≡ (marks_at_least_through all_windows d before x y || marks_at_least_through all_windows (last_of d before) later x y)
 least-parts d [] later x y = refl
 least-parts d (e ∷ es) later x y =
     ap (λ (b : Bool). marks_at_least_of all_windows d e x y || b) (least-parts e es later x y)
-    ∙ or-both (marks_at_least_of all_windows d e x y) (marks_at_least_through all_windows e es x y) (marks_at_least_through all_windows (last_of e es) later x y)
+    ∙ or-assoc (marks_at_least_of all_windows d e x y) (marks_at_least_through all_windows e es x y) (marks_at_least_through all_windows (last_of e es) later x y)
 
 most-parts : (d : Desktop) (before later : List Desktop) (x y : ℤ)
     → marks_at_most_through all_windows None d (before ++ later) x y
@@ -104,7 +91,7 @@ most-parts : (d : Desktop) (before later : List Desktop) (x y : ℤ)
 most-parts d [] later x y = refl
 most-parts d (e ∷ es) later x y =
     ap (λ (b : Bool). marks_at_most_of all_windows d e None x y || b) (most-parts e es later x y)
-    ∙ or-both (marks_at_most_of all_windows d e None x y) (marks_at_most_through all_windows None e es x y) (marks_at_most_through all_windows None (last_of e es) later x y)
+    ∙ or-assoc (marks_at_most_of all_windows d e None x y) (marks_at_most_through all_windows None e es x y) (marks_at_most_through all_windows None (last_of e es) later x y)
 
 pub marks-in-parts : MarksInParts
 marks-in-parts d before later x y = (least-parts d before later x y, most-parts d before later x y)
@@ -113,9 +100,9 @@ pub rounds-mark-ends : RoundsMarkEnds
 rounds-mark-ends old settled s x y apart h =
     let none = settling-marks-nothing old settled x y apart h in (
       ap (λ (b : Bool). b || (marks_at_least_of all_windows settled.desktop (ended_by s settled.desktop) x y || false)) none.0
-          ∙ none-more (marks_at_least_of all_windows settled.desktop (ended_by s settled.desktop) x y),
+          ∙ or-false (marks_at_least_of all_windows settled.desktop (ended_by s settled.desktop) x y),
       ap (λ (b : Bool). b || (marks_at_most_of all_windows settled.desktop (ended_by s settled.desktop) None x y || false)) none.1
-          ∙ none-more (marks_at_most_of all_windows settled.desktop (ended_by s settled.desktop) None x y),
+          ∙ or-false (marks_at_most_of all_windows settled.desktop (ended_by s settled.desktop) None x y),
     )
 
 last-joined : (d : Desktop) (xs ys : List Desktop) → last_of d (xs ++ ys) ≡ last_of (last_of d xs) ys
@@ -162,9 +149,9 @@ last-marks-nothing n old mid last path x y apart rounds settles =
     let parts = rounds-then n old mid path (last.desktop ∷ []) x y rounds in
     let none = settling-marks-nothing mid last x y apart settles in (
       parts.0 ∙ ap (λ (b : Bool). marks_at_least_through all_windows old.desktop path x y || (b || false)) none.0
-          ∙ none-more (marks_at_least_through all_windows old.desktop path x y),
+          ∙ or-false (marks_at_least_through all_windows old.desktop path x y),
       parts.1 ∙ ap (λ (b : Bool). marks_at_most_through all_windows None old.desktop path x y || (b || false)) none.1
-          ∙ none-more (marks_at_most_through all_windows None old.desktop path x y),
+          ∙ or-false (marks_at_most_through all_windows None old.desktop path x y),
     )
 
 -- ---- a step's own change, and the settling after it
@@ -218,7 +205,7 @@ pub same-most : (d : Desktop) → AreDistinct (all_windows d) → (x y : ℤ) �
 same-most d apart x y = most-shown d d (itself d) apart x y
 
 twice : (a c none : Bool) → none ≡ false → (a || c) ≡ ((a || (none || false)) || c)
-twice a c none e = ap (λ (b : Bool). b || c) (sym (none-more a)) ∙ ap (λ (b : Bool). (a || (b || false)) || c) (sym e)
+twice a c none e = ap (λ (b : Bool). b || c) (sym (or-false a)) ∙ ap (λ (b : Bool). (a || (b || false)) || c) (sym e)
 
 module _ (p : Desktop → Pointer) (e : Desktop) (later : List Desktop) (x y : ℤ) (apart : AreDistinct (all_windows e)) where
   abbrev put : Desktop → Desktop
@@ -232,7 +219,7 @@ module _ (p : Desktop → Pointer) (e : Desktop) (later : List Desktop) (x y : �
       (least-shown e e (itself e) apart x y)
   least-apart q d (a ∷ before) =
       ap (λ (b : Bool). marks_at_least_of all_windows d a x y || b) (least-apart (p a) a before)
-      ∙ or-both (marks_at_least_of all_windows d a x y) (marks_at_least_through all_windows a (before ++ e ∷ e ∷ []) x y) (marks_at_least_through all_windows (put e) later x y)
+      ∙ or-assoc (marks_at_least_of all_windows d a x y) (marks_at_least_through all_windows a (before ++ e ∷ e ∷ []) x y) (marks_at_least_through all_windows (put e) later x y)
 
   most-apart : (raised : Option (ℕ × ℕ)) (q : Pointer) (d : Desktop) (before : List Desktop)
       → marks_at_most_through all_windows raised (pointed q d) (map put before ++ put e ∷ later) x y
@@ -242,7 +229,7 @@ module _ (p : Desktop → Pointer) (e : Desktop) (later : List Desktop) (x y : �
       (most-shown e e (itself e) apart x y)
   most-apart raised q d (a ∷ before) =
       ap (λ (b : Bool). marks_at_most_of all_windows d a raised x y || b) (most-apart None (p a) a before)
-      ∙ or-both (marks_at_most_of all_windows d a raised x y) (marks_at_most_through all_windows None a (before ++ e ∷ e ∷ []) x y) (marks_at_most_through all_windows None (put e) later x y)
+      ∙ or-assoc (marks_at_most_of all_windows d a raised x y) (marks_at_most_through all_windows None a (before ++ e ∷ e ∷ []) x y) (marks_at_most_through all_windows None (put e) later x y)
 
 pub marks-apart : MarksApart
 marks-apart p raised d e before later x y apart =

@@ -1,5 +1,6 @@
 -- A message with the pointer put aside, and with the pointer put back.
 use Rattle.std.proofs.Common.{◌≡◌, ℕ, List, [], ◌∷◌, ◌++◌, drop, take, map, Bool, true, false, Option, Some, None, Result, refl, ap, ap₂, subst, sym, ◌∙◌, inl, inr}
+use Rattle.std.proofs.lemmas.Bool.{true≢false}
 use Rattle.std.specs.Prelude.{◌-◌, Ok, Err}
 use Rattle.wl_wire.specs.Wire.{split_of}
 use Rattle.wl_wire.specs.declared.header.Split.{Split}
@@ -28,7 +29,6 @@ use Rattle.spec_desktop.specs.Settling.{QueuesTo, Strike, after_status, becomes,
 use Rattle.spec_desktop.specs.Stacked.{all_windows}
 use Rattle.spec_desktop.specs.Step.{making, with_peer, xdg_configured}
 use Rattle.spec_desktop.specs.Through.{ends_through, settling_through}
-use Rattle.law_desktop.proofs.Lists.Keys.{differ}
 use Rattle.law_desktop.proofs.Runs.Ends.{queues-status}
 use Rattle.law_desktop.proofs.Runs.Places.{number-same, status-become}
 use Rattle.law_desktop.proofs.Runs.Serves.{done-clients_stay}
@@ -180,7 +180,7 @@ plain-for (Reposition xdg token p) c d wants = refl
 plain-for (Grab xdg serial) c d wants = refl
 plain-for (EndPopup id xdg) c d wants = refl
 plain-for (EndToplevel id xdg surface) c d wants = refl
-plain-for (Move surface serial) c d wants = absurd (differ (sym wants))
+plain-for (Move surface serial) c d wants = absurd (true≢false (sym wants))
 
 -- ---- what becomes of a client
 

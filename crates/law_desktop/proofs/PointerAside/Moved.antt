@@ -57,7 +57,7 @@ stands-same d e same stands = subst MovedStands (sym same) stands
 
 -- ---- what the pointer does
 
-any-raised : (p : Standing → Bool) (c surface : ℕ) (ss : List Standing) → list_any p (raised c surface ss) ≡ list_any p ss
+pub any-raised : (p : Standing → Bool) (c surface : ℕ) (ss : List Standing) → list_any p (raised c surface ss) ≡ list_any p ss
 any-raised p c surface [] = refl
 any-raised p c surface (s ∷ ss) = at (is_of c surface s) (any-raised p c surface ss)
   where

@@ -1,6 +1,7 @@
 -- Whether clients live and what is noted of each, as its wl_pointers, where they are told something and where clients end: both stay as they
 -- are where what is noted heeds nothing that a client is told.
 use Rattle.std.proofs.Common.{◌≡◌, ◌≢◌, ℕ, zero, suc, List, [], ◌∷◌, Bool, true, false, Option, Some, None, refl, ap, ap₂, subst, sym, ◌∙◌, inl, inr}
+use Rattle.std.proofs.lemmas.Option.{none-some, same_Some}
 use Rattle.std.specs.Prelude.{◌⊎◌, ◌&&◌, ◌||◌, ◌++◌, if◌then◌else◌, is_some}
 use Rattle.spec_desktop.specs.declared.cause.Cause.{Cause}
 use Rattle.spec_desktop.specs.Peer.{Peer, ended}
@@ -21,12 +22,11 @@ use Rattle.spec_desktop.specs.Settling.{ended_at, ended_by, is_struck, leave_dra
 use Rattle.spec_desktop.specs.Stacked.{all_windows}
 use Rattle.spec_desktop.specs.Step.{with_peer}
 use Rattle.spec_desktop.specs.Through.{EndsFirstThrough, SettlesAllThrough, ending_through, settling_through}
-use Rattle.law_desktop.proofs.Lists.Keys.{none-some, some-same}
-use Rattle.law_desktop.proofs.Marks.Stacks.{Each}
 use Rattle.law_desktop.proofs.Runs.Ends.{drawn-status, queues-status}
 use Rattle.law_desktop.proofs.Runs.Fates.{same-or}
 use Rattle.law_desktop.proofs.Runs.Moves.{callbacks-status}
 use Rattle.law_desktop.proofs.Runs.Places.{number-other, number-same}
+use Rattle.law_desktop.proofs.Lists.Each.{Each}
 
 -- why a client ended, if it did, and what is noted of it
 pub record Noted (X : Type 0) : Type 0 where
@@ -44,7 +44,7 @@ pub noted-same : {X : Type 0} (s t : Option Cause) (x y : X) → s ≡ t → x �
 noted-same s t x y e f = ap₂ noted e f
 
 pub same-noted : {X : Type 0} (s t : Option Cause) (x y : X) → noted s x ≡ noted t y → x ≡ y
-same-noted {X} s t x y e = ap (λ (n : Noted X). n.noted) (some-same (record { status = s; noted = x }) (record { status = t; noted = y }) e)
+same-noted {X} s t x y e = ap (λ (n : Noted X). n.noted) (same_Some (record { status = s; noted = x }) (record { status = t; noted = y }) e)
 
 -- What is noted of a client heeds nothing that it is told, nor that its popups lose their grabs.
 pub record HeedsNothing {X : Type 0} (of : Resident → X) : Type 0 where

@@ -1,5 +1,6 @@
 -- Which wl_pointers a client that lives has: only wl_seat.get_pointer changes that.
 use Rattle.std.proofs.Common.{◌≡◌, ℕ, List, Bool, true, false, Option, Some, None, refl, ap, sym, ◌∙◌, inl, inr}
+use Rattle.std.proofs.lemmas.Option.{none-some, same_Some}
 use Rattle.wl_proto.specs.declared.interface.Interface.TheVariants.{WlPointer}
 use Rattle.wl_shell.specs.Positioner.{Positioner}
 use Rattle.wl_shell.specs.Shell.{Effect, Stays, Unconfigured, Configures, Maps, Unmaps, XdgSurface, xdg_at, xdg_of}
@@ -16,7 +17,6 @@ use Rattle.spec_desktop.specs.LeftOut.{LeftOut}
 use Rattle.spec_desktop.specs.Pointing.{has_pointers}
 use Rattle.spec_desktop.specs.Settling.{noted as serials_noted}
 use Rattle.spec_desktop.specs.Step.{changed_by, making, toplevel_given, xdg_changed}
-use Rattle.law_desktop.proofs.Lists.Keys.{none-some, some-same}
 use Rattle.law_desktop.specs.Pointed.Pointed.{asked}
 use Rattle.law_desktop.specs.Pointed.Seats.{HasPointersAfter, PointersStay}
 use Rattle.law_desktop.proofs.PointerAside.Happened.{Changes, IsNotedAfter, happened}
@@ -147,7 +147,7 @@ module _ (left : LeftOut) (h : Happening) (d : Desktop) (a : ℕ) (q : Resident)
       other : (o : Option ℕ) → new_id demand ≡ o → HasPointersAfter left h d a q
       other None none =
           had r is lived (have ∙ ap (λ (o : Option ℕ). with_new o r.pointers) none)
-          (λ id version same gets. none-some id (sym none ∙ ap new_id (some-same demand (GetPointer id version) (sym asks ∙ gets))))
+          (λ id version same gets. none-some id (sym none ∙ ap new_id (same_Some demand (GetPointer id version) (sym asks ∙ gets))))
       other (Some id) some = absurd (none-some id some)
 
   has-pointers : IsNotedAfter pointers_of pointers_after left h d a q.pointers → HasPointersAfter left h d a q

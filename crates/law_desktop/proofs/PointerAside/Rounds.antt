@@ -1,26 +1,26 @@
 -- The ends of a step as a loop of rounds.
-use Rattle.std.proofs.Common.{◌≡◌, ℕ, zero, suc, ◌+◌, ◌≤◌, ◌<◌, List, [], ◌∷◌, ◌++◌, Bool, true, false, Option, Some, None, refl, ap, ap₂, subst, sym, ◌∙◌, append_assoc, arith, inr}
-use Rattle.std.proofs.lemmas.Bool.{eqb-true}
+use Rattle.std.proofs.Common.{◌≡◌, ℕ, zero, suc, ◌+◌, ◌≤◌, ◌<◌, List, [], ◌∷◌, ◌++◌, Bool, true, false, Option, Some, None, refl, ap, subst, sym, ◌∙◌, append_assoc, arith, inr}
+use Rattle.std.proofs.lemmas.Bool.{and_from}
 use Rattle.std.specs.Prelude.{◌-◌, ◌==◌, ◌||◌, is_some, if◌then◌else◌}
 use Rattle.spec_desktop.specs.Told.{Said}
 use Rattle.spec_desktop.specs.declared.cause.Cause.{Cause}
 use Rattle.spec_desktop.specs.declared.cause.Cause.TheVariants.{Slow}
 use Rattle.spec_desktop.specs.Peer.{Peer, has_room, queued}
-use Rattle.spec_desktop.specs.Pointer.{Pointer, Target, is_same, is_stacked, kept_focus, settled, settled_focus}
-use Rattle.spec_desktop.specs.PointerActions.{Settle, Went, enter_of, leave_of, motion_of, Leave, Enter}
+use Rattle.spec_desktop.specs.Pointer.{Pointer, Target, is_same, settled}
+use Rattle.spec_desktop.specs.PointerActions.{Settle, enter_of, leave_of, Leave, Enter}
 use Rattle.spec_desktop.specs.Windows.{Window}
 use Rattle.spec_desktop.specs.Desktop.{Desktop, Resident, client_at, with_client}
-use Rattle.spec_desktop.specs.Pointing.{motion_told, entered_surface, left_surface}
+use Rattle.spec_desktop.specs.Pointing.{entered_surface, left_surface}
 use Rattle.spec_desktop.specs.Replies.{focus_window}
-use Rattle.spec_desktop.specs.Settling.{AppliesAll, Midstep, PointerActs, Settles, Strike, TellsAt, TellsUnless, ended_by, is_struck, Applies, unstruck}
+use Rattle.spec_desktop.specs.Settling.{AppliesAll, Midstep, Settles, Strike, TellsAt, TellsUnless, ended_by, is_struck, Applies, unstruck}
 use Rattle.spec_desktop.specs.Settling.{QueuesFirst, QueuesTo, Tells, leave_drawn, struck_by, told_drawn, with_focus}
 use Rattle.spec_desktop.specs.Stacked.{all_windows}
 use Rattle.spec_desktop.specs.Through.{EndsFirstThrough, SettlesAllThrough, ending_through}
 use Rattle.law_desktop.specs.Focus.{IsSettled}
-use Rattle.law_desktop.proofs.Marks.Stacks.{and-both, and-left, and-right, differ, same-number}
+use Rattle.law_desktop.proofs.Marks.Stacks.{same-number}
 use Rattle.law_desktop.proofs.Runs.Ends.{acts-lead, ended-after, ended-one}
 use Rattle.law_desktop.proofs.Runs.Fates.{AreStruck, lasting, lasting-within}
-use Rattle.law_desktop.proofs.Runs.Settled.{HasFocus, ShowsSame, has-settled, put-shows, same-windows, shows-itself}
+use Rattle.law_desktop.proofs.Runs.Settled.{ShowsSame, put-shows, settles-settled, shows-itself, went-settled}
 use Rattle.law_desktop.specs.Pointed.Rounds.{AreRounds, AreToEnd, ButtonsEnd, IsRound, MotionsEnd, RoundsAreFew, RoundsSettle, SettlesIdly, SettlesAtLast, SettledAtOnce}
 
 -- ---- rounds and what comes then
@@ -52,30 +52,6 @@ rounds-lead (suc k) n old mid before later new rounds h =
     (subst (λ (p : List Desktop). SettlesAllThrough (k + suc n) old p new) (sym (append_assoc rounds.0 rounds.2 later) ∙ ap (λ (p : List Desktop). p ++ later) (sym rounds.5)) all)
 
 -- ---- the focus is settled
-
--- what is settled is so when it is settled again
-settled-again : (p : Pointer) (ws : List Window) → settled (record p { focus = settled p ws }) ws ≡ settled p ws
-settled-again p ws = at p.buttons
-  where
-    kept : (t : Target) (b : Bool) → is_stacked t ws ≡ b → kept_focus (if b then Some t else None) ws ≡ (if b then Some t else None)
-    kept t true e = ap (λ (b : Bool). if b then Some t else None) e
-    kept t false e = refl
-
-    twice : (o : Option Target) → kept_focus (kept_focus o ws) ws ≡ kept_focus o ws
-    twice None = refl
-    twice (Some t) = kept t (is_stacked t ws) refl
-
-    at : (buttons : List ℕ) → settled_focus buttons (record p { focus = settled_focus buttons p ws }) ws ≡ settled_focus buttons p ws
-    at [] = refl
-    at (button ∷ buttons) = twice p.focus
-
-focus-settled : (old new : Midstep) → HasFocus (settled old.desktop.pointer (all_windows old.desktop)) old new → IsSettled new.desktop
-focus-settled old new has =
-    ap (λ (p : Pointer). p.focus) has.pointer
-    ∙ sym (ap₂ (λ (p : Pointer) (ws : List Window). settled p ws) has.pointer (same-windows old.desktop new.desktop has.shows) ∙ settled-again old.desktop.pointer (all_windows old.desktop))
-
-pub settles-settled : (old new : Midstep) → Settles old new → IsSettled new.desktop
-settles-settled old new h = focus-settled old new (has-settled old new h)
 
 pub rounds-settle : RoundsSettle
 rounds-settle n most old mid last path fewer rounds settles none =
@@ -128,7 +104,7 @@ rounds-are-few n old new path short struck rounds =
 
 same-itself : (t : Option Target) → is_same t t ≡ true
 same-itself None = refl
-same-itself (Some t) = and-both (t.client == t.client) (t.surface == t.surface) (same-number t.client) (same-number t.surface)
+same-itself (Some t) = and_from (t.client == t.client) (t.surface == t.surface) (same-number t.client) (same-number t.surface)
 
 idle-acts : (old new : Midstep) → IsSettled old.desktop → Settles old new → new ≡ old
 idle-acts old new is h =
@@ -174,43 +150,6 @@ told-shows change events keeps c old new h = at (client_at c old.desktop) refl h
     at : (o : Option Resident) → client_at c old.desktop ≡ o → TellsAt change events c o old new → (new.desktop.pointer ≡ old.desktop.pointer) × ShowsSame old.desktop new.desktop
     at None there h = stays h
     at (Some r) there h = unless (is_some r.peer.status || is_struck c old.struck) r there h
-
-pub same-target : (s t : Option Target) → is_same s t ≡ true → s ≡ t
-same-target None None e = refl
-same-target None (Some t) e = absurd (differ e)
-same-target (Some s) None e = absurd (differ e)
-same-target (Some s) (Some t) e =
-    ap₂ (λ (c surface : ℕ). Some (record { client = c; surface = surface })) (eqb-true s.client t.client (and-left (s.client == t.client) (s.surface == t.surface) e))
-    (eqb-true s.surface t.surface (and-right (s.client == t.client) (s.surface == t.surface) e))
-
-pub went-settled : (time : ℕ) (old new : Midstep) → PointerActs (Went time) old new → IsSettled new.desktop
-went-settled time old new h = at (is_same p.focus to) refl h
-  where
-    ws : List Window
-    ws = all_windows old.desktop
-
-    p : Pointer
-    p = old.desktop.pointer
-
-    to : Option Target
-    to = settled p ws
-
-    kept : (moved focus : Option Target) → AppliesAll ws (motion_of time moved focus) old new → (new.desktop.pointer ≡ p) × ShowsSame old.desktop new.desktop
-    kept moved None h = told-same h
-      where
-        told-same : new ≡ old → (new.desktop.pointer ≡ p) × ShowsSame old.desktop new.desktop
-        told-same e = (ap (λ (m : Midstep). m.desktop.pointer) e, shows-itself old.desktop new.desktop (ap (λ (m : Midstep). m.desktop) e))
-    kept None (Some t) h =
-        subst (λ (m : Midstep). (m.desktop.pointer ≡ p) × ShowsSame old.desktop m.desktop) (sym h.2)
-        (told-shows (λ r. r) (motion_told time p.place (focus_window (Some t) ws)) (λ r. refl) t.client old h.0 h.1)
-    kept (Some moved) (Some t) h = (ap (λ (m : Midstep). m.desktop.pointer) h, shows-itself old.desktop new.desktop (ap (λ (m : Midstep). m.desktop) h))
-
-    at : (b : Bool) → is_same p.focus to ≡ b → AppliesAll ws (if b then motion_of time p.move p.focus else leave_of p.focus ++ enter_of to) old new → IsSettled new.desktop
-    at true e h =
-        let k = kept p.move p.focus h in
-        ap (λ (q : Pointer). q.focus) k.0 ∙ same-target p.focus to e
-        ∙ sym (ap₂ (λ (q : Pointer) (xs : List Window). settled q xs) k.0 (same-windows old.desktop new.desktop k.1))
-    at false e h = settles-settled old new (subst (λ (b : Bool). AppliesAll ws (if b then [] else leave_of p.focus ++ enter_of to) old new) (sym e) h)
 
 pub motions-end : MotionsEnd
 motions-end time old told path new went h =

@@ -1,5 +1,6 @@
 -- Where nobody points, a client that gets a wl_pointer leaves all windows as they are.
 use Rattle.std.proofs.Common.{◌≡◌, ℕ, List, [], drop, take, Bool, false, Option, Some, None, Result, refl, ap, subst, sym, ◌∙◌, inl, inr}
+use Rattle.std.proofs.lemmas.Option.{none-some, same_Some}
 use Rattle.std.specs.Prelude.{◌-◌, ◌⊎◌, Ok, Err}
 use Rattle.wl_wire.specs.Wire.{split_of}
 use Rattle.wl_wire.specs.declared.header.Split.{Split}
@@ -22,14 +23,14 @@ use Rattle.spec_desktop.specs.Settling.{QueuesTo, after_status, becomes, pointer
 use Rattle.spec_desktop.specs.Stacked.{all_windows}
 use Rattle.spec_desktop.specs.Step.{making, with_peer}
 use Rattle.spec_desktop.specs.Through.{settling_through}
-use Rattle.law_desktop.proofs.Lists.Keys.{none-some, some-same}
 use Rattle.law_desktop.proofs.Runs.Places.{status-become}
 use Rattle.law_desktop.proofs.Runs.Settled.{put-shows, same-windows}
 use Rattle.law_desktop.specs.Pointed.Pointed.{asked_by, asked_first, asked_of}
 use Rattle.law_desktop.specs.Pointed.Seats.{NewPointerShowsNothing}
-use Rattle.law_desktop.proofs.PointerAside.Entering.{lacking, told-alone}
+use Rattle.law_desktop.proofs.PointerAside.Entering.{told-alone}
 use Rattle.law_desktop.proofs.PointerAside.Messages.{after-status}
 use Rattle.law_desktop.proofs.PointerAside.Pointers.{settled-nowhere}
+use Rattle.law_desktop.proofs.Runs.Serves.{lacking}
 
 -- who ends leaves a pointer that is nowhere where it is
 after-nowhere : (s : Option Cause) (c : ℕ) (r : Resident) (q : Peer) (d : Desktop) → d.pointer ≡ first_pointer → (after_status s c (become_by s c r q d)).pointer ≡ first_pointer
@@ -76,7 +77,7 @@ module _ (left : LeftOut) (c id version : ℕ) (d : Desktop) (path : List Deskto
   unfolding demand
   answered (Err refusal) r asked-is owns h = absurd (none-some demand asked-is)
   answered (Ok other) r asked-is owns h =
-      by (with_peer (counted r.peer) r) owns (subst (λ (x : Demand). AnswersThen left (Ok x) c r d (settling_through path e)) (some-same other demand asked-is) h)
+      by (with_peer (counted r.peer) r) owns (subst (λ (x : Demand). AnswersThen left (Ok x) c r d (settling_through path e)) (same_Some other demand asked-is) h)
     where
       by : (now : Resident) → now.owned ≡ there.owned
           → BecomesThen (LacksMemory now.peer) c now d (settling_through path e) ⊎ DoesThen left c demand now d (settling_through path e) → Same

@@ -3,15 +3,17 @@
 use Rattle.std.proofs.Common.{◌≡◌, ℕ, Bool, true, false, cond, Option, Some, None, List, [], ◌∷◌, ◌++◌, refl, sym, subst, ◌∙◌, inl, inr}
 use Rattle.std.specs.Prelude.{◌&&◌, ◌||◌, ◌⊎◌, fold}
 use Rattle.std.specs.List.{list_any}
-use Rattle.std.proofs.lemmas.Bool.{eqb-true}
+use Rattle.std.proofs.lemmas.Bool.{and_from, eqb-true, false_from_ne_true, or_from, or_left, or_right}
 use Rattle.wl_surface.specs.Surfaces.{Surfaces}
 use Rattle.spec_desktop.specs.Windows.{Root, StackedPopup, has_parent, root_on, roots_of, stacked, stacked_on}
 use Rattle.law_desktop.specs.Soundness.{AreOnce, has_surface}
-use Rattle.law_desktop.proofs.Marks.Stacks.{Each, and-both, and-left, and-right, differ, each-both, equal-numbers, or-left, or-right, unless}
-use Rattle.law_desktop.proofs.Soundness.Trees.{each-append, none-append, or-here, or-none, or-there}
+use Rattle.law_desktop.proofs.Marks.Stacks.{equal-numbers}
+use Rattle.law_desktop.proofs.Soundness.Trees.{none-append}
 use Rattle.law_desktop.proofs.Soundness.Windows.{In, roots_at, same_popup}
 use Rattle.law_desktop.specs.ToplevelRoots.{has_parent_in, is_on_one}
 use Rattle.law_desktop.proofs.RootsOf.Staying.{in-first, in_parent}
+use Rattle.law_desktop.proofs.Truth.{and-left, and-right, differ, or-left, or-right}
+use Rattle.law_desktop.proofs.Lists.Each.{Each, each-both}
 
 -- ---- what a popup adds
 
@@ -25,8 +27,8 @@ adds-more : (p : StackedPopup) (r : Root) (rs on : List Root) → Adds p rs on �
 adds-more p r rs [] e = tt
 adds-more p r rs (q ∷ []) e = (
   e.0,
-  and-both p.is_mapped (has_parent_in (r ∷ rs) p) (and-left p.is_mapped (has_parent_in rs p) e.1)
-      (or-there (has_parent r.surface p) (has_parent_in rs p) (and-right p.is_mapped (has_parent_in rs p) e.1)),
+  and_from p.is_mapped (has_parent_in (r ∷ rs) p) (and-left p.is_mapped (has_parent_in rs p) e.1)
+      (or_right (has_parent r.surface p) (has_parent_in rs p) (and-right p.is_mapped (has_parent_in rs p) e.1)),
 )
 adds-more p r rs (q ∷ s ∷ ss) e = e
 
@@ -37,8 +39,8 @@ adds-on all p (r ∷ rs) = by (adds-on all p rs) (p.is_mapped && has_parent r.su
     by : Adds p rs (stacked_on all p rs) → (b : Bool) → (p.is_mapped && has_parent r.surface p) ≡ b → Adds p (r ∷ rs) (cond b (root_on all r p ∷ []) (stacked_on all p rs))
     by later true e = (
       refl,
-      and-both p.is_mapped (has_parent_in (r ∷ rs) p) (and-left p.is_mapped (has_parent r.surface p) e)
-          (or-here (has_parent r.surface p) (has_parent_in rs p) (and-right p.is_mapped (has_parent r.surface p) e)),
+      and_from p.is_mapped (has_parent_in (r ∷ rs) p) (and-left p.is_mapped (has_parent r.surface p) e)
+          (or_left (has_parent r.surface p) (has_parent_in rs p) (and-right p.is_mapped (has_parent r.surface p) e)),
     )
     by later false e = adds-more p r rs (stacked_on all p rs) later
 
@@ -52,23 +54,7 @@ in-adds p rs (r ∷ []) x e f = (sym e.0 ∙ eqb-true r.surface x (first (roots_
 in-adds p rs (r ∷ q ∷ qs) x e f = absurd e
 
 none-added : (p : StackedPopup) (rs on : List Root) (x : ℕ) → Adds p rs on → (p.surface ≡ x → ⊥) → In x on ≡ false
-none-added p rs on x e f = unless (In x on) (λ g. f (in-adds p rs on x e g).0)
-
--- ---- each root
-
-on-each : (P : Root → Type 0) (all : Surfaces) (p : StackedPopup) → ((r : Root) → P r → P (root_on all r p)) → (rs : List Root) → Each P rs → Each P (stacked_on all p rs)
-on-each P all p f [] e = tt
-on-each P all p f (r ∷ rs) e = by (on-each P all p f rs e.1) (p.is_mapped && has_parent r.surface p)
-  where
-    by : Each P (stacked_on all p rs) → (b : Bool) → Each P (cond b (root_on all r p ∷ []) (stacked_on all p rs))
-    by rest true = (f r e.0, tt)
-    by rest false = rest
-
--- what the toplevel has, and each popup where that has it that it is stacked on, all roots have
-pub stacked-each : (P : Root → Type 0) (all : Surfaces) (rs : List Root) (ps : List StackedPopup) → Each P rs → Each (λ p. (r : Root) → P r → P (root_on all r p)) ps
-    → Each P (fold (stacked all) rs ps)
-stacked-each P all rs [] e f = e
-stacked-each P all rs (p ∷ ps) e f = stacked-each P all (stacked all rs p) ps (each-append P rs (stacked_on all p rs) e (on-each P all p f.0 rs e)) f.1
+none-added p rs on x e f = false_from_ne_true (In x on) (λ g. f (in-adds p rs on x e g).0)
 
 -- ---- a surface among the roots
 
@@ -125,9 +111,9 @@ root-or-popup all x rs (p ∷ ps) e = at (root-or-popup all x (stacked all rs p)
           popup = p;
           own = a.0;
           mapped =
-              and-both p.is_mapped (has_parent_in (fold (stacked all) (stacked all rs p) ps) p) (and-left p.is_mapped (has_parent_in rs p) a.1)
+              and_from p.is_mapped (has_parent_in (fold (stacked all) (stacked all rs p) ps) p) (and-left p.is_mapped (has_parent_in rs p) a.1)
               (parent-stacked all p.parent rs (p ∷ ps) (and-right p.is_mapped (has_parent_in rs p) a.1));
-          there = or-here (has_surface x p) (list_any (has_surface x) ps) (equal-numbers p.surface x a.0);
+          there = or_left (has_surface x p) (list_any (has_surface x) ps) (equal-numbers p.surface x a.0);
           known = inl refl;
         })
 
@@ -139,7 +125,7 @@ root-or-popup all x rs (p ∷ ps) e = at (root-or-popup all x (stacked all rs p)
           popup = f.popup;
           own = f.own;
           mapped = f.mapped;
-          there = or-there (has_surface x p) (list_any (has_surface x) ps) f.there;
+          there = or_right (has_surface x p) (list_any (has_surface x) ps) f.there;
           known = inr f.known;
         })
 
@@ -152,7 +138,7 @@ AreAway rs qs = (x : ℕ) → In x rs ≡ true → In x qs ≡ true → ⊥
 -- and so no parent
 pub away-parent : (parent : Option ℕ) (rs qs : List Root) → AreAway rs qs → in_parent parent rs ≡ true → in_parent parent qs ≡ true → ⊥
 away-parent None [] qs away e f = differ e
-away-parent None (r ∷ rs) qs away e f = away-parent None rs qs (λ x a b. away x (or-there (roots_at x r) (In x rs) a) b) e f
+away-parent None (r ∷ rs) qs away e f = away-parent None rs qs (λ x a b. away x (or_right (roots_at x r) (In x rs) a) b) e f
 away-parent (Some x) rs qs away e f = away x e f
 
 module _ (all : Surfaces) where
@@ -193,7 +179,7 @@ module _ (all : Surfaces) where
   pub none-own : (t : Root) (ps : List StackedPopup) → list_any (has_surface t.surface) ps ≡ false → Each (λ p. In p.surface (t ∷ []) ≡ false) ps
   none-own t [] e = tt
   none-own t (p ∷ ps) e = (
-    or-none (roots_at p.surface t) false (unless (roots_at p.surface t) (λ f. differ (sym (or-left (has_surface t.surface p) (list_any (has_surface t.surface) ps) e)
+    or_from (roots_at p.surface t) false (false_from_ne_true (roots_at p.surface t) (λ f. differ (sym (or-left (has_surface t.surface p) (list_any (has_surface t.surface) ps) e)
         ∙ equal-numbers p.surface t.surface (sym (eqb-true t.surface p.surface f))))) refl,
     none-own t ps (or-right (has_surface t.surface p) (list_any (has_surface t.surface) ps) e),
   )

@@ -1,8 +1,8 @@
 -- Where all other toplevels are kept, the windows that are stacked with one are all that change, whether it stands before, afterwards, or
 -- neither; and where all are kept, no window changes.
-use Rattle.std.proofs.Common.{◌≡◌, ℕ, Bool, true, false, Option, Some, None, List, [], ◌∷◌, ◌++◌, refl, ap, ap₂, sym, subst, ◌∙◌, append_assoc, inl, inr}
+use Rattle.std.proofs.Common.{◌≡◌, ℕ, true, false, Option, Some, None, List, [], ◌∷◌, ◌++◌, refl, ap, ap₂, sym, subst, ◌∙◌, append_assoc, inl, inr}
 use Rattle.std.specs.Prelude.{◌⊎◌, find}
-use Rattle.std.specs.List.{All, list_all, list_any}
+use Rattle.std.specs.List.{All, list_any}
 use Rattle.std.proofs.lemmas.List.{append-nil}
 use Rattle.spec_desktop.specs.Stacking.{Standing, is_of, with_mapped, without_surface_of}
 use Rattle.spec_desktop.specs.Windows.{Window, mapping_place}
@@ -13,25 +13,17 @@ use Rattle.spec_desktop.specs.Stacked.{all_windows}
 use Rattle.law_desktop.specs.Laws.{AreApart}
 use Rattle.law_desktop.specs.Soundness.{IsSound}
 use Rattle.law_desktop.proofs.Lists.Standings.{of-it}
-use Rattle.law_desktop.proofs.Marks.Stacks.{Each, and-both, each-false, each-both}
-use Rattle.law_desktop.proofs.Soundness.Trees.{each-append, none-append}
+use Rattle.law_desktop.proofs.Soundness.Trees.{none-append}
 use Rattle.law_desktop.proofs.Soundness.Windows.{sound_is_distinct}
 use Rattle.law_desktop.specs.TreeMarksLaws.{among}
 use Rattle.law_desktop.specs.Changes.{StaysPainted}
 use Rattle.law_desktop.specs.Toplevel.{AreInTurn, ChangesToplevel, SameRoot, has_toplevel, windows_with, windows_with_standing}
 use Rattle.law_desktop.proofs.RootsOf.Kept.{ToplevelIsKept, all-shown, all-undamaged, no-toplevel, own-toplevel, shown, shown_of}
 use Rattle.law_desktop.proofs.RootsOf.Stacks.{IsFound, IsItsOwn, found-among, none-lower, none-or-found, stand, without-it, without-none}
-use Rattle.law_desktop.proofs.RootsOf.Staying.{each-first}
+use Rattle.law_desktop.proofs.Lists.Each.{Each, each-append, each-both, each-first, each-second}
+use Rattle.law_desktop.proofs.Lists.Tests.{all-each, each-false}
 
 -- ---- lists
-
-list-all : {X : Type 0} (p : X → Bool) (xs : List X) → Each (λ x. p x ≡ true) xs → list_all p xs ≡ true
-list-all p [] e = refl
-list-all p (x ∷ xs) e = and-both (p x) (list_all p xs) e.0 (list-all p xs e.1)
-
-each-second : {X : Type 0} (P : X → Type 0) (xs ys : List X) → Each P (xs ++ ys) → Each P ys
-each-second P [] ys e = e
-each-second P (x ∷ xs) ys e = each-second P xs ys e.1
 
 shown-both : (d : Desktop) (ss rs : List Standing) → shown_of d (ss ++ rs) ≡ shown_of d ss ++ shown_of d rs
 shown-both d [] rs = refl
@@ -78,7 +70,7 @@ module _ (c t : ℕ) (d e : Desktop) (had : IsSound d) (has : IsSound e) (others
         was_of = refl;
         is_of = refl;
         together =
-            list-all (has_toplevel c t) (windows_with c t d ++ windows_with c t e)
+            all-each (has_toplevel c t) (windows_with c t d ++ windows_with c t e)
             (each-append (λ w. has_toplevel c t w ≡ true) (windows_with c t d) (windows_with c t e)
             (subst (λ (ws : List Window). Each (λ w. has_toplevel c t w ≡ true) ws) (sym was) (its-toplevel c t d o own))
             (subst (λ (ws : List Window). Each (λ w. has_toplevel c t w ≡ true) ws) (sym is) (its-toplevel c t e p own-now)));

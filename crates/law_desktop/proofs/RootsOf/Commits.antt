@@ -1,7 +1,8 @@
 -- A commit changes the windows stacked with the toplevel of its tree, or none.
 use Rattle.std.proofs.Common.{◌≡◌, ℕ, Bool, true, false, cond, List, Option, Some, None, [], ◌∷◌, map, refl, ap, sym, subst, ◌∙◌}
 use Rattle.std.specs.Prelude.{◌==◌, find}
-use Rattle.std.proofs.lemmas.Bool.{eqb-true}
+use Rattle.std.proofs.lemmas.Bool.{eqb-true, false_from_ne_true}
+use Rattle.std.proofs.lemmas.Option.{same_Some}
 use Rattle.wl_surface.specs.Surfaces.{Surfaces}
 use Rattle.wl_surface.specs.Trees.{committed_in, levels}
 use Rattle.wl_shell.specs.Popups.{Popped, is_toplevel, is_toplevel_kind, popped_kind, popped_of, popped_role, popups_of, with_effect}
@@ -15,7 +16,7 @@ use Rattle.spec_desktop.specs.Desktop.{Desktop, Resident, owned_in}
 use Rattle.spec_desktop.specs.Step.{asked_so_far}
 use Rattle.law_desktop.specs.Soundness.{IsNoChild, has_surface}
 use Rattle.law_desktop.proofs.Lists.Keys.{found-passes}
-use Rattle.law_desktop.proofs.Marks.Stacks.{Each, differ, equal-numbers, unless}
+use Rattle.law_desktop.proofs.Marks.Stacks.{equal-numbers}
 use Rattle.law_desktop.proofs.Soundness.LinkedDepths.{descends-itself}
 use Rattle.law_desktop.specs.TreeStepsLaws.{IsRootOf, KeepsOthers}
 use Rattle.law_desktop.proofs.TreeSteps.Commits.{commit-keeps-others}
@@ -30,6 +31,8 @@ use Rattle.law_desktop.proofs.RootsOf.Popped.{IsPopped, IsThere}
 use Rattle.law_desktop.proofs.RootsOf.Shells.{all-popped-of, found-there, same-list, shell-touches, there-top}
 use Rattle.law_desktop.proofs.RootsOf.Touched.{Touches}
 use Rattle.law_desktop.proofs.RootsOf.Trees.{other-tree}
+use Rattle.law_desktop.proofs.Truth.{differ}
+use Rattle.law_desktop.proofs.Lists.Each.{Each}
 
 -- ---- a toplevel is no popup
 
@@ -44,13 +47,6 @@ no-popped x is = at x.role is
     at None e = refl
     at (Some object) e = kind object object.kind e
 
-pub some-is : {X : Type 0} (x y : X) → Some x ≡ Some y → x ≡ y
-some-is {X = X} x y e = ap (λ (o : Option X). at o) e
-  where
-    at : Option X → X
-    at None = x
-    at (Some z) = z
-
 module _ (c : ℕ) (d : Desktop) (had : HasTrees d) where
   -- an xdg_surface of no popup has none
   pub none-popped : (x : XdgSurface) → IsThere (owned_in d c).shell x → popped_of x ≡ [] → popup_of c x.surface d ≡ None
@@ -58,9 +54,9 @@ module _ (c : ℕ) (d : Desktop) (had : HasTrees d) where
     where
       other : (p : Popped) → IsPopped (owned_in d c).shell p → (p.xdg.surface == x.surface) ≡ false
       other p popped =
-          unless (p.xdg.surface == x.surface)
+          false_from_ne_true (p.xdg.surface == x.surface)
           (λ e. never (sym none
-          ∙ (ap popped_of (some-is x p.xdg (sym there.by_surface ∙ (ap (λ n. xdg_of n (owned_in d c).shell) (sym (eqb-true p.xdg.surface x.surface e)) ∙ popped.there.by_surface))) ∙ popped.its)))
+          ∙ (ap popped_of (same_Some x p.xdg (sym there.by_surface ∙ (ap (λ n. xdg_of n (owned_in d c).shell) (sym (eqb-true p.xdg.surface x.surface e)) ∙ popped.there.by_surface))) ∙ popped.its)))
         where
           never : [] ≡ p ∷ [] → ⊥
           never e = absurd (cc)
@@ -84,15 +80,15 @@ module _ (c : ℕ) (d : Desktop) (had : HasTrees d) where
       → (y.surface == x.surface) ≡ false → cond (y.id == x.id) (change y) y ≡ y
   fixed-at x there change y there-y out =
       ap (λ b. cond b (change y) y)
-      (unless (y.id == x.id)
+      (false_from_ne_true (y.id == x.id)
       (λ e. differ (sym out
       ∙ equal-numbers y.surface x.surface
       (ap (λ (z : XdgSurface). z.surface)
-      (some-is y x (sym there-y.by_id ∙ (ap (λ n. xdg_at n (owned_in d c).shell) (eqb-true y.id x.id e) ∙ there.by_id)))))))
+      (same_Some y x (sym there-y.by_id ∙ (ap (λ n. xdg_at n (owned_in d c).shell) (eqb-true y.id x.id e) ∙ there.by_id)))))))
 
 -- ---- what is left
 
-effect-surfaces : (where_to : Placing) (surface : ℕ) (effect : Effect) (o : Option XdgSurface) (r : Resident) → (effect_placing where_to surface effect o r).owned.surfaces ≡ r.owned.surfaces
+pub effect-surfaces : (where_to : Placing) (surface : ℕ) (effect : Effect) (o : Option XdgSurface) (r : Resident) → (effect_placing where_to surface effect o r).owned.surfaces ≡ r.owned.surfaces
 effect-surfaces where_to surface effect None r = refl
 effect-surfaces where_to surface Stays (Some x) r = refl
 effect-surfaces where_to surface Unconfigured (Some x) r = refl

@@ -13,8 +13,6 @@ use Rattle.spec_desktop.specs.Stacking.{geometry_since, shows_buffer}
 use Rattle.spec_desktop.specs.Windows.{StackedPopup, tree}
 use Rattle.spec_desktop.specs.Desktop.{Desktop, owned_in}
 use Rattle.spec_desktop.specs.Moments.{applied_between, is_applied_by}
-use Rattle.law_desktop.proofs.Marks.Stacks.{differ, each-map}
-use Rattle.law_desktop.proofs.TreeSteps.Damage.{and-none}
 use Rattle.law_desktop.proofs.TreeSteps.Owners.{tree-owned}
 use Rattle.law_desktop.specs.Changes.{HasTrees, StaysPainted}
 use Rattle.law_desktop.specs.ToplevelRoots.{is_on_one}
@@ -22,6 +20,8 @@ use Rattle.law_desktop.specs.StackedWith.{stacked_roots}
 use Rattle.law_desktop.proofs.RootsOf.Fresh.{IsAsked, new-asked, tree-fresh}
 use Rattle.law_desktop.proofs.RootsOf.Kept.{IsUndamaged, RootIsKept, popups_in, same-undamaged, surfaces_in}
 use Rattle.law_desktop.proofs.RootsOf.Painted.{painted}
+use Rattle.law_desktop.proofs.Truth.{and-false, differ}
+use Rattle.law_desktop.proofs.Lists.Each.{each-map}
 
 drop-none : (n : ℕ) → drop {A = Request} n [] ≡ []
 drop-none zero = refl
@@ -52,7 +52,7 @@ module _ (c id : ℕ) (d e : Desktop) (had : HasTrees d) (others : (other : ℕ)
       at (inl same) = same-undamaged d e c surface same x y
       at (inr new) =
           ap (λ (o : Option History). (int_le (pos 0) x && int_le (pos 0) y) && is_applied_by o (history_in surface (surfaces_in e c)) (unsigned_abs x) (unsigned_abs y)) new.0
-          ∙ and-none (int_le (pos 0) x && int_le (pos 0) y)
+          ∙ and-false (int_le (pos 0) x && int_le (pos 0) y)
 
   trees : (x : ℕ) → shows_buffer (history_in x (surfaces_in d c)) ≡ true → RootIsKept c d e x
   trees x shows = record {

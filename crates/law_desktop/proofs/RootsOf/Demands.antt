@@ -12,7 +12,7 @@ use Rattle.wl_shell.specs.Popups.{copying, is_configured, repositioning}
 use Rattle.wl_shell.specs.Shell.{Shell, XdgSurface, acknowledging, configuring, new_toplevel, with_change as with_xdg, without_role, without_xdg, xdg_at}
 use Rattle.spec_desktop.specs.Stacking.{Owned}
 use Rattle.spec_desktop.specs.Ask.{Acknowledge, AskSurface, ConfigureAgain, CreateSurface, DestroyXdgSurface, EndObject, GetToplevel, GetXdgSurface, Ignore, Own}
-use Rattle.spec_desktop.specs.Changing.{drawing, grab_allowed, grabbed, has_focus, popup_given_to, Placing, placement_now, popup_repositioned}
+use Rattle.spec_desktop.specs.Changing.{grab_allowed, grabbed, has_focus, popup_given_to, Placing, placement_now, popup_repositioned}
 use Rattle.spec_desktop.specs.Demand.{AskFrame, Asks, Demand, EndPopup, EndSubsurface, EndSurface, GetPointer, GetPopup, GetSubsurface, Grab, MakeCursor, Move, SetMode, Reposition}
 use Rattle.spec_desktop.specs.Desktop.{Desktop, Resident, client_at, owned_in, owned_of}
 use Rattle.spec_desktop.specs.Step.{asked_so_far, toplevel_given, with_peer, xdg_changed}
@@ -46,6 +46,7 @@ use Rattle.law_desktop.proofs.RootsOf.Popped.{IsPopped, IsThere, KeepsPopups}
 use Rattle.law_desktop.proofs.RootsOf.Requests.{acknowledging-keeps, acknowledging-stacked, changed-stacked, configuring-keeps, configuring-stacked, desynchronised, ended, given, grab-keeps}
 use Rattle.law_desktop.proofs.RootsOf.Requests.{grab-stacked, kept, kept-by, same-keeps, tree-kept, repositioning-keeps, repositioning-stacked}
 use Rattle.law_desktop.proofs.RootsOf.Unroled.{changed-painted, gone-painted, new-painted}
+use Rattle.law_desktop.proofs.Runs.Following.{drawing-owned}
 use Rattle.wl_shell.specs.Positioner.{Positioner}
 
 module _ (c : ℕ) (r : Resident) (p : Peer) (d e : Desktop) (had : HasTrees d) (has : HasTrees e) (here : client_at c d ≡ Some r) where
@@ -108,10 +109,6 @@ modes-change link false c r p d e had has here meant done =
     desynchronised c d e had has done.others done.stack r.owned.surfaces (was c r p d e had has here)
     (same-shell c r p d e had has here (SetMode link false) done done.stack _ done.own refl) link (link_at link r.owned.surfaces) refl (ap (λ (o : Owned). o.surfaces) done.own)
 
-drawn : (b : Bool) (r : Resident) → (drawing b r).owned ≡ r.owned
-drawn true r = refl
-drawn false r = refl
-
 pub requests-change : RequestsChangeNoWindow
 requests-change = record {
   create_surface = λ id version c r p d e had has here meant done.
@@ -127,7 +124,7 @@ requests-change = record {
       given c d e had has done.others done.stack r.owned.surfaces (was c r p d e had has here)
       (same-shell c r p d e had has here (GetSubsurface id version child parent) done done.stack _ done.own refl) p.requests child parent (ap (λ (o : Owned). o.surfaces) done.own);
   get_pointer = λ id version c r p d e had has here meant done.
-      still c r p d e had has here (GetPointer id version) done done.stack r.owned (done.own ∙ drawn (has_focus c d.pointer.focus) _) refl (same-keeps r.owned.surfaces);
+      still c r p d e had has here (GetPointer id version) done done.stack r.owned (done.own ∙ drawing-owned (has_focus c d.pointer.focus) _) refl (same-keeps r.owned.surfaces);
   make_cursor = λ surface c r p d e had has here meant done.
       still c r p d e had has here (MakeCursor surface) done done.stack _ done.own refl (role-keeps-all r.owned.surfaces surface AsCursor).1;
   move = λ surface serial c r p d e had has here meant done.
@@ -162,7 +159,7 @@ repositions-by xdg token q c r p d e had has here done where_to None own =
     still c r p d e had has here (Reposition xdg token q) done done.stack _ own refl (same-keeps r.owned.surfaces)
 repositions-by xdg token q c r p d e had has here done where_to (Some popped) own =
     let change : XdgSurface → XdgSurface = repositioning (is_configured popped) p.serial (where_to (copying q popped.popup)) q in
-    still-by c r p d e had has here (Reposition xdg token q) done done.stack _ (own ∙ drawn (is_configured popped) (xdg_changed popped.xdg.id change (with_peer p r))) refl
+    still-by c r p d e had has here (Reposition xdg token q) done done.stack _ (own ∙ drawing-owned (is_configured popped) (xdg_changed popped.xdg.id change (with_peer p r))) refl
     (λ x. cond (x.id == popped.xdg.id) (change x) x)
     (changed-keeps popped.xdg.id change (repositioning-keeps (is_configured popped) p.serial (where_to (copying q popped.popup)) q))
     (changed-stacked popped.xdg.id change (repositioning-stacked (is_configured popped) p.serial (where_to (copying q popped.popup)) q)) refl

@@ -10,7 +10,6 @@ use Rattle.wl_shell.specs.Shell.{IsPopup, Kind, Popup, RoleObject, Shell, Toplev
 use Rattle.spec_desktop.specs.Popups.{stacked_popup}
 use Rattle.spec_desktop.specs.Stacking.{Standing, is_of}
 use Rattle.spec_desktop.specs.Desktop.{Desktop, owned_in}
-use Rattle.law_desktop.proofs.Marks.Stacks.{Each, each-both}
 use Rattle.law_desktop.specs.TreeStepsLaws.{KeepsAll}
 use Rattle.law_desktop.specs.Changes.{HasTrees, StaysPainted}
 use Rattle.law_desktop.specs.ToplevelRoots.{has_parent_in, is_on_one}
@@ -22,6 +21,8 @@ use Rattle.law_desktop.proofs.RootsOf.Popped.{AreNumberedAlike, IsPopped, IsThro
 use Rattle.law_desktop.proofs.RootsOf.Requests.{same-keeps}
 use Rattle.law_desktop.proofs.RootsOf.Stacked.{found-any}
 use Rattle.law_desktop.proofs.RootsOf.Trees.{any-tree}
+use Rattle.law_desktop.proofs.Lists.Each.{Each, each-both}
+use Rattle.law_desktop.proofs.Truth.{and-false}
 
 -- ---- popups change by themselves
 
@@ -47,13 +48,9 @@ numbered-role x y (Some object) = numbered-kind x y object object.kind
 abbrev AreUnmapped : List Popped → Type 0
 AreUnmapped ps = Each (λ q. is_popup_mapped q ≡ false) ps
 
-and-none : (a : Bool) → (a && false) ≡ false
-and-none true = refl
-and-none false = refl
-
 unmapped-kind : (y : XdgSurface) (object : RoleObject) (change : Popup → Popup) → ((p : Popup) → (change p).is_dismissed ≡ true) → (k : Kind) → AreUnmapped (popped_kind y object (with_popup change k))
 unmapped-kind y object change gone Toplevel = tt
-unmapped-kind y object change gone (IsPopup popup) = (ap (λ b. is_mapped_stage object.stage && not b) (gone popup) ∙ and-none (is_mapped_stage object.stage), tt)
+unmapped-kind y object change gone (IsPopup popup) = (ap (λ b. is_mapped_stage object.stage && not b) (gone popup) ∙ and-false (is_mapped_stage object.stage), tt)
 
 unmapped-role : (y : XdgSurface) (change : Popup → Popup) → ((p : Popup) → (change p).is_dismissed ≡ true) → (o : Option RoleObject)
     → AreUnmapped (popped_role y (option_map (with_popup_role change) o))

@@ -1,5 +1,6 @@
 -- A grab that is accepted is asked for by a popup that isn't mapped.
 use Rattle.std.proofs.Common.{◌≡◌, ℕ, List, Bool, true, false, Option, Some, None, Result, refl, subst, ◌∙◌, sym, ap}
+use Rattle.std.proofs.lemmas.Option.{same_Some}
 use Rattle.std.specs.Prelude.{Ok, Err, ◌==◌, ◌||◌, if◌then◌else◌, is_some, nat_le, ◌&&◌}
 use Rattle.std.specs.List.{list_all}
 use Rattle.wl_proto.specs.declared.argument.NewId.{NewId}
@@ -45,7 +46,6 @@ use Rattle.spec_desktop.specs.WlSurface.{surface_created, transform_set, will_be
 use Rattle.spec_desktop.specs.XdgPopup.{grab_of, is_no_popup, may_be_parent, popup_asked, popup_destroyed, popup_made, positioner_of, repositioned_by}
 use Rattle.spec_desktop.specs.XdgShell.{acknowledged_by, base_destroyed, geometry_set, role_of, state_asked, toplevel_made, xdg_surface_destroyed, xdg_surface_made}
 use Rattle.spec_desktop.specs.LeftOut.{LeftOut}
-use Rattle.law_desktop.proofs.Lists.Keys.{some-same}
 
 -- the popup that asks for a grab isn't mapped
 abbrev pub IsBefore : Resident → Demand → Type 0
@@ -147,7 +147,7 @@ module _ (r : Resident) where
   grab-before object serial x None here = tt
   grab-before object serial x (Some p) here =
       if-before p.popup.is_dismissed _ _ (λ dismissed. tt)
-      (λ live. if-before (is_popup_mapped p) _ _ (λ mapped. tt) (λ unmapped q there. ap is_popup_mapped (some-same q p (sym there ∙ here)) ∙ unmapped))
+      (λ live. if-before (is_popup_mapped p) _ _ (λ mapped. tt) (λ unmapped q there. ap is_popup_mapped (same_Some q p (sym there ∙ here)) ∙ unmapped))
 
   repositioned-before : (x : Xdg) (token : ℕ) (p : Positioner) (o : Option Popped) → IsBeforeSo r (repositioned_by x token p o)
   repositioned-before x token p None = tt

@@ -3,7 +3,7 @@ use Rattle.std.proofs.Common.{◌≡◌, ℕ, ◌&&◌, true, false, Option, Som
 use Rattle.std.specs.Prelude.{ℤ, filter, flat_map, int_le, map, pos, unsigned_abs}
 use Rattle.std.specs.List.{list_any}
 use Rattle.std.specs.Option.{option_map}
-use Rattle.std.proofs.lemmas.Bool.{eqb-true}
+use Rattle.std.proofs.lemmas.Bool.{and_from, eqb-true, false_from_ne_true, or_from}
 use Rattle.wl_geom.specs.declared.rect.Rect.{Rect}
 use Rattle.wl_surface.specs.Request.{Request}
 use Rattle.wl_surface.specs.State.{History, counting, offset}
@@ -14,18 +14,20 @@ use Rattle.spec_desktop.specs.Windows.{Owner, Place, Root, StackedPopup, Window,
 use Rattle.spec_desktop.specs.Desktop.{Desktop, owned_in}
 use Rattle.spec_desktop.specs.Moments.{applied_between}
 use Rattle.law_desktop.proofs.Lists.Standings.{of-client, of-it, of-surface}
-use Rattle.law_desktop.proofs.Marks.Stacks.{Each, and-both, and-left, and-right, differ, each-both, each-map, equal-numbers, or-left, or-right, unless}
-use Rattle.law_desktop.proofs.Soundness.Trees.{each-append, each-flat, none-append, or-none}
+use Rattle.law_desktop.proofs.Marks.Stacks.{equal-numbers}
+use Rattle.law_desktop.proofs.Soundness.Trees.{each-flat, none-append}
 use Rattle.law_desktop.specs.TreeMarksLaws.{AreUndamaged}
 use Rattle.law_desktop.specs.TreeStepsLaws.{counted_in}
-use Rattle.law_desktop.proofs.TreeSteps.Damage.{and-none, applies-nothing}
+use Rattle.law_desktop.proofs.TreeSteps.Damage.{applies-nothing}
 use Rattle.law_desktop.proofs.TreeSteps.Owners.{tree-owned}
-use Rattle.law_desktop.proofs.TreeSteps.Reading.{each-always, flat-each}
+use Rattle.law_desktop.proofs.TreeSteps.Reading.{flat-each}
 use Rattle.law_desktop.specs.ToplevelRoots.{is_on_one}
 use Rattle.law_desktop.specs.StackedWith.{stacked_roots}
 use Rattle.law_desktop.specs.Toplevel.{has_toplevel}
-use Rattle.law_desktop.proofs.RootsOf.Away.{stacked-each}
 use Rattle.law_desktop.proofs.RootsOf.Staying.{each-all, roots-stay}
+use Rattle.law_desktop.proofs.Truth.{and-false, and-left, and-right, differ, or-left, or-right}
+use Rattle.law_desktop.proofs.Lists.Each.{Each, each-append, each-both, each-map, each-of}
+use Rattle.law_desktop.proofs.Soundness.Windows.{stacked-each}
 
 -- ---- a toplevel that stands
 
@@ -92,7 +94,7 @@ pub record IsRoot (s : Standing) (r : Root) : Type 0 where
 pub are-roots : (d : Desktop) (s : Standing) → Each (IsRoot s) (stacked_roots d s)
 are-roots d s =
     stacked-each (IsRoot s) (surfaces_in d s.client) (root_of (owned_in d) s ∷ []) (popups_in d s.client) (record { client = refl; toplevel = refl }, tt)
-    (each-always (λ p. (r : Root) → IsRoot s r → IsRoot s (root_on (surfaces_in d s.client) r p)) (λ p r is. record { client = is.client; toplevel = is.toplevel }) (popups_in d s.client))
+    (each-of (λ p. (r : Root) → IsRoot s r → IsRoot s (root_on (surfaces_in d s.client) r p)) (λ p r is. record { client = is.client; toplevel = is.toplevel }) (popups_in d s.client))
 
 -- so are its windows
 pub record IsShownBy (s : Standing) (w : Window) : Type 0 where
@@ -144,14 +146,14 @@ module _ (d e : Desktop) where
   same-undamaged c surface same x y =
       ap (λ b. (int_le (pos 0) x && int_le (pos 0) y) && b)
       (applies-nothing (history_in surface (surfaces_in d c)) (history_in surface (surfaces_in e c)) (ap (option_map (λ (h : History). h.cut)) same) (unsigned_abs x) (unsigned_abs y))
-      ∙ and-none (int_le (pos 0) x && int_le (pos 0) y)
+      ∙ and-false (int_le (pos 0) x && int_le (pos 0) y)
 
   -- the toplevel of a client that owns what it did
   pub foreign-kept : (s : Standing) → owned_in e s.client ≡ owned_in d s.client → ToplevelIsKept d e s
   foreign-kept s same = record {
     geometry = ap (λ (o : Owned). geometry_in o s.surface) same;
     popups = ap (λ (o : Owned). filter (is_on_one (stacked_roots d s)) (stacked_popups o)) same;
-    roots = each-always (λ r. RootIsKept s.client d e r.surface) (λ r. root r.surface) (stacked_roots d s);
+    roots = each-of (λ r. RootIsKept s.client d e r.surface) (λ r. root r.surface) (stacked_roots d s);
   }
     where
       root : (x : ℕ) → RootIsKept s.client d e x
@@ -177,7 +179,7 @@ module _ (d e : Desktop) where
       none : (ws : List Window) → Each (IsUndamaged d e) ws → list_any (λ w. applied_between d e w.owner.client w.surface x y) ws ≡ false
       none [] each = refl
       none (w ∷ ws) each =
-          or-none (applied_between d e w.owner.client w.surface x y) (list_any (λ w. applied_between d e w.owner.client w.surface x y) ws) (each.0 x y) (none ws each.1)
+          or_from (applied_between d e w.owner.client w.surface x y) (list_any (λ w. applied_between d e w.owner.client w.surface x y) ws) (each.0 x y) (none ws each.1)
 
       each : (ss : List Standing) → Each (ToplevelIsKept d e) ss → Each (IsUndamaged d e) (shown_of d ss)
       each [] kept = tt
@@ -189,7 +191,7 @@ module _ (d e : Desktop) where
 pub own-toplevel : (c t : ℕ) (d : Desktop) (s : Standing) → is_of c t s ≡ true → Each (λ w. has_toplevel c t w ≡ true) (shown d s)
 own-toplevel c t d s its =
     each-map (IsShownBy s) (λ w. has_toplevel c t w ≡ true)
-    (λ w is. and-both (c == w.owner.client) (t == w.owner.toplevel)
+    (λ w is. and_from (c == w.owner.client) (t == w.owner.toplevel)
     (equal-numbers c w.owner.client (sym (is.client ∙ of-client c t s its))) (equal-numbers t w.owner.toplevel (sym (is.toplevel ∙ of-surface c t s its))))
     (shown d s) (are-shown d s)
 
@@ -201,11 +203,11 @@ no-toplevel c t d (s ∷ ss) none =
   where
     other : (w : Window) → IsShownBy s w → has_toplevel c t w ≡ false
     other w is =
-        unless (has_toplevel c t w)
+        false_from_ne_true (has_toplevel c t w)
         (λ e. differ (sym (or-left (is_of c t s) (list_any (is_of c t) ss) none)
         ∙ of-it c t s (sym is.client ∙ sym (eqb-true c w.owner.client (and-left (c == w.owner.client) (t == w.owner.toplevel) e)))
         (sym is.toplevel ∙ sym (eqb-true t w.owner.toplevel (and-right (c == w.owner.client) (t == w.owner.toplevel) e)))))
 
     one : (ws : List Window) → Each (IsShownBy s) ws → list_any (has_toplevel c t) ws ≡ false
     one [] each = refl
-    one (w ∷ ws) each = or-none (has_toplevel c t w) (list_any (has_toplevel c t) ws) (other w each.0) (one ws each.1)
+    one (w ∷ ws) each = or_from (has_toplevel c t w) (list_any (has_toplevel c t) ws) (other w each.0) (one ws each.1)

@@ -3,7 +3,8 @@ use Rattle.std.proofs.Common.{◌≡◌, ℕ, Bool, true, false, cond, List, Opt
 use Rattle.std.specs.Prelude.{◌==◌, ◌||◌, ◌⊎◌, filter, find, fold}
 use Rattle.std.specs.List.{list_any}
 use Rattle.std.specs.Option.{option_and_then, option_map, option_map_or}
-use Rattle.std.proofs.lemmas.Bool.{eqb-true}
+use Rattle.std.proofs.lemmas.Bool.{and_right, eqb-true, false_from_ne_true, or_left}
+use Rattle.std.proofs.lemmas.Option.{same_Some}
 use Rattle.wl_geom.specs.declared.rect.Rect.{Rect}
 use Rattle.wl_surface.specs.Request.{Request}
 use Rattle.wl_surface.specs.Surfaces.{Surfaces, history_in}
@@ -14,20 +15,20 @@ use Rattle.spec_desktop.specs.Stacking.{Owned, Standing, geometry_in, geometry_s
 use Rattle.spec_desktop.specs.Windows.{StackedPopup}
 use Rattle.spec_desktop.specs.Desktop.{Desktop, owned_in}
 use Rattle.law_desktop.specs.Soundness.{has_surface}
-use Rattle.law_desktop.proofs.Marks.Stacks.{Each, differ, each-both, each-map, equal-numbers, unless}
-use Rattle.law_desktop.proofs.Soundness.Trees.{or-here}
+use Rattle.law_desktop.proofs.Marks.Stacks.{equal-numbers}
 use Rattle.law_desktop.proofs.Soundness.Windows.{In}
 use Rattle.law_desktop.specs.TreeStepsLaws.{counted_in}
 use Rattle.law_desktop.specs.Changes.{HasTrees}
 use Rattle.law_desktop.specs.ToplevelRoots.{has_parent_in, is_on_one}
 use Rattle.law_desktop.specs.StackedWith.{stacked_roots}
 use Rattle.law_desktop.proofs.RootsOf.Away.{IsIn, IsOnRoot, root-or-popup}
-use Rattle.law_desktop.proofs.RootsOf.Commits.{some-is}
 use Rattle.law_desktop.proofs.RootsOf.Kept.{popups_in, surfaces_in}
 use Rattle.law_desktop.proofs.RootsOf.Popped.{IsPopped, KeepsNumbers, first_or, popups-through, surface-through, through, xdg-through}
 use Rattle.law_desktop.proofs.RootsOf.Shells.{all-popped-of, geometry_by, geometry_with, in-reads}
 use Rattle.law_desktop.proofs.RootsOf.Staying.{in_parent}
-use Rattle.law_desktop.proofs.RootsOf.Touched.{not-on, once-found}
+use Rattle.law_desktop.proofs.RootsOf.Touched.{once-found}
+use Rattle.law_desktop.proofs.Truth.{differ}
+use Rattle.law_desktop.proofs.Lists.Each.{Each, each-both, each-map}
 
 -- ---- where the surfaces stay
 
@@ -135,7 +136,7 @@ module _ (c : ℕ) (d : Desktop) (had : HasTrees d) (s : Standing) (stands : lis
 
   not-root : (q : Popped) → IsKnown q → is_on q ≡ false → In q.xdg.surface (stacked_roots d s) ≡ false
   not-root q known off =
-      unless (In q.xdg.surface (stacked_roots d s))
+      false_from_ne_true (In q.xdg.surface (stacked_roots d s))
       (λ there. at (root-or-popup (surfaces_in d s.client) q.xdg.surface (root_of (owned_in d) s ∷ []) (popups_in d s.client) there))
     where
       first : (a : Bool) → (a || false) ≡ true → a ≡ true
@@ -148,7 +149,7 @@ module _ (c : ℕ) (d : Desktop) (had : HasTrees d) (s : Standing) (stands : lis
       any-of : (ps : List StackedPopup) → IsIn (as_stacked q) ps → list_any (has_surface q.xdg.surface) ps ≡ true
       any-of [] here = absurd here
       any-of (p ∷ ps) (inl same) =
-          or-here (has_surface q.xdg.surface p) (list_any (has_surface q.xdg.surface) ps) (equal-numbers p.surface q.xdg.surface (ap (λ (r : StackedPopup). r.surface) same))
+          or_left (has_surface q.xdg.surface p) (list_any (has_surface q.xdg.surface) ps) (equal-numbers p.surface q.xdg.surface (ap (λ (r : StackedPopup). r.surface) same))
       any-of (p ∷ ps) (inr here) = or-later (has_surface q.xdg.surface p) (any-of ps here)
         where
           or-later : (a : Bool) → list_any (has_surface q.xdg.surface) ps ≡ true → (a || list_any (has_surface q.xdg.surface) ps) ≡ true
@@ -162,7 +163,7 @@ module _ (c : ℕ) (d : Desktop) (had : HasTrees d) (s : Standing) (stands : lis
       at (inr on) =
           differ (sym off
           ∙ (ap (is_on_one (stacked_roots d s))
-          (some-is (as_stacked q) on.popup
+          (same_Some (as_stacked q) on.popup
           (sym found
           ∙ subst (λ n. find (has_surface q.xdg.surface) (popups_in d n) ≡ Some on.popup) is-of
           (once-found q.xdg.surface (popups_in d s.client) (had.sound.popups s.client) on.popup on.known on.own)))
@@ -171,7 +172,7 @@ module _ (c : ℕ) (d : Desktop) (had : HasTrees d) (s : Standing) (stands : lis
   -- a popup whose parent's is out is out
   off-next : (p : Popped) (id : ℕ) → IsOut id → is_parent_of id p.popup ≡ true → is_on p ≡ false
   off-next p id out is =
-      not-on (as_stacked p).is_mapped (has_parent_in (stacked_roots d s) (as_stacked p)) (at p.popup.parent is)
+      and_right (as_stacked p).is_mapped (has_parent_in (stacked_roots d s) (as_stacked p)) (at p.popup.parent is)
     where
       q : Popped
       q = out.popup
@@ -210,7 +211,7 @@ module _ (c : ℕ) (d : Desktop) (had : HasTrees d) (s : Standing) (stands : lis
         at : (b : Bool) → (id == p.xdg.id) ≡ b → (b || is_among p.xdg.id ids) ≡ true → (is_among p.xdg.id ids ≡ true → is_on p ≡ false) → is_on p ≡ false
         at true f e later =
             let same : outs.0.popup.xdg ≡ p.xdg =
-            some-is outs.0.popup.xdg p.xdg
+            same_Some outs.0.popup.xdg p.xdg
             (sym outs.0.known.popped.there.by_id ∙ (ap (λ n. xdg_at n mine.shell) (outs.0.own ∙ eqb-true id p.xdg.id f) ∙ known.popped.there.by_id)) in
             let popup : outs.0.popup ≡ p =
             ap (first_or p) (sym outs.0.known.popped.its ∙ (ap popped_of same ∙ known.popped.its)) in

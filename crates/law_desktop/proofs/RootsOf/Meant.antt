@@ -2,7 +2,8 @@
 use Rattle.std.proofs.Common.{◌≡◌, ℕ, Bool, true, false, Option, Some, None, refl, ap, sym, subst, ◌∙◌}
 use Rattle.std.specs.Prelude.{◌==◌, not}
 use Rattle.std.specs.Option.{option_map_or}
-use Rattle.std.proofs.lemmas.Bool.{eqb-true}
+use Rattle.std.proofs.lemmas.Bool.{and_from, eqb-true}
+use Rattle.std.proofs.lemmas.Option.{same_Some}
 use Rattle.wl_proto.specs.declared.interface.Interface.TheVariants.{XdgPopup, XdgToplevel}
 use Rattle.spec_desktop.specs.Objects.{Object, interface_number, is_of}
 use Rattle.wl_shell.specs.Popups.{is_toplevel_kind}
@@ -10,18 +11,19 @@ use Rattle.wl_shell.specs.Shell.{RoleObject, XdgSurface, is_role, xdg_at, xdg_wi
 use Rattle.spec_desktop.specs.Ask.{DestroyXdgSurface, GetToplevel}
 use Rattle.spec_desktop.specs.Demand.{Asks, Demand, EndToplevel, GetPopup, Grab}
 use Rattle.spec_desktop.specs.Desktop.{Resident}
-use Rattle.law_desktop.proofs.Lists.Keys.{found-any, found-by, found-passes, some-same}
-use Rattle.law_desktop.proofs.Marks.Stacks.{and-both, differ, equal-numbers}
+use Rattle.law_desktop.proofs.Lists.Keys.{found-any, found-by, found-passes}
+use Rattle.law_desktop.proofs.Marks.Stacks.{equal-numbers}
 use Rattle.law_desktop.proofs.Soundness.Allowed.{allowed}
 use Rattle.law_desktop.proofs.Soundness.Orderly.{HasId, HasNoRole as IsBare, IsAllowed, IsOn}
 use Rattle.law_desktop.specs.InOrder.{OwnsInOrder, is_popup_with}
 use Rattle.law_desktop.specs.Done.{HasToplevel, IsMeant}
 use Rattle.law_desktop.specs.OrderLaws.{JudgedIsMeant}
 use Rattle.law_desktop.proofs.RootsOf.Grabbing.{IsBefore, grabs-before}
+use Rattle.law_desktop.proofs.Truth.{differ}
 
 bare : (o : Option XdgSurface) → IsBare o → (x : XdgSurface) → o ≡ Some x → x.role ≡ None
 bare None is x e = absurd is
-bare (Some y) is x e = subst (λ (z : XdgSurface). z.role ≡ None) (some-same y x e) is
+bare (Some y) is x e = subst (λ (z : XdgSurface). z.role ≡ None) (same_Some y x e) is
 
 -- an object is of one interface
 one-interface : (o : Option Object) → is_of XdgToplevel o ≡ true → is_of XdgPopup o ≡ true → ⊥
@@ -44,7 +46,7 @@ module _ (id xdg surface : ℕ) (r : Resident) (owns : OwnsInOrder r) (live : is
     where
       at : (b : Bool) → is_toplevel_kind object.kind ≡ b → is_toplevel_kind object.kind ≡ true
       at true f = f
-      at false f = absurd (no-popup x found (ap (is_popup_with id) is ∙ and-both (object.id == id) (not (is_toplevel_kind object.kind)) e (ap not f)))
+      at false f = absurd (no-popup x found (ap (is_popup_with id) is ∙ and_from (object.id == id) (not (is_toplevel_kind object.kind)) e (ap not f)))
 
   of-xdg : (o : Option XdgSurface) → xdg_with id r.owned.shell ≡ o → HasId xdg o → IsOn surface o → HasToplevel xdg surface r.owned.shell
   of-xdg None found has on = absurd has

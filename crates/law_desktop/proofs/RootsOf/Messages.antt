@@ -8,13 +8,10 @@ use Rattle.spec_desktop.specs.declared.refusals.ErrorCode.TheVariants.{InvalidMe
 use Rattle.spec_desktop.specs.declared.refusals.Refusal.{Refusal}
 use Rattle.spec_desktop.specs.Peer.{Errs, LacksMemory, Peer, counted, with_rest}
 use Rattle.spec_desktop.specs.Told.{Said, display_error}
-use Rattle.wl_shell.specs.Popups.{is_toplevel}
-use Rattle.wl_shell.specs.Shell.{Effect, Stays, Unconfigured, Configures, Maps, Unmaps, xdg_of}
-use Rattle.spec_desktop.specs.Pointer.{Pointer, first_pointer}
-use Rattle.spec_desktop.specs.Windows.{Window}
-use Rattle.spec_desktop.specs.Changing.{changed_for, moving_from, stacked_by, stacked_for}
-use Rattle.spec_desktop.specs.Demand.{Demand, CommitTree, EndToplevel, Move}
-use Rattle.spec_desktop.specs.Demanding.{effect_of_commit, judge_all}
+use Rattle.spec_desktop.specs.Pointer.{first_pointer}
+use Rattle.spec_desktop.specs.Changing.{changed_for, stacked_for}
+use Rattle.spec_desktop.specs.Demand.{Demand}
+use Rattle.spec_desktop.specs.Demanding.{judge_all}
 use Rattle.spec_desktop.specs.Desktop.{Desktop, Resident, become, become_by, client_at, client_in, owned_in, owned_of, status_in, with_client}
 use Rattle.spec_desktop.specs.Happens.{wants_memory}
 use Rattle.spec_desktop.specs.LeftOut.{LeftOut}
@@ -37,27 +34,7 @@ use Rattle.law_desktop.specs.Messages.{IsDemanded, MessagesChangeOneToplevel}
 use Rattle.law_desktop.proofs.RootsOf.Each.{demands-change}
 use Rattle.law_desktop.proofs.RootsOf.Meant.{judged-is-meant}
 use Rattle.law_desktop.proofs.RootsOf.Orders.{in-order-has-trees}
-
--- ---- the stack of toplevels, where nobody points
-
-by-still : (effect : Effect) (b : Bool) (c id : ℕ) (d : Desktop) → (stacked_by effect b c id d).pointer ≡ d.pointer
-by-still Stays b c id d = refl
-by-still Unconfigured b c id d = refl
-by-still Configures b c id d = refl
-by-still Maps true c id d = refl
-by-still Maps false c id d = refl
-by-still Unmaps true c id d = refl
-by-still Unmaps false c id d = refl
-
--- nothing is held, so nothing is moved
-moves-nothing : (c surface serial : ℕ) (windows : List Window) (p : Pointer) → p ≡ first_pointer → moving_from c surface serial windows p ≡ p
-moves-nothing c surface serial windows p still = subst (λ (q : Pointer). moving_from c surface serial windows q ≡ q) (sym still) refl
-
-stacked-still : (c : ℕ) (demand : Demand) (r : Resident) (windows : List Window) (d : Desktop) → d.pointer ≡ first_pointer → (stacked_for c demand r windows d).pointer ≡ first_pointer
-stacked-still c (CommitTree id) r windows d still = by-still (effect_of_commit r id) (is_toplevel (xdg_of id r.owned.shell)) c id d ∙ still
-stacked-still c (EndToplevel id xdg top) r windows d still = still
-stacked-still c (Move id serial) r windows d still = moves-nothing c id serial windows d.pointer still ∙ still
-stacked-still c demand r windows d still = still
+use Rattle.law_desktop.proofs.MessageWays.Told.{stacked-still}
 
 -- ---- a message
 

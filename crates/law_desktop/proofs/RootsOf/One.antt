@@ -2,21 +2,24 @@
 use Rattle.std.proofs.Common.{◌≡◌, ℕ, Bool, true, false, cond, Option, Some, None, List, [], ◌∷◌, refl, ap, sym, subst, ◌∙◌, inl, inr}
 use Rattle.std.specs.Prelude.{◌==◌, ◌||◌, filter, not}
 use Rattle.std.specs.List.{All, list_any}
-use Rattle.std.proofs.lemmas.Bool.{eqb-true}
+use Rattle.std.proofs.lemmas.Bool.{eqb-true, false_from_ne_true}
 use Rattle.spec_desktop.specs.Stacking.{is_of, with_mapped, without_surface_of}
 use Rattle.spec_desktop.specs.Windows.{StackedPopup}
 use Rattle.spec_desktop.specs.Desktop.{Desktop}
 use Rattle.law_desktop.specs.Soundness.{IsSound, has_surface}
-use Rattle.law_desktop.proofs.Marks.Stacks.{differ, each-map, equal-numbers, unless}
+use Rattle.law_desktop.proofs.Marks.Stacks.{equal-numbers}
 use Rattle.law_desktop.specs.StackedWith.{ChangesWith, IsStackedAs, IsStackedWith, popup_of}
 use Rattle.law_desktop.specs.Toplevel.{AreInTurn, ChangesToplevel, SameRoot, windows_with}
 use Rattle.law_desktop.proofs.RootsOf.Change.{all-painted, one-in, one-out, same-stand}
 use Rattle.law_desktop.proofs.RootsOf.Kept.{popups_in}
 use Rattle.law_desktop.proofs.RootsOf.Same.{IsOfTree, apart-all, of-trees, same-root, turn-in}
-use Rattle.law_desktop.proofs.RootsOf.Stacked.{all-kept, found-any, none-any, others-kept}
+use Rattle.law_desktop.proofs.RootsOf.Stacked.{all-kept, found-any, others-kept}
 use Rattle.law_desktop.proofs.RootsOf.Staying.{each-all}
 use Rattle.law_desktop.proofs.RootsOf.Touched.{IsTopOrPopup, Touches, is_other}
 use Rattle.law_desktop.proofs.RootsOf.Turns.{AreApart, all-from, popup_surfaces}
+use Rattle.law_desktop.proofs.Truth.{differ}
+use Rattle.law_desktop.proofs.Lists.Each.{each-map}
+use Rattle.law_desktop.proofs.Lists.Tests.{none-any}
 
 -- a popup of another surface is among the others
 any-other : (x root : ℕ) → (x == root) ≡ false → (ps : List StackedPopup) → list_any (has_surface x) ps ≡ list_any (has_surface x) (filter (is_other root) ps)
@@ -27,7 +30,7 @@ any-other x root out (p ∷ ps) = at (p.surface == root) refl (any-other x root 
         → (has_surface x p || list_any (has_surface x) ps) ≡ list_any (has_surface x) (cond (not b) (p ∷ filter (is_other root) ps) (filter (is_other root) ps))
     at true e rest =
         ap (λ b. b || list_any (has_surface x) ps)
-        (unless (p.surface == x) (λ f. differ (sym out ∙ equal-numbers x root (sym (eqb-true p.surface x f) ∙ eqb-true p.surface root e)))) ∙ rest
+        (false_from_ne_true (p.surface == x) (λ f. differ (sym out ∙ equal-numbers x root (sym (eqb-true p.surface x f) ∙ eqb-true p.surface root e)))) ∙ rest
     at false e rest = ap (λ b. has_surface x p || b) rest
 
 -- a surface that another tree is stacked with has no popup

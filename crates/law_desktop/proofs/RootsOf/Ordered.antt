@@ -2,7 +2,7 @@
 use Rattle.std.proofs.Common.{◌≡◌, ℕ, Bool, true, false, cond, List, [], ◌∷◌, refl, ap, sym, ◌∙◌, arith}
 use Rattle.std.specs.Prelude.{filter, fold, nat_lt}
 use Rattle.wl_shell.specs.Popups.{Popped, by_number}
-use Rattle.law_desktop.proofs.Marks.Stacks.{Each, each-map}
+use Rattle.law_desktop.proofs.Lists.Each.{Each, each-map}
 
 -- none comes before one of a lower number
 abbrev AreSorted : List Popped → Type 0
@@ -16,7 +16,7 @@ below-all a b c e f = grind (arith, e, f)
 not-below : (a b : ℕ) → nat_lt a b ≡ true → nat_lt b a ≡ false
 not-below a b e = grind (arith, e)
 
-each-put : (P : Popped → Type 0) (p : Popped) (ps : List Popped) → P p → Each P ps → Each P (by_number p ps)
+pub each-put : (P : Popped → Type 0) (p : Popped) (ps : List Popped) → P p → Each P ps → Each P (by_number p ps)
 each-put P p [] e f = (e, tt)
 each-put P p (q ∷ qs) e f = at (nat_lt p.popup.number q.popup.number) (each-put P p qs e f.1)
   where

@@ -1,5 +1,6 @@
 -- A desktop in order, where just the mapped toplevels stand, has trees.
 use Rattle.std.proofs.Common.{◌≡◌, ℕ, Bool, true, false, cond, List, Option, Some, None, [], ◌∷◌, map, ap, sym, subst, ◌∙◌, refl}
+use Rattle.std.proofs.lemmas.Option.{none-some}
 use Rattle.std.specs.Prelude.{◌==◌, ◌&&◌, is_some, not}
 use Rattle.std.specs.Option.{option_map_or}
 use Rattle.spec_desktop.specs.declared.cause.Cause.{Cause}
@@ -16,8 +17,6 @@ use Rattle.spec_desktop.specs.Windows.{StackedPopup}
 use Rattle.spec_desktop.specs.Desktop.{Desktop, Resident, client_at, owned_in, owned_of, toplevels_of}
 use Rattle.law_desktop.specs.Apart.{AreApartBy}
 use Rattle.law_desktop.specs.Soundness.{IsNoChild}
-use Rattle.law_desktop.proofs.Lists.Keys.{none-some}
-use Rattle.law_desktop.proofs.Marks.Stacks.{Each, and-left, and-right, differ}
 use Rattle.law_desktop.specs.InOrder.{InOrderAt, InOrderBy}
 use Rattle.law_desktop.specs.Shown.{AreShown, heeded_stage, is_dismissed_kind, is_mapped_now, is_mapped_toplevel}
 use Rattle.law_desktop.specs.Standing.{HasMappedToplevel, IsMappedToplevel, is_mapped_at}
@@ -25,6 +24,8 @@ use Rattle.law_desktop.proofs.InOrder.Sound.{in_order_is_sound}
 use Rattle.law_desktop.specs.OrderLaws.{InOrderHasTrees}
 use Rattle.law_desktop.proofs.RootsOf.Popped.{IsPopped, all-popped, first_or}
 use Rattle.law_desktop.proofs.RootsOf.Staying.{each-all}
+use Rattle.law_desktop.proofs.Truth.{and-left, and-right, differ}
+use Rattle.law_desktop.proofs.Lists.Each.{Each}
 
 -- ---- a client, whether it is there and lives or not
 

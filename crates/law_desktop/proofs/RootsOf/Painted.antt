@@ -14,7 +14,7 @@ use Rattle.spec_desktop.specs.Popups.{geometry_at, placement_of, stacked_popup, 
 use Rattle.spec_desktop.specs.Stacking.{Owned, Standing, geometry_in, is_of, root_of, shows_buffer}
 use Rattle.spec_desktop.specs.Windows.{StackedPopup}
 use Rattle.spec_desktop.specs.Desktop.{Desktop, owned_in}
-use Rattle.law_desktop.proofs.Marks.Stacks.{Each, and-left, each-both, each-map, same-number}
+use Rattle.law_desktop.proofs.Marks.Stacks.{same-number}
 use Rattle.law_desktop.proofs.Soundness.Trees.{all-there}
 use Rattle.law_desktop.proofs.Soundness.Windows.{In, same_root}
 use Rattle.law_desktop.specs.TreeStepsLaws.{KeepsAll, counted_in}
@@ -29,6 +29,8 @@ use Rattle.law_desktop.proofs.RootsOf.Shells.{all-popped-of, geometry-reads, geo
 use Rattle.law_desktop.proofs.RootsOf.Stacked.{all-found, found-any}
 use Rattle.law_desktop.proofs.RootsOf.Staying.{all-each}
 use Rattle.law_desktop.proofs.RootsOf.Trees.{any-tree}
+use Rattle.law_desktop.proofs.Truth.{and-left}
+use Rattle.law_desktop.proofs.Lists.Each.{Each, each-both, each-map}
 
 -- ---- a root shows a buffer
 

@@ -1,5 +1,6 @@
 -- The popups of a client's xdg_surfaces, and what becomes of them where each xdg_surface changes by itself.
 use Rattle.std.proofs.Common.{◌≡◌, ℕ, Bool, true, false, cond, Option, Some, None, List, [], ◌∷◌, ◌++◌, map, refl, ap, ap₂, sym, subst, ◌∙◌}
+use Rattle.std.proofs.lemmas.Bool.{false_from_ne_true}
 use Rattle.std.specs.Prelude.{◌==◌, find, flat_map, fold, nat_lt}
 use Rattle.std.specs.Option.{option_map}
 use Rattle.wl_shell.specs.Popups.{Popped, by_number, popped_kind, popped_of, popped_role, popups_of}
@@ -7,8 +8,10 @@ use Rattle.wl_shell.specs.Shell.{IsPopup, Kind, RoleObject, Shell, Toplevel, Xdg
 use Rattle.spec_desktop.specs.Popups.{surface_at_xdg}
 use Rattle.law_desktop.specs.Apart.{AreApartBy}
 use Rattle.law_desktop.proofs.Lists.Keys.{found-map}
-use Rattle.law_desktop.proofs.Marks.Stacks.{Each, each-both, each-map, equal-numbers, unless}
+use Rattle.law_desktop.proofs.Marks.Stacks.{equal-numbers}
 use Rattle.law_desktop.proofs.Soundness.Trees.{each-flat}
+use Rattle.law_desktop.proofs.Lists.Each.{Each, each-both, each-map}
+use Rattle.law_desktop.proofs.RootsOf.Ordered.{each-put}
 
 -- ---- the popup of an xdg_surface
 
@@ -40,7 +43,7 @@ all-by has key self [] apart = tt
 all-by has key self (x ∷ xs) apart = (
   ap (λ b. cond b (Some x) (find (has (key x)) xs)) (self x),
   each-map (λ y. find (has (key y)) xs ≡ Some y) (λ y. find (has (key y)) (x ∷ xs) ≡ Some y)
-      (λ y found. ap (λ b. cond b (Some x) (find (has (key y)) xs)) (unless (has (key y) x) (λ e. never (sym (apart.0 (key y) e) ∙ found))) ∙ found) xs
+      (λ y found. ap (λ b. cond b (Some x) (find (has (key y)) xs)) (false_from_ne_true (has (key y) x) (λ e. never (sym (apart.0 (key y) e) ∙ found))) ∙ found) xs
       (all-by has key self xs apart.1),
 )
   where
@@ -55,17 +58,9 @@ all-there shell ids surfaces =
 
 -- ---- in order of creation
 
-each-by-number : (P : Popped → Type 0) (p : Popped) (ps : List Popped) → P p → Each P ps → Each P (by_number p ps)
-each-by-number P p [] e f = (e, tt)
-each-by-number P p (q ∷ qs) e f = at (nat_lt p.popup.number q.popup.number) (each-by-number P p qs e f.1)
-  where
-    at : (b : Bool) → Each P (by_number p qs) → Each P (cond b (p ∷ q ∷ qs) (q ∷ by_number p qs))
-    at true rest = (e, f)
-    at false rest = (f.0, rest)
-
 each-ordered : (P : Popped → Type 0) (acc ps : List Popped) → Each P acc → Each P ps → Each P (fold (λ ps p. by_number p ps) acc ps)
 each-ordered P acc [] e f = e
-each-ordered P acc (p ∷ ps) e f = each-ordered P (by_number p acc) ps (each-by-number P p acc f.0 e) f.1
+each-ordered P acc (p ∷ ps) e f = each-ordered P (by_number p acc) ps (each-put P p acc f.0 e) f.1
 
 pub each-popup : (P : Popped → Type 0) (shell : Shell) → Each (λ x. Each P (popped_of x)) shell → Each P (popups_of shell)
 each-popup P shell e = each-ordered P [] (flat_map popped_of shell) tt (each-flat P popped_of shell e)
@@ -189,7 +184,7 @@ module _ (f : XdgSurface → XdgSurface) where
   ordered-through acc [] e g = refl
   ordered-through acc (p ∷ ps) e g =
       ap (λ qs. fold (λ ps p. by_number p ps) qs (map (through f) ps)) (by-number-through p acc g.0 e)
-      ∙ ordered-through (by_number p acc) ps (each-by-number (IsThrough f) p acc g.0 e) g.1
+      ∙ ordered-through (by_number p acc) ps (each-put (IsThrough f) p acc g.0 e) g.1
 
   abbrev AreKept : Shell → Type 0
   AreKept shell = Each (λ x. AreNumberedAlike (popped_of x) (popped_of (f x))) shell

@@ -2,7 +2,8 @@
 use Rattle.std.proofs.Common.{◌≡◌, ℕ, Bool, true, false, cond, List, Option, Some, None, [], ◌∷◌, ◌++◌, map, refl, ap, ap₂, sym, subst, ◌∙◌}
 use Rattle.std.specs.Prelude.{◌==◌, ◌≢◌, filter, flat_map, fold, not}
 use Rattle.std.specs.Option.{option_and_then, option_map}
-use Rattle.std.proofs.lemmas.Bool.{eqb-true}
+use Rattle.std.proofs.lemmas.Bool.{eqb-true, false_from_ne_true}
+use Rattle.std.proofs.lemmas.Option.{same_Some}
 use Rattle.wl_surface.specs.Surfaces.{Surfaces, history_in}
 use Rattle.wl_shell.specs.Popups.{Popped, by_number, is_popup_mapped, popped_of, popups_of}
 use Rattle.wl_shell.specs.Shell.{Shell, XdgSurface, with_change, without_role, xdg_at, xdg_of}
@@ -12,11 +13,11 @@ use Rattle.spec_desktop.specs.Stacking.{geometry_since}
 use Rattle.spec_desktop.specs.Windows.{StackedPopup}
 use Rattle.spec_desktop.specs.Desktop.{Desktop, owned_in}
 use Rattle.law_desktop.proofs.Lists.Keys.{found-map, found-passes}
-use Rattle.law_desktop.proofs.Marks.Stacks.{Each, differ, equal-numbers, unless}
+use Rattle.law_desktop.proofs.Marks.Stacks.{equal-numbers}
 use Rattle.law_desktop.specs.TreeStepsLaws.{KeepsAll, counted_in}
 use Rattle.law_desktop.specs.Changes.{HasTrees}
 use Rattle.law_desktop.specs.StackedWith.{ChangesAt}
-use Rattle.law_desktop.proofs.RootsOf.Commits.{fixed-at, own-root, some-is}
+use Rattle.law_desktop.proofs.RootsOf.Commits.{fixed-at, own-root}
 use Rattle.law_desktop.proofs.RootsOf.Kept.{popups_in, surfaces_in}
 use Rattle.law_desktop.proofs.RootsOf.One.{same-standing}
 use Rattle.law_desktop.proofs.RootsOf.Ordered.{all-left}
@@ -26,22 +27,10 @@ use Rattle.law_desktop.proofs.RootsOf.Shells.{found-there, geometry-in-counted, 
 use Rattle.law_desktop.proofs.RootsOf.Touched.{HadParent, Touches, is_other}
 use Rattle.law_desktop.proofs.RootsOf.Trees.{any-tree}
 use Rattle.law_desktop.proofs.RootsOf.Turns.{AreFrom, from-filter, popup_surfaces}
-
-pub filter-append : {X : Type 0} (k : X → Bool) (xs ys : List X) → filter k (xs ++ ys) ≡ filter k xs ++ filter k ys
-filter-append k [] ys = refl
-filter-append k (x ∷ xs) ys = at (k x) (filter-append k xs ys)
-  where
-    at : (b : Bool) → filter k (xs ++ ys) ≡ filter k xs ++ filter k ys → cond b (x ∷ filter k (xs ++ ys)) (filter k (xs ++ ys)) ≡ cond b (x ∷ filter k xs) (filter k xs) ++ filter k ys
-    at true e = ap (λ zs. x ∷ zs) e
-    at false e = e
-
-filter-none : {X : Type 0} (k : X → Bool) (xs : List X) → Each (λ x. k x ≡ false) xs → filter k xs ≡ []
-filter-none k [] e = refl
-filter-none k (x ∷ xs) e = ap (λ b. cond b (x ∷ filter k xs) (filter k xs)) e.0 ∙ filter-none k xs e.1
-
-filter-all : {X : Type 0} (k : X → Bool) (xs : List X) → Each (λ x. k x ≡ true) xs → filter k xs ≡ xs
-filter-all k [] e = refl
-filter-all k (x ∷ xs) e = ap (λ b. cond b (x ∷ filter k xs) (filter k xs)) e.0 ∙ ap (λ ys. x ∷ ys) (filter-all k xs e.1)
+use Rattle.law_desktop.proofs.Truth.{differ}
+use Rattle.law_desktop.proofs.Lists.Each.{Each}
+use Rattle.law_desktop.proofs.Lists.Left.{filter-append, filter-none-each}
+use Rattle.law_desktop.proofs.Lists.Tests.{filter-all}
 
 each-passes : {X : Type 0} (k : X → Bool) (xs : List X) → Each (λ x. k x ≡ true) (filter k xs)
 each-passes k [] = tt
@@ -73,21 +62,21 @@ module _ (c xdg : ℕ) (d e : Desktop) (had : HasTrees d) (has : HasTrees e) (ot
       at : (b : Bool) → (y.id == xdg) ≡ b → popped_of (cond b (without_role y) y) ≡ filter k (popped_of y)
       at true f =
           sym
-          (filter-none k (popped_of y)
+          (filter-none-each k (popped_of y)
           (each-mapped (λ p. (p.xdg ≡ y) × (popped_of p.xdg ≡ p ∷ [])) (λ p. k p ≡ false)
           (λ p its. ap not (equal-numbers p.xdg.surface x.surface
           (ap (λ (z : XdgSurface). z.surface)
-          (its.0 ∙ some-is y x (sym there.by_id ∙ (ap (λ n. xdg_at n sh) (eqb-true y.id xdg f ∙ sym id-is) ∙ here.by_id)))))) (popped_of y) (popped-its y)))
+          (its.0 ∙ same_Some y x (sym there.by_id ∙ (ap (λ n. xdg_at n sh) (eqb-true y.id xdg f ∙ sym id-is) ∙ here.by_id)))))) (popped_of y) (popped-its y)))
       at false f =
           sym
           (filter-all k (popped_of y)
           (each-mapped (λ p. (p.xdg ≡ y) × (popped_of p.xdg ≡ p ∷ [])) (λ p. k p ≡ true)
           (λ p its. ap not
-          (unless (p.xdg.surface == x.surface)
+          (false_from_ne_true (p.xdg.surface == x.surface)
           (λ g. differ (sym f
           ∙ equal-numbers y.id xdg
           (ap (λ (z : XdgSurface). z.id)
-          (some-is y x
+          (same_Some y x
           (sym there.by_surface ∙ (ap (λ n. xdg_of n sh) (ap (λ (z : XdgSurface). z.surface) (sym its.0) ∙ eqb-true p.xdg.surface x.surface g) ∙ here.by_surface)))
           ∙ id-is))))) (popped_of y) (popped-its y)))
 

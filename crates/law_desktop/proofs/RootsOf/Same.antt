@@ -3,24 +3,25 @@
 use Rattle.std.proofs.Common.{◌≡◌, ℕ, Bool, true, false, Option, Some, None, List, [], ◌∷◌, refl, ap, sym, subst, ◌∙◌, inl, inr}
 use Rattle.std.specs.Prelude.{◌==◌, find}
 use Rattle.std.specs.List.{list_any}
-use Rattle.std.proofs.lemmas.Bool.{eqb-true}
-use Rattle.wl_surface.specs.Surfaces.{Surfaces}
+use Rattle.std.proofs.lemmas.Bool.{eqb-true, false_from_ne_true, or_from}
 use Rattle.spec_desktop.specs.Stacking.{Standing, is_of}
 use Rattle.spec_desktop.specs.Windows.{Owner, Place, Root, StackedPopup, Window, owner_of, tree}
 use Rattle.spec_desktop.specs.Desktop.{Desktop}
-use Rattle.spec_desktop.specs.Marks.{is_same_surface}
-use Rattle.law_desktop.specs.Soundness.{AreOnce, AreTrees, IsNoChild, IsSound, has_surface}
+use Rattle.law_desktop.specs.Soundness.{AreOnce, IsNoChild, IsSound, has_surface}
 use Rattle.law_desktop.proofs.Lists.Standings.{of-client, of-surface}
-use Rattle.law_desktop.proofs.Marks.Stacks.{Each, differ, each-both, each-map, equal-numbers, or-left, or-right, unless}
-use Rattle.law_desktop.proofs.Soundness.Trees.{IsUnder, Under, each-flat, or-none, same-surface, tree-each, under-one}
-use Rattle.law_desktop.proofs.Soundness.Windows.{same_popup}
+use Rattle.law_desktop.proofs.Marks.Stacks.{equal-numbers}
+use Rattle.law_desktop.proofs.Soundness.Trees.{IsUnder, each-flat, tree-each}
+use Rattle.law_desktop.proofs.Soundness.Windows.{one-root, same_popup}
 use Rattle.law_desktop.proofs.TreeSteps.Owners.{tree-owned}
 use Rattle.law_desktop.specs.StackedWith.{stacked_roots}
 use Rattle.law_desktop.specs.Toplevel.{AreInTurn, SameRoot, windows_with, windows_with_standing}
 use Rattle.law_desktop.proofs.RootsOf.Kept.{IsRoot, are-roots, popups_in, shown, surfaces_in, tree_in}
-use Rattle.law_desktop.proofs.RootsOf.Stacked.{found-any, found-is}
+use Rattle.law_desktop.proofs.RootsOf.Stacked.{found-any}
 use Rattle.law_desktop.proofs.RootsOf.Touched.{IsTopOrPopup, no-child, tops-or-popups}
 use Rattle.law_desktop.proofs.RootsOf.Turns.{AreApart, AreFrom, IsOfRoot, from-first, in-turn, none-in-turn, popup_surfaces, roots-from, surfaces_of, through}
+use Rattle.law_desktop.proofs.Truth.{differ, or-left, or-right}
+use Rattle.law_desktop.proofs.Lists.Each.{Each, each-both, each-map}
+use Rattle.law_desktop.proofs.Lists.Keys.{found-passes}
 
 -- ---- the root of a window
 
@@ -29,10 +30,6 @@ pub record IsOfTree (c root : ℕ) (this other : Desktop) (w : Window) : Type 0 
   pub no_child : IsNoChild w.owner.root (surfaces_in this c)
   pub under : IsUnder c (surfaces_in this c) w.owner.root w
   pub elsewhere : (w.owner.root == root) ≡ false → IsNoChild w.owner.root (surfaces_in other c) × IsUnder c (surfaces_in other c) w.owner.root w
-
-one-root : (all : Surfaces) → AreTrees all → (c a b : ℕ) (w v : Window) → IsNoChild a all → IsNoChild b all → IsUnder c all a w → IsUnder c all b v → is_same_surface w v ≡ true → a ≡ b
-one-root all t c a b w v e f u r same =
-    under-one all t u.levels r.levels a b v.surface (subst (λ x. Under all u.levels a x) (same-surface w v same) u.under) r.under (t.top a e ∙ sym (t.top b f))
 
 module _ (c root : ℕ) (d e : Desktop) (had : IsSound d) (has : IsSound e) where
   pub same-root : (w v : Window) → IsOfTree c root e d w → IsOfTree c root d e v → SameRoot w v
@@ -117,7 +114,7 @@ module _ (c t root : ℕ) (this other : Desktop) (sound : IsSound this) (sound-o
     where
       at : (o : Option Standing) → find (is_of c t) this.standing ≡ o → Each (IsOfTree c root this other) (windows_with_standing this o)
       at None found = tt
-      at (Some s) found = of-standing (found-any (is_of c t) this.standing s found) s (found-is (is_of c t) this.standing s found)
+      at (Some s) found = of-standing (found-any (is_of c t) this.standing s found) s (found-passes (is_of c t) this.standing s found)
 
 -- ---- the order of the trees
 
@@ -140,7 +137,7 @@ turn-in c t f xs from apart = at (find (is_of c t) f.standing) refl
 
     at : (o : Option Standing) → find (is_of c t) f.standing ≡ o → AreInTurn (t ∷ xs) (windows_with_standing f o)
     at None found = none-in-turn (t ∷ xs)
-    at (Some s) found = in-turn (tree_in f) own (stacked_roots f s) (t ∷ xs) (of s (found-is (is_of c t) f.standing s found)) apart
+    at (Some s) found = in-turn (tree_in f) own (stacked_roots f s) (t ∷ xs) (of s (found-passes (is_of c t) f.standing s found)) apart
 
 -- the surfaces of popups are apart, and from one that has none
 surfaces-once : (ps : List StackedPopup) → AreOnce same_popup ps → AreApart (popup_surfaces ps)
@@ -150,15 +147,15 @@ surfaces-once (p ∷ ps) once = (none ps once.0, surfaces-once ps once.1)
     none : (qs : List StackedPopup) → list_any (same_popup p) qs ≡ false → list_any (λ y. p.surface == y) (popup_surfaces qs) ≡ false
     none [] e = refl
     none (q ∷ qs) e =
-        or-none (p.surface == q.surface) (list_any (λ y. p.surface == y) (popup_surfaces qs))
-        (unless (p.surface == q.surface) (λ f. differ (sym (or-left (same_popup p q) (list_any (same_popup p) qs) e) ∙ equal-numbers q.surface p.surface (sym (eqb-true p.surface q.surface f)))))
+        or_from (p.surface == q.surface) (list_any (λ y. p.surface == y) (popup_surfaces qs))
+        (false_from_ne_true (p.surface == q.surface) (λ f. differ (sym (or-left (same_popup p q) (list_any (same_popup p) qs) e) ∙ equal-numbers q.surface p.surface (sym (eqb-true p.surface q.surface f)))))
         (none qs (or-right (same_popup p q) (list_any (same_popup p) qs) e))
 
 none-surface : (t : ℕ) (ps : List StackedPopup) → list_any (has_surface t) ps ≡ false → list_any (λ y. t == y) (popup_surfaces ps) ≡ false
 none-surface t [] e = refl
 none-surface t (q ∷ qs) e =
-    or-none (t == q.surface) (list_any (λ y. t == y) (popup_surfaces qs))
-    (unless (t == q.surface) (λ f. differ (sym (or-left (has_surface t q) (list_any (has_surface t) qs) e) ∙ equal-numbers q.surface t (sym (eqb-true t q.surface f)))))
+    or_from (t == q.surface) (list_any (λ y. t == y) (popup_surfaces qs))
+    (false_from_ne_true (t == q.surface) (λ f. differ (sym (or-left (has_surface t q) (list_any (has_surface t) qs) e) ∙ equal-numbers q.surface t (sym (eqb-true t q.surface f)))))
     (none-surface t qs (or-right (has_surface t q) (list_any (has_surface t) qs) e))
 
 pub apart-all : (c t : ℕ) (d : Desktop) → IsSound d → list_any (has_surface t) (popups_in d c) ≡ false → AreApart (t ∷ popup_surfaces (popups_in d c))

@@ -15,7 +15,7 @@ use Rattle.spec_desktop.specs.Windows.{StackedPopup}
 use Rattle.spec_desktop.specs.Desktop.{Desktop, owned_in}
 use Rattle.law_desktop.specs.Soundness.{IsNoChild}
 use Rattle.law_desktop.proofs.Lists.Keys.{found-by, found-passes}
-use Rattle.law_desktop.proofs.Marks.Stacks.{Each, each-both, each-map, equal-numbers}
+use Rattle.law_desktop.proofs.Marks.Stacks.{equal-numbers}
 use Rattle.law_desktop.specs.TreeStepsLaws.{counted_in}
 use Rattle.law_desktop.specs.Changes.{HasTrees}
 use Rattle.law_desktop.proofs.RootsOf.Kept.{RootIsKept, popups_in, surfaces_in}
@@ -23,6 +23,7 @@ use Rattle.law_desktop.proofs.RootsOf.Popped.{IsPopped, IsThere, IsThrough, Keep
 use Rattle.law_desktop.proofs.RootsOf.Popped.{xdg-through}
 use Rattle.law_desktop.proofs.RootsOf.Touched.{HadParent, Touches, is_other}
 use Rattle.law_desktop.proofs.RootsOf.Turns.{AreFrom, all-from, popup_surfaces}
+use Rattle.law_desktop.proofs.Lists.Each.{Each, each-both, each-map}
 
 -- ---- popups one by one
 

@@ -2,35 +2,25 @@
 use Rattle.std.proofs.Common.{◌≡◌, ℕ, Bool, true, false, cond, Option, Some, None, List, [], ◌∷◌, refl, ap, sym, subst, ◌∙◌}
 use Rattle.std.specs.Prelude.{◌==◌, ◌||◌, find}
 use Rattle.std.specs.List.{list_any}
-use Rattle.std.proofs.lemmas.Bool.{eqb-false, eqb-true}
+use Rattle.std.proofs.lemmas.Bool.{eqb-false, eqb-true, false_from_ne_true}
 use Rattle.spec_desktop.specs.Stacking.{Standing, is_of, root_of}
 use Rattle.spec_desktop.specs.Windows.{Root, StackedPopup, roots_of}
 use Rattle.spec_desktop.specs.Desktop.{Desktop, owned_in}
 use Rattle.law_desktop.specs.Laws.{AreApart}
 use Rattle.law_desktop.specs.Soundness.{IsSound, has_surface}
 use Rattle.law_desktop.proofs.Lists.Standings.{of-client, of-it, of-surface}
-use Rattle.law_desktop.proofs.Marks.Stacks.{Each, differ, each-both, each-false, each-map, unless}
 use Rattle.law_desktop.specs.ToplevelRoots.{has_parent_in}
 use Rattle.law_desktop.specs.StackedWith.{HoldsParent, IsStackedAs, IsStackedWith, popup_of, stacked_roots}
 use Rattle.law_desktop.proofs.RootsOf.Away.{away-parent, toplevels-away}
 use Rattle.law_desktop.proofs.RootsOf.Change.{OthersAreKept}
 use Rattle.law_desktop.proofs.RootsOf.Kept.{ToplevelIsKept, foreign-kept, popups_in, surfaces_in}
 use Rattle.law_desktop.proofs.RootsOf.Touched.{IsElsewhere, Touches, apart-kept, elsewhere-apart}
+use Rattle.law_desktop.proofs.Truth.{differ}
+use Rattle.law_desktop.proofs.Lists.Each.{Each, each-both, each-map}
+use Rattle.law_desktop.proofs.Lists.Tests.{each-false}
+use Rattle.law_desktop.proofs.Lists.Keys.{found-passes}
 
 -- ---- what stands
-
--- the toplevel of this surface that is found is of it, and stands
-pub found-is : {X : Type 0} (p : X → Bool) (xs : List X) (x : X) → find p xs ≡ Some x → p x ≡ true
-found-is p [] x e = absurd (cc)
-found-is {X = X} p (y ∷ ys) x e = at (p y) refl (found-is p ys x) e
-  where
-    at : (b : Bool) → p y ≡ b → (find p ys ≡ Some x → p x ≡ true) → cond b (Some y) (find p ys) ≡ Some x → p x ≡ true
-    at true f later e = ap (λ (o : Option X). holds o) (sym e) ∙ f
-      where
-        holds : Option X → Bool
-        holds None = false
-        holds (Some z) = p z
-    at false f later e = later e
 
 pub found-any : {X : Type 0} (p : X → Bool) (xs : List X) (x : X) → find p xs ≡ Some x → list_any p xs ≡ true
 found-any p [] x e = absurd (cc)
@@ -40,14 +30,6 @@ found-any p (y ∷ ys) x e = at (p y) (found-any p ys x) e
     at true later e = refl
     at false later e = later e
 
-pub none-any : {X : Type 0} (p : X → Bool) (xs : List X) → find p xs ≡ None → list_any p xs ≡ false
-none-any p [] e = refl
-none-any p (y ∷ ys) e = at (p y) (none-any p ys) e
-  where
-    at : (b : Bool) → (find p ys ≡ None → list_any p ys ≡ false) → cond b (Some y) (find p ys) ≡ None → (b || list_any p ys) ≡ false
-    at true later e = absurd (cc)
-    at false later e = later e
-
 -- each that stands is found by its surface
 pub all-found : (ss : List Standing) → AreApart ss → Each (λ s. find (is_of s.client s.surface) ss ≡ Some s) ss
 all-found [] apart = tt
@@ -55,7 +37,7 @@ all-found (s ∷ ss) apart = (
   ap (λ b. cond b (Some s) (find (is_of s.client s.surface) ss)) (of-it s.client s.surface s refl refl),
   each-both (λ r. is_of s.client s.surface r ≡ false) (λ r. find (is_of r.client r.surface) ss ≡ Some r) (λ r. find (is_of r.client r.surface) (s ∷ ss) ≡ Some r)
       (λ r other found. ap (λ b. cond b (Some s) (find (is_of r.client r.surface) ss))
-      (unless (is_of r.client r.surface s) (λ is. differ (sym other
+      (false_from_ne_true (is_of r.client r.surface s) (λ is. differ (sym other
       ∙ of-it s.client s.surface r (sym (of-client r.client r.surface s is)) (sym (of-surface r.client r.surface s is)))))
       ∙ found) ss (each-false (is_of s.client s.surface) ss apart.0) (all-found ss apart.1),
 )
@@ -70,15 +52,15 @@ module _ (c root : ℕ) (d : Desktop) (sound : IsSound d) where
   level-of : (t : ℕ) (s : Standing) → find (is_of c t) d.standing ≡ Some s → list_any (has_surface s.surface) (popups_in d c) ≡ false
   level-of t s found =
       sound.levels c s.surface
-      (subst (λ n. list_any (is_of c n) d.standing ≡ true) (sym (of-surface c t s (found-is (is_of c t) d.standing s found))) (found-any (is_of c t) d.standing s found))
+      (subst (λ n. list_any (is_of c n) d.standing ≡ true) (sym (of-surface c t s (found-passes (is_of c t) d.standing s found))) (found-any (is_of c t) d.standing s found))
 
   -- another toplevel doesn't hold the parent
   not-held : (t : ℕ) (p : StackedPopup) → HoldsParent c t d p → (s : Standing) → find (is_of s.client s.surface) d.standing ≡ Some s → s.client ≡ c → is_of c t s ≡ false
       → has_parent_in (stacked_roots d s) p ≡ false
-  not-held t p h s found is other = unless (has_parent_in (stacked_roots d s) p) never
+  not-held t p h s found is other = false_from_ne_true (has_parent_in (stacked_roots d s) p) never
     where
       its : is_of c t h.standing ≡ true
-      its = found-is (is_of c t) d.standing h.standing h.stands
+      its = found-passes (is_of c t) d.standing h.standing h.stands
 
       never : has_parent_in (stacked_roots d s) p ≡ true → ⊥
       never held =
@@ -92,7 +74,7 @@ module _ (c root : ℕ) (d : Desktop) (sound : IsSound d) where
   elsewhere : (o : Option StackedPopup) (t : ℕ) → IsStackedAs c root d o (Some t) → (s : Standing) → find (is_of s.client s.surface) d.standing ≡ Some s → s.client ≡ c → is_of c t s ≡ false
       → IsElsewhere root d s o
   elsewhere None t is s found own other =
-      unless (s.surface == root) (λ same. differ (sym other ∙ of-it c t s own (eqb-true s.surface root same ∙ sym is)))
+      false_from_ne_true (s.surface == root) (λ same. differ (sym other ∙ of-it c t s own (eqb-true s.surface root same ∙ sym is)))
   elsewhere (Some p) t h s found own other = not-held t p h s found own other
 
   nowhere : (o : Option StackedPopup) → IsStackedAs c root d o None → (s : Standing) → find (is_of s.client s.surface) d.standing ≡ Some s → s.client ≡ c → IsElsewhere root d s o

@@ -3,11 +3,12 @@ use Rattle.std.proofs.Common.{◌≡◌, ℕ, Bool, true, false, cond, Option, S
 use Rattle.std.specs.Prelude.{◌⊎◌, find, not}
 use Rattle.std.specs.List.{list_any}
 use Rattle.std.proofs.lemmas.List.{append-nil}
+use Rattle.std.proofs.lemmas.Bool.{false_from_ne_true, or_from}
 use Rattle.spec_desktop.specs.Stacking.{Standing, is_of, without_surface_of}
 use Rattle.law_desktop.specs.Laws.{AreApart}
 use Rattle.law_desktop.proofs.Lists.Standings.{of-client, of-it, of-surface}
-use Rattle.law_desktop.proofs.Marks.Stacks.{differ, or-left, or-right, unless}
-use Rattle.law_desktop.proofs.Soundness.Trees.{or-none}
+use Rattle.law_desktop.proofs.Truth.{differ, or-left, or-right}
+use Rattle.law_desktop.proofs.Lists.Tests.{find-none}
 
 -- ---- lists
 
@@ -15,10 +16,6 @@ find-later : {X : Type 0} (p : X → Bool) (xs ys : List X) → list_any p xs �
 find-later p [] ys none = refl
 find-later p (x ∷ xs) ys none =
     ap (λ b. cond b (Some x) (find p (xs ++ ys))) (or-left (p x) (list_any p xs) none) ∙ find-later p xs ys (or-right (p x) (list_any p xs) none)
-
-pub find-none : {X : Type 0} (p : X → Bool) (xs : List X) → list_any p xs ≡ false → find p xs ≡ None
-find-none p [] none = refl
-find-none p (x ∷ xs) none = ap (λ b. cond b (Some x) (find p xs)) (or-left (p x) (list_any p xs) none) ∙ find-none p xs (or-right (p x) (list_any p xs) none)
 
 -- ---- one toplevel, if it stands
 
@@ -66,7 +63,7 @@ none-or-found c root (x ∷ xs) apart = at (is_of c root x) refl (none-or-found 
           no_lower = refl;
           no_higher = ap₂ (λ (a b : ℕ). list_any (is_of a b) xs) (sym (of-client c root x e)) (sym (of-surface c root x e)) ∙ apart.0;
         })
-    at false e (inl none) = inl (or-none (is_of c root x) (list_any (is_of c root) xs) e none)
+    at false e (inl none) = inl (or_from (is_of c root x) (list_any (is_of c root) xs) e none)
     at false e (inr f) =
         inr
         (record {
@@ -75,7 +72,7 @@ none-or-found c root (x ∷ xs) apart = at (is_of c root x) refl (none-or-found 
           above = f.above;
           parts = ap (λ ys. x ∷ ys) f.parts;
           its = f.its;
-          no_lower = or-none (is_of c root x) (list_any (is_of c root) f.below) e f.no_lower;
+          no_lower = or_from (is_of c root x) (list_any (is_of c root) f.below) e f.no_lower;
           no_higher = f.no_higher;
         })
 
@@ -104,8 +101,8 @@ without-it c root ss f =
 pub none-lower : (ss : List Standing) (t : Standing) → AreApart (ss ++ t ∷ []) → list_any (is_of t.client t.surface) ss ≡ false
 none-lower [] t apart = refl
 none-lower (s ∷ ss) t apart =
-    or-none (is_of t.client t.surface s) (list_any (is_of t.client t.surface) ss)
-    (unless (is_of t.client t.surface s) (λ is. differ (sym (last ss apart.0) ∙ of-it s.client s.surface t (sym (of-client t.client t.surface s is)) (sym (of-surface t.client t.surface s is)))))
+    or_from (is_of t.client t.surface s) (list_any (is_of t.client t.surface) ss)
+    (false_from_ne_true (is_of t.client t.surface s) (λ is. differ (sym (last ss apart.0) ∙ of-it s.client s.surface t (sym (of-client t.client t.surface s is)) (sym (of-surface t.client t.surface s is)))))
     (none-lower ss t apart.1)
   where
     last : (rs : List Standing) → list_any (is_of s.client s.surface) (rs ++ t ∷ []) ≡ false → is_of s.client s.surface t ≡ false

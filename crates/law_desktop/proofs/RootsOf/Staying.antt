@@ -3,19 +3,16 @@ use Rattle.std.proofs.Common.{◌≡◌, ℕ, zero, suc, Bool, true, false, cond
 use Rattle.std.specs.Prelude.{◌==◌, ◌&&◌, ◌||◌, filter, fold}
 use Rattle.std.specs.List.{All, list_any}
 use Rattle.std.specs.Option.{option_map_or}
-use Rattle.std.proofs.lemmas.Bool.{or_left, or_right}
+use Rattle.std.proofs.lemmas.Bool.{false_from_ne_true, or_left, or_right}
 use Rattle.std.proofs.lemmas.List.{append-nil}
 use Rattle.wl_surface.specs.Surfaces.{Surfaces}
 use Rattle.spec_desktop.specs.Windows.{Place, Root, StackedPopup, corner_in, geometry_corner, has_parent, popup_place, root_on, roots_of, stacked, stacked_on}
-use Rattle.law_desktop.proofs.Marks.Stacks.{Each, differ, unless}
 use Rattle.law_desktop.proofs.Soundness.Windows.{In, roots_at}
+use Rattle.law_desktop.proofs.Truth.{differ}
+use Rattle.law_desktop.proofs.Lists.Each.{Each, each-first}
 use Rattle.law_desktop.specs.ToplevelRoots.{RootsStay, has_parent_in, is_on_one}
 
 -- ---- lists
-
-pub each-first : {X : Type 0} (P : X → Type 0) (xs ys : List X) → Each P (xs ++ ys) → Each P xs
-each-first P [] ys e = tt
-each-first P (x ∷ xs) ys e = (e.0, each-first P xs ys e.1)
 
 pub each-all : {X : Type 0} (P : X → Type 0) (xs : List X) → Each P xs → All P xs
 each-all P [] e k d low = absurd (omega (arith, low))
@@ -62,7 +59,7 @@ parent-within None rs all within e = absurd (differ (sym (no-parent rs) ∙ e))
 parent-within (Some x) rs all within e = within x e
 
 and-false : (a b c : Bool) → (b ≡ true → c ≡ true) → (a && c) ≡ false → (a && b) ≡ false
-and-false true b c more none = unless b (λ e. differ (sym none ∙ more e))
+and-false true b c more none = false_from_ne_true b (λ e. differ (sym none ∙ more e))
 and-false false b c more none = refl
 
 -- none is stacked where it isn't mapped, or on none of these

@@ -3,7 +3,8 @@ use Rattle.std.proofs.Common.{◌≡◌, ℕ, Bool, true, false, cond, List, Opt
 use Rattle.std.specs.Prelude.{◌==◌, ◌&&◌, ◌||◌, ◌⊎◌, ◌≢◌, find, fold, not}
 use Rattle.std.specs.List.{All, list_any}
 use Rattle.std.specs.Option.{option_and_then, option_map, option_map_or}
-use Rattle.std.proofs.lemmas.Bool.{eqb-false, eqb-true}
+use Rattle.std.proofs.lemmas.Bool.{and_right, eqb-false, eqb-true, false_from_ne_true}
+use Rattle.std.proofs.lemmas.Option.{same_Some}
 use Rattle.wl_surface.specs.Surfaces.{Surfaces}
 use Rattle.wl_shell.specs.Popups.{Popped, dismiss, dismissed_after, dismissed_among, dismissed_with, dismissing, is_among, is_mapped_stage, is_parent_of, is_popup_mapped, is_toplevel, orphan}
 use Rattle.wl_shell.specs.Popups.{orphaning}
@@ -16,7 +17,7 @@ use Rattle.spec_desktop.specs.Desktop.{Desktop, owned_in}
 use Rattle.law_desktop.specs.Soundness.{has_surface}
 use Rattle.law_desktop.proofs.Lists.Keys.{gone}
 use Rattle.law_desktop.proofs.Lists.Standings.{of-it}
-use Rattle.law_desktop.proofs.Marks.Stacks.{Each, differ, each-both, each-map, equal-numbers, unless}
+use Rattle.law_desktop.proofs.Marks.Stacks.{equal-numbers}
 use Rattle.law_desktop.proofs.Soundness.Windows.{In}
 use Rattle.law_desktop.specs.TreeStepsLaws.{KeepsAll}
 use Rattle.law_desktop.specs.Changes.{HasTrees}
@@ -25,7 +26,7 @@ use Rattle.law_desktop.specs.StackedWith.{popup_of, stacked_roots}
 use Rattle.law_desktop.specs.Toplevel.{AreInTurn, ChangesToplevel, SameRoot, windows_with, windows_with_standing}
 use Rattle.law_desktop.proofs.RootsOf.Away.{IsOnRoot, root-or-popup}
 use Rattle.law_desktop.proofs.RootsOf.Change.{OthersAreKept, one-out}
-use Rattle.law_desktop.proofs.RootsOf.Commits.{no-popped, none-popped, some-is}
+use Rattle.law_desktop.proofs.RootsOf.Commits.{no-popped, none-popped}
 use Rattle.law_desktop.proofs.RootsOf.Dismissed.{numbered-by, numbered-role}
 use Rattle.law_desktop.proofs.RootsOf.Kept.{ToplevelIsKept, foreign-kept, popups_in, surfaces_in}
 use Rattle.law_desktop.proofs.RootsOf.Left.{IsLeft, dismissed-off, left, since-geometry}
@@ -34,11 +35,13 @@ use Rattle.law_desktop.proofs.RootsOf.Popped.{AreNumberedAlike, IsPopped, IsTher
 use Rattle.law_desktop.proofs.RootsOf.Requests.{same-keeps}
 use Rattle.law_desktop.proofs.RootsOf.Same.{apart-all, turn-in}
 use Rattle.law_desktop.proofs.RootsOf.Shells.{all-popped-of}
-use Rattle.law_desktop.proofs.RootsOf.Stacked.{all-found, found-any, none-any}
+use Rattle.law_desktop.proofs.RootsOf.Stacked.{all-found, found-any}
 use Rattle.law_desktop.proofs.RootsOf.Staying.{each-all, in_parent}
-use Rattle.law_desktop.proofs.RootsOf.Touched.{not-on}
 use Rattle.law_desktop.proofs.RootsOf.Trees.{any-tree}
 use Rattle.law_desktop.proofs.RootsOf.Turns.{all-from, none-in-turn, popup_surfaces}
+use Rattle.law_desktop.proofs.Truth.{differ}
+use Rattle.law_desktop.proofs.Lists.Each.{Each, each-both, each-map}
+use Rattle.law_desktop.proofs.Lists.Tests.{none-any}
 
 -- ---- popups
 
@@ -155,7 +158,7 @@ module _ (c xdg t : ℕ) (d e : Desktop) (had : HasTrees d) (has : HasTrees e) (
 
   -- the xdg_surface of the id is the toplevel's
   it-is : (y : XdgSurface) → IsThere sh y → (y.id == xdg) ≡ true → y ≡ x
-  it-is y there same = some-is y x (sym there.by_id ∙ (ap (λ n. xdg_at n sh) (eqb-true y.id xdg same ∙ sym id-is) ∙ here.by_id))
+  it-is y there same = same_Some y x (sym there.by_id ∙ (ap (λ n. xdg_at n sh) (eqb-true y.id xdg same ∙ sym id-is) ∙ here.by_id))
 
   among-id : (y : XdgSurface) → (dismissed_among ids y).id ≡ y.id
   among-id y = at (is_among y.id ids)
@@ -229,8 +232,8 @@ module _ (c xdg t : ℕ) (d e : Desktop) (had : HasTrees d) (has : HasTrees e) (
   stays : (p : Popped) → IsPopped sh p → is_among p.xdg.id ids ≡ false → (is p ≡ true → is_among p.xdg.id ids ≡ true) → out p.xdg ≡ p.xdg
   stays p popped not-among dismissed =
       ap (λ y. last (popup_changed (orphan xdg) y)) (ap (λ b. cond b (popup_changed dismiss p.xdg) p.xdg) not-among)
-      ∙ (ap last (orphan-same xdg p.xdg p popped.its (unless (is p) (λ f. differ (sym not-among ∙ dismissed f))))
-      ∙ ap (λ b. cond b (without_role p.xdg) p.xdg) (unless (p.xdg.id == xdg) (λ f. never (sym not-popped ∙ (ap popped_of (sym (it-is p.xdg popped.there f)) ∙ popped.its)))))
+      ∙ (ap last (orphan-same xdg p.xdg p popped.its (false_from_ne_true (is p) (λ f. differ (sym not-among ∙ dismissed f))))
+      ∙ ap (λ b. cond b (without_role p.xdg) p.xdg) (false_from_ne_true (p.xdg.id == xdg) (λ f. never (sym not-popped ∙ (ap popped_of (sym (it-is p.xdg popped.there f)) ∙ popped.its)))))
     where
       never : [] ≡ p ∷ [] → ⊥
       never e = absurd (cc)
@@ -247,7 +250,7 @@ module _ (c xdg t : ℕ) (d e : Desktop) (had : HasTrees d) (has : HasTrees e) (
   module _ (s : Standing) (found : find (is_of s.client s.surface) d.standing ≡ Some s) (is-c : s.client ≡ c) (other : is_of c t s ≡ false) where
     outside : In x.surface (stacked_roots d s) ≡ false
     outside =
-        unless (In x.surface (stacked_roots d s))
+        false_from_ne_true (In x.surface (stacked_roots d s))
         (λ there. at (root-or-popup (surfaces_in d s.client) x.surface (root_of (owned_in d) s ∷ []) (popups_in d s.client) there))
       where
         first : (a : Bool) → (a || false) ≡ true → a ≡ true
@@ -261,7 +264,7 @@ module _ (c xdg t : ℕ) (d e : Desktop) (had : HasTrees d) (has : HasTrees e) (
             ∙ subst (λ n. list_any (has_surface x.surface) (popups_in d n) ≡ true) is-c on.there)
 
     base : (p : Popped) → IsPopped sh p → is_parent_of xdg p.popup ≡ true → is_on_one (stacked_roots d s) (stacked_popup (owned_in d c) p) ≡ false
-    base p popped e = not-on (is_popup_mapped p) (has_parent_in (stacked_roots d s) (stacked_popup (owned_in d c) p)) (at p.popup.parent e)
+    base p popped e = and_right (is_popup_mapped p) (has_parent_in (stacked_roots d s) (stacked_popup (owned_in d c) p)) (at p.popup.parent e)
       where
         at : (o : Option ℕ) → option_map_or (λ parent. parent == xdg) o false ≡ true → in_parent (option_and_then (λ id. surface_at_xdg id sh) o) (stacked_roots d s) ≡ false
         at None f = absurd (differ f)

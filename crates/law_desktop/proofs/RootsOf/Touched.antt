@@ -1,22 +1,24 @@
 -- What touches one tree of a client, and of its popups no more than that of the tree's root, keeps each toplevel that this tree isn't stacked
 -- with.
 use Rattle.std.proofs.Common.{◌≡◌, ℕ, Bool, true, false, cond, Option, Some, None, List, [], ◌∷◌, refl, ap, sym, subst, ◌∙◌, inl, inr}
-use Rattle.std.specs.Prelude.{◌==◌, ◌&&◌, ◌||◌, ◌⊎◌, ◌≢◌, filter, find, not}
+use Rattle.std.specs.Prelude.{◌==◌, ◌||◌, ◌⊎◌, ◌≢◌, filter, find, not}
 use Rattle.std.specs.List.{list_any}
-use Rattle.std.proofs.lemmas.Bool.{eqb-true}
+use Rattle.std.proofs.lemmas.Bool.{and_right, eqb-true, false_from_ne_true, or_left, or_right}
 use Rattle.spec_desktop.specs.Stacking.{Standing, geometry_in, is_of, root_of}
 use Rattle.spec_desktop.specs.Windows.{Root, StackedPopup}
 use Rattle.spec_desktop.specs.Desktop.{Desktop, owned_in}
 use Rattle.law_desktop.specs.Soundness.{AreOnce, IsNoChild, IsSound, has_surface}
-use Rattle.law_desktop.proofs.Marks.Stacks.{Each, and-right, differ, each-both, each-map, equal-numbers, or-left, or-right, same-number, unless}
-use Rattle.law_desktop.proofs.Soundness.Trees.{all-there, or-here, or-there}
-use Rattle.law_desktop.proofs.Soundness.Windows.{In, same_popup, same_root}
+use Rattle.law_desktop.proofs.Marks.Stacks.{equal-numbers, same-number}
+use Rattle.law_desktop.proofs.Soundness.Trees.{all-there}
+use Rattle.law_desktop.proofs.Soundness.Windows.{In, same_popup, same_root, stacked-each}
 use Rattle.law_desktop.specs.ToplevelRoots.{has_parent_in, is_on_one}
 use Rattle.law_desktop.specs.StackedWith.{popup_of, stacked_roots}
-use Rattle.law_desktop.proofs.RootsOf.Away.{IsIn, IsOnRoot, each-in, root-or-popup, stacked-each}
+use Rattle.law_desktop.proofs.RootsOf.Away.{IsIn, IsOnRoot, each-in, root-or-popup}
 use Rattle.law_desktop.proofs.RootsOf.Kept.{RootIsKept, ToplevelIsKept, popups_in, surfaces_in}
 use Rattle.law_desktop.proofs.RootsOf.Staying.{in-stacked}
 use Rattle.law_desktop.proofs.RootsOf.Turns.{AreFrom, popup_surfaces}
+use Rattle.law_desktop.proofs.Truth.{and-right, differ, or-left, or-right}
+use Rattle.law_desktop.proofs.Lists.Each.{Each, each-both, each-map}
 
 -- ---- what is touched
 
@@ -59,14 +61,14 @@ once-found x (q ∷ qs) once p (inl same) is =
     ap (λ b. cond b (Some q) (find (has_surface x) qs)) (equal-numbers q.surface x (ap (λ (r : StackedPopup). r.surface) same ∙ is)) ∙ ap (λ (r : StackedPopup). Some r) same
 once-found x (q ∷ qs) once p (inr here) is =
     ap (λ b. cond b (Some q) (find (has_surface x) qs))
-    (unless (q.surface == x) (λ e. differ (sym once.0 ∙ in-any q p qs here (is ∙ sym (eqb-true q.surface x e)))))
+    (false_from_ne_true (q.surface == x) (λ e. differ (sym once.0 ∙ in-any q p qs here (is ∙ sym (eqb-true q.surface x e)))))
     ∙ once-found x qs once.1 p here is
   where
     in-any : (q p : StackedPopup) (ps : List StackedPopup) → IsIn p ps → p.surface ≡ q.surface → list_any (same_popup q) ps ≡ true
     in-any q p [] here is = absurd here
     in-any q p (r ∷ rs) (inl same) is =
-        or-here (same_popup q r) (list_any (same_popup q) rs) (equal-numbers r.surface q.surface (ap (λ (r : StackedPopup). r.surface) same ∙ is))
-    in-any q p (r ∷ rs) (inr here) is = or-there (same_popup q r) (list_any (same_popup q) rs) (in-any q p rs here is)
+        or_left (same_popup q r) (list_any (same_popup q) rs) (equal-numbers r.surface q.surface (ap (λ (r : StackedPopup). r.surface) same ∙ is))
+    in-any q p (r ∷ rs) (inr here) is = or_right (same_popup q r) (list_any (same_popup q) rs) (in-any q p rs here is)
 
 each-is-in : {X : Type 0} (xs : List X) → Each (λ x. IsIn x xs) xs
 each-is-in [] = tt
@@ -97,34 +99,30 @@ pub record IsApart (root : ℕ) (d : Desktop) (s : Standing) : Type 0 where
   pub outside : In root (stacked_roots d s) ≡ false
   pub parent : Each (λ p. p.surface ≡ root → has_parent_in (stacked_roots d s) p ≡ false) (popups_in d s.client)
 
-pub not-on : (a b : Bool) → b ≡ false → (a && b) ≡ false
-not-on true b e = e
-not-on false b e = refl
-
 module _ (root : ℕ) (d e : Desktop) (sound : IsSound d) (s : Standing) (stands : list_any (is_of s.client s.surface) d.standing ≡ true) (touches : Touches s.client root d e) where
   pub apart-kept : IsApart root d s → ToplevelIsKept d e s
   apart-kept apart = record {
     geometry = touches.geometries s.surface stands
-        (unless (s.surface == root) (λ is. differ (sym apart.outside
-        ∙ in-stacked (surfaces_in d s.client) root (root_of (owned_in d) s ∷ []) (popups_in d s.client) (or-here (s.surface == root) false is))));
+        (false_from_ne_true (s.surface == root) (λ is. differ (sym apart.outside
+        ∙ in-stacked (surfaces_in d s.client) root (root_of (owned_in d) s ∷ []) (popups_in d s.client) (or_left (s.surface == root) false is))));
     popups =
         filter-others (is_on_one (stacked_roots d s)) root (popups_in e s.client) after
         ∙ (ap (filter (is_on_one (stacked_roots d s))) touches.popups ∙ sym (filter-others (is_on_one (stacked_roots d s)) root (popups_in d s.client) before));
     roots =
         each-both (λ r. IsTopOrPopup s.surface (popups_in d s.client) r.surface) (λ r. In r.surface (stacked_roots d s) ≡ true) (λ r. RootIsKept s.client d e r.surface)
         (λ r is there. touches.trees r.surface (no-child s.client d sound s.surface r.surface stands is)
-        (unless (r.surface == root) (λ same. differ (sym apart.outside ∙ subst (λ x. In x (stacked_roots d s) ≡ true) (eqb-true r.surface root same) there))))
+        (false_from_ne_true (r.surface == root) (λ same. differ (sym apart.outside ∙ subst (λ x. In x (stacked_roots d s) ≡ true) (eqb-true r.surface root same) there))))
         (stacked_roots d s) (tops-or-popups d s) (all-there same_root (λ r. same-number r.surface) (stacked_roots d s));
   }
     where
       before : Each (λ p. p.surface ≡ root → is_on_one (stacked_roots d s) p ≡ false) (popups_in d s.client)
       before =
           each-map (λ p. p.surface ≡ root → has_parent_in (stacked_roots d s) p ≡ false) (λ p. p.surface ≡ root → is_on_one (stacked_roots d s) p ≡ false)
-          (λ p known is. not-on p.is_mapped (has_parent_in (stacked_roots d s) p) (known is)) (popups_in d s.client) apart.parent
+          (λ p known is. and_right p.is_mapped (has_parent_in (stacked_roots d s) p) (known is)) (popups_in d s.client) apart.parent
 
       one : (q : StackedPopup) → HadParent root (popups_in d s.client) q → is_on_one (stacked_roots d s) q ≡ false
       one q had =
-          not-on q.is_mapped (has_parent_in (stacked_roots d s) q)
+          and_right q.is_mapped (has_parent_in (stacked_roots d s) q)
           (ap (λ parent. has_parent_in (stacked_roots d s) (record q { parent = parent })) had.same
           ∙ each-in (λ p. p.surface ≡ root → has_parent_in (stacked_roots d s) p ≡ false) had.popup (popups_in d s.client) had.here apart.parent had.own)
 
@@ -143,7 +141,7 @@ IsElsewhere root d s (Some p) = has_parent_in (stacked_roots d s) p ≡ false
 module _ (root : ℕ) (d : Desktop) (sound : IsSound d) (s : Standing) (stands : list_any (is_of s.client s.surface) d.standing ≡ true) where
   pub elsewhere-apart : (o : Option StackedPopup) → popup_of s.client root d ≡ o → IsElsewhere root d s o → IsApart root d s
   elsewhere-apart o found elsewhere = record {
-    outside = unless (In root (stacked_roots d s)) (λ there. out (root-or-popup (surfaces_in d s.client) root (root_of (owned_in d) s ∷ []) (popups_in d s.client) there));
+    outside = false_from_ne_true (In root (stacked_roots d s)) (λ there. out (root-or-popup (surfaces_in d s.client) root (root_of (owned_in d) s ∷ []) (popups_in d s.client) there));
     parent = each-map (λ p. IsIn p (popups_in d s.client)) (λ p. p.surface ≡ root → has_parent_in (stacked_roots d s) p ≡ false) parent (popups_in d s.client)
         (each-is-in (popups_in d s.client));
   }

@@ -1,5 +1,6 @@
 -- Which trees of a client are kept: those that the surface that changes is not in, or all.
 use Rattle.std.proofs.Common.{◌≡◌, ℕ, ◌&&◌, true, false, None, ap, sym, subst, ◌∙◌}
+use Rattle.std.proofs.lemmas.Bool.{false_from_ne_true}
 use Rattle.std.specs.Prelude.{ℤ, ◌==◌, int_le, pos, unsigned_abs}
 use Rattle.std.specs.Option.{option_map}
 use Rattle.wl_surface.specs.State.{counting}
@@ -9,16 +10,18 @@ use Rattle.spec_desktop.specs.Windows.{tree}
 use Rattle.spec_desktop.specs.Desktop.{Desktop}
 use Rattle.spec_desktop.specs.Moments.{applied_between}
 use Rattle.law_desktop.specs.Soundness.{IsNoChild}
-use Rattle.law_desktop.proofs.Marks.Stacks.{differ, each-both, each-map, equal-numbers, unless}
+use Rattle.law_desktop.proofs.Marks.Stacks.{equal-numbers}
 use Rattle.law_desktop.proofs.Soundness.LinkedDepths.{descends-itself}
 use Rattle.law_desktop.specs.TreeStepsLaws.{IsRootOf, KeepsAll, KeepsOthers}
-use Rattle.law_desktop.proofs.TreeSteps.Damage.{and-none, applies-nothing}
+use Rattle.law_desktop.proofs.TreeSteps.Damage.{applies-nothing}
 use Rattle.law_desktop.proofs.TreeSteps.Descents.{no-child-is-top, roots-apart}
 use Rattle.law_desktop.proofs.TreeSteps.Others.{none-under, other-trees-stay}
 use Rattle.law_desktop.proofs.TreeSteps.Owners.{tree-owned, tree-under}
 use Rattle.law_desktop.proofs.TreeSteps.Staying.{all-trees-stay}
 use Rattle.law_desktop.specs.Changes.{HasTrees}
 use Rattle.law_desktop.proofs.RootsOf.Kept.{IsUndamaged, RootIsKept, same-undamaged, surfaces_in}
+use Rattle.law_desktop.proofs.Truth.{and-false, differ}
+use Rattle.law_desktop.proofs.Lists.Each.{each-both, each-map}
 
 -- ---- the trees that the surface is not in
 
@@ -41,7 +44,7 @@ module _ (c : ℕ) (d e : Desktop) (had : HasTrees d) where
 
       elsewhere : descends_from levels (surfaces_in d c) x id ≡ false
       elsewhere =
-          unless (descends_from levels (surfaces_in d c) x id)
+          false_from_ne_true (descends_from levels (surfaces_in d c) x id)
           (λ under. differ (sym other ∙ equal-numbers x root (roots-apart (surfaces_in d c) x root id top its.top under its.under)))
 
       histories : (surface : ℕ) → descends_from levels (surfaces_in d c) x surface ≡ true → history_in surface (surfaces_in e c) ≡ history_in surface (surfaces_in d c)
@@ -64,4 +67,4 @@ module _ (c : ℕ) (d e : Desktop) (had : HasTrees d) where
       damage surface a b =
           ap (λ q. (int_le (pos 0) a && int_le (pos 0) b) && q)
           (applies-nothing (history_in surface (surfaces_in d c)) (history_in surface (surfaces_in e c)) (keeps.cuts surface) (unsigned_abs a) (unsigned_abs b))
-          ∙ and-none (int_le (pos 0) a && int_le (pos 0) b)
+          ∙ and-false (int_le (pos 0) a && int_le (pos 0) b)

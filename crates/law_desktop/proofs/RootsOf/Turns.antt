@@ -2,15 +2,16 @@
 use Rattle.std.proofs.Common.{◌≡◌, ℕ, Bool, true, false, cond, List, [], ◌∷◌, ◌++◌, map, refl, ap, ap₂, sym, subst, ◌∙◌, inl, inr, append_assoc}
 use Rattle.std.specs.Prelude.{◌==◌, ◌⊎◌, filter, flat_map, fold}
 use Rattle.std.specs.List.{list_any}
-use Rattle.std.proofs.lemmas.Bool.{eqb-true}
+use Rattle.std.proofs.lemmas.Bool.{eqb-true, false_from_ne_true, or_from}
 use Rattle.std.proofs.lemmas.List.{append-nil}
 use Rattle.wl_surface.specs.Surfaces.{Surfaces}
 use Rattle.spec_desktop.specs.Windows.{Root, StackedPopup, Window, roots_of, stacked, stacked_on}
 use Rattle.law_desktop.specs.Soundness.{AreOnce}
-use Rattle.law_desktop.proofs.Marks.Stacks.{Each, differ, each-map, equal-numbers, or-left, or-right, unless}
-use Rattle.law_desktop.proofs.Soundness.Trees.{each-append, or-none}
+use Rattle.law_desktop.proofs.Marks.Stacks.{equal-numbers}
 use Rattle.law_desktop.specs.Toplevel.{AreInTurn, of_root}
 use Rattle.law_desktop.proofs.RootsOf.Away.{Adds, adds-on}
+use Rattle.law_desktop.proofs.Truth.{differ, or-left, or-right}
+use Rattle.law_desktop.proofs.Lists.Each.{Each, each-append, each-map}
 
 -- ---- lists that are in another, in its order
 
@@ -54,7 +55,7 @@ none-of x xs [] f none = ap (list_any (λ y. x == y)) f
 none-of x xs (y ∷ ys) (inl f) none = none-of x xs ys f (or-right (x == y) (list_any (λ z. x == z) ys) none)
 none-of x xs (y ∷ ys) (inr (rest, e, f)) none =
     ap (list_any (λ z. x == z)) e
-    ∙ or-none (x == y) (list_any (λ z. x == z) rest) (or-left (x == y) (list_any (λ z. x == z) ys) none) (none-of x rest ys f (or-right (x == y) (list_any (λ z. x == z) ys) none))
+    ∙ or_from (x == y) (list_any (λ z. x == z) rest) (or-left (x == y) (list_any (λ z. x == z) ys) none) (none-of x rest ys f (or-right (x == y) (list_any (λ z. x == z) ys) none))
 
 -- ---- the roots of a toplevel are from it and its popups
 
@@ -130,7 +131,7 @@ module _ (tree : Root → List Window) (own : (r : Root) → Each (IsOfRoot r.su
   none-tree : (xs : List ℕ) (r : Root) → list_any (λ y. r.surface == y) xs ≡ false → AreNoneOf xs (tree r)
   none-tree [] r none = tt
   none-tree (x ∷ xs) r none = (
-    tree-elsewhere x r (unless (x == r.surface) (λ e. differ (sym (or-left (r.surface == x) (list_any (λ y. r.surface == y) xs) none) ∙ equal-numbers r.surface x (sym (eqb-true x r.surface e))))),
+    tree-elsewhere x r (false_from_ne_true (x == r.surface) (λ e. differ (sym (or-left (r.surface == x) (list_any (λ y. r.surface == y) xs) none) ∙ equal-numbers r.surface x (sym (eqb-true x r.surface e))))),
     none-tree xs r (or-right (r.surface == x) (list_any (λ y. r.surface == y) xs) none),
   )
 

@@ -3,7 +3,7 @@ use Rattle.std.proofs.Common.{◌≡◌, ℕ, Bool, true, false, cond, List, Opt
 use Rattle.std.specs.Prelude.{◌==◌, ◌&&◌, ◌||◌, ◌⊎◌, ◌≢◌, filter, find, flat_map, fold, not}
 use Rattle.std.specs.List.{list_any}
 use Rattle.std.specs.Option.{option_and_then, option_map}
-use Rattle.std.proofs.lemmas.Bool.{eqb-true}
+use Rattle.std.proofs.lemmas.Bool.{and_right, eqb-true, false_from_ne_true, or_from}
 use Rattle.wl_geom.specs.declared.rect.Rect.{Rect}
 use Rattle.wl_shell.specs.Popups.{Popped, by_number, is_popup_mapped, popped_of, popped_role, popups_of}
 use Rattle.wl_shell.specs.Shell.{RoleObject, Shell, XdgSurface, without_xdg, xdg_at, xdg_of}
@@ -14,8 +14,7 @@ use Rattle.spec_desktop.specs.Desktop.{Desktop, owned_in}
 use Rattle.law_desktop.specs.Apart.{AreApartBy}
 use Rattle.law_desktop.specs.Soundness.{has_surface}
 use Rattle.law_desktop.proofs.Lists.Keys.{found-by, found-map, gone, new-elsewhere, new-here}
-use Rattle.law_desktop.proofs.Marks.Stacks.{Each, differ, equal-numbers, unless}
-use Rattle.law_desktop.proofs.Soundness.Trees.{or-none}
+use Rattle.law_desktop.proofs.Marks.Stacks.{equal-numbers}
 use Rattle.law_desktop.proofs.Soundness.Windows.{In}
 use Rattle.law_desktop.specs.Standing.{HasMappedToplevel, IsMappedToplevel}
 use Rattle.law_desktop.specs.TreeStepsLaws.{KeepsAll}
@@ -27,12 +26,13 @@ use Rattle.law_desktop.proofs.RootsOf.Kept.{popups_in, surfaces_in}
 use Rattle.law_desktop.proofs.RootsOf.Ordered.{all-left}
 use Rattle.law_desktop.proofs.RootsOf.Painted.{painted}
 use Rattle.law_desktop.proofs.RootsOf.Popped.{IsPopped, IsThere, all-there}
-use Rattle.law_desktop.proofs.RootsOf.PopupEnds.{filter-append}
 use Rattle.law_desktop.proofs.RootsOf.Shells.{all-popped-of, found-there, geometry-counted, geometry-in-counted}
 use Rattle.law_desktop.proofs.RootsOf.Stacked.{found-any}
 use Rattle.law_desktop.proofs.RootsOf.Staying.{in_parent}
-use Rattle.law_desktop.proofs.RootsOf.Touched.{not-on}
 use Rattle.law_desktop.proofs.RootsOf.Trees.{any-tree}
+use Rattle.law_desktop.proofs.Truth.{differ}
+use Rattle.law_desktop.proofs.Lists.Each.{Each}
+use Rattle.law_desktop.proofs.Lists.Left.{filter-append}
 
 -- ---- roots have role objects
 
@@ -55,20 +55,20 @@ module _ (c : ℕ) (d : Desktop) (had : HasTrees d) where
     where
       other : (p : Popped) → IsPopped (owned_in d c).shell p → (p.xdg.surface == surface) ≡ false
       other p popped =
-          unless (p.xdg.surface == surface)
+          false_from_ne_true (p.xdg.surface == surface)
           (λ e. none-popped p.xdg p
           (sym (ap role_in popped.there.by_surface) ∙ (ap (λ n. role_in (xdg_of n (owned_in d c).shell)) (eqb-true p.xdg.surface surface e) ∙ bare)) popped.its)
 
       by : (ps : List Popped) → Each (IsPopped (owned_in d c).shell) ps → list_any (has_surface surface) (map (stacked_popup (owned_in d c)) ps) ≡ false
       by [] each = refl
       by (p ∷ ps) each =
-          or-none (p.xdg.surface == surface) (list_any (has_surface surface) (map (stacked_popup (owned_in d c)) ps)) (other p each.0) (by ps each.1)
+          or_from (p.xdg.surface == surface) (list_any (has_surface surface) (map (stacked_popup (owned_in d c)) ps)) (other p each.0) (by ps each.1)
 
   -- a surface whose xdg_surface has none, or that has no xdg_surface, is no root
   pub no-root : (s : Standing) → list_any (is_of s.client s.surface) d.standing ≡ true → s.client ≡ c → (surface : ℕ) → role_in (xdg_of surface (owned_in d c).shell) ≡ None
       → In surface (stacked_roots d s) ≡ false
   no-root s stands is surface bare =
-      unless (In surface (stacked_roots d s)) (λ there. at (root-or-popup (surfaces_in d s.client) surface (root_of (owned_in d) s ∷ []) (popups_in d s.client) there))
+      false_from_ne_true (In surface (stacked_roots d s)) (λ there. at (root-or-popup (surfaces_in d s.client) surface (root_of (owned_in d) s ∷ []) (popups_in d s.client) there))
     where
       first : (a : Bool) → (a || false) ≡ true → a ≡ true
       first true g = refl
@@ -148,8 +148,8 @@ module _ (c : ℕ) (d e : Desktop) (had : HasTrees d) (others : (other : ℕ) �
             → AreSameOrOut (is_on_one rs) (stacked_popup (owned_in d c) p) (stacked_popup (owned_in e c) p)
         by (inl same) = inl (ap₂ at same (geometry-counted (owned_in d c) (owned_in e c) p.xdg (keeps.counts p.xdg.surface)))
         by (inr out) = inr (
-          not-on (is_popup_mapped p) (in_parent (stacked_popup (owned_in d c) p).parent rs) out.0,
-          not-on (is_popup_mapped p) (in_parent (stacked_popup (owned_in e c) p).parent rs) out.1,
+          and_right (is_popup_mapped p) (in_parent (stacked_popup (owned_in d c) p).parent rs) out.0,
+          and_right (is_popup_mapped p) (in_parent (stacked_popup (owned_in e c) p).parent rs) out.1,
         )
 
     unmapped-out : (own : Owned) (p : Popped) → is_popup_mapped p ≡ false → is_on_one rs (stacked_popup own p) ≡ false
@@ -194,7 +194,7 @@ module _ (c id : ℕ) (d e : Desktop) (had : HasTrees d) (others : (other : ℕ)
   -- a toplevel isn't that
   toplevel-apart : (surface : ℕ) (x : XdgSurface) → xdg_of surface sh ≡ Some x → HasMappedToplevel (Some x) → (x.id == id) ≡ false
   toplevel-apart surface x found mapped =
-      unless (x.id == id) (λ e. unmapped-role (Some x) (bare-there x (found-there c d had surface x found) e) mapped)
+      false_from_ne_true (x.id == id) (λ e. unmapped-role (Some x) (bare-there x (found-there c d had surface x found) e) mapped)
 
   module _ (change : XdgSurface → XdgSurface) (ids : (x : XdgSurface) → (change x).id ≡ x.id) (surfaces : (x : XdgSurface) → (change x).surface ≡ x.surface)
       (none : (x : XdgSurface) → filter is_popup_mapped (popped_of (change x)) ≡ []) (shell : (owned_in e c).shell ≡ map (λ x. cond (x.id == id) (change x) x) (owned_in d c).shell) where
@@ -309,7 +309,7 @@ last-apart has (y ∷ ys) x key apart is = at (last-apart has ys x key apart.1 i
 
     at : find (has key) ys ≡ None → find (has key) (y ∷ ys) ≡ None
     at rest =
-        ap (λ b. cond b (Some y) (find (has key) ys)) (unless (has key y) (λ f. never (sym (apart.0 key f) ∙ new-here (has key) ys x rest is))) ∙ rest
+        ap (λ b. cond b (Some y) (find (has key) ys)) (false_from_ne_true (has key y) (λ f. never (sym (apart.0 key f) ∙ new-here (has key) ys x rest is))) ∙ rest
 
 module _ (c : ℕ) (x : XdgSurface) (d e : Desktop) (had : HasTrees d) (has : HasTrees e) (others : (other : ℕ) → other ≢ c → owned_in e other ≡ owned_in d other)
     (stack : e.standing ≡ d.standing) (keeps : KeepsAll (surfaces_in d c) (surfaces_in e c)) (bare : x.role ≡ None) (shell : (owned_in e c).shell ≡ (owned_in d c).shell ++ x ∷ []) where
@@ -335,7 +335,7 @@ module _ (c : ℕ) (x : XdgSurface) (d e : Desktop) (had : HasTrees d) (has : Ha
       (λ surface y found mapped.
       ap (xdg_of surface) shell
       ∙ (new-elsewhere (λ x. x.surface == surface) own x
-      (unless (x.surface == surface) (λ e. never (sym new-surface ∙ (ap (λ n. xdg_of n own) (eqb-true x.surface surface e) ∙ found)))) ∙ found))
+      (false_from_ne_true (x.surface == surface) (λ e. never (sym new-surface ∙ (ap (λ n. xdg_of n own) (eqb-true x.surface surface e) ∙ found)))) ∙ found))
       (λ rs out n. at rs out n (x.id == n) refl)
     where
       never : {y : XdgSurface} → None ≡ Some y → ⊥

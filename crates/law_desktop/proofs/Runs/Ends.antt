@@ -1,5 +1,6 @@
 -- Where memory is there, events, ends and the settling of the focus lead to one desktop.
 use Rattle.std.proofs.Common.{◌≡◌, ◌≢◌, ℕ, zero, suc, ◌≤◌, ◌<◌, List, [], ◌∷◌, Bool, true, false, Option, Some, None, refl, ap, subst, sym, ◌∙◌, arith, inl, inr}
+use Rattle.std.proofs.lemmas.Option.{none-some}
 use Rattle.std.specs.Prelude.{◌||◌, is_some}
 use Rattle.spec_desktop.specs.declared.cause.Cause.{Cause}
 use Rattle.spec_desktop.specs.declared.cause.Cause.TheVariants.{Memory}
@@ -16,10 +17,9 @@ use Rattle.spec_desktop.specs.Replies.{focus_window, popups_done}
 use Rattle.spec_desktop.specs.Settling.{Applies, AppliesAll, EndsAndSettles, EndsFirst, Midstep, PointerActs, QueuesFirst, QueuesTo, Settles, SettlesAll, SettlesEnds, Strike, Tells, TellsAt, TellsUnless}
 use Rattle.spec_desktop.specs.Settling.{ended_all, ended_at, ended_by, is_struck, leave_drawn, noted, noted_if, number_of, struck_by, told_drawn, unstruck, with_focus, with_standing, without_grabs}
 use Rattle.spec_desktop.specs.Stacked.{all_windows}
-use Rattle.law_desktop.proofs.Lists.Keys.{none-some}
-use Rattle.law_desktop.proofs.Marks.Stacks.{or-right}
 use Rattle.law_desktop.proofs.Runs.Fates.{AreStruck, Follows, Lives, ended-follows, fate, fate-unstruck, follows-on, lasting, number-ends, status-lives, still, told-fate, told-follows}
 use Rattle.law_desktop.proofs.Runs.Leads.{After, Leads, Sound, Spares, chained, from, moving, only, worded}
+use Rattle.law_desktop.proofs.Truth.{or-right}
 
 -- ---- events
 

@@ -2,12 +2,12 @@
 use Rattle.std.proofs.Common.{◌≡◌, ◌≢◌, ℕ, zero, suc, ◌≤◌, List, [], ◌∷◌, length, Bool, true, false, Option, Some, None, refl, ap, subst, sym, ◌∙◌, arith, inl, inr, eq-eqb}
 use Rattle.std.specs.Prelude.{◌==◌, ◌||◌, if◌then◌else◌, nat_lt, ◌⊎◌}
 use Rattle.std.proofs.lemmas.Bool.{eqb-false, eqb-true, ne_eqb}
+use Rattle.std.proofs.lemmas.Option.{none-some}
 use Rattle.spec_desktop.specs.declared.cause.Cause.{Cause}
 use Rattle.spec_desktop.specs.Desktop.{Resident, client_in, place, with_number, with_place, status_of}
 use Rattle.spec_desktop.specs.Settling.{Strike, in_order, is_struck, struck_by}
-use Rattle.law_desktop.proofs.Lists.Keys.{none-some}
 use Rattle.law_desktop.proofs.Runs.Places.{number-other, number-same}
-use Rattle.law_desktop.proofs.Marks.Stacks.{or-left, or-right}
+use Rattle.law_desktop.proofs.Truth.{or-left, or-right}
 
 -- why a client is to end or, where it isn't, why it ended
 abbrev pub fate_in : ℕ → List Strike → Option Cause → Option Cause

@@ -34,7 +34,7 @@ put-owned c k r x d there same = at (same-or c k)
 
 -- ---- the settling of the focus
 
-drawing-owned : (b : Bool) (r : Resident) → (drawing b r).owned ≡ r.owned
+pub drawing-owned : (b : Bool) (r : Resident) → (drawing b r).owned ≡ r.owned
 drawing-owned true r = refl
 drawing-owned false r = refl
 

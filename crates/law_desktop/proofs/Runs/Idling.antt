@@ -210,7 +210,7 @@ change-quiet c (EndToplevel id xdg top) d r = (refl, refl)
 change-quiet c (Move surface serial) d r = (refl, refl)
 
 -- the clients aren't among what the stack and the pointer are
-stacked-by : (effect : Effect) (b : Bool) (c surface : ℕ) (d : Desktop) → (stacked_by effect b c surface d).clients ≡ d.clients
+pub stacked-by : (effect : Effect) (b : Bool) (c surface : ℕ) (d : Desktop) → (stacked_by effect b c surface d).clients ≡ d.clients
 stacked-by Stays b c surface d = refl
 stacked-by Unconfigured b c surface d = refl
 stacked-by Configures b c surface d = refl
@@ -219,7 +219,7 @@ stacked-by Maps false c surface d = refl
 stacked-by Unmaps true c surface d = refl
 stacked-by Unmaps false c surface d = refl
 
-stacked-for : (c : ℕ) (demand : Demand) (r : Resident) (windows : List Window) (d : Desktop) → (stacked_for c demand r windows d).clients ≡ d.clients
+pub stacked-for : (c : ℕ) (demand : Demand) (r : Resident) (windows : List Window) (d : Desktop) → (stacked_for c demand r windows d).clients ≡ d.clients
 stacked-for c (Asks ask) r windows d = refl
 stacked-for c (EndSurface id) r windows d = refl
 stacked-for c (AskFrame id version surface) r windows d = refl

@@ -1,5 +1,6 @@
 -- Where memory is there, a client's messages lead to one desktop where every request is served.
 use Rattle.std.proofs.Common.{◌≡◌, ◌≢◌, ℕ, zero, suc, ◌≤◌, List, [], ◌++◌, drop, Bool, true, false, Option, Some, None, Result, refl, ap, subst, sym, ◌∙◌, arith, inl, inr}
+use Rattle.std.proofs.lemmas.Option.{none-some}
 use Rattle.std.specs.Prelude.{Ok, Err}
 use Rattle.wl_wire.specs.Wire.{split_of}
 use Rattle.wl_wire.specs.declared.header.Split.{Split}
@@ -11,13 +12,9 @@ use Rattle.spec_desktop.specs.declared.refusals.Refusal.{Refusal}
 use Rattle.spec_desktop.specs.Peer.{Errs, IsIdleAt, LacksMemory, Peer, counted, ended, with_rest}
 use Rattle.spec_desktop.specs.Told.{Said, display_error}
 use Rattle.spec_desktop.proofs.Unique.{refused_is}
-use Rattle.wl_shell.specs.Popups.{is_toplevel}
-use Rattle.wl_shell.specs.Shell.{Effect, Stays, Unconfigured, Configures, Maps, Unmaps}
-use Rattle.spec_desktop.specs.Windows.{Window}
-use Rattle.spec_desktop.specs.Changing.{changed_for, stacked_by, stacked_for}
-use Rattle.spec_desktop.specs.Demand.{Demand, Asks, EndSurface, AskFrame, CommitTree, GetSubsurface, EndSubsurface, SetMode, GetPointer, MakeCursor}
-use Rattle.spec_desktop.specs.Demand.{GetPopup, Grab, EndPopup, EndToplevel, Move}
-use Rattle.spec_desktop.specs.Demanding.{effect_of_commit, judge_all}
+use Rattle.spec_desktop.specs.Changing.{changed_for}
+use Rattle.spec_desktop.specs.Demand.{Demand}
+use Rattle.spec_desktop.specs.Demanding.{judge_all}
 use Rattle.spec_desktop.specs.Desktop.{Desktop, Resident, become_by, client_at, client_in, resident_of, with_client, with_number, status_in, status_of}
 use Rattle.spec_desktop.specs.LeftOut.{LeftOut}
 use Rattle.spec_desktop.specs.Replies.{replies}
@@ -27,11 +24,10 @@ use Rattle.spec_desktop.specs.Step.{with_peer}
 use Rattle.spec_desktop.specs.Happens.{FeedsAt, Reaches, Serves, StopsAt, done_for, wants_memory}
 use Rattle.law_desktop.proofs.Runs.Forms.{Answers, Becomes, Does, ServesAt, Takes, WantsOr, after_why}
 use Rattle.law_desktop.proofs.Runs.Places.{left_by, number-same, number-twice}
-use Rattle.law_desktop.proofs.Lists.Keys.{none-some}
 use Rattle.law_desktop.proofs.Runs.Ends.{end_all-leads, queues-once, same-pair}
 use Rattle.law_desktop.proofs.Runs.Fates.{Follows, Lives, follows-on, lasting, put-follows, status-here, status-lives, still}
 use Rattle.law_desktop.proofs.Runs.Leads.{After, Leads, Spares, chained, from, given, nowhere, only, spares-first, spares-rest, unless, worded}
-use Rattle.spec_desktop.specs.Demand.{Reposition}
+use Rattle.law_desktop.proofs.Runs.Idling.{stacked-for}
 
 -- ---- what becomes of a client
 
@@ -132,39 +128,13 @@ module _ (c : ℕ) (events : List Said) (made : Resident) (d on : Desktop) (same
       })
       (λ y h. end_all-leads (unstruck (done_so y)) tt (omega (arith, few, (done-after y).fewer))))
 
-effect-clients : (effect : Effect) (toplevel : Bool) (c surface : ℕ) (d : Desktop) → (stacked_by effect toplevel c surface d).clients ≡ d.clients
-effect-clients Stays toplevel c surface d = refl
-effect-clients Unconfigured toplevel c surface d = refl
-effect-clients Configures toplevel c surface d = refl
-effect-clients Maps true c surface d = refl
-effect-clients Maps false c surface d = refl
-effect-clients Unmaps true c surface d = refl
-effect-clients Unmaps false c surface d = refl
-
-demand-clients : (c : ℕ) (demand : Demand) (r : Resident) (windows : List Window) (d : Desktop) → (stacked_for c demand r windows d).clients ≡ d.clients
-demand-clients c (Asks ask) r windows d = refl
-demand-clients c (EndSurface id) r windows d = refl
-demand-clients c (AskFrame id version surface) r windows d = refl
-demand-clients c (CommitTree surface) r windows d = effect-clients (effect_of_commit r surface) (is_toplevel _) c surface d
-demand-clients c (GetSubsurface id version child parent) r windows d = refl
-demand-clients c (EndSubsurface id) r windows d = refl
-demand-clients c (SetMode link synchronised) r windows d = refl
-demand-clients c (GetPointer id version) r windows d = refl
-demand-clients c (MakeCursor surface) r windows d = refl
-demand-clients c (GetPopup id version xdg parent p) r windows d = refl
-demand-clients c (Reposition xdg token p) r windows d = refl
-demand-clients c (Grab xdg serial) r windows d = refl
-demand-clients c (EndPopup id xdg) r windows d = refl
-demand-clients c (EndToplevel id xdg top) r windows d = refl
-demand-clients c (Move surface serial) r windows d = refl
-
 -- what is done to the stack and to the pointer leaves the clients
 pub done-clients_stay : (c : ℕ) (demand : Demand) (r : Resident) (d : Desktop) → (done_for c demand r d).clients ≡ d.clients
-done-clients_stay c demand r d = demand-clients c demand r (all_windows d) d
+done-clients_stay c demand r d = stacked-for c demand r (all_windows d) d
 
 -- ---- a message
 
-lacking : (p q : Peer) → LacksMemory p q → q.status ≡ Some Memory
+pub lacking : (p q : Peer) → LacksMemory p q → q.status ≡ Some Memory
 lacking p q (inl h) = ap (λ x. x.status) h
 lacking p q (inr h) = ap (λ x. x.status) h.1
 

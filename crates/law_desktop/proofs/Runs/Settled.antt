@@ -2,7 +2,7 @@
 use Rattle.std.proofs.Common.{◌≡◌, ◌≢◌, ℕ, zero, suc, ◌+◌, ◌≤◌, ◌<◌, drop, List, [], ◌∷◌, ◌++◌, length, map, Bool, true, false, Option, Some, None, Result, refl, ap, ap₂, subst, sym, ◌∙◌, arith, inl, inr}
 use Rattle.std.proofs.Math.Path.{fun_ext}
 use Rattle.std.proofs.lemmas.Bool.{eqb-true}
-use Rattle.std.specs.Option.{option_map_or}
+use Rattle.std.proofs.lemmas.Option.{none-some, same_Some}
 use Rattle.std.specs.Prelude.{◌==◌, ◌&&◌, ◌⊎◌, if◌then◌else◌, is_some, Ok, Err}
 use Rattle.wl_wire.specs.declared.header.Split.{Split}
 use Rattle.wl_wire.specs.declared.header.Split.TheVariants.{Message, More, Bad}
@@ -20,7 +20,7 @@ use Rattle.spec_desktop.specs.Stacking.{Owned, Standing, nothing_owned, root_of}
 use Rattle.spec_desktop.specs.Windows.{Place, Window, windows}
 use Rattle.spec_desktop.specs.declared.answers.Done.{Done}
 use Rattle.spec_desktop.specs.Act.{Connect, Feed, Store, Leave as Going, Tick, Send, Close, Motion as Moving, Button, IsClosed, IsSent, IsStored, closed_by, lowest, next_of}
-use Rattle.spec_desktop.specs.Changing.{changed_for, drawing, grab_holder}
+use Rattle.spec_desktop.specs.Changing.{changed_for, grab_holder}
 use Rattle.spec_desktop.specs.Demand.{Demand}
 use Rattle.spec_desktop.specs.Desktop.{Desktop, Resident, arrival, become_by, client_at, owned_in, owned_of, place, with_client, with_place}
 use Rattle.spec_desktop.specs.Happens.{AnswersThen, BecomesThen, DoesThen, FeedsAt, IsFedAt, Reaches, ServesThen, StopsAt, TakesThen, WantsOrThen, changed_so, done_for, placed, point_in, settling, wants_memory, with_press, with_release}
@@ -34,10 +34,10 @@ use Rattle.law_desktop.proofs.Runs.Fates.{AreStruck, Follows, lasting, lasting-w
 use Rattle.law_desktop.proofs.Runs.Forms.{Buttons, ChangesAt, ConnectsAt, LeavesAt, MovesTo, PressesIf, ReleasesIf, Shows}
 use Rattle.law_desktop.proofs.Runs.Leads.{Sound}
 use Rattle.law_desktop.proofs.Runs.Moves.{frames-leads}
-use Rattle.law_desktop.proofs.Lists.Keys.{none-some}
 use Rattle.law_desktop.proofs.Runs.OneRun.{changed-held, few-of, held}
 use Rattle.law_desktop.proofs.Runs.Places.{number-other, number-same}
 use Rattle.law_desktop.proofs.Runs.Serves.{done-clients_stay, serves-leads}
+use Rattle.law_desktop.proofs.Runs.Following.{drawing-owned}
 
 -- ---- what is shown stays
 
@@ -100,10 +100,6 @@ tells-so change events same c old new h = at (client_at c old.desktop) refl h
     at None there h = stays-so old.desktop.pointer.focus old new h refl
     at (Some r) there h = unless _ r there h
 
-drawing-owned : (b : Bool) (r : Resident) → (drawing b r).owned ≡ r.owned
-drawing-owned true r = refl
-drawing-owned false r = refl
-
 focus-then : (was focus : Option Target) (old mid new : Midstep) → HasFocus was old mid → new ≡ with_focus focus mid → HasFocus focus old new
 focus-then was focus old mid new has e =
     record {
@@ -137,7 +133,7 @@ turns-so windows (Some s) (Some t) old new is h =
 
 -- ---- the focus is settled
 
-same-target : (s t : Option Target) → is_same s t ≡ true → s ≡ t
+pub same-target : (s t : Option Target) → is_same s t ≡ true → s ≡ t
 same-target None None e = refl
 same-target None (Some t) e = absurd (cc)
 same-target (Some s) None e = absurd (cc)
@@ -154,7 +150,7 @@ same-target (Some s) (Some t) e =
     both-right false b e = absurd (cc)
 
 -- what is settled is so when it is settled again
-settled-again : (p : Pointer) (ws : List Window) → settled (record p { focus = settled p ws }) ws ≡ settled p ws
+pub settled-again : (p : Pointer) (ws : List Window) → settled (record p { focus = settled p ws }) ws ≡ settled p ws
 settled-again p ws = at p.buttons
   where
     kept : (t : Target) (b : Bool) → is_stacked t ws ≡ b → kept_focus (if b then Some t else None) ws ≡ (if b then Some t else None)
@@ -200,7 +196,7 @@ nothing-done old new h = stays-so old.desktop.pointer.focus old new h refl
 pub has-settled : (old new : Midstep) → Settles old new → HasFocus (settled old.desktop.pointer (all_windows old.desktop)) old new
 has-settled old new h = settles-so [] old new (nothing-done old) h
 
-settles-settled : (old new : Midstep) → Settles old new → IsSettled new.desktop
+pub settles-settled : (old new : Midstep) → Settles old new → IsSettled new.desktop
 settles-settled old new h = focus-settled old new (has-settled old new h)
 
 pub settling-shows-nothing : SettlingShowsNothing
@@ -208,7 +204,7 @@ settling-shows-nothing old new h =
     let has = has-settled old new h in (same-windows old.desktop new.desktop has.shows, has.shows.standing)
 
 -- it went where it is: the surface that keeps the focus is told, or the focus moves
-went-settled : (time : ℕ) (old new : Midstep) → PointerActs (Went time) old new → IsSettled new.desktop
+pub went-settled : (time : ℕ) (old new : Midstep) → PointerActs (Went time) old new → IsSettled new.desktop
 went-settled time old new h =
     focus-settled old new (settles-so (motion_of time old.desktop.pointer.move old.desktop.pointer.focus) old new (λ new h. at old.desktop.pointer.move old.desktop.pointer.focus refl new h) h)
   where
@@ -343,9 +339,6 @@ fed-settled left c piece (Some r) d new done there short is h = feeds-settled le
 one-more : (k : ℕ) → k + 1 ≡ suc k
 one-more k = omega arith
 
-some-is : (i j : ℕ) → Some i ≡ Some j → i ≡ j
-some-is i j e = ap (λ (o : Option ℕ). option_map_or (λ n. n) o i) e
-
 free-place : (xs : List (Option Resident)) (k : ℕ) → lowest xs ≡ Some k → place xs k ≡ None
 free-place [] k e = refl
 free-place (None ∷ xs) zero e = refl
@@ -354,7 +347,7 @@ free-place (Some x ∷ xs) k e = at (lowest xs) (free-place xs) e
   where
     at : (o : Option ℕ) → ((j : ℕ) → o ≡ Some j → place xs j ≡ None) → next_of o ≡ Some k → place (Some x ∷ xs) k ≡ None
     at None later e = absurd (cc)
-    at (Some j) later e = subst (λ (n : ℕ). place (Some x ∷ xs) n ≡ None) (sym (one-more j) ∙ some-is (j + 1) k e) (later j refl)
+    at (Some j) later e = subst (λ (n : ℕ). place (Some x ∷ xs) n ≡ None) (sym (one-more j) ∙ same_Some (j + 1) k e) (later j refl)
 
 empty-place : (rs : List (Option Resident)) (k : ℕ) (x : Option Resident) → owned_of x ≡ nothing_owned → place rs k ≡ None → owned_of (place (with_place k x rs) k) ≡ nothing_owned
 empty-place [] k x none free = refl

@@ -1,5 +1,6 @@
 -- A client that ended stays so until its number is given back.
 use Rattle.std.proofs.Common.{◌≡◌, ◌≢◌, ℕ, zero, suc, List, [], ◌∷◌, length, Bool, true, false, Option, Some, None, refl, ap, subst, sym, ◌∙◌, arith, inl, inr}
+use Rattle.std.proofs.lemmas.Option.{none-some, same_Some}
 use Rattle.std.specs.Prelude.{◌+◌, ◌⊎◌, drop, if◌then◌else◌, nat_le}
 use Rattle.wl_store.specs.Stores.{write_refusal}
 use Rattle.wl_store.specs.declared.stores.StoreError.{StoreError}
@@ -11,7 +12,6 @@ use Rattle.spec_desktop.specs.Step.{with_peer}
 use Rattle.spec_desktop.specs.Act.{Connect, Feed, Store, Leave, Tick, Send, Close, Motion, Button, IsClosed, IsSent, IsStored, lowest, next_of}
 use Rattle.law_desktop.proofs.Runs.Forms.{ConnectsAt, ChangesAt}
 use Rattle.law_desktop.specs.RunLaws.{EndsStay}
-use Rattle.law_desktop.proofs.Lists.Keys.{none-some, some-same}
 use Rattle.law_desktop.proofs.Runs.Places.{number-other, number-same}
 use Rattle.law_desktop.proofs.Runs.OneRun.{changed-held, fed-after, few-of, held, leaves-after, motion-leads}
 use Rattle.law_desktop.proofs.Runs.Fates.{same-or}
@@ -38,7 +38,7 @@ comes-apart (Some r ∷ rs) k x e j why is = at (lowest rs) e (λ m free. comes-
         → status_of (place (with_place k x (Some r ∷ rs)) j) ≡ Some why
     at None e later = absurd (none-some k e)
     at (Some m) e later =
-        let same = some-same (m + 1) k e in
+        let same = same_Some (m + 1) k e in
         let next : suc m ≡ k = omega (arith, same) in
         subst (λ n. status_of (place (with_place n x (Some r ∷ rs)) j) ≡ Some why) next (further m (later m refl) j is)
 

@@ -3,7 +3,7 @@ use Rattle.std.proofs.Common.{◌≡◌, ◌≢◌, ℕ, List, [], Bool, true, f
 use Rattle.std.specs.Prelude.{◌==◌, is_some}
 use Rattle.std.specs.List.{list_any}
 use Rattle.std.specs.Option.{option_map}
-use Rattle.std.proofs.lemmas.Bool.{eqb-true}
+use Rattle.std.proofs.lemmas.Bool.{and_from, eqb-true, true≢false}
 use Rattle.wl_proto.specs.declared.interface.Interface.TheVariants.{XdgPopup, XdgToplevel}
 use Rattle.spec_desktop.specs.declared.actions.Action.{Action}
 use Rattle.spec_desktop.specs.declared.actions.Action.TheVariants.{DestroyBuffer}
@@ -37,12 +37,10 @@ use Rattle.spec_desktop.specs.Step.{asked_so_far, own_changed, toplevel_given, x
 use Rattle.spec_desktop.specs.WlSurface.{will_show}
 use Rattle.law_desktop.specs.Apart.{AreObjects}
 use Rattle.law_desktop.specs.Soundness.{IsNoChild}
-use Rattle.law_desktop.proofs.Lists.Keys.{apart-map, differ, found-any, found-map, found-passes}
+use Rattle.law_desktop.proofs.Lists.Keys.{apart-map, found-any, found-map, found-passes}
 use Rattle.law_desktop.proofs.Lists.Standings.{mapped-another, mapped-here, without-another, without-here}
-use Rattle.law_desktop.proofs.Marks.Stacks.{and-both}
 use Rattle.law_desktop.proofs.Soundness.ObjectsKeys.{of-one}
 use Rattle.law_desktop.proofs.Soundness.Orderly.{HasId, IsAllowed}
-use Rattle.law_desktop.proofs.Soundness.Roles.{arriving-surface, repositioning-surface}
 use Rattle.law_desktop.specs.InOrder.{is_toplevel_with}
 use Rattle.law_desktop.specs.Shown.{heeded_stage, is_dismissed_kind}
 use Rattle.law_desktop.proofs.KeptRecords.Keeping.OwningXdg.{has_surface, ids-apart, surfaces-apart}
@@ -56,6 +54,7 @@ use Rattle.law_desktop.proofs.ShownSurfaces.Fitting.{arriving-known, popup-stage
 use Rattle.law_desktop.proofs.TreeSteps.Coming.{link-keeps-all}
 use Rattle.law_desktop.proofs.TreeSteps.Commits.{request-keeps-all}
 use Rattle.law_desktop.proofs.TreeSteps.Modes.{mode-keeps-all}
+use Rattle.law_desktop.proofs.Soundness.Standing.{arriving-surface, repositioned-surface}
 
 -- What counts here of what a client that lives owns, whose request was counted: the number of that is no link's yet.
 pub record IsRooted (r : Resident) : Type 0 where
@@ -96,7 +95,7 @@ module _ (c : ℕ) (o : Owned) (standing : List Standing) (fit : AllFit c o stan
   idle-at : (surface : ℕ) (p : Owned) (new : List Standing) → list_any (is_of c surface) new ≡ false → known (xdg_of surface p.shell) ≡ (false, false, false) → FitsAt c surface p new
   idle-at surface p new none idle =
       fits-so (list_any (is_of c surface) new) (shows_buffer (history_in surface p.surfaces)) _ (false, false, false) idle
-      (none, λ mapped. absurd (differ (sym mapped)), λ waiting. absurd (differ (sym waiting)))
+      (none, λ mapped. absurd (true≢false (sym mapped)), λ waiting. absurd (true≢false (sym waiting)))
 
   -- ---- role objects go
 
@@ -168,7 +167,7 @@ popup-stands id r x toplevels live found = role x.role refl
 
     never : is_toplevel_with id x.role ≡ true → ⊥
     never is =
-        differ (sym (toplevels.1 id (found-any (λ y. is_role id y.role) (λ y. is_toplevel_with id y.role) r.owned.shell x found is))
+        true≢false (sym (toplevels.1 id (found-any (λ y. is_role id y.role) (λ y. is_toplevel_with id y.role) r.owned.shell x found is))
         ∙ of-one XdgPopup XdgToplevel (r.peer.objects id) refl live)
 
     role : (o : Option RoleObject) → x.role ≡ o → (role_known x.role).0 ≡ false
@@ -179,7 +178,7 @@ popup-stands id r x toplevels live found = role x.role refl
         its = sym (ap (is_role id) e) ∙ found-passes (λ y. is_role id y.role) r.owned.shell x found
 
         at : (b : Bool) → is_toplevel_kind object.kind ≡ b → (role_known x.role).0 ≡ false
-        at true top = absurd (never (ap (is_toplevel_with id) e ∙ and-both (object.id == id) (is_toplevel_kind object.kind) its top))
+        at true top = absurd (never (ap (is_toplevel_with id) e ∙ and_from (object.id == id) (is_toplevel_kind object.kind) its top))
         at false top = ap (λ (o : Option RoleObject). (role_known o).0) e ∙ ap (λ (b : Bool). (table b (heeded_stage (Some object))).0) top
 
 module _ (c : ℕ) (r : Resident) (d : Desktop) (is : IsRooted r) (fit : AllFit c r.owned d.standing) where
@@ -250,7 +249,7 @@ module _ (c : ℕ) (r : Resident) (d : Desktop) (is : IsRooted r) (fit : AllFit 
           finished step (λ y. refl) d.standing
           (fits-so stood shows_now (known (Some (step x))) (table top (Some stage.Waiting))
           (popup-known (placing where_to) (λ p. refl) (in_stage stage.Waiting x).role ∙ staged s stage.Waiting x.role live)
-          (stood-at ∙ ap (λ (t : Stage). (table top (Some t)).0) fresh, λ mapped. absurd (differ (sym mapped)), λ waiting. none))
+          (stood-at ∙ ap (λ (t : Stage). (table top (Some t)).0) fresh, λ mapped. absurd (true≢false (sym mapped)), λ waiting. none))
           (λ surface other. refl)
 
       mapped : s ≡ stage.Ready → shows_now ≡ true → Commits Maps
@@ -275,12 +274,12 @@ module _ (c : ℕ) (r : Resident) (d : Desktop) (is : IsRooted r) (fit : AllFit 
           at true is_top =
               finished step same (with_mapped d.mappings c x.surface d.standing)
               (fits-so _ shows_now (known (Some (step x))) (true, true, false) (now ∙ ap (λ (b : Bool). table b (Some stage.Mapped)) is_top)
-              (mapped-here d.mappings c x.surface d.standing, λ mapped. shows, λ waiting. absurd (differ (sym waiting))))
+              (mapped-here d.mappings c x.surface d.standing, λ mapped. shows, λ waiting. absurd (true≢false (sym waiting))))
               (λ surface other. mapped-another d.mappings c x.surface surface d.standing other)
           at false is_top =
               finished step same d.standing
               (fits-so stood shows_now (known (Some (step x))) (false, true, false) (now ∙ ap (λ (b : Bool). table b (Some stage.Mapped)) is_top)
-              (stood-at ∙ ap (λ (b : Bool). (table b (Some s)).0) is_top, λ mapped. shows, λ waiting. absurd (differ (sym waiting))))
+              (stood-at ∙ ap (λ (b : Bool). (table b (Some s)).0) is_top, λ mapped. shows, λ waiting. absurd (true≢false (sym waiting))))
               (λ surface other. refl)
 
       unmapped : Commits Unmaps
@@ -296,12 +295,12 @@ module _ (c : ℕ) (r : Resident) (d : Desktop) (is : IsRooted r) (fit : AllFit 
           at true is_top =
               finished step (λ y. refl) (without_surface_of c x.surface d.standing)
               (fits-so _ shows_now (known (Some (step x))) (false, false, false) (now ∙ ap (λ (b : Bool). table b (Some stage.Fresh)) is_top)
-              (without-here c x.surface d.standing, λ mapped. absurd (differ (sym mapped)), λ waiting. absurd (differ (sym waiting))))
+              (without-here c x.surface d.standing, λ mapped. absurd (true≢false (sym mapped)), λ waiting. absurd (true≢false (sym waiting))))
               (λ surface other. without-another c x.surface surface d.standing other)
           at false is_top =
               finished step (λ y. refl) d.standing
               (fits-so stood shows_now (known (Some (step x))) (false, false, false) (now ∙ ap (λ (b : Bool). table b (Some stage.Fresh)) is_top)
-              (stood-at ∙ ap (λ (b : Bool). (table b (Some s)).0) is_top, λ mapped. absurd (differ (sym mapped)), λ waiting. absurd (differ (sym waiting))))
+              (stood-at ∙ ap (λ (b : Bool). (table b (Some s)).0) is_top, λ mapped. absurd (true≢false (sym mapped)), λ waiting. absurd (true≢false (sym waiting))))
               (λ surface other. refl)
 
     by-stage : (s : Stage) → heeded_stage x.role ≡ Some s → (b : Bool) → will_show r x.surface ≡ b → (on_commit (Some s) b ≡ Unconfigured → ⊥) → Commits (on_commit (Some s) b)
@@ -309,22 +308,22 @@ module _ (c : ℕ) (r : Resident) (d : Desktop) (is : IsRooted r) (fit : AllFit 
     by-stage stage.Fresh live true shows other = absurd (other refl)
     by-stage stage.Waiting live false shows other =
         still (table (is_toplevel (Some x)) (Some stage.Waiting)) (at-stage stage.Waiting live)
-        (stood-at stage.Waiting live, λ mapped. absurd (differ (sym mapped)), λ waiting. shown false shows)
+        (stood-at stage.Waiting live, λ mapped. absurd (true≢false (sym mapped)), λ waiting. shown false shows)
     by-stage stage.Waiting live true shows other = absurd (other refl)
     by-stage stage.Ready live false shows other =
         still (table (is_toplevel (Some x)) (Some stage.Ready)) (at-stage stage.Ready live)
-        (stood-at stage.Ready live, λ mapped. absurd (differ (sym mapped)), λ waiting. shown false shows)
+        (stood-at stage.Ready live, λ mapped. absurd (true≢false (sym mapped)), λ waiting. shown false shows)
     by-stage stage.Ready live true shows other = mapped stage.Ready live refl (shown true shows)
     by-stage stage.Mapped live false shows other = unmapped stage.Mapped live
     by-stage stage.Mapped live true shows other =
         still (table (is_toplevel (Some x)) (Some stage.Mapped)) (at-stage stage.Mapped live)
-        (stood-at stage.Mapped live, λ mapped. shown true shows, λ waiting. absurd (differ (sym waiting)))
+        (stood-at stage.Mapped live, λ mapped. shown true shows, λ waiting. absurd (true≢false (sym waiting)))
 
     -- one that isn't heeded
     idle : heeded_stage x.role ≡ None → Commits Stays
     idle none =
         still (table (is_toplevel (Some x)) None) (ap (table (is_toplevel (Some x))) none)
-        (stood-as ∙ ap (λ (s : Option Stage). (table (is_toplevel (Some x)) s).0) none, λ mapped. absurd (differ (sym mapped)), λ waiting. absurd (differ (sym waiting)))
+        (stood-as ∙ ap (λ (s : Option Stage). (table (is_toplevel (Some x)) s).0) none, λ mapped. absurd (true≢false (sym mapped)), λ waiting. absurd (true≢false (sym waiting)))
 
     abbrev effect_at : Bool → Option RoleObject → Effect
     effect_at b o = cond (is_dismissed (popped_role x o)) Stays (on_commit (option_map (λ (object : RoleObject). object.stage) o) b)
@@ -476,7 +475,7 @@ module _ (c : ℕ) (r : Resident) (d : Desktop) (is : IsRooted r) (fit : AllFit 
       let step : XdgSurface → XdgSurface = repositioning (is_configured q) r.peer.serial (where_to (copying p q.popup)) p in
       drawn-fits (is_configured q) (xdg_changed q.xdg.id step r)
       (with-shell c r.owned d.standing fit (with_xdg_change q.xdg.id step r.owned.shell)
-      (λ surface. less-changed q.xdg.id surface step r.owned.shell (repositioning-surface (is_configured q) r.peer.serial (where_to (copying p q.popup)) p)
+      (λ surface. less-changed q.xdg.id surface step r.owned.shell (repositioned-surface (is_configured q) r.peer.serial (where_to (copying p q.popup)) p)
       (repositioning-less (is_configured q) r.peer.serial (where_to (copying p q.popup)) p)))
 
   grabbed-fits : (b : Bool) (xdg : ℕ) → AllFit c (grabbed b xdg r).owned d.standing

@@ -3,7 +3,7 @@ use Rattle.std.proofs.Common.{◌≡◌, ◌≢◌, ℕ, List, [], ◌∷◌, �
 use Rattle.std.specs.Prelude.{◌==◌, ◌&&◌, is_some}
 use Rattle.std.specs.List.{list_any}
 use Rattle.std.specs.Option.{option_map, option_map_or}
-use Rattle.std.proofs.lemmas.Bool.{eqb-false, eqb-true}
+use Rattle.std.proofs.lemmas.Bool.{eqb-false, eqb-true, true≢false}
 use Rattle.wl_surface.specs.Surfaces.{history_in}
 use Rattle.wl_shell.specs.Popups.{dismiss, dismissed_among, is_among, is_parent_of, is_toplevel_kind, orphan, popup_changed, with_popup, with_popup_role}
 use Rattle.wl_shell.specs.Popups.{arrive, arriving, copying, repositioning}
@@ -13,7 +13,7 @@ use Rattle.wl_shell.specs.declared.stage.Stage.{Stage}
 use Rattle.wl_shell.specs.declared.stage.Stage.TheVariants as stage
 use Rattle.wl_shell.specs.Positioner.{Placed, Positioner}
 use Rattle.spec_desktop.specs.Stacking.{Owned, Standing, is_of, shows_buffer}
-use Rattle.law_desktop.proofs.Lists.Keys.{differ, found-map}
+use Rattle.law_desktop.proofs.Lists.Keys.{found-map}
 use Rattle.law_desktop.specs.Shown.{AreShown, heeded_stage, is_dismissed_kind, is_mapped_now, is_mapped_toplevel, waits_now}
 use Rattle.law_desktop.specs.Standing.{AreTurned, is_mapped_at, waits_at}
 use Rattle.law_desktop.proofs.KeptRecords.Keeping.OwningXdg.{has_surface}
@@ -70,11 +70,11 @@ pub record IsStill (c surface : ℕ) (o p : Owned) (old new : List Standing) : T
   pub shows : is_some (xdg_of surface o.shell) ≡ true → shows_buffer (history_in surface p.surfaces) ≡ shows_buffer (history_in surface o.surfaces)
 
 mapped-there : (x : Option XdgSurface) → is_mapped_now x ≡ true → is_some x ≡ true
-mapped-there None is = absurd (differ (sym is))
+mapped-there None is = absurd (true≢false (sym is))
 mapped-there (Some x) is = refl
 
 waits-there : (x : Option XdgSurface) → waits_now x ≡ true → is_some x ≡ true
-waits-there None is = absurd (differ (sym is))
+waits-there None is = absurd (true≢false (sym is))
 waits-there (Some x) is = refl
 
 still-fits : (c surface : ℕ) (o p : Owned) (old new : List Standing) → IsStill c surface o p old new → FitsAt c surface o old → FitsAt c surface p new
@@ -162,7 +162,7 @@ dismissed-less (Some object) = at object.kind
   where
     at : (k : Kind) → IsLess (kind_known object.stage (with_popup dismiss k)) (kind_known object.stage k)
     at Toplevel = (refl, λ e. e, λ e. e)
-    at (IsPopup popup) = (refl, λ e. absurd (differ (sym e)), λ e. absurd (differ (sym e)))
+    at (IsPopup popup) = (refl, λ e. absurd (true≢false (sym e)), λ e. absurd (true≢false (sym e)))
 
 pub dismissing-less : (ids : List ℕ) → Lessens (dismissed_among ids)
 dismissing-less ids y = less-if (is_among y.id ids) (popup_changed dismiss) (λ z. dismissed-less z.role) y

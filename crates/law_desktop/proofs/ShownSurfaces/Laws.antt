@@ -1,5 +1,7 @@
 -- Which toplevels stand and which surfaces show a buffer is kept by each step, and by each message by itself, whatever is left out.
 use Rattle.std.proofs.Common.{◌≡◌, ◌≤◌, ℕ, ◌+◌, List, [], Option, Some, None, refl, ap, sym, subst, ◌∙◌, arith}
+use Rattle.std.proofs.lemmas.Bool.{true≢false}
+use Rattle.std.proofs.lemmas.Option.{none-some}
 use Rattle.std.specs.Prelude.{Ok, ◌==◌}
 use Rattle.std.specs.List.{list_any}
 use Rattle.spec_desktop.specs.declared.cause.Cause.{Cause}
@@ -15,8 +17,6 @@ use Rattle.spec_desktop.specs.LeftOut.{LeftOut}
 use Rattle.spec_desktop.specs.Stacked.{all_windows}
 use Rattle.spec_desktop.specs.Step.{with_peer}
 use Rattle.law_desktop.specs.Laws.{AreApart}
-use Rattle.law_desktop.proofs.Isolation.Own.{any-kept}
-use Rattle.law_desktop.proofs.Lists.Keys.{differ, none-some}
 use Rattle.law_desktop.proofs.Soundness.Allowed.{allowed}
 use Rattle.law_desktop.proofs.Soundness.Message.{allowed-counted}
 use Rattle.law_desktop.proofs.Soundness.Sound.{all-apart}
@@ -33,6 +33,7 @@ use Rattle.law_desktop.proofs.ShownSurfaces.Turned.{demand-turned}
 use Rattle.law_desktop.proofs.ShownSurfaces.Well.{well, well-counted}
 use Rattle.law_desktop.proofs.ShownSurfaces.Demands.{IsRooted, demand-fits}
 use Rattle.law_desktop.proofs.ShownSurfaces.Fitting.{AllFit, Fits, fit-of, known, shown-of}
+use Rattle.law_desktop.proofs.Lists.Left.{any-filtered}
 
 -- ---- the toplevels of one client
 
@@ -41,7 +42,7 @@ abbrev TopsFit : Owned → List Standing → Type 0
 TopsFit o tops = (surface : ℕ) → Fits (list_any (λ s. s.surface == surface) tops) (known (xdg_of surface o.shell)) (shows_buffer (history_in surface o.surfaces))
 
 tops-any : (c surface : ℕ) (standing : List Standing) (d : Desktop) → d.standing ≡ standing → list_any (λ s. s.surface == surface) (toplevels_of c d) ≡ list_any (is_of c surface) standing
-tops-any c surface standing d same = any-kept (λ s. s.surface == surface) (λ s. s.client == c) d.standing ∙ ap (λ (ss : List Standing). list_any (is_of c surface) ss) same
+tops-any c surface standing d same = any-filtered (λ s. s.surface == surface) (λ s. s.client == c) d.standing ∙ ap (λ (ss : List Standing). list_any (is_of c surface) ss) same
 
 to-tops : (c : ℕ) (o : Owned) (d : Desktop) → AllFit c o d.standing → TopsFit o (toplevels_of c d)
 to-tops c o d fit surface = let f = fit surface in (tops-any c surface d.standing d refl ∙ f.0, f.1, f.2)
@@ -97,7 +98,7 @@ ShownBy (Some cause) r tops = (r ≡ resident_of r.peer) × (tops ≡ [])
 -- one that owns nothing
 nothing-fits : (tops : List Standing) → tops ≡ [] → TopsFit nothing_owned tops
 nothing-fits tops none surface =
-    (ap (λ (ts : List Standing). list_any (λ s. s.surface == surface) ts) none, λ mapped. absurd (differ (sym mapped)), λ waiting. absurd (differ (sym waiting)))
+    (ap (λ (ts : List Standing). list_any (λ s. s.surface == surface) ts) none, λ mapped. absurd (true≢false (sym mapped)), λ waiting. absurd (true≢false (sym waiting)))
 
 nothing-turned : AreTurned nothing_owned.surfaces
 nothing-turned surface h there = absurd (none-some h there)

@@ -4,7 +4,7 @@ use Rattle.std.proofs.Common.{◌≡◌, ◌≢◌, ℕ, List, [], ◌∷◌, �
 use Rattle.std.specs.Prelude.{◌==◌, ◌&&◌, ◌||◌, filter, find, fold, is_some, not}
 use Rattle.std.specs.List.{list_any}
 use Rattle.std.specs.Option.{option_and_then, option_map}
-use Rattle.std.proofs.lemmas.Bool.{eqb-true, false_from_ne_true}
+use Rattle.std.proofs.lemmas.Bool.{eqb-true, false_from_ne_true, not-true, true≢false}
 use Rattle.wl_surface.specs.Request.{Commit, Request}
 use Rattle.wl_surface.specs.State.{History, Values, apply, counting, pending, values}
 use Rattle.wl_surface.specs.declared.role.Role.{Role}
@@ -28,9 +28,9 @@ use Rattle.spec_desktop.specs.Stacking.{shows_buffer}
 use Rattle.spec_desktop.specs.Changing.{unlinked_at}
 use Rattle.law_desktop.specs.Apart.{AreApartBy}
 use Rattle.law_desktop.specs.Soundness.{IsNoChild}
-use Rattle.law_desktop.proofs.Lists.Keys.{differ, found-by, found-passes}
+use Rattle.law_desktop.proofs.Lists.Keys.{found-by, found-passes}
 use Rattle.law_desktop.proofs.Lists.Surfaces.{has_id}
-use Rattle.law_desktop.proofs.Marks.Stacks.{and-left, and-right}
+use Rattle.law_desktop.proofs.Truth.{and-left, and-right}
 
 -- the surfaces that have an xdg_surface show a buffer as before, or none
 abbrev pub ShowAsBefore : Shell → Surfaces → Surfaces → Type 0
@@ -78,19 +78,19 @@ role-shows shell id role all surface has = ap shows_buffer ((role-keeps-all all 
 
 -- ---- a surface without a parent is committed
 
-not-synchronised : (surface : ℕ) (all : Surfaces) → link_of surface all ≡ None → behaves_synchronised levels all surface ≡ false
+pub not-synchronised : (surface : ℕ) (all : Surfaces) → link_of surface all ≡ None → behaves_synchronised levels all surface ≡ false
 unfolding behaves_synchronised
 not-synchronised surface all none = rw none refl
 
-here-applied : (b c : Bool) (o : Option History) → b ≡ true → c ≡ true → option_map (λ h. cond c (apply h) h) (option_map (λ h. cond b (asked_more Commit h) h) o)
+pub here-applied : (b c : Bool) (o : Option History) → b ≡ true → c ≡ true → option_map (λ h. cond c (apply h) h) (option_map (λ h. cond b (asked_more Commit h) h) o)
     ≡ option_map (λ h. apply (asked_more Commit h)) o
 here-applied true true None e f = refl
 here-applied true true (Some h) e f = refl
-here-applied true false o e f = absurd (differ (sym f))
-here-applied false c o e f = absurd (differ (sym e))
+here-applied true false o e f = absurd (true≢false (sym f))
+here-applied false c o e f = absurd (true≢false (sym e))
 
 -- all that was asked of it counts
-root-committed : (surface : ℕ) (all : Surfaces) → AreOnceLinked all.links → link_of surface all ≡ None
+pub root-committed : (surface : ℕ) (all : Surfaces) → AreOnceLinked all.links → link_of surface all ≡ None
     → history_in surface (committed_in surface all) ≡ option_map (λ h. apply (asked_more Commit h)) (history_in surface all)
 root-committed surface all once none =
     ap (λ b. history_in surface (applied_unless b surface (with_change surface (asking Commit) all))) (not-synchronised surface all none)
@@ -106,7 +106,7 @@ shows-pending (Some h) = ap (λ (v : Values). is_there v.buffer) (commit_takes_a
 
 -- ---- a link ends
 
-numbers-apart : (ls : List Link) → AreNumbered ls → AreApartBy (λ number l. l.number == number) ls
+pub numbers-apart : (ls : List Link) → AreNumbered ls → AreApartBy (λ number l. l.number == number) ls
 numbers-apart [] numbered = tt
 numbers-apart (l ∷ ls) numbered = (
   λ key is. none-found (λ k. k.number == key) ls (ap (λ n. list_any (λ (k : Link). k.number == n) ls) (sym (eqb-true l.number key is)) ∙ numbered.0),
@@ -124,10 +124,6 @@ none-left q (x ∷ xs) none = at (q x) none (none-left q xs)
 -- the links of this number that live
 abbrev lives_at : ℕ → Link → Bool
 lives_at number l = not l.has_ended && l.number == number
-
-lived : (b : Bool) → not b ≡ true → b ≡ false
-lived true e = absurd (cc)
-lived false e = refl
 
 -- ---- the surfaces that have xdg_surfaces
 
@@ -149,7 +145,7 @@ module _ (all : Surfaces) (shell : Shell) (once : AreOnceLinked all.links) (numb
   -- what is done to a surface that has no xdg_surface leaves all of them
   others-show : (id : ℕ) (new : Surfaces) → KeepsOthers id all new → xdg_of id shell ≡ None → ShowAsBefore shell all new
   others-show id new keeps none surface has =
-      else-shows id new keeps surface (λ same. differ (sym has ∙ ap (λ n. is_some (xdg_of n shell)) (sym same) ∙ ap is_some none)) has
+      else-shows id new keeps surface (λ same. true≢false (sym has ∙ ap (λ n. is_some (xdg_of n shell)) (sym same) ∙ ap is_some none)) has
 
   pub committed-else : (id surface : ℕ) → id ≢ surface → is_some (xdg_of surface shell) ≡ true
       → shows_buffer (history_in surface (committed_in id all)) ≡ shows_buffer (history_in surface all)
@@ -197,7 +193,7 @@ module _ (all : Surfaces) (shell : Shell) (once : AreOnceLinked all.links) (numb
           subst (λ (ls : List Link). ShowAsBefore shell all (fold ended_in all ls)) (sym (none-left (lives_at number) all.links none)) (λ surface has. refl)
       at (Some l) found =
           let passes = found-passes (lives_at number) all.links l found in
-          let lives : l.has_ended ≡ false = lived l.has_ended (and-left (not l.has_ended) (l.number == number) passes) in
+          let lives : l.has_ended ≡ false = not-true l.has_ended (and-left (not l.has_ended) (l.number == number) passes) in
           let here : link_at number all ≡ Some l =
           found-by (λ n (k : Link). k.number == n) (lives_at number) number all.links l (numbers-apart all.links numbered) found (and-right (not l.has_ended) (l.number == number) passes) in
           others-show l.child (unlinked number all) (end-keeps-others all once numbered number l here).0 (none-child l (xdg_of l.child shell) refl here lives)

@@ -5,6 +5,7 @@ use Rattle.std.specs.List.{list_all}
 use Rattle.std.specs.Option.{option_map}
 use Rattle.std.proofs.lemmas.Bool.{and_from}
 use Rattle.std.proofs.lemmas.List.Folds.{list_all-append}
+use Rattle.std.proofs.lemmas.Option.{none-some, same_Some}
 use Rattle.wl_surface.specs.declared.role.Role.TheVariants.{Cursor as AsCursor, Popup as AsPopup, Subsurface as AsSubsurface, Toplevel as AsToplevel}
 use Rattle.wl_surface.specs.Request.{AddChild, Commit, Frame, Request}
 use Rattle.wl_surface.specs.State.{History}
@@ -24,7 +25,6 @@ use Rattle.spec_desktop.specs.Demand.{Reposition}
 use Rattle.spec_desktop.specs.Demanding.{effect_of_commit}
 use Rattle.spec_desktop.specs.Desktop.{Desktop, Resident}
 use Rattle.spec_desktop.specs.Step.{changed_by, toplevel_given, xdg_changed}
-use Rattle.law_desktop.proofs.Lists.Keys.{none-some, some-same}
 use Rattle.law_desktop.proofs.Lists.Surfaces.{has_id}
 use Rattle.law_desktop.proofs.Soundness.Moves.{Moves, moves-committed, moves-desynchronised, moves-those, moves-unlinked}
 use Rattle.law_desktop.specs.Standing.{AreTurned, turns_well}
@@ -40,7 +40,7 @@ turned-none : IsTurned None
 turned-none = λ h there. absurd (none-some h there)
 
 turned-some : (h : History) → list_all turns_well h.requests ≡ true → IsTurned (Some h)
-turned-some h well = λ g there. ap (λ (k : History). list_all turns_well k.requests) (sym (some-same h g there)) ∙ well
+turned-some h well = λ g there. ap (λ (k : History). list_all turns_well k.requests) (sym (same_Some h g there)) ∙ well
 
 -- one request more
 well-more : (requests : List Request) (request : Request) → list_all turns_well requests ≡ true → turns_well request ≡ true → list_all turns_well (requests ++ request ∷ []) ≡ true

@@ -3,6 +3,7 @@ use Rattle.std.proofs.Common.{◌≡◌, ℕ, zero, suc, List, [], ◌∷◌, Bo
 use Rattle.std.specs.Prelude.{Ok, pos, ◌==◌, ◌&&◌, ◌||◌, int_le, if◌then◌else◌, is_some}
 use Rattle.std.specs.Option.{option_and_then}
 use Rattle.std.proofs.lemmas.Bool.{eqb-true}
+use Rattle.std.proofs.lemmas.Option.{same_Some}
 use Rattle.wl_wire.specs.Wire.{Field}
 use Rattle.wl_proto.specs.declared.interface.Interface.{Interface}
 use Rattle.wl_proto.specs.declared.interface.Interface.TheVariants.{WlDisplay, WlRegistry, WlCallback, WlCompositor, WlRegion, WlSurface, WlShm, WlShmPool, WlBuffer, WlSubcompositor, WlSubsurface}
@@ -28,11 +29,11 @@ use Rattle.spec_desktop.specs.WlSubsurface.{beside, demand_by_link, has_subsurfa
 use Rattle.spec_desktop.specs.XdgPopup.{grab_of, popup_asked}
 use Rattle.spec_desktop.specs.XdgShell.{role_of}
 use Rattle.law_desktop.proofs.Soundness.Orderly.{HasId, IsAllowed, IsOn, IsObject, IsOfParent}
-use Rattle.law_desktop.proofs.Soundness.AllowedAsks.{Allows, ask-either, base-allowed, compositor-allowed, either, none-there, own-allowed-so, state-allowed, xdg-allowed}
+use Rattle.law_desktop.proofs.Soundness.AllowedAsks.{Allows, ask-either, base-allowed, compositor-allowed, either, own-allowed-so, state-allowed, xdg-allowed}
 use Rattle.law_desktop.proofs.Soundness.AllowedHeard.{fresh-first, judged-hears, named-second}
 use Rattle.law_desktop.proofs.Soundness.AllowedOwn.{IsHeardBy}
-use Rattle.law_desktop.proofs.Lists.Keys.{found-passes, some-same}
-use Rattle.law_desktop.proofs.Marks.Stacks.{or-left, or-right}
+use Rattle.law_desktop.proofs.Lists.Keys.{found-passes}
+use Rattle.law_desktop.proofs.Truth.{none-there, or-left, or-right}
 use Rattle.wl_shell.specs.Popups.{is_configured}
 use Rattle.wl_shell.specs.Positioner.{Positioner, is_complete}
 use Rattle.spec_desktop.specs.Demanding.{if_whole}
@@ -111,7 +112,7 @@ lives-on r l m number there e = at l.has_ended refl e
     at : (b : Bool) → l.has_ended ≡ b → (if b then None else Some l) ≡ Some m → IsOfParent m.number m.parent r.owned.surfaces
     at true ended e = absurd (cc)
     at false ended e =
-        subst (λ (k : Link). IsOfParent k.number k.parent r.owned.surfaces) (some-same l m e)
+        subst (λ (k : Link). IsOfParent k.number k.parent r.owned.surfaces) (same_Some l m e)
         (l, record { here = ap (λ n. link_at n r.owned.surfaces) own-number ∙ there; lives = ended }, refl)
 
 pub link-lives : (r : Resident) (id : ℕ) (l : Link) → link_of_subsurface id r ≡ Some l → IsOfParent l.number l.parent r.owned.surfaces

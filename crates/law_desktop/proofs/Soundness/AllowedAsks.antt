@@ -26,7 +26,7 @@ use Rattle.law_desktop.proofs.Soundness.Orderly.{HasNoRole, IsAllowed, IsObject}
 use Rattle.law_desktop.proofs.Soundness.AllowedHeard.{fresh-first}
 use Rattle.law_desktop.proofs.Soundness.AllowedOwn.{AllowsOwn, IsHeardBy, own-allowed}
 use Rattle.law_desktop.proofs.Lists.Keys.{found-passes}
-use Rattle.law_desktop.proofs.Marks.Stacks.{or-left, or-right}
+use Rattle.law_desktop.proofs.Truth.{none-there, or-left, or-right}
 
 -- what a message that is accepted demands is allowed
 abbrev pub Allows : Resident → Result Demand Refusal → Type 0
@@ -44,10 +44,6 @@ AllowsAsk r judged = Allows r (demands judged)
 pub ask-either : (r : Resident) (b : Bool) (x y : Result Ask Refusal) → (b ≡ true → AllowsAsk r x) → (b ≡ false → AllowsAsk r y) → AllowsAsk r (if b then x else y)
 ask-either r true x y f g = f refl
 ask-either r false x y f g = g refl
-
-pub none-there : {X : Type 0} (o : Option X) → is_some o ≡ false → o ≡ None
-none-there None e = refl
-none-there (Some x) e = absurd (cc)
 
 own-asked : (r : Resident) (judged : Result Action Refusal) → AllowsOwn r judged → AllowsAsk r (owns judged)
 own-asked r (Ok action) own = own

@@ -19,7 +19,8 @@ use Rattle.spec_desktop.specs.Requests.{word_in}
 use Rattle.spec_desktop.specs.Objects.{Object, Objects, fits, interface_number, is_of}
 use Rattle.spec_desktop.specs.Told.{display_error}
 use Rattle.law_desktop.proofs.Soundness.Fields.{fields-kinds}
-use Rattle.law_desktop.proofs.Marks.Stacks.{and-left, same-number}
+use Rattle.law_desktop.proofs.Marks.Stacks.{same-number}
+use Rattle.law_desktop.proofs.Truth.{and-left}
 
 -- the fields are of the kinds of a message's arguments
 abbrev pub AreOfKinds : Option Signature → List Field → Type 0
@@ -157,7 +158,7 @@ fresh-bound objects (first ∷ Word n ∷ third ∷ fourth ∷ fields) e fresh =
 fresh-bound objects (first ∷ Number z ∷ third ∷ fourth ∷ fields) e fresh = absurd (cc)
 fresh-bound objects (first ∷ Block b ∷ third ∷ fourth ∷ fields) e fresh = absurd (cc)
 
-fit-here : (b : Bool) (x : Bool) → (if b then false else x) ≡ true → x ≡ true
+pub fit-here : (b : Bool) (x : Bool) → (if b then false else x) ≡ true → x ≡ true
 fit-here true x e = absurd (cc)
 fit-here false x e = e
 

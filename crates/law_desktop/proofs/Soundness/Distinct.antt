@@ -3,7 +3,7 @@ use Rattle.std.proofs.Common.{◌≡◌, ℕ, suc, Bool, true, false, List, [], 
 use Rattle.std.specs.Prelude.{◌==◌, ◌&&◌, ◌||◌}
 use Rattle.std.specs.List.{list_any}
 use Rattle.std.proofs.lemmas.List.{append-nil}
-use Rattle.std.proofs.lemmas.Bool.{eqb-true}
+use Rattle.std.proofs.lemmas.Bool.{eqb-true, false_from_ne_true}
 use Rattle.wl_surface.specs.Request.{Buffer}
 use Rattle.wl_surface.specs.State.{History, applied, counting}
 use Rattle.wl_surface.specs.Surfaces.{Surfaces, history_in}
@@ -13,7 +13,9 @@ use Rattle.spec_desktop.specs.Windows.{Owner, Place, Window, corner_at, member_w
 use Rattle.spec_desktop.specs.Desktop.{owned_in}
 use Rattle.law_desktop.specs.Laws.{AreApart, WindowsAreDistinct}
 use Rattle.spec_desktop.specs.Marks.{AreDistinct, is_same_surface}
-use Rattle.law_desktop.proofs.Marks.Stacks.{Each, and-left, and-right, differ, each-map, equal-numbers, unless}
+use Rattle.law_desktop.proofs.Marks.Stacks.{equal-numbers}
+use Rattle.law_desktop.proofs.Truth.{and-left, and-right, differ}
+use Rattle.law_desktop.proofs.Lists.Each.{Each, each-map}
 
 -- the window of a surface, if it shows a buffer
 own : Owner → ℕ → Place → Option History → List Window
@@ -101,7 +103,7 @@ no-other : (owned : ℕ → Owned) (ss : List Standing) (client surface : ℕ) �
     → (ws : List Window) → Each (λ v. stands ss v ≡ true) ws → list_any (is_same_surface w) ws ≡ false
 unfolding stands
 no-other owned ss client surface once w c e [] all = refl
-no-other owned ss client surface once w c e (v ∷ vs) all = none (is_same_surface w v) (unless (is_same_surface w v) (λ f. differ (sym once ∙ there f)))
+no-other owned ss client surface once w c e (v ∷ vs) all = none (is_same_surface w v) (false_from_ne_true (is_same_surface w v) (λ f. differ (sym once ∙ there f)))
     (no-other owned ss client surface once w c e vs all.1) where
       none : (a : Bool) → a ≡ false → list_any (is_same_surface w) vs ≡ false → (a || list_any (is_same_surface w) vs) ≡ false
       none true f g = absurd (differ (sym f))

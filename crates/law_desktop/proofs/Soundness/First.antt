@@ -7,7 +7,7 @@ use Rattle.wl_surface.specs.Surfaces.{Link, no_surfaces}
 use Rattle.spec_desktop.specs.Desktop.{Resident, client_at, empty, owned_of, place}
 use Rattle.spec_desktop.specs.Popups.{stacked_popups}
 use Rattle.law_desktop.specs.Soundness.{AreOnce, AreTrees, EmptyIsSound, IsLive, has_surface}
-use Rattle.law_desktop.proofs.Marks.Stacks.{differ}
+use Rattle.law_desktop.proofs.Truth.{differ}
 
 no-such-link : (a : Link) → None ≡ Some a → ⊥
 no-such-link a e = absurd (cc)
@@ -15,7 +15,7 @@ no-such-link a e = absurd (cc)
 no-such-history : (h : History) → None ≡ Some h → ⊥
 no-such-history h e = absurd (cc)
 
-no-live : (k : ℕ) (a : Link) → IsLive k a no_surfaces → ⊥
+pub no-live : (k : ℕ) (a : Link) → IsLive k a no_surfaces → ⊥
 no-live k a live = no-such-link a live.here
 
 pub no-trees : AreTrees no_surfaces
@@ -30,12 +30,12 @@ no-trees =
       shallow = λ surface. omega arith;
     }
 
-no-place : (n k : ℕ) → place (replicate n None) k ≡ None
+pub no-place : (n k : ℕ) → place (replicate n None) k ≡ None
 no-place zero k = refl
 no-place (suc n) zero = refl
 no-place (suc n) (suc k) = no-place n k
 
-no-client : (output : Output) (c : ℕ) → client_at c (empty output) ≡ None
+pub no-client : (output : Output) (c : ℕ) → client_at c (empty output) ≡ None
 no-client output zero = refl
 no-client output (suc k) = no-place 32 k
 

@@ -3,7 +3,8 @@ use Rattle.std.proofs.Common.{◌≡◌, ℕ, zero, suc, ◌<◌, ◌≤◌, ◌
 use Rattle.std.specs.Prelude.{◌==◌, ◌||◌, find, filter, not}
 use Rattle.std.specs.List.{list_any}
 use Rattle.std.specs.Option.{option_map}
-use Rattle.std.proofs.lemmas.Bool.{eqb-true, eqb-false}
+use Rattle.std.proofs.lemmas.Bool.{eqb-false, eqb-true, false_from_ne_true, or_from, true≢false}
+use Rattle.std.proofs.lemmas.Option.{none-some, same_Some}
 use Rattle.wl_surface.specs.Request.{Request, Member, Itself, Child, Commit, AddChild, PlaceAbove, PlaceBelow}
 use Rattle.wl_surface.specs.State.{History, above, below, is_member, order, ordered, without}
 use Rattle.wl_surface.specs.Surface.{Surface, asking, new_surface, with_role}
@@ -15,12 +16,11 @@ use Rattle.law_desktop.specs.Apart.{AreApartBy}
 use Rattle.law_desktop.specs.Soundness.{AreOnce, IsLive}
 use Rattle.law_desktop.proofs.Soundness.Orderly.{IsAskable, IsForest, IsOfParent, KeepsLinks}
 use Rattle.law_desktop.proofs.Soundness.Moves.{Moves, found-left, has_number, moves-committed, moves-desynchronised, moves-synchronised, moves-those, moves-unlinked, requests-changed}
-use Rattle.law_desktop.proofs.Lists.Keys.{differ, found-passes, gone, none-some, some-same}
+use Rattle.law_desktop.proofs.Lists.Keys.{found-passes, gone}
 use Rattle.law_desktop.proofs.Lists.Surfaces.{has_id}
-use Rattle.law_desktop.proofs.Soundness.Trees.{or-none}
-use Rattle.law_desktop.proofs.Marks.Stacks.{or-left, or-right, unless}
 use Rattle.law_desktop.proofs.Lists.Standings.{any-gone, none-left}
 use Rattle.law_desktop.proofs.Lists.Surfaces.{changed-found}
+use Rattle.law_desktop.proofs.Truth.{or-left, or-right}
 
 -- ---- an order
 
@@ -138,7 +138,7 @@ found-last : {X : Type 0} (p : X → Bool) (xs : List X) (x y : X) → find p (x
 found-last p [] x y found = at (p x) found
   where
     at : (b : Bool) → cond b (Some x) None ≡ Some y → (None ≡ Some y) ⊎ (x ≡ y)
-    at true e = inr (some-same x y e)
+    at true e = inr (same_Some x y e)
     at false e = inl e
 found-last p (z ∷ zs) x y found = at (p z) found (found-last p zs x y)
   where
@@ -148,8 +148,8 @@ found-last p (z ∷ zs) x y found = at (p z) found (found-last p zs x y)
 
 -- the order of a surface of which nothing was asked
 order-none : (bound surface counting : ℕ) (all : Surfaces) → IsOrder bound surface all (order (take counting []))
-order-none bound surface zero all = record { once = (refl, tt); early = λ number there. absurd (differ (sym there)); parents = λ number link there live. absurd (differ (sym there)) }
-order-none bound surface (suc n) all = record { once = (refl, tt); early = λ number there. absurd (differ (sym there)); parents = λ number link there live. absurd (differ (sym there)) }
+order-none bound surface zero all = record { once = (refl, tt); early = λ number there. absurd (true≢false (sym there)); parents = λ number link there live. absurd (true≢false (sym there)) }
+order-none bound surface (suc n) all = record { once = (refl, tt); early = λ number there. absurd (true≢false (sym there)); parents = λ number link there live. absurd (true≢false (sym there)) }
 
 orders-new : (bound id : ℕ) (all : Surfaces) → IsForest bound all → HasOrders bound all (with_new id all)
 orders-new bound id all f surface counting h here = at (surface_at surface (with_new id all)) refl here
@@ -161,7 +161,7 @@ orders-new bound id all f surface counting h here = at (surface_at surface (with
     at : (o : Option Surface) → surface_at surface (with_new id all) ≡ o → option_map (λ (s : Surface). s.history) o ≡ Some h → IsOrder bound surface all (order (take counting h.requests))
     at None found e = absurd (none-some h e)
     at (Some s) found e =
-        subst (λ (g : History). IsOrder bound surface all (order (take counting g.requests))) (some-same s.history h e) (by s (found-last (has_id surface) all.surfaces (new_surface id) s found))
+        subst (λ (g : History). IsOrder bound surface all (order (take counting g.requests))) (same_Some s.history h e) (by s (found-last (has_id surface) all.surfaces (new_surface id) s found))
 
 pub forest-new : (b id : ℕ) (all : Surfaces) → IsForest b all → IsForest b (with_new id all)
 forest-new b id all f = forest-surfaces b (with_new id all).surfaces all (orders-new b id all f) f
@@ -199,7 +199,7 @@ member-turned : (a b : Member) → is_member a b ≡ false → is_member b a ≡
 member-turned Itself Itself e = e
 member-turned Itself (Child l) e = refl
 member-turned (Child k) Itself e = refl
-member-turned (Child k) (Child l) e = unless (l == k) (λ same. eqb-false k l e (sym (eqb-true l k same)))
+member-turned (Child k) (Child l) e = false_from_ne_true (l == k) (λ same. eqb-false k l e (sym (eqb-true l k same)))
 
 -- where nothing passes, and the member that comes doesn't, nothing does then
 none-above : (p : Member → Bool) (m at : Member) (xs : List Member) → p m ≡ false → list_any p xs ≡ false → list_any p (above m at xs) ≡ false
@@ -207,16 +207,16 @@ none-above p m place [] fails none = refl
 none-above p m place (x ∷ xs) fails none = at (is_member place x) (none-above p m place xs fails (or-right (p x) (list_any p xs) none))
   where
     at : (b : Bool) → list_any p (above m place xs) ≡ false → list_any p (cond b (x ∷ m ∷ xs) (x ∷ above m place xs)) ≡ false
-    at true rest = or-none (p x) (p m || list_any p xs) (or-left (p x) (list_any p xs) none) (or-none (p m) (list_any p xs) fails (or-right (p x) (list_any p xs) none))
-    at false rest = or-none (p x) (list_any p (above m place xs)) (or-left (p x) (list_any p xs) none) rest
+    at true rest = or_from (p x) (p m || list_any p xs) (or-left (p x) (list_any p xs) none) (or_from (p m) (list_any p xs) fails (or-right (p x) (list_any p xs) none))
+    at false rest = or_from (p x) (list_any p (above m place xs)) (or-left (p x) (list_any p xs) none) rest
 
 none-below : (p : Member → Bool) (m at : Member) (xs : List Member) → p m ≡ false → list_any p xs ≡ false → list_any p (below m at xs) ≡ false
 none-below p m place [] fails none = refl
 none-below p m place (x ∷ xs) fails none = at (is_member place x) (none-below p m place xs fails (or-right (p x) (list_any p xs) none))
   where
     at : (b : Bool) → list_any p (below m place xs) ≡ false → list_any p (cond b (m ∷ x ∷ xs) (x ∷ below m place xs)) ≡ false
-    at true rest = or-none (p m) (p x || list_any p xs) fails none
-    at false rest = or-none (p x) (list_any p (below m place xs)) (or-left (p x) (list_any p xs) none) rest
+    at true rest = or_from (p m) (p x || list_any p xs) fails none
+    at false rest = or_from (p x) (list_any p (below m place xs)) (or-left (p x) (list_any p xs) none) rest
 
 once-above : (m at : Member) (xs : List Member) → list_any (is_member m) xs ≡ false → AreOnce is_member xs → AreOnce is_member (above m at xs)
 once-above m place [] none once = tt
@@ -226,7 +226,7 @@ once-above m place (x ∷ xs) none once = at (is_member place x) (once-above m p
     apart = member-turned m x (or-left (is_member m x) (list_any (is_member m) xs) none)
 
     at : (b : Bool) → AreOnce is_member (above m place xs) → AreOnce is_member (cond b (x ∷ m ∷ xs) (x ∷ above m place xs))
-    at true rest = (or-none (is_member x m) (list_any (is_member x) xs) apart once.0, (or-right (is_member m x) (list_any (is_member m) xs) none, once.1))
+    at true rest = (or_from (is_member x m) (list_any (is_member x) xs) apart once.0, (or-right (is_member m x) (list_any (is_member m) xs) none, once.1))
     at false rest = (none-above (is_member x) m place xs apart once.0, rest)
 
 once-below : (m at : Member) (xs : List Member) → list_any (is_member m) xs ≡ false → AreOnce is_member xs → AreOnce is_member (below m at xs)
@@ -250,10 +250,10 @@ was-there l number old new comes there = at (number == l) (list_any (is_member (
     at : (a b : Bool) → (number == l) ≡ a → list_any (is_member (Child number)) old ≡ b → (number ≡ l) ⊎ (b ≡ true)
     at true b e f = inl (eqb-true number l e)
     at false true e f = inr refl
-    at false false e f = absurd (differ (sym there ∙ comes (is_member (Child number)) e f))
+    at false false e f = absurd (true≢false (sym there ∙ comes (is_member (Child number)) e f))
 
 one-link : (number k : ℕ) (a b : Link) (all : Surfaces) → number ≡ k → IsLive number a all → IsLive k b all → b ≡ a
-one-link number k a b all same x y = some-same b a (sym y.here ∙ ap (λ n. link_at n all) (sym same) ∙ x.here)
+one-link number k a b all same x y = same_Some b a (sym y.here ∙ ap (λ n. link_at n all) (sym same) ∙ x.here)
 
 order-placed : (bound surface l : ℕ) (all : Surfaces) (old new : List Member) → IsForest bound all → IsOfParent l surface all → Comes (Child l) old new → AreOnce is_member new
     → IsOrder bound surface all old → IsOrder bound surface all new
@@ -322,7 +322,7 @@ orders-asked bound surface request all is f other counting h here =
         → IsOrder bound other all (order (take counting h.requests))
     at None found e = absurd (none-some h e)
     at (Some s) found e =
-        subst (λ (g : History). IsOrder bound other all (order (take counting g.requests))) (some-same (cond (s.id == surface) (asking request s) s).history h e) (of-it s found (s.id == surface) refl)
+        subst (λ (g : History). IsOrder bound other all (order (take counting g.requests))) (same_Some (cond (s.id == surface) (asking request s) s).history h e) (of-it s found (s.id == surface) refl)
 
 pub forest-asked : (b surface : ℕ) (request : Request) (all : Surfaces) → IsAskable surface all request → IsForest b all → IsForest b (with_change surface (asking request) all)
 forest-asked b surface request all is f = forest-surfaces b (with_change surface (asking request) all).surfaces all (orders-asked b surface request all is f) f

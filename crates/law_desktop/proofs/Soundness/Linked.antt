@@ -1,7 +1,8 @@
 -- A new link between surfaces keeps their links trees.
 use Rattle.std.proofs.Common.{◌≡◌, ℕ, suc, ◌+◌, ◌-◌, ◌≤◌, ◌<◌, Bool, true, false, Option, Some, None, cond, take, inl, inr, refl, ap, sym, subst, ◌∙◌, arith}
 use Rattle.std.specs.Prelude.{◌==◌, ◌||◌, ◌⊎◌}
-use Rattle.std.proofs.lemmas.Bool.{eqb-true, ltb-false}
+use Rattle.std.proofs.lemmas.Bool.{eqb-true, false_from_ne_true, ltb-false}
+use Rattle.std.proofs.lemmas.Option.{same_Some}
 use Rattle.wl_surface.specs.State.{History, is_member, order}
 use Rattle.wl_surface.specs.Surfaces.{Link, Surfaces, history_in, link_at}
 use Rattle.wl_surface.specs.Trees.{depth, descends_from, height, is_bad_parent, is_too_deep, levels, linked}
@@ -10,8 +11,7 @@ use Rattle.law_desktop.specs.Soundness.{AreOnce, AreTrees, IsLive, IsNoChild}
 use Rattle.law_desktop.proofs.Soundness.Orderly.{IsForest, has_child}
 use Rattle.law_desktop.proofs.Soundness.LinkedDepths.{depth-low, depth-none, depth-step, descends-itself, descends-step, live-link, no-link, within-height}
 use Rattle.law_desktop.proofs.Soundness.LinkedOrders.{IsChildIn, IsOrderIn, child-linked, new-once, order-linked}
-use Rattle.law_desktop.proofs.Lists.Keys.{new-apart, new-elsewhere, new-here, some-same}
-use Rattle.law_desktop.proofs.Marks.Stacks.{unless}
+use Rattle.law_desktop.proofs.Lists.Keys.{new-apart, new-elsewhere, new-here}
 
 -- ---- trees
 
@@ -62,7 +62,7 @@ pub linked-live : (number child parent n : ℕ) (link : Link) (all : Surfaces) �
 linked-live number child parent n link all f live = at (linked-at number child parent n all f)
   where
     at : IsAt number child parent n all → LivesIn number child parent n link all
-    at (inl e) = let same = some-same link (new_link number child parent) (sym live.here ∙ e.1) in inl (e.0, ap (λ (l : Link). l.child) same, ap (λ (l : Link). l.parent) same)
+    at (inl e) = let same = same_Some link (new_link number child parent) (sym live.here ∙ e.1) in inl (e.0, ap (λ (l : Link). l.child) same, ap (λ (l : Link). l.parent) same)
     at (inr e) = inr (record { here = sym e ∙ live.here; lives = live.lives })
 
 -- ---- depth
@@ -97,7 +97,7 @@ deeper-old : (number child parent n : ℕ) (link : Link) (all : Surfaces) → Is
     → deeper child parent all link.parent < deeper child parent all link.child
 deeper-old number child parent n link all f none live =
     let found = live-link number n link all f live in
-    let not_top : (link.child == child) ≡ false = unless (link.child == child) (λ e. none n link live (eqb-true link.child child e)) in
+    let not_top : (link.child == child) ≡ false = false_from_ne_true (link.child == child) (λ e. none n link live (eqb-true link.child child e)) in
     let same : descends_from levels all child link.child ≡ descends_from levels all child link.parent = descends-step number child link.child link all f found
     ∙ ap (λ b. b || descends_from levels all child link.parent) not_top in
     subst (λ b. deeper child parent all link.parent < cond b (depth levels all link.child + suc (depth levels all parent)) (depth levels all link.child)) (sym same)
@@ -161,7 +161,7 @@ module _ (number child parent : ℕ) (all : Surfaces) (f : IsForest number all) 
       at (g, m, found, inr grown) =
           subst (AreOnce is_member) (sym grown.1)
           (new-once number (order (take m g.requests)) (f.ordered surface m g found)
-          (unless (has_child number m g) (λ there. no-later number number (f.members surface m number g found there) refl)))
+          (false_from_ne_true (has_child number m g) (λ there. no-later number number (f.members surface m number g found there) refl)))
 
   linked-members : (surface counting n : ℕ) (h : History) → history_in surface (linked number child parent all) ≡ Some h → has_child n counting h ≡ true → n < number + 1
   linked-members surface counting n h e there = at (child-linked number child parent surface counting n all h e there)

@@ -1,13 +1,15 @@
 -- How deep and how high surfaces stand, where their links make trees.
 use Rattle.std.proofs.Common.{◌≡◌, ℕ, zero, suc, ◌+◌, ◌≤◌, ◌<◌, Bool, true, false, List, [], ◌∷◌, Option, Some, None, cond, not, max, map, inl, inr, refl, ap, sym, subst, ◌∙◌, arith}
 use Rattle.std.specs.Prelude.{◌==◌, ◌&&◌, ◌||◌, ◌⊎◌, find, filter, fold}
-use Rattle.std.proofs.lemmas.Bool.{eqb-true, not-true, or_cases}
+use Rattle.std.proofs.lemmas.Bool.{and_from, eqb-true, not-true, not_from_false, or_cases}
+use Rattle.std.proofs.lemmas.Option.{same_Some}
 use Rattle.wl_surface.specs.Surfaces.{Link, Surfaces, link_at}
 use Rattle.wl_surface.specs.Trees.{of_parent, depth, descends_from, height, levels, link_of}
 use Rattle.law_desktop.specs.Soundness.{IsLive, IsNoChild}
 use Rattle.law_desktop.proofs.Soundness.Orderly.{IsForest}
-use Rattle.law_desktop.proofs.Lists.Keys.{found-by, found-fails, found-none, found-passes, some-same}
-use Rattle.law_desktop.proofs.Marks.Stacks.{and-left, and-right, and-both, differ, same-number}
+use Rattle.law_desktop.proofs.Lists.Keys.{found-by, found-fails, found-none, found-passes}
+use Rattle.law_desktop.proofs.Marks.Stacks.{same-number}
+use Rattle.law_desktop.proofs.Truth.{and-left, and-right, differ, or-false}
 
 -- ---- the link of a child
 
@@ -17,10 +19,6 @@ is_link_of child l = not l.has_ended && l.child == child
 pub record IsUp (child : ℕ) (a : Link) (all : Surfaces) : Type 0 where
   pub live : IsLive a.number a all
   pub is_its : a.child ≡ child
-
-lives-not : (b : Bool) → b ≡ false → not b ≡ true
-lives-not true e = absurd (cc)
-lives-not false e = refl
 
 -- a surface has a link or none
 pub by-link : (P : Type 0) (s : ℕ) (all : Surfaces) → (link_of s all ≡ None → P) → ((a : Link) → link_of s all ≡ Some a → P) → P
@@ -48,7 +46,7 @@ live-link bound number a all f live = at (link_of a.child all) refl
     at : (o : Option Link) → link_of a.child all ≡ o → o ≡ Some a
     at None e =
         absurd (differ (sym (found-fails (is_link_of a.child) (λ l. l.number == number) all.links a live.here e)
-        ∙ and-both (not a.has_ended) (a.child == a.child) (lives-not a.has_ended live.lives) (same-number a.child)))
+        ∙ and_from (not a.has_ended) (a.child == a.child) (not_from_false a.has_ended live.lives) (same-number a.child)))
     at (Some b) e =
         let up = link-live bound a.child b all f e in
         sym up.live.here ∙ ap (λ n. link_at n all) (f.once b.number number b a up.live live up.is_its) ∙ live.here
@@ -116,10 +114,6 @@ pub descends-link : (n : ℕ) (all : Surfaces) (top s : ℕ) (a : Link) → link
 unfolding descends_from
 descends-link n all top s a e = ap (λ o. s == top || of_parent false (λ parent. descends_from n all top parent) o) e
 
-or-false : (b : Bool) → (b || false) ≡ b
-or-false true = refl
-or-false false = refl
-
 pub descends-none : (n : ℕ) (all : Surfaces) (top s : ℕ) → link_of s all ≡ None → descends_from n all top s ≡ (s == top)
 unfolding descends_from
 descends-none zero all top s e = refl
@@ -185,7 +179,7 @@ most-there g p q a start (l ∷ ls) found is =
     at (p l) found (λ e. most-later g q (suc (g a.child)) start l ls (λ from. most-there g p q a from ls e is))
   where
     at : (b : Bool) → cond b (Some l) (find p ls) ≡ Some a → (find p ls ≡ Some a → suc (g a.child) ≤ most_of g q start (l ∷ ls)) → suc (g a.child) ≤ most_of g q start (l ∷ ls)
-    at true e rest = let same = some-same l a e in subst (λ (x : Link). suc (g x.child) ≤ most_of g q start (l ∷ ls)) same (most-here g q start l ls (ap q same ∙ is))
+    at true e rest = let same = same_Some l a e in subst (λ (x : Link). suc (g x.child) ≤ most_of g q start (l ∷ ls)) same (most-here g q start l ls (ap q same ∙ is))
     at false e rest = rest e
 
 height-over : (n : ℕ) (all : Surfaces) (s : ℕ) → height (suc n) all s ≡ most_of (λ c. height n all c) (λ l. not l.has_ended && l.parent == s) 0 all.links
@@ -198,7 +192,7 @@ height-step bound n s a all f e =
     let up = link-live bound s a all f e in
     let there =
     most-there (λ c. height n all c) (λ l. l.number == a.number) (λ l. not l.has_ended && l.parent == a.parent) a 0 all.links up.live.here
-    (and-both (not a.has_ended) (a.parent == a.parent) (lives-not a.has_ended up.live.lives) (same-number a.parent)) in
+    (and_from (not a.has_ended) (a.parent == a.parent) (not_from_false a.has_ended up.live.lives) (same-number a.parent)) in
     subst (λ h. suc h ≤ height (suc n) all a.parent) (ap (height n all) up.is_its) (subst (λ h. suc (height n all a.child) ≤ h) (sym (height-over n all a.parent)) there)
 
 nothing-above : (d m k x y : ℕ) → d ≡ 0 → x ≡ y → d + x ≤ y

@@ -3,8 +3,9 @@ use Rattle.std.proofs.Common.{◌≡◌, ℕ, zero, suc, Bool, true, false, List
 use Rattle.std.specs.Prelude.{◌==◌, ◌⊎◌, fold}
 use Rattle.std.specs.List.{list_any}
 use Rattle.std.specs.Option.{option_map}
-use Rattle.std.proofs.lemmas.Bool.{eqb-true, or_cases}
+use Rattle.std.proofs.lemmas.Bool.{eqb-true, false_from_ne_true, or_cases, or_from}
 use Rattle.std.proofs.lemmas.List.{take_all}
+use Rattle.std.proofs.lemmas.Option.{same_Some}
 use Rattle.wl_surface.specs.Request.{AddChild, Child, Itself, Member, Request}
 use Rattle.wl_surface.specs.State.{History, is_member, order, ordered}
 use Rattle.wl_surface.specs.Surface.{Surface, asking, with_role}
@@ -13,10 +14,11 @@ use Rattle.wl_surface.specs.Trees.{linked}
 use Rattle.wl_surface.specs.declared.role.Role.TheVariants.{Subsurface}
 use Rattle.law_desktop.specs.Soundness.{AreOnce}
 use Rattle.law_desktop.proofs.Soundness.Orderly.{has_child}
-use Rattle.law_desktop.proofs.Lists.Keys.{found-map, found-passes, some-same}
-use Rattle.law_desktop.proofs.Marks.Stacks.{any-more, differ, equal-numbers, or-left, or-right, unless}
-use Rattle.law_desktop.proofs.Soundness.Trees.{or-none}
+use Rattle.law_desktop.proofs.Lists.Keys.{found-map, found-passes}
+use Rattle.law_desktop.proofs.Marks.Stacks.{equal-numbers}
 use Rattle.law_desktop.proofs.Lists.Standings.{any-last}
+use Rattle.law_desktop.proofs.Truth.{differ, or-left, or-right}
+use Rattle.law_desktop.proofs.Lists.Tests.{any-more}
 
 -- ---- what was asked
 
@@ -92,7 +94,7 @@ history-linked number child parent surface all h e =
     at None found is = absurd (cc)
     at (Some s) found is =
         let id = eqb-true s.id surface (found-passes (λ s. s.id == surface) all.surfaces s found) in
-        let new = some-same (with_asked number parent (with_child child s)).history h is in (
+        let new = same_Some (with_asked number parent (with_child child s)).history h is in (
           s.history,
           ap (option_map (λ (s : Surface). s.history)) found,
           grown-as (AddChild number) (with_child child s).history.requests s.history.requests (with_asked number parent (with_child child s)).history.requests h.requests
@@ -167,7 +169,7 @@ turned (Child k) (Child l) e = equal-numbers l k (sym (eqb-true k l e))
 once-last : {X : Type 0} (same : X → X → Bool) (xs : List X) (x : X) → AreOnce same xs → list_any (λ y. same y x) xs ≡ false → AreOnce same (xs ++ x ∷ [])
 once-last same [] x once none = (refl, tt)
 once-last same (y ∷ ys) x once none = (
-  any-last (same y) ys x ∙ or-none (list_any (same y) ys) (same y x) once.0 (or-left (same y x) (list_any (λ y. same y x) ys) none),
+  any-last (same y) ys x ∙ or_from (list_any (same y) ys) (same y x) once.0 (or-left (same y x) (list_any (λ y. same y x) ys) none),
   once-last same ys x once.1 (or-right (same y x) (list_any (λ y. same y x) ys) none),
 )
 
@@ -175,5 +177,5 @@ once-last same (y ∷ ys) x once none = (
 pub new-once : (number : ℕ) (members : List Member) → AreOnce is_member members → list_any (is_member (Child number)) members ≡ false → AreOnce is_member (members ++ Child number ∷ [])
 new-once number members once none =
     once-last is_member members (Child number) once
-    (unless (list_any (λ m. is_member m (Child number)) members)
+    (false_from_ne_true (list_any (λ m. is_member m (Child number)) members)
     (λ e. differ (sym none ∙ any-more (λ m. is_member m (Child number)) (is_member (Child number)) (λ m. turned m (Child number)) members e)))

@@ -8,9 +8,9 @@ use Rattle.spec_desktop.specs.Peer.{counted, with_rest}
 use Rattle.wl_surface.specs.Request.{Frame}
 use Rattle.wl_surface.specs.Surfaces.{Link, Surfaces}
 use Rattle.wl_shell.specs.Positioner.{Positioner}
-use Rattle.wl_shell.specs.Shell.{Effect, Stays, Unconfigured, Configures, Maps, Unmaps, XdgSurface as Xdg, xdg_at, xdg_of}
+use Rattle.wl_shell.specs.Shell.{XdgSurface as Xdg, xdg_at, xdg_of}
 use Rattle.spec_desktop.specs.Ask.{Ask, Own, CreateSurface, AskSurface, EndObject, GetXdgSurface, DestroyXdgSurface, GetToplevel, Acknowledge, ConfigureAgain, Ignore}
-use Rattle.spec_desktop.specs.Changing.{Placing, placement_now, changed_for, drawing, effect_placing, grab_allowed, grabbed, has_focus, in_rising_order, link_with_id, popup_given_to, tree_committed}
+use Rattle.spec_desktop.specs.Changing.{Placing, placement_now, changed_for, drawing, grab_allowed, grabbed, has_focus, in_rising_order, link_with_id, popup_given_to, tree_committed}
 use Rattle.spec_desktop.specs.Demand.{Demand, Asks, EndSurface, AskFrame, CommitTree, GetSubsurface, EndSubsurface, SetMode, GetPointer, MakeCursor}
 use Rattle.spec_desktop.specs.Demand.{GetPopup, Grab, EndPopup, EndToplevel, Move}
 use Rattle.spec_desktop.specs.Demanding.{effect_of_commit}
@@ -26,7 +26,9 @@ use Rattle.law_desktop.proofs.Soundness.Objects.{objects-kept, objects-same}
 use Rattle.law_desktop.proofs.Soundness.Roles.{roles-kept, roles-same}
 use Rattle.law_desktop.proofs.Soundness.RunMessages.{MessageKeeps}
 use Rattle.law_desktop.proofs.Soundness.Standing.{standing-kept}
-use Rattle.law_desktop.proofs.Marks.Stacks.{and-right, any-more, differ}
+use Rattle.law_desktop.proofs.Truth.{and-right, differ}
+use Rattle.law_desktop.proofs.Lists.Tests.{any-more}
+use Rattle.law_desktop.proofs.RootsOf.Commits.{effect-surfaces}
 use Rattle.wl_shell.specs.Popups.{Popped, copying, is_configured, popup_at, repositioning}
 use Rattle.spec_desktop.specs.Changing.{popup_repositioned}
 use Rattle.spec_desktop.specs.Demand.{Reposition}
@@ -85,15 +87,6 @@ module _ (r : Resident) (rest : List ℕ) where
   allowed-counted (Move surface serial) h = h
 
 -- ---- the links make trees
-
--- what is done beside surfaces leaves them
-effect-surfaces : (where_to : Placing) (surface : ℕ) (effect : Effect) (x : Option Xdg) (r : Resident) → (effect_placing where_to surface effect x r).owned.surfaces ≡ r.owned.surfaces
-effect-surfaces where_to surface effect None r = refl
-effect-surfaces where_to surface Stays (Some x) r = refl
-effect-surfaces where_to surface Unconfigured (Some x) r = refl
-effect-surfaces where_to surface Configures (Some x) r = refl
-effect-surfaces where_to surface Maps (Some x) r = refl
-effect-surfaces where_to surface Unmaps (Some x) r = refl
 
 grab-surfaces : (b : Bool) (xdg : ℕ) (r : Resident) → (grabbed b xdg r).owned.surfaces ≡ r.owned.surfaces
 grab-surfaces true xdg r = refl

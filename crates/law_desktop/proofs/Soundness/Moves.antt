@@ -3,7 +3,8 @@ use Rattle.std.proofs.Common.{◌≡◌, ◌≢◌, ℕ, zero, suc, List, [], �
 use Rattle.std.specs.Prelude.{◌==◌, ◌&&◌, ◌||◌, is_some, find, filter, not}
 use Rattle.std.specs.List.{list_any}
 use Rattle.std.specs.Option.{option_and_then, option_map}
-use Rattle.std.proofs.lemmas.Bool.{eqb-true, ne_eqb}
+use Rattle.std.proofs.lemmas.Bool.{and_from, eqb-true, ne_eqb, or_from, or_left, or_right, true≢false}
+use Rattle.std.proofs.lemmas.Option.{same_Some}
 use Rattle.wl_surface.specs.Request.{Request, Commit}
 use Rattle.wl_surface.specs.State.{History}
 use Rattle.wl_surface.specs.Surface.{Surface, applying, asking}
@@ -13,11 +14,10 @@ use Rattle.wl_surface.specs.Trees.{released_in, synchronised_in, with_link}
 use Rattle.spec_desktop.specs.Changing.{unlinked_at}
 use Rattle.law_desktop.specs.Apart.{AreApartBy}
 use Rattle.law_desktop.specs.Soundness.{IsLive}
-use Rattle.law_desktop.proofs.Lists.Keys.{apart-map, differ, found-map, found-passes, some-same}
+use Rattle.law_desktop.proofs.Lists.Keys.{apart-map, found-map, found-passes}
 use Rattle.law_desktop.proofs.Soundness.Orderly.{KeepsLinks, KeepsTrees, role_in}
-use Rattle.law_desktop.proofs.Marks.Stacks.{and-both, equal-numbers}
+use Rattle.law_desktop.proofs.Marks.Stacks.{equal-numbers}
 use Rattle.law_desktop.proofs.Lists.Surfaces.{has_id}
-use Rattle.law_desktop.proofs.Soundness.Trees.{or-here, or-none, or-there}
 use Rattle.law_desktop.proofs.Lists.Surfaces.{changed-found}
 
 -- ---- one surface
@@ -34,7 +34,7 @@ kept-role f keeps (Some s) = keeps s
 kept-requests : (f : Surface → Surface) → ((s : Surface) → (f s).history.requests ≡ s.history.requests) → (o : Option Surface) (h : History)
     → option_map (λ (s : Surface). s.history) (option_map f o) ≡ Some h → (g : History) × (option_map (λ (s : Surface). s.history) o ≡ Some g) × (g.requests ≡ h.requests)
 kept-requests f keeps None h e = absurd (cc)
-kept-requests f keeps (Some s) h e = (s.history, refl, sym (keeps s) ∙ ap (λ (k : History). k.requests) (some-same (f s).history h e))
+kept-requests f keeps (Some s) h e = (s.history, refl, sym (keeps s) ∙ ap (λ (k : History). k.requests) (same_Some (f s).history h e))
 
 abbrev one : ℕ → (Surface → Surface) → Surface → Surface
 one id change s = cond (s.id == id) (change s) s
@@ -108,7 +108,7 @@ moves-fold f each (x ∷ xs) all = moves-more all (f all x) (fold f (f all x) xs
 
 -- ---- a surface changes
 
-same-links : (all new : Surfaces) → new.links ≡ all.links → KeepsLinks all new
+pub same-links : (all new : Surfaces) → new.links ≡ all.links → KeepsLinks all new
 same-links all new same number link live = (link, record { here = sym (ap (find (has_number number)) same) ∙ live.here; lives = live.lives }, refl, refl)
 
 module _ (id : ℕ) (change : Surface → Surface) (ids : (s : Surface) → (change s).id ≡ s.id) (all : Surfaces) where
@@ -181,7 +181,7 @@ link-kept : (f : Link → Link) → Leaves f → (number : ℕ) (link : Link) (a
     × IsLive number l all × (l.child ≡ link.child) × (l.parent ≡ link.parent)
 link-kept f is number link all None found e lives = absurd (cc)
 link-kept f is number link all (Some l) found e lives =
-    let same = some-same (f l) link e in (
+    let same = same_Some (f l) link e in (
       l,
       record { here = found; lives = is.lives l (ap (λ (k : Link). k.has_ended) same ∙ lives) },
       sym (is.child l) ∙ ap (λ (k : Link). k.child) same,
@@ -210,7 +210,7 @@ leaves-mode : (synchronised : Bool) → Leaves (in_mode synchronised)
 leaves-mode synchronised = record { number = λ l. refl; child = λ l. refl; parent = λ l. refl; lives = λ l e. e }
 
 leaves-ending : Leaves ending
-leaves-ending = record { number = λ l. refl; child = λ l. refl; parent = λ l. refl; lives = λ l e. absurd (differ e) }
+leaves-ending = record { number = λ l. refl; child = λ l. refl; parent = λ l. refl; lives = λ l e. absurd (true≢false e) }
 
 -- ---- a tree is applied
 
@@ -283,7 +283,7 @@ ended-apart x n link all live = at (x.number == n) refl
     never same (Some l) found e =
         let is : l.number ≡ n = eqb-true l.number n (found-passes (has_number n) all.links l found) in
         let ended : (one_link x.number ending l).has_ended ≡ true = ap (λ b. (cond b (ending l) l).has_ended) (equal-numbers l.number x.number (is ∙ sym same)) in
-        differ (sym ended ∙ ap (λ (k : Link). k.has_ended) (some-same (one_link x.number ending l) link e) ∙ live.lives)
+        true≢false (sym ended ∙ ap (λ (k : Link). k.has_ended) (same_Some (one_link x.number ending l) link e) ∙ live.lives)
 
     at : (b : Bool) → (x.number == n) ≡ b → b ≡ false
     at true e = absurd (never (eqb-true x.number n e) (link_at n all) refl (sym (link-found x.number ending leaves-ending all n) ∙ live.here))
@@ -297,7 +297,7 @@ ended-live (x ∷ xs) n link all live =
     let mid = with_link x.number ending all in
     let later = (moves-all-ended xs next).links n link live in
     let first = (moves-applied levels x.child mid).links n later.0 later.1 in
-    or-none (x.number == n) (list_any (λ x. x.number == n) xs) (ended-apart x n first.0 all first.1) (ended-live xs n link next live)
+    or_from (x.number == n) (list_any (λ x. x.number == n) xs) (ended-apart x n first.0 all first.1) (ended-live xs n link next live)
 
 -- what passes is left
 filter-other : {X : Type 0} (p q : X → Bool) → ((x : X) → p x ≡ true → q x ≡ true) → (xs : List X) → find p (filter q xs) ≡ find p xs
@@ -307,7 +307,7 @@ filter-other p q keeps (x ∷ xs) = at (p x) (q x) refl refl (filter-other p q k
     at : (a b : Bool) → p x ≡ a → q x ≡ b → find p (filter q xs) ≡ find p xs → find p (cond b (x ∷ filter q xs) (filter q xs)) ≡ cond a (Some x) (find p xs)
     at true true e f rest = ap (λ c. cond c (Some x) (find p (filter q xs))) e
     at false true e f rest = ap (λ c. cond c (Some x) (find p (filter q xs))) e ∙ rest
-    at true false e f rest = absurd (differ (sym (keeps x e) ∙ f))
+    at true false e f rest = absurd (true≢false (sym (keeps x e) ∙ f))
     at false false e f rest = rest
 
 left-there : {X : Type 0} (p q : X → Bool) (xs : List X) (x : X) → find p xs ≡ Some x → q x ≡ true → list_any p (filter q xs) ≡ true
@@ -315,17 +315,17 @@ left-there p q [] x found is = absurd (cc)
 left-there p q (y ∷ ys) x found is = at (p y) (q y) refl refl found (λ e. left-there p q ys x e is)
   where
     at : (a b : Bool) → p y ≡ a → q y ≡ b → cond a (Some y) (find p ys) ≡ Some x → (find p ys ≡ Some x → list_any p (filter q ys) ≡ true) → list_any p (cond b (y ∷ filter q ys) (filter q ys)) ≡ true
-    at true true e f g rest = or-here (p y) (list_any p (filter q ys)) e
-    at true false e f g rest = absurd (differ (sym is ∙ ap q (sym (some-same y x g)) ∙ f))
-    at false true e f g rest = or-there (p y) (list_any p (filter q ys)) (rest g)
+    at true true e f g rest = or_left (p y) (list_any p (filter q ys)) e
+    at true false e f g rest = absurd (true≢false (sym is ∙ ap q (sym (same_Some y x g)) ∙ f))
+    at false true e f g rest = or_right (p y) (list_any p (filter q ys)) (rest g)
     at false false e f g rest = rest g
 
 -- none lives that was to end
 never-ended : (q : Link → Bool) (n : ℕ) (link l : Link) (all : Surfaces) → IsLive n link (fold ended_in all (filter q all.links)) → link_at n all ≡ Some l → q l ≡ true → ⊥
-never-ended q n link l all live found is = differ (sym (left-there (has_number n) q all.links l found is) ∙ ended-live (filter q all.links) n link all live)
+never-ended q n link l all live found is = true≢false (sym (left-there (has_number n) q all.links l found is) ∙ ended-live (filter q all.links) n link all live)
 
 lives-and : (a b : Bool) → a ≡ false → b ≡ true → (not a && b) ≡ true
-lives-and a b e f = and-both (not a) b (ap (λ c. not c) e) f
+lives-and a b e f = and_from (not a) b (ap (λ c. not c) e) f
 
 pub unlinked-live : (gone : Option ℕ) (n : ℕ) (link : Link) (all : Surfaces) → AreApartBy (λ number l. l.number == number) all.links → IsLive n link (unlinked_at gone all) → Some n ≢ gone
 unlinked-live None n link all apart live same = absurd (cc)
@@ -333,7 +333,7 @@ unlinked-live (Some number) n link all apart live same =
     let old = (moves-unlinked (Some number) all).links n link live in
     let is : old.0.number ≡ n = eqb-true old.0.number n (found-passes (has_number n) all.links old.0 old.1.here) in
     never-ended (λ l. not l.has_ended && l.number == number) n link old.0 all live old.1.here
-    (lives-and old.0.has_ended (old.0.number == number) old.1.lives (equal-numbers old.0.number number (is ∙ some-same n number same)))
+    (lives-and old.0.has_ended (old.0.number == number) old.1.lives (equal-numbers old.0.number number (is ∙ same_Some n number same)))
 
 -- ---- a surface goes
 
@@ -346,8 +346,8 @@ links-destroyed surface all number link live = (moves-those surface all).links n
 pub destroyed-live : (surface n : ℕ) (link : Link) (all : Surfaces) → AreApartBy (λ number l. l.number == number) all.links → IsLive n link (destroyed_in surface all) → (link.child ≢ surface)
     × (link.parent ≢ surface)
 destroyed-live surface n link all apart live = (
-  λ e. never (or-here (old.0.child == surface) (old.0.parent == surface) (equal-numbers old.0.child surface (old.2 ∙ e))),
-  λ e. never (or-there (old.0.child == surface) (old.0.parent == surface) (equal-numbers old.0.parent surface (old.3 ∙ e))),
+  λ e. never (or_left (old.0.child == surface) (old.0.parent == surface) (equal-numbers old.0.child surface (old.2 ∙ e))),
+  λ e. never (or_right (old.0.child == surface) (old.0.parent == surface) (equal-numbers old.0.parent surface (old.3 ∙ e))),
 )
   where
     now : IsLive n link (fold ended_in all (links_with surface all))

@@ -1,7 +1,7 @@
 -- What a client owns goes on being known by the ids of its objects, whatever an accepted message does.
 use Rattle.std.proofs.Common.{◌≡◌, ℕ, Bool, true, false, List, Option, Some, None, cond, refl, ap, sym, subst, ◌∙◌, map, inl, inr}
+use Rattle.std.proofs.lemmas.Bool.{true≢false}
 use Rattle.std.specs.Prelude.{◌==◌, filter}
-use Rattle.std.specs.Option.{option_map_or}
 use Rattle.wl_proto.specs.declared.interface.Interface.{Interface}
 use Rattle.wl_proto.specs.declared.interface.Interface.TheVariants as of
 use Rattle.spec_desktop.specs.declared.actions.Action.{Action}
@@ -39,7 +39,7 @@ use Rattle.law_desktop.proofs.Soundness.ObjectsRoles.{has-popup-gone, has-toplev
 use Rattle.law_desktop.proofs.Soundness.ObjectsShell.{BringsNoId, has-mapped, no-id-acknowledged, no-id-arriving, no-id-repositioned, no-id-change, no-id-configured, no-id-dismissed, no-id-itself, no-id-popup, no-id-stage, no-id-then}
 use Rattle.law_desktop.proofs.Soundness.ObjectsShell.{no-id-unmapped}
 use Rattle.law_desktop.proofs.Soundness.ObjectsThere.{There, there-changed, there-committed, there-desynchronised, there-destroyed, there-linked, there-more, there-new, there-unlinked}
-use Rattle.law_desktop.proofs.Lists.Keys.{differ}
+use Rattle.law_desktop.proofs.InOrder.Held.{child-id}
 use Rattle.wl_shell.specs.Popups.{arriving, copying, is_configured, popup_at, repositioning, unmapped, waiting_in}
 use Rattle.wl_shell.specs.Positioner.{Placed}
 use Rattle.spec_desktop.specs.Changing.{popup_repositioned}
@@ -99,13 +99,6 @@ effect-has where_to surface Unmaps (Some x) q h =
 
 -- ---- the end of a surface
 
-child-id : (surface : ℕ) (s : Subsurface) → (without_child surface s).id ≡ s.id
-child-id surface s = at (option_map_or (λ child. child == surface) s.surface false)
-  where
-    at : (b : Bool) → (cond b (record s { surface = None }) s).id ≡ s.id
-    at true = refl
-    at false = refl
-
 module _ (peer : Peer) (all : Surfaces) (subs : List Subsurface) (shell : Shell) (calls : List Callback) (which : Callback → Bool) (h : Has peer.objects all subs shell calls) (surface : ℕ) where
   has-surface-gone : is_of of.WlSurface (peer.objects surface) ≡ true
       → Has (with_id surface None (left peer all subs shell calls which h)) (destroyed_in surface all) (map (without_child surface) subs) shell (filter (is_left (filter which calls)) calls)
@@ -123,7 +116,7 @@ module _ (peer : Peer) (all : Surfaces) (subs : List Subsurface) (shell : Shell)
 -- ---- what is asked
 
 not-surface : (interface : Interface) (version : ℕ) → is_no_surface interface ≡ true → is_of of.WlSurface (Some (object_at_version interface version)) ≡ false
-not-surface of.WlSurface version e = absurd (differ (sym e))
+not-surface of.WlSurface version e = absurd (true≢false (sym e))
 not-surface interface version e = refl
 
 own-has : (used : ℕ → Bool) (action : Action) (r : Resident) → IsOwn r action → HasOf r → Has (changed_with used action r.peer).objects r.owned.surfaces r.subsurfaces r.owned.shell r.callbacks

@@ -2,7 +2,7 @@
 use Rattle.std.proofs.Common.{◌≡◌, ℕ, Bool, true, false, List, [], ◌∷◌, ◌++◌, Some, None, cond, refl, ap, sym, ◌∙◌}
 use Rattle.std.specs.Prelude.{◌==◌, ◌&&◌, ◌||◌, not, filter}
 use Rattle.std.specs.List.{list_any}
-use Rattle.std.proofs.lemmas.Bool.{eqb-true}
+use Rattle.std.proofs.lemmas.Bool.{eqb-true, false_from_ne_true, true≢false}
 use Rattle.wl_proto.specs.declared.interface.Interface.{Interface}
 use Rattle.wl_proto.specs.declared.interface.Interface.TheVariants.{WlCallback, WlSurface, WlSubsurface, XdgSurface, XdgToplevel, XdgPopup}
 use Rattle.spec_desktop.specs.Judgement.{is_free}
@@ -17,22 +17,24 @@ use Rattle.spec_desktop.specs.Desktop.{Subsurface}
 use Rattle.law_desktop.specs.Apart.{AreApartBy, AreObjects}
 use Rattle.law_desktop.proofs.Soundness.ObjectsHas.{Has, has-calls, has-gone, has-made, has-shell, has-subsurfaces, has_callback, has_popup, has_sub, has_toplevel, has_xdg, no-callback, no-popup}
 use Rattle.law_desktop.proofs.Soundness.ObjectsHas.{no-subsurface, no-toplevel, no-xdg}
-use Rattle.law_desktop.proofs.Soundness.ObjectsKeys.{any-less, free-none, is-false, no-key, none-found, objects-filter, objects-map, objects-new}
-use Rattle.law_desktop.proofs.Lists.Keys.{changed-apart, differ, new-apart}
-use Rattle.law_desktop.proofs.Marks.Stacks.{and-left, and-right, equal-numbers}
+use Rattle.law_desktop.proofs.Soundness.ObjectsKeys.{any-less, free-none, no-key, objects-filter, objects-map, objects-new}
+use Rattle.law_desktop.proofs.Lists.Keys.{changed-apart, new-apart}
+use Rattle.law_desktop.proofs.Marks.Stacks.{equal-numbers}
 use Rattle.law_desktop.proofs.Lists.Standings.{any-gone, any-last}
+use Rattle.law_desktop.proofs.Truth.{and-left, and-right}
+use Rattle.law_desktop.proofs.Lists.Tests.{find-none}
 
 -- one more that has no key
 pub objects-plain : {X : Type 0} (interface : Interface) (has : ℕ → X → Bool) (objects : Objects) (xs : List X) (x : X) → ((key : ℕ) → has key x ≡ false) → AreObjects interface objects has xs
     → AreObjects interface objects has (xs ++ x ∷ [])
 objects-plain interface has objects xs x never are = (
-  new-apart has xs x (λ key is. absurd (differ (sym is ∙ never key))) are.0,
+  new-apart has xs x (λ key is. absurd (true≢false (sym is ∙ never key))) are.0,
   λ key any. are.1 key (first (list_any (has key) xs) (has key x) (sym (any-last (has key) xs x) ∙ any) (never key)),
 )
   where
     first : (a b : Bool) → (a || b) ≡ true → b ≡ false → a ≡ true
     first true b e none = refl
-    first false b e none = absurd (differ (sym e ∙ none))
+    first false b e none = absurd (true≢false (sym e ∙ none))
 
 -- one of them gets a key, which is that of a new object
 module _ (interface : Interface) (has : ℕ → Xdg → Bool) (objects : Objects) (id : ℕ) (object : Object) (xdg : ℕ) (change : Xdg → Xdg) (x : Xdg) where
@@ -41,12 +43,12 @@ module _ (interface : Interface) (has : ℕ → Xdg → Bool) (objects : Objects
       → AreObjects interface (with_id id (Some object) objects) has (with_change xdg change shell)
   objects-given shell apart found none is key-is are = (
     changed-apart has_xdg xdg x change has shell apart found are.0
-        (λ key has-key. none-found (has key) shell (no-key interface has objects key shell (ap (λ n. is_of interface (objects n)) (key-is key x has-key) ∙ none) are)),
+        (λ key has-key. find-none (has key) shell (no-key interface has objects key shell (ap (λ n. is_of interface (objects n)) (key-is key x has-key) ∙ none) are)),
     λ key any. at key any (key == id) refl,
   )
     where
       before : (key : ℕ) → (key == id) ≡ false → (y : Xdg) (b : Bool) → has key (cond b (change y) y) ≡ true → has key y ≡ true
-      before key e y true has-key = absurd (differ (sym (equal-numbers key id (key-is key y has-key)) ∙ e))
+      before key e y true has-key = absurd (true≢false (sym (equal-numbers key id (key-is key y has-key)) ∙ e))
       before key e y false has-key = has-key
 
       at : (key : ℕ) → list_any (has key) (with_change xdg change shell) ≡ true → (b : Bool) → (key == id) ≡ b → is_of interface (cond b (Some object) (objects key)) ≡ true
@@ -61,7 +63,7 @@ module _ (objects : Objects) (all : Surfaces) (subs : List Subsurface) (shell : 
     pub has-object : (interface : Interface) → is_of WlSurface (Some (object_at_version interface version)) ≡ false
         → Has (with_id id (Some (object_at_version interface version)) objects) all subs shell calls
     has-object interface other =
-        has-made objects all subs shell calls h id (object_at_version interface version) (λ interface. free-none interface objects id free) (λ is. absurd (differ (sym is ∙ other)))
+        has-made objects all subs shell calls h id (object_at_version interface version) (λ interface. free-none interface objects id free) (λ is. absurd (true≢false (sym is ∙ other)))
 
     pub has-subsurface-more : (s : Subsurface) → s.id ≡ id → Has (with_id id (Some (object_at_version WlSubsurface version)) objects) all (subs ++ s ∷ []) shell calls
     has-subsurface-more s is =
@@ -96,7 +98,7 @@ module _ (objects : Objects) (all : Surfaces) (subs : List Subsurface) (shell : 
     fails has xdg change never key x e = at (x.id == xdg) e
       where
         at : (b : Bool) → has key (cond b (change x) x) ≡ true → has key x ≡ true
-        at true e = absurd (differ (sym e ∙ never key x))
+        at true e = absurd (true≢false (sym e ∙ never key x))
         at false e = e
 
     pub has-toplevel-more : (xdg since : ℕ) (x : Xdg) → xdg_at xdg shell ≡ Some x → Has (with_id id (Some (object_at_version XdgToplevel version)) objects) all subs
@@ -109,7 +111,7 @@ module _ (objects : Objects) (all : Surfaces) (subs : List Subsurface) (shell : 
         (objects-given XdgToplevel has_toplevel objects id (object_at_version XdgToplevel version) xdg (new_toplevel id since) x shell h.xdgs.0 found (free-none XdgToplevel objects id free) refl
         (λ key x e. sym (eqb-true id key (and-left (id == key) true e))) h.toplevels)
         (objects-map XdgPopup has_popup (with_id id (Some (object_at_version XdgToplevel version)) objects) (λ x. cond (x.id == xdg) (new_toplevel id since x) x) shell
-        (fails has_popup xdg (new_toplevel id since) (λ key x. is-false ((id == key) && false) (λ e. differ (sym (and-right (id == key) false e))))) new.popups)
+        (fails has_popup xdg (new_toplevel id since) (λ key x. false_from_ne_true ((id == key) && false) (λ e. true≢false (sym (and-right (id == key) false e))))) new.popups)
 
     pub has-popup-more : (xdg parent : ℕ) (p : Positioner) (number since : ℕ) (x : Xdg) → xdg_at xdg shell ≡ Some x
         → Has (with_id id (Some (object_at_version XdgPopup version)) objects) all subs (with_change xdg (new_popup id parent p number since) shell) calls
@@ -119,7 +121,7 @@ module _ (objects : Objects) (all : Surfaces) (subs : List Subsurface) (shell : 
         (objects-map XdgSurface has_xdg (with_id id (Some (object_at_version XdgPopup version)) objects) (λ x. cond (x.id == xdg) (new_popup id parent p number since x) x) shell
         (same-xdg xdg (new_popup id parent p number since) (λ x. refl)) new.xdgs)
         (objects-map XdgToplevel has_toplevel (with_id id (Some (object_at_version XdgPopup version)) objects) (λ x. cond (x.id == xdg) (new_popup id parent p number since x) x) shell
-        (fails has_toplevel xdg (new_popup id parent p number since) (λ key x. is-false ((id == key) && false) (λ e. differ (sym (and-right (id == key) false e))))) new.toplevels)
+        (fails has_toplevel xdg (new_popup id parent p number since) (λ key x. false_from_ne_true ((id == key) && false) (λ e. true≢false (sym (and-right (id == key) false e))))) new.toplevels)
         (objects-given XdgPopup has_popup objects id (object_at_version XdgPopup version) xdg (new_popup id parent p number since) x shell h.xdgs.0 found (free-none XdgPopup objects id free) refl
         (λ key x e. sym (eqb-true id key (and-left (id == key) true e))) h.popups)
 

@@ -2,7 +2,7 @@
 use Rattle.std.proofs.Common.{◌≡◌, ℕ, zero, suc, Bool, true, false, List, [], ◌∷◌, ◌++◌, Option, Some, None, cond, refl, ap, sym, ◌∙◌}
 use Rattle.std.specs.Prelude.{◌==◌, ◌&&◌, ◌||◌, not, is_some, find, filter, fold}
 use Rattle.std.specs.Option.{option_map}
-use Rattle.std.proofs.lemmas.Bool.{eqb-true}
+use Rattle.std.proofs.lemmas.Bool.{eqb-true, true≢false}
 use Rattle.wl_surface.specs.declared.role.Role.TheVariants.{Subsurface}
 use Rattle.wl_surface.specs.Request.{AddChild, Commit}
 use Rattle.wl_surface.specs.Surface.{Surface, applying, asking, new_surface, with_role}
@@ -10,8 +10,9 @@ use Rattle.wl_surface.specs.Surfaces.{Link, Surfaces, link_at, surface_at, with_
 use Rattle.wl_surface.specs.Trees.{applied_tree, applied_unless, behaves_synchronised, children_of, committed_in, desynchronised_in, destroyed_in, ended_in, in_mode, levels, linked, links_with}
 use Rattle.wl_surface.specs.Trees.{released_in, with_link}
 use Rattle.spec_desktop.specs.Changing.{unlinked_at}
-use Rattle.law_desktop.proofs.Lists.Keys.{differ, found-map}
+use Rattle.law_desktop.proofs.Lists.Keys.{found-map}
 use Rattle.law_desktop.proofs.Marks.Stacks.{equal-numbers}
+use Rattle.law_desktop.proofs.Lists.Left.{find-filter}
 
 -- the same surfaces are there
 abbrev pub There : Surfaces → Surfaces → Type 0
@@ -24,7 +25,7 @@ still f None = refl
 still f (Some x) = refl
 
 pub some-more : {X : Type 0} (p : X → Bool) (xs : List X) (x : X) → is_some (find p xs) ≡ true → is_some (find p (xs ++ x ∷ [])) ≡ true
-some-more p [] x is = absurd (differ (sym is))
+some-more p [] x is = absurd (true≢false (sym is))
 some-more p (y ∷ ys) x is = at (p y) is (some-more p ys x)
   where
     at : (b : Bool) → is_some (cond b (Some y) (find p ys)) ≡ true → (is_some (find p ys) ≡ true → is_some (find p (ys ++ x ∷ [])) ≡ true) → is_some (cond b (Some y) (find p (ys ++ x ∷ []))) ≡ true
@@ -38,17 +39,6 @@ some-last p (y ∷ ys) x is = at (p y) (some-last p ys x is)
     at : (b : Bool) → is_some (find p (ys ++ x ∷ [])) ≡ true → is_some (cond b (Some y) (find p (ys ++ x ∷ []))) ≡ true
     at true rest = refl
     at false rest = rest
-
--- what isn't left out is found as before
-pub found-left : {X : Type 0} (p q : X → Bool) (xs : List X) → ((x : X) → p x ≡ true → q x ≡ true) → find p (filter q xs) ≡ find p xs
-found-left p q [] keeps = refl
-found-left p q (x ∷ xs) keeps = at (p x) (q x) refl refl (found-left p q xs keeps)
-  where
-    at : (a b : Bool) → p x ≡ a → q x ≡ b → find p (filter q xs) ≡ find p xs → find p (cond b (x ∷ filter q xs) (filter q xs)) ≡ cond a (Some x) (find p xs)
-    at true true e f rest = ap (λ c. cond c (Some x) (find p (filter q xs))) e
-    at false true e f rest = ap (λ c. cond c (Some x) (find p (filter q xs))) e ∙ rest
-    at true false e f rest = absurd (differ (sym (keeps x e) ∙ f))
-    at false false e f rest = rest
 
 -- ---- surfaces change
 
@@ -105,7 +95,7 @@ there-unlinked (Some number) all id = there-all ended_in there-ended (filter (λ
 -- each surface but the one that goes
 pub there-destroyed : (surface : ℕ) (all : Surfaces) (id : ℕ) → (id == surface) ≡ false → is_some (surface_at id (destroyed_in surface all)) ≡ is_some (surface_at id all)
 there-destroyed surface all id apart =
-    ap is_some (found-left (λ s. s.id == id) (λ s. not (s.id == surface)) (fold ended_in all (links_with surface all)).surfaces (λ s is. ap (λ i. not (i == surface)) (eqb-true s.id id is)
+    ap is_some (find-filter (λ s. s.id == id) (λ s. not (s.id == surface)) (fold ended_in all (links_with surface all)).surfaces (λ s is. ap (λ i. not (i == surface)) (eqb-true s.id id is)
     ∙ ap not apart))
     ∙ there-all ended_in there-ended (links_with surface all) all id
 

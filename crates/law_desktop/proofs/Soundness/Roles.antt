@@ -3,7 +3,8 @@ use Rattle.std.proofs.Common.{◌≡◌, ◌≢◌, ℕ, List, [], ◌∷◌, �
 use Rattle.std.specs.Prelude.{◌==◌, ◌&&◌, ◌||◌, is_some, not, find, filter, ◌⊎◌}
 use Rattle.std.specs.List.{list_any}
 use Rattle.std.specs.Option.{option_and_then, option_map, option_map_or}
-use Rattle.std.proofs.lemmas.Bool.{eqb-true, ne_eqb, or_left, or_right}
+use Rattle.std.proofs.lemmas.Bool.{and_from, eqb-true, false_from_ne_true, ne_eqb, or_left, or_right, true≢false}
+use Rattle.std.proofs.lemmas.Option.{none-some}
 use Rattle.wl_surface.specs.Surface.{Surface, with_role, new_surface}
 use Rattle.wl_surface.specs.Surfaces.{Link, Surfaces, surface_at, with_new as with_new_surface, with_change as with_surface_change}
 use Rattle.wl_surface.specs.declared.role.Role.{Role}
@@ -19,26 +20,26 @@ use Rattle.spec_desktop.specs.Step.{with_shell, with_surfaces, xdg_changed, aske
 use Rattle.spec_desktop.specs.WlSubsurface.{is_of_child}
 use Rattle.spec_desktop.specs.XdgShell.{role_of, is_foreign}
 use Rattle.law_desktop.proofs.Soundness.Orderly.{HasRoles, KeepsLinks, KeepsTrees, role_in, IsForest, HasObjects, IsAllowed, IsAsked}
-use Rattle.law_desktop.proofs.Lists.Keys.{apart-left, apart-map, found-map, none-left, differ, found-fails, found-passes, new-apart, new-elsewhere, any-found, found-any}
+use Rattle.law_desktop.proofs.Lists.Keys.{apart-left, apart-map, found-map, none-left, found-fails, found-passes, new-apart, new-elsewhere, any-found, found-any}
 use Rattle.spec_desktop.specs.Changing.{Placing, placement_now, popup_given_to, link_with_id, subsurface_ended, subsurface_given, surface_ended, without_child, changed_for, commit_done, drawing, effect_placing, frame_asked}
 use Rattle.spec_desktop.specs.Changing.{grab_allowed, grabbed, has_focus, in_rising_order, mode_set, pointer_given, popup_given, toplevel_ended, tree_committed}
 use Rattle.wl_shell.specs.Positioner.{Positioner}
 use Rattle.spec_desktop.specs.WlPointer.{is_no_cursor}
 use Rattle.law_desktop.proofs.Lists.Surfaces.{has_id}
 use Rattle.law_desktop.proofs.Lists.Surfaces.{changed-found}
-use Rattle.law_desktop.proofs.Marks.Stacks.{equal-numbers, and-both, and-left, and-right, unless}
-use Rattle.law_desktop.proofs.Soundness.Standing.{found-first, found-kept}
+use Rattle.law_desktop.proofs.Marks.Stacks.{equal-numbers}
+use Rattle.law_desktop.proofs.Soundness.Standing.{arriving-surface, found-first, found-kept, repositioned-surface}
 use Rattle.wl_surface.specs.Trees.{linked}
 use Rattle.wl_surface.specs.Request.{AddChild, Frame}
-use Rattle.law_desktop.proofs.Soundness.Moves.{destroyed-live, destroyed-role, links-destroyed, trees-asked, trees-unlinked, unlinked-live, trees-committed, trees-desynchronised, trees-synchronised}
+use Rattle.law_desktop.proofs.Soundness.Moves.{destroyed-live, destroyed-role, links-destroyed, same-links, trees-asked, trees-committed, trees-desynchronised, trees-synchronised, trees-unlinked, unlinked-live}
 use Rattle.law_desktop.proofs.Soundness.Linked.{linked-live}
 use Rattle.law_desktop.proofs.Lists.Standings.{any-last}
+use Rattle.law_desktop.proofs.Truth.{and-left, and-right}
 use Rattle.spec_desktop.specs.Demanding.{effect_of_commit}
 use Rattle.spec_desktop.specs.Ask.{Ask, Own, CreateSurface, AskSurface, EndObject, GetXdgSurface, DestroyXdgSurface, GetToplevel, Acknowledge, ConfigureAgain, Ignore}
 use Rattle.spec_desktop.specs.Demand.{Demand, Asks, EndSurface, AskFrame, CommitTree, GetSubsurface, EndSubsurface, SetMode, GetPointer, MakeCursor}
 use Rattle.spec_desktop.specs.Demand.{GetPopup, Grab, EndPopup, EndToplevel, Move}
 use Rattle.wl_shell.specs.Popups.{arriving, copying, is_configured, popup_at, repositioning, waiting_in}
-use Rattle.wl_shell.specs.Positioner.{Placed}
 use Rattle.spec_desktop.specs.Changing.{popup_repositioned}
 use Rattle.spec_desktop.specs.Demand.{Reposition}
 
@@ -51,12 +52,8 @@ has_surface surface x = x.surface == surface
 abbrev pub names_child : ℕ → ℕ → Subsurface → Bool
 names_child number child s = (s.link == number) && is_of_child child s.surface
 
-pub links-same : (old new : Surfaces) → new.links ≡ old.links → KeepsLinks old new
-links-same old new same number link live =
-    (link, record { here = sym (ap (find (λ (l : Link). l.number == number)) same) ∙ live.here; lives = live.lives }, refl, refl)
-
 pub trees-same : (all : Surfaces) → KeepsTrees all all
-trees-same all = record { links = links-same all all refl; surfaces = record { there = λ id. refl; roles = λ id. refl } }
+trees-same all = record { links = same-links all all refl; surfaces = record { there = λ id. refl; roles = λ id. refl } }
 
 abbrev pub StaysChild : Resident → Resident → ℕ → Type 0
 StaysChild r q child = role_of r child ≡ Some AsSubsurface → xdg_of child r.owned.shell ≡ None → (role_of q child ≡ Some AsSubsurface) × (xdg_of child q.owned.shell ≡ None)
@@ -81,7 +78,7 @@ roles-step r q links stays names apart has = record {
 
 pub roles-same : (r q : Resident) → q.owned ≡ r.owned → q.subsurfaces ≡ r.subsurfaces → HasRoles r → HasRoles q
 roles-same r q same names has =
-    roles-step r q (links-same r.owned.surfaces q.owned.surfaces (ap (λ (o : Owned). o.surfaces.links) same))
+    roles-step r q (same-links r.owned.surfaces q.owned.surfaces (ap (λ (o : Owned). o.surfaces.links) same))
     (λ n link live role bare. (ap (λ (o : Owned). role_in link.child o.surfaces) same ∙ role, ap (λ (o : Owned). xdg_of link.child o.shell) same ∙ bare))
     (λ n link live named. ap (list_any (names_child n link.child)) names ∙ named)
     (subst (λ (o : Owned). AreApartBy has_surface o.shell) (sym same) has.apart) has
@@ -138,12 +135,9 @@ roles-dismissed is r has = roles-shell r (dismissing is r.owned.shell) (shell-di
 
 -- ---- a surface gets a role
 
-differ-options : {X : Type 0} (x : X) → None ≡ Some x → ⊥
-differ-options x e = absurd (cc)
-
 -- one with a role is there
 with-role : (P : Type 0) (role : Role) (o : Option Surface) → option_and_then (λ s. s.role) o ≡ Some role → ((s : Surface) → o ≡ Some s → s.role ≡ Some role → P) → P
-with-role P role None e f = absurd (differ-options role e)
+with-role P role None e f = absurd (none-some role e)
 with-role P role (Some s) e f = f s refl e
 
 module _ (id : ℕ) (role : Role) (all : Surfaces) where
@@ -174,7 +168,7 @@ module _ (id : ℕ) (role : Role) (all : Surfaces) where
   role-now there = at (surface_at id all) refl there
     where
       at : (o : Option Surface) → surface_at id all ≡ o → is_some o ≡ true → role_in id (with_surface_change id (with_role role) all) ≡ Some role
-      at None found e = absurd (differ (sym e))
+      at None found e = absurd (true≢false (sym e))
       at (Some s) found e =
           ap (option_and_then (λ (s : Surface). s.role)) (role-found id s found) ∙ ap (λ b. (cond b (with_role role s) s).role) (found-passes (has_id id) all.surfaces s found)
 
@@ -183,18 +177,18 @@ pub roles-given :
     (surface : ℕ) (role : Role) (r : Resident) → ((child : ℕ) → role_of r child ≡ Some AsSubsurface → xdg_of child r.owned.shell ≡ None → surface ≢ child) → HasRoles r
     → HasRoles (with_surfaces (with_surface_change surface (with_role role) r.owned.surfaces) r)
 roles-given surface role r apart has =
-    roles-step r (with_surfaces (with_surface_change surface (with_role role) r.owned.surfaces) r) (links-same r.owned.surfaces (with_surface_change surface (with_role role) r.owned.surfaces) refl)
+    roles-step r (with_surfaces (with_surface_change surface (with_role role) r.owned.surfaces) r) (same-links r.owned.surfaces (with_surface_change surface (with_role role) r.owned.surfaces) refl)
     (λ n link live is bare. (role-else surface role r.owned.surfaces link.child AsSubsurface (apart link.child is bare) is, bare)) (λ n link live named. named) has.apart has
 
 -- an xdg_surface that is there is of another
 pub no-child : (id child : ℕ) (shell : Shell) (x : XdgSurface) → xdg_at id shell ≡ Some x → xdg_of child shell ≡ None → x.surface ≢ child
-no-child id child shell x found none same = differ (sym (equal-numbers x.surface child same) ∙ found-fails (has_surface child) (λ x. x.id == id) shell x found none)
+no-child id child shell x found none same = true≢false (sym (equal-numbers x.surface child same) ∙ found-fails (has_surface child) (λ x. x.id == id) shell x found none)
 
-cursor-not : (o : Option Role) → is_no_cursor o ≡ false → o ≡ Some AsSubsurface → ⊥
-cursor-not o none is = differ (sym (ap is_no_cursor is) ∙ none)
+pub cursor-not : (o : Option Role) → is_no_cursor o ≡ false → o ≡ Some AsSubsurface → ⊥
+cursor-not o none is = true≢false (sym (ap is_no_cursor is) ∙ none)
 
-foreign-not : (o : Option Role) → is_foreign o ≡ false → o ≡ Some AsSubsurface → ⊥
-foreign-not o none is = differ (sym (ap is_foreign is) ∙ none)
+pub foreign-not : (o : Option Role) → is_foreign o ≡ false → o ≡ Some AsSubsurface → ⊥
+foreign-not o none is = true≢false (sym (ap is_foreign is) ∙ none)
 
 pub roles-cursor : (surface : ℕ) (r : Resident) → is_no_cursor (role_of r surface) ≡ false → HasRoles r → HasRoles (with_surfaces (with_surface_change surface (with_role AsCursor) r.owned.surfaces) r)
 roles-cursor surface r none has = roles-given surface AsCursor r (λ child is bare same. cursor-not (role_of r surface) none (ap (role_of r) same ∙ is)) has
@@ -225,7 +219,7 @@ roles-popup id xdg parent p r has = at (xdg_at xdg r.owned.shell) refl
 
 pub roles-created : (id : ℕ) (r : Resident) → HasRoles r → HasRoles (with_surfaces (with_new_surface id r.owned.surfaces) r)
 roles-created id r has =
-    roles-step r (with_surfaces (with_new_surface id r.owned.surfaces) r) (links-same r.owned.surfaces (with_new_surface id r.owned.surfaces) refl)
+    roles-step r (with_surfaces (with_new_surface id r.owned.surfaces) r) (same-links r.owned.surfaces (with_new_surface id r.owned.surfaces) refl)
     (λ n link live is bare. (
       with-role (role_in link.child (with_new_surface id r.owned.surfaces) ≡ Some AsSubsurface) AsSubsurface (surface_at link.child r.owned.surfaces) is
           (λ s found role. ap (option_and_then (λ (s : Surface). s.role)) (found-first (has_id link.child) r.owned.surfaces.surfaces (new_surface id) s found) ∙ role),
@@ -235,7 +229,7 @@ roles-created id r has =
 pub roles-shelled : (id base surface : ℕ) (r : Resident) → is_foreign (role_of r surface) ≡ false → xdg_of surface r.owned.shell ≡ None → HasRoles r
     → HasRoles (with_shell (with_new id base surface r.owned.shell) r)
 roles-shelled id base surface r foreign none has =
-    roles-step r (with_shell (with_new id base surface r.owned.shell) r) (links-same r.owned.surfaces r.owned.surfaces refl)
+    roles-step r (with_shell (with_new id base surface r.owned.shell) r) (same-links r.owned.surfaces r.owned.surfaces refl)
     (λ n link live is bare. (
       is,
       new-elsewhere (has_surface link.child) r.owned.shell one (ne_eqb surface link.child (λ same. foreign-not (role_of r surface) foreign (ap (role_of r) same ∙ is)))
@@ -252,12 +246,12 @@ roles-shelled id base surface r foreign none has =
 abbrev with_link_more : ℕ → ℕ → ℕ → Surfaces → Surfaces
 with_link_more number child parent all = record all { links = all.links ++ record { number = number; child = child; parent = parent; synchronised = true; has_ended = false } ∷ [] }
 
-linked-role : (number child parent id : ℕ) (all : Surfaces) → role_in id all ≡ Some AsSubsurface → role_in id (linked number child parent all) ≡ Some AsSubsurface
+pub linked-role : (number child parent id : ℕ) (all : Surfaces) → role_in id all ≡ Some AsSubsurface → role_in id (linked number child parent all) ≡ Some AsSubsurface
 linked-role number child parent id all e =
     (trees-asked parent (AddChild number) (with_surface_change child (with_role AsSubsurface) (with_link_more number child parent all))).surfaces.roles id
     ∙ role-still child AsSubsurface (with_link_more number child parent all) id e
 
-linked-child : (number child parent : ℕ) (all : Surfaces) → is_some (surface_at child all) ≡ true → role_in child (linked number child parent all) ≡ Some AsSubsurface
+pub linked-child : (number child parent : ℕ) (all : Surfaces) → is_some (surface_at child all) ≡ true → role_in child (linked number child parent all) ≡ Some AsSubsurface
 linked-child number child parent all there =
     (trees-asked parent (AddChild number) (with_surface_change child (with_role AsSubsurface) (with_link_more number child parent all))).surfaces.roles child
     ∙ role-now child AsSubsurface (with_link_more number child parent all) there
@@ -273,7 +267,7 @@ names-still id number child n surface ss named = any-last (names_child n surface
 names-new : (id number child n surface : ℕ) (ss : List Subsurface) → n ≡ number → surface ≡ child → list_any (names_child n surface) (ss ++ new_subsurface id number child ∷ []) ≡ true
 names-new id number child n surface ss here same =
     any-last (names_child n surface) ss (new_subsurface id number child)
-    ∙ or_right (list_any (names_child n surface) ss) (names_child n surface (new_subsurface id number child)) (and-both (number == n) (child == surface) (equal-numbers number n (sym here))
+    ∙ or_right (list_any (names_child n surface) ss) (names_child n surface (new_subsurface id number child)) (and_from (number == n) (child == surface) (equal-numbers number n (sym here))
     (equal-numbers child surface (sym same)))
 
 pub roles-subsurface :
@@ -312,7 +306,7 @@ names-left id n child ss apart other any = at (any-found (λ id s. s.id == id) (
     at : (s : Subsurface) × (names_child n child s ≡ true) × ((key : ℕ) → (s.id == key) ≡ true → find (λ s. s.id == key) ss ≡ Some s)
         → list_any (names_child n child) (filter (λ s. not (s.id == id)) ss) ≡ true
     at one =
-        let not_it : (one.0.id == id) ≡ false = unless (one.0.id == id)
+        let not_it : (one.0.id == id) ≡ false = false_from_ne_true (one.0.id == id)
         (λ same. other (ap (λ k. Some k) (sym (eqb-true one.0.link n (and-left (one.0.link == n) (is_of_child child one.0.surface) one.1)))
         ∙ sym (ap (λ (o : Option Subsurface). option_map (λ s. s.link) o) (one.2 id same)))) in
         found-any (λ s. s.id == one.0.id) (names_child n child) (filter (λ s. not (s.id == id)) ss) one.0
@@ -353,10 +347,6 @@ roles-destroyed surface r links has =
 
 -- ---- a commit
 
-pub arriving-surface : (o : Option Placed) (x : XdgSurface) → (arriving o x).surface ≡ x.surface
-arriving-surface None x = refl
-arriving-surface (Some placed) x = refl
-
 roles-effect : (where_to : Placing) (surface : ℕ) (effect : Effect) (o : Option XdgSurface) (r : Resident) → HasRoles r → HasRoles (effect_placing where_to surface effect o r)
 roles-effect where_to surface effect None r has = has
 roles-effect where_to surface Stays (Some x) r has = roles-shell r _ (shell-changed x.id (λ y. arriving (waiting_in y.role) y) r.owned.shell (λ y. arriving-surface (waiting_in y.role) y)) has
@@ -385,16 +375,12 @@ roles-drawn : (b : Bool) (r : Resident) → HasRoles r → HasRoles (drawing b r
 roles-drawn true r has = roles-same r (drawing true r) refl refl has
 roles-drawn false r has = has
 
-pub repositioning-surface : (b : Bool) (serial : ℕ) (placement : Option Placed) (p : Positioner) (x : XdgSurface) → (repositioning b serial placement p x).surface ≡ x.surface
-repositioning-surface true serial placement p x = refl
-repositioning-surface false serial placement p x = refl
-
 roles-repositioned : (where_to : Placing) (p : Positioner) (o : Option Popped) (r : Resident) → HasRoles r → HasRoles (popup_repositioned where_to p o r)
 roles-repositioned where_to p None r has = has
 roles-repositioned where_to p (Some q) r has =
     let change : XdgSurface → XdgSurface = repositioning (is_configured q) r.peer.serial (where_to (copying p q.popup)) p in
     roles-drawn (is_configured q) (xdg_changed q.xdg.id change r)
-    (roles-changed q.xdg.id change r (repositioning-surface (is_configured q) r.peer.serial (where_to (copying p q.popup)) p) has)
+    (roles-changed q.xdg.id change r (repositioned-surface (is_configured q) r.peer.serial (where_to (copying p q.popup)) p) has)
 
 roles-ended : (id xdg : ℕ) (r : Resident) → HasRoles r → HasRoles (toplevel_ended id xdg r)
 roles-ended id xdg r has =

@@ -1,6 +1,6 @@
 -- Whatever happens from a desktop without clients on leaves orderly desktops.
-use Rattle.std.proofs.Common.{◌≡◌, ◌≢◌, ℕ, zero, suc, ◌+◌, List, [], ◌∷◌, length, Bool, true, false, Option, Some, None, refl, sym, subst, inl, inr, arith}
-use Rattle.std.specs.Prelude.{◌==◌, ◌⊎◌, drop, if◌then◌else◌, nat_le, replicate}
+use Rattle.std.proofs.Common.{◌≡◌, ◌≢◌, ℕ, ◌+◌, List, [], length, Bool, true, false, Option, Some, None, refl, sym, subst, inl, inr}
+use Rattle.std.specs.Prelude.{◌==◌, ◌⊎◌, drop, if◌then◌else◌, nat_le}
 use Rattle.wl_store.specs.Stores.{write_refusal}
 use Rattle.wl_store.specs.declared.stores.StoreError.{StoreError}
 use Rattle.wl_proto.specs.declared.interface.Interface.TheVariants.{WlDisplay, WlSurface}
@@ -13,60 +13,30 @@ use Rattle.spec_desktop.specs.Pointer.{hit_now, is_down, is_press}
 use Rattle.spec_desktop.specs.Stacking.{Standing}
 use Rattle.spec_desktop.specs.Windows.{Place}
 use Rattle.spec_desktop.specs.declared.answers.Done.{Done}
-use Rattle.spec_desktop.specs.Desktop.{Desktop, Resident, arrival, client_at, client_in, empty, place, with_client, with_number, with_place, toplevels_of}
+use Rattle.spec_desktop.specs.Desktop.{Desktop, Resident, arrival, client_at, empty, place, with_client, toplevels_of}
 use Rattle.spec_desktop.specs.LeftOut.{LeftOut}
 use Rattle.spec_desktop.specs.Settling.{Midstep, becomes, ended_at, unstruck}
 use Rattle.spec_desktop.specs.Stacked.{all_windows}
 use Rattle.spec_desktop.specs.Step.{with_peer}
-use Rattle.spec_desktop.specs.Act.{Act, Connect, Feed, Store, Leave, Tick, Send, Close, Motion, Button, IsClosed, IsSent, IsStored, closed_by, lowest, next_of}
+use Rattle.spec_desktop.specs.Act.{Act, Connect, Feed, Store, Leave, Tick, Send, Close, Motion, Button, IsClosed, IsSent, IsStored, closed_by, lowest}
 use Rattle.spec_desktop.specs.Happens.{ChangesThen, ConnectsThen, Happens, HappensThen, LeavesThen, PressesThen, ReleasesThen, ending, point_in, settling}
 use Rattle.law_desktop.proofs.Soundness.Orderly.{AreOrderly, IsOrderlyAt, IsOrderlyBy}
 use Rattle.law_desktop.proofs.Soundness.RunMessages.{MessageKeeps, fed-known}
 use Rattle.law_desktop.proofs.Soundness.RunTold.{Anyhow, Frames, IsAlike, Known, ToldOrderly, alike, ended-by-known, ending-known, known-so, left-orderly, nothing-orderly, orderly-all, orderly-frames}
 use Rattle.law_desktop.proofs.Soundness.RunTold.{orderly-stays, settling-known}
 use Rattle.law_desktop.proofs.Soundness.RunTops.{orderly-shifting}
-use Rattle.law_desktop.proofs.Lists.Keys.{none-some, some-same}
 use Rattle.law_desktop.proofs.Runs.Places.{number-other, number-same}
 use Rattle.law_desktop.proofs.Runs.Through.{connects-with}
 use Rattle.law_desktop.proofs.Runs.Fates.{same-or}
 use Rattle.law_desktop.proofs.Isolation.LeftAlone.{others_are_left_alone}
 use Rattle.law_desktop.proofs.Isolation.Own.{move-shifts, moves-then, pressed-then, raise-shifts, released-then, shown-then}
-
--- ---- a desktop without clients
-
-no-place : (n k : ℕ) → place (replicate n None) k ≡ None
-no-place zero k = refl
-no-place (suc n) zero = refl
-no-place (suc n) (suc k) = no-place n k
-
-no-client : (output : Output) (c : ℕ) → client_at c (empty output) ≡ None
-no-client output zero = refl
-no-client output (suc k) = no-place 32 k
+use Rattle.law_desktop.proofs.EachClient.Clients.{comes-at}
+use Rattle.law_desktop.proofs.Soundness.First.{no-client}
 
 -- ---- a client connects
 
--- the lowest free number is free, and is taken
-comes : (rs : List (Option Resident)) (k : ℕ) (x : Option Resident) → lowest rs ≡ Some k → (place rs k ≡ None) × (place (with_place k x rs) k ≡ x)
-comes [] k x e = absurd (none-some k e)
-comes (None ∷ rs) zero x e = (refl, refl)
-comes (None ∷ rs) (suc k) x e = absurd (cc)
-comes (Some r ∷ rs) k x e = at (lowest rs) e (λ m free. comes rs m x free)
-  where
-    at : (o : Option ℕ) → next_of o ≡ Some k → ((m : ℕ) → o ≡ Some m → (place rs m ≡ None) × (place (with_place m x rs) m ≡ x)) → (place (Some r ∷ rs) k ≡ None)
-        × (place (with_place k x (Some r ∷ rs)) k ≡ x)
-    at None e later = absurd (none-some k e)
-    at (Some m) e later =
-        let same = some-same (m + 1) k e in
-        let next : suc m ≡ k = omega (arith, same) in
-        subst (λ (n : ℕ). (place (Some r ∷ rs) n ≡ None) × (place (with_place n x (Some r ∷ rs)) n ≡ x)) next (later m refl)
-
-comes-at : (clients : List (Option Resident)) (k : ℕ) (x : Option Resident) → lowest clients ≡ Some k → (client_in clients (k + 1) ≡ None) × (client_in (with_number (k + 1) x clients) (k + 1) ≡ x)
-comes-at clients k x e =
-    let next : suc k ≡ k + 1 = omega arith in
-    subst (λ (n : ℕ). (client_in clients n ≡ None) × (client_in (with_number n x clients) n ≡ x)) next (comes clients k x e)
-
 -- a newcomer has no surfaces
-no-surface : (output : Output) (id : ℕ) → is_of WlSurface ((newcomer output).objects id) ≡ false
+pub no-surface : (output : Output) (id : ℕ) → is_of WlSurface ((newcomer output).objects id) ≡ false
 no-surface output id = at (id == 1)
   where
     at : (b : Bool) → is_of WlSurface (if b then Some (object_at_version WlDisplay 1) else None) ≡ false

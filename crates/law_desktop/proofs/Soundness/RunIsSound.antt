@@ -34,7 +34,7 @@ orderly-is-sound d orderly = orderly-sound forest-trees d orderly
 pub happens-keeps : (left : LeftOut) (act : Act) (done : Done) (d e : Desktop) → AreOrderly d → Happens left act done d e → AreOrderly e
 happens-keeps left act done d e orderly h = happens-orderly frames message-keeps left act done d e orderly h
 
-lasts-keeps : (left : LeftOut) (acts : List Act) (dones : List Done) (d e : Desktop) → AreOrderly d → Lasts left acts dones d e → AreOrderly e
+pub lasts-keeps : (left : LeftOut) (acts : List Act) (dones : List Done) (d e : Desktop) → AreOrderly d → Lasts left acts dones d e → AreOrderly e
 lasts-keeps left [] [] d e orderly h = rw h orderly
 lasts-keeps left [] (done ∷ dones) d e orderly h = absurd h
 lasts-keeps left (act ∷ acts) [] d e orderly h = absurd h

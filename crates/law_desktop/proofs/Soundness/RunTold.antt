@@ -1,5 +1,6 @@
 -- What a client is told, and how it ends, leaves it orderly.
 use Rattle.std.proofs.Common.{◌≡◌, ℕ, ◌+◌, List, [], ◌∷◌, ◌++◌, Bool, true, false, Option, Some, None, refl, ap, sym, subst, ◌∙◌, inl, inr, arith}
+use Rattle.std.proofs.lemmas.Option.{none-some}
 use Rattle.std.specs.Prelude.{filter}
 use Rattle.wl_proto.specs.declared.interface.Interface.TheVariants.{WlSurface}
 use Rattle.spec_desktop.specs.declared.cause.Cause.{Cause}
@@ -7,7 +8,7 @@ use Rattle.spec_desktop.specs.Objects.{is_of}
 use Rattle.spec_desktop.specs.Peer.{Peer, ended}
 use Rattle.spec_desktop.specs.Told.{Said}
 use Rattle.wl_surface.specs.Frames.{frames_counting}
-use Rattle.wl_surface.specs.Surfaces.{Link, no_surfaces}
+use Rattle.wl_surface.specs.Surfaces.{no_surfaces}
 use Rattle.wl_surface.specs.Waiting.{Callback}
 use Rattle.wl_shell.specs.Popups.{Popped, dismissing}
 use Rattle.wl_shell.specs.Shell.{Shell}
@@ -17,18 +18,17 @@ use Rattle.spec_desktop.specs.Desktop.{Desktop, Resident, client_at, resident_of
 use Rattle.spec_desktop.specs.Pointing.{button_told, entered_surface, has_pointers, left_surface, motion_told}
 use Rattle.spec_desktop.specs.Replies.{popups_done}
 use Rattle.spec_desktop.specs.Settling.{EndsAndSettles, Midstep, QueuesTo, Settles, Strike, becomes, ended_by, leave_drawn, noted, noted_if, number_of, told_drawn, unstruck, without_grabs}
-use Rattle.law_desktop.specs.Soundness.{IsLive}
 use Rattle.spec_desktop.specs.Step.{with_peer, with_shell}
 use Rattle.spec_desktop.specs.Happens.{callbacks_due, ending, frames_told, is_counting, settling}
 use Rattle.law_desktop.specs.Others.{IsLeftAlone, IsLeftBy, IsLeftLiving, IsLeftSo, IsToldTimes, told_once}
 use Rattle.law_desktop.proofs.Soundness.Orderly.{HasObjects, HasRoles, IsForest, IsOrderly, IsOrderlyAt, IsOrderlyBy, StandsSo}
-use Rattle.law_desktop.proofs.Lists.Keys.{none-some}
 use Rattle.law_desktop.proofs.Soundness.RunSteady.{callbacks-steady}
 use Rattle.law_desktop.proofs.Runs.Places.{number-same}
-use Rattle.law_desktop.proofs.Marks.Stacks.{differ}
 use Rattle.law_desktop.proofs.Isolation.Kept.{TellsDone, TellsPointer, has-more}
 use Rattle.law_desktop.proofs.Isolation.Settling.{AreIn, Stays, ended-in, ending-in, none_of, settled-in, settles-in, settling-in}
 use Rattle.law_desktop.proofs.Isolation.Told.{TellsBy, ToldSo}
+use Rattle.law_desktop.proofs.Truth.{differ}
+use Rattle.law_desktop.proofs.Soundness.First.{no-live}
 
 -- What changes a client between its messages leaves what is known of its objects and roles, and of what stands.
 pub record Frames : Type 0 where
@@ -42,20 +42,17 @@ pub record Frames : Type 0 where
 
 -- ---- a client that owns nothing
 
-no-link : (number : ℕ) (link : Link) → IsLive number link no_surfaces → ⊥
-no-link number link live = none-some link live.here
-
 no-forest : (bound : ℕ) → IsForest bound no_surfaces
 no-forest bound =
     record {
       apart = tt;
       early = λ number link e. absurd (none-some link e);
-      once = λ k l a b live other e. absurd (no-link k a live);
+      once = λ k l a b live other e. absurd (no-live k a live);
       ordered = λ surface counting h e. absurd (none-some h e);
       members = λ surface counting number h e there. absurd (none-some h e);
-      parents = λ surface counting number h link e there live. absurd (no-link number link live);
+      parents = λ surface counting number h link e there live. absurd (no-live number link live);
       rank = λ surface. 0;
-      rises = λ number link live. absurd (no-link number link live);
+      rises = λ number link live. absurd (no-live number link live);
       low = λ surface. omega arith;
     }
 
@@ -72,9 +69,9 @@ nothing-orderly bound p none =
       };
       forest = no-forest bound;
       roles = record {
-        children = λ number link live. absurd (no-link number link live);
-        bare = λ number link live. absurd (no-link number link live);
-        named = λ number link live. absurd (no-link number link live);
+        children = λ number link live. absurd (no-live number link live);
+        bare = λ number link live. absurd (no-live number link live);
+        named = λ number link live. absurd (no-live number link live);
         apart = tt;
       };
       standing = record { apart = tt; mapped = λ surface there. absurd (differ there) };

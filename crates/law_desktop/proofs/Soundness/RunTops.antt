@@ -10,7 +10,9 @@ use Rattle.law_desktop.specs.Laws.{AreApart}
 use Rattle.law_desktop.specs.Own.{StandTheSame}
 use Rattle.law_desktop.proofs.Soundness.Orderly.{IsOrderly, IsOrderlyAt, IsOrderlyBy}
 use Rattle.law_desktop.proofs.Lists.Standings.{apart-last}
-use Rattle.law_desktop.proofs.Isolation.Own.{Shifting, any-kept, any-moved, any-raised, none-stand, of, stand-moved, stand-raised}
+use Rattle.law_desktop.proofs.Isolation.Own.{Shifting, any-moved, none-stand, of, stand-moved, stand-raised}
+use Rattle.law_desktop.proofs.Lists.Left.{any-filtered}
+use Rattle.law_desktop.proofs.PointerAside.Moved.{any-raised}
 
 -- ---- raised
 
@@ -34,9 +36,9 @@ apart-raised c k surface (s ∷ ss) apart = at (is_of k surface s) (apart-raised
 
     same : list_any (is_of s.client s.surface) (of c (raised k surface ss)) ≡ list_any (is_of s.client s.surface) (of c ss)
     same =
-        any-kept (is_of s.client s.surface) (λ t. t.client == c) (raised k surface ss)
+        any-filtered (is_of s.client s.surface) (λ t. t.client == c) (raised k surface ss)
         ∙ any-raised (λ t. (t.client == c) && is_of s.client s.surface t) k surface ss
-        ∙ sym (any-kept (is_of s.client s.surface) (λ t. t.client == c) ss)
+        ∙ sym (any-filtered (is_of s.client s.surface) (λ t. t.client == c) ss)
 
     on : (b : Bool) → (AreApart (of c ss) → AreApart (of c (raised k surface ss))) → AreApart (cond b (s ∷ of c ss) (of c ss))
         → AreApart (cond b (s ∷ of c (raised k surface ss)) (of c (raised k surface ss)))
@@ -49,7 +51,7 @@ apart-raised c k surface (s ∷ ss) apart = at (is_of k surface s) (apart-raised
 
 -- ---- moved
 
-apart-moved : (c k surface : ℕ) (place : Place) (ss : List Standing) → AreApart (of c ss) → AreApart (of c (moved_to k surface place ss))
+pub apart-moved : (c k surface : ℕ) (place : Place) (ss : List Standing) → AreApart (of c ss) → AreApart (of c (moved_to k surface place ss))
 apart-moved c k surface place [] apart = tt
 apart-moved c k surface place (s ∷ ss) apart = at (is_of k surface s) (apart-moved c k surface place ss)
   where
@@ -59,9 +61,9 @@ apart-moved c k surface place (s ∷ ss) apart = at (is_of k surface s) (apart-m
 
     same : list_any (is_of s.client s.surface) (of c (moved_to k surface place ss)) ≡ list_any (is_of s.client s.surface) (of c ss)
     same =
-        any-kept (is_of s.client s.surface) (λ t. t.client == c) (moved_to k surface place ss)
+        any-filtered (is_of s.client s.surface) (λ t. t.client == c) (moved_to k surface place ss)
         ∙ any-moved (λ t. (t.client == c) && is_of s.client s.surface t) (λ t place. refl) k surface place ss
-        ∙ sym (any-kept (is_of s.client s.surface) (λ t. t.client == c) ss)
+        ∙ sym (any-filtered (is_of s.client s.surface) (λ t. t.client == c) ss)
 
     on : (b : Bool) → (AreApart (of c ss) → AreApart (of c (moved_to k surface place ss))) → AreApart (cond b (s ∷ of c ss) (of c ss))
         → AreApart (cond b (s ∷ of c (moved_to k surface place ss)) (of c (moved_to k surface place ss)))

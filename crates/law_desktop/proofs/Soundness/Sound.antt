@@ -2,7 +2,7 @@
 use Rattle.std.proofs.Common.{◌≡◌, ℕ, List, [], ◌∷◌, ◌++◌, Bool, true, false, cond, Option, Some, None, refl, ap, sym, subst, ◌∙◌}
 use Rattle.std.specs.Prelude.{◌+◌, ◌==◌, ◌||◌, nat_lt, if◌then◌else◌, filter, flat_map, fold, map}
 use Rattle.std.specs.List.{list_any}
-use Rattle.std.proofs.lemmas.Bool.{eqb-true}
+use Rattle.std.proofs.lemmas.Bool.{eqb-true, false_from_ne_true, or_from}
 use Rattle.spec_desktop.specs.declared.cause.Cause.{Cause}
 use Rattle.wl_surface.specs.Surfaces.{Link, Surfaces}
 use Rattle.wl_shell.specs.Popups.{Popped, by_number, popped_kind, popped_of, popped_role, popups_of}
@@ -15,21 +15,12 @@ use Rattle.spec_desktop.specs.Popups.{stacked_popup, stacked_popups}
 use Rattle.law_desktop.specs.Soundness.{AreOnce, AreTrees, IsLive, IsNoChild, IsSound, has_surface}
 use Rattle.law_desktop.proofs.Soundness.Orderly.{AreOrderly, IsForest, IsMapped, IsMappedRole, IsOrderly, IsOrderlyAt, IsOrderlyBy}
 use Rattle.law_desktop.proofs.Soundness.First.{no-trees}
-use Rattle.law_desktop.proofs.Marks.Stacks.{differ, equal-numbers, or-left, or-right, unless}
+use Rattle.law_desktop.proofs.Marks.Stacks.{equal-numbers}
 use Rattle.law_desktop.proofs.Lists.Standings.{any-left, of-client}
-use Rattle.law_desktop.proofs.Isolation.Own.{any-kept}
+use Rattle.law_desktop.proofs.Truth.{differ, or-false, or-left, or-right, or-swapped}
+use Rattle.law_desktop.proofs.Lists.Left.{any-filtered}
 
 -- ---- lists
-
--- the other way round
-or-swapped : (a b c : Bool) → (a || (b || c)) ≡ (b || (a || c))
-or-swapped true true c = refl
-or-swapped true false c = refl
-or-swapped false b c = refl
-
-or-none : (a b : Bool) → a ≡ false → b ≡ false → (a || b) ≡ false
-or-none true b e f = e
-or-none false b e f = f
 
 -- what passes of all in order passed before
 any-by-number : (test : Popped → Bool) (p : Popped) (ps : List Popped) → list_any test (by_number p ps) ≡ (test p || list_any test ps)
@@ -48,7 +39,7 @@ abbrev same_popped : Popped → Popped → Bool
 same_popped p q = popped_on p.xdg.surface q
 
 turned : (p q : Popped) → same_popped p q ≡ false → same_popped q p ≡ false
-turned p q e = unless (same_popped q p) (λ f. differ (sym e ∙ equal-numbers q.xdg.surface p.xdg.surface (sym (eqb-true p.xdg.surface q.xdg.surface f))))
+turned p q e = false_from_ne_true (same_popped q p) (λ f. differ (sym e ∙ equal-numbers q.xdg.surface p.xdg.surface (sym (eqb-true p.xdg.surface q.xdg.surface f))))
 
 -- one more of another surface leaves each surface once
 once-by-number : (p : Popped) (ps : List Popped) → AreOnce same_popped ps → list_any (same_popped p) ps ≡ false → AreOnce same_popped (by_number p ps)
@@ -58,7 +49,7 @@ once-by-number p (q ∷ qs) once new = at (nat_lt p.popup.number q.popup.number)
     at : (b : Bool) → AreOnce same_popped (by_number p qs) → AreOnce same_popped (if b then p ∷ q ∷ qs else q ∷ by_number p qs)
     at true rest = (new, once)
     at false rest = (
-      any-by-number (same_popped q) p qs ∙ or-none (same_popped q p) (list_any (same_popped q) qs) (turned p q (or-left (same_popped p q) (list_any (same_popped p) qs) new)) once.0,
+      any-by-number (same_popped q) p qs ∙ or_from (same_popped q p) (list_any (same_popped q) qs) (turned p q (or-left (same_popped p q) (list_any (same_popped p) qs) new)) once.0,
       rest,
     )
 
@@ -83,7 +74,7 @@ apart-more : (p : Popped) (acc ps : List Popped) → list_any (same_popped p) ps
 unfolding AreApartFrom
 apart-more p acc [] new apart = tt
 apart-more p acc (q ∷ qs) new apart = (
-  any-by-number (same_popped q) p acc ∙ or-none (same_popped q p) (list_any (same_popped q) acc) (turned p q (or-left (same_popped p q) (list_any (same_popped p) qs) new)) apart.0,
+  any-by-number (same_popped q) p acc ∙ or_from (same_popped q p) (list_any (same_popped q) acc) (turned p q (or-left (same_popped p q) (list_any (same_popped p) qs) new)) apart.0,
   apart-more p acc qs (or-right (same_popped p q) (list_any (same_popped p) qs) new) apart.1,
 )
 
@@ -117,7 +108,7 @@ popped-none surface x not_it = at x.role
   where
     kind : (object : RoleObject) (k : Kind) → list_any (popped_on surface) (popped_kind x object k) ≡ false
     kind object Toplevel = refl
-    kind object (IsPopup popup) = or-none (on_surface surface x) false not_it refl
+    kind object (IsPopup popup) = or_from (on_surface surface x) false not_it refl
 
     at : (o : Option RoleObject) → list_any (popped_on surface) (popped_role x o) ≡ false
     at None = refl
@@ -133,7 +124,7 @@ unpopped surface [] none = refl
 unpopped surface (x ∷ xs) none =
     let k = none-first (on_surface surface x) x (xdg_of surface xs) none in
     any-append (popped_on surface) (popped_of x) (flat_map popped_of xs)
-    ∙ or-none (list_any (popped_on surface) (popped_of x)) (list_any (popped_on surface) (flat_map popped_of xs)) (popped-none surface x k.0) (unpopped surface xs k.1)
+    ∙ or_from (list_any (popped_on surface) (popped_of x)) (list_any (popped_on surface) (flat_map popped_of xs)) (popped-none surface x k.0) (unpopped surface xs k.1)
 
 abbrev IsApart : Shell → Type 0
 IsApart shell = AreApartBy (λ surface x. x.surface == surface) shell
@@ -174,7 +165,7 @@ unpopped-mapped surface (x ∷ xs) apart mapped = at (on_surface surface x) refl
     more : list_any (popped_on surface) (popped_of x) ≡ false → list_any (popped_on surface) (flat_map popped_of xs) ≡ false → list_any (popped_on surface) (flat_map popped_of (x ∷ xs)) ≡ false
     more e f =
         any-append (popped_on surface) (popped_of x) (flat_map popped_of xs)
-        ∙ or-none (list_any (popped_on surface) (popped_of x)) (list_any (popped_on surface) (flat_map popped_of xs)) e f
+        ∙ or_from (list_any (popped_on surface) (popped_of x)) (list_any (popped_on surface) (flat_map popped_of xs)) e f
 
     at : (b : Bool) → on_surface surface x ≡ b → IsMapped (cond b (Some x) (xdg_of surface xs)) → (IsMapped (xdg_of surface xs) → list_any (popped_on surface) (flat_map popped_of xs) ≡ false)
         → list_any (popped_on surface) (flat_map popped_of (x ∷ xs)) ≡ false
@@ -191,10 +182,6 @@ any-stacked owned surface (p ∷ ps) = ap (λ (b : Bool). popped_on surface p ||
 once-stacked : (owned : Owned) (ps : List Popped) → AreOnce same_popped ps → AreOnce (λ p. has_surface p.surface) (map (stacked_popup owned) ps)
 once-stacked owned [] once = tt
 once-stacked owned (p ∷ ps) once = (any-stacked owned p.xdg.surface ps ∙ once.0, once-stacked owned ps once.1)
-
-or-false : (b : Bool) → (b || false) ≡ b
-or-false true = refl
-or-false false = refl
 
 any-popups : (owned : Owned) (surface : ℕ) → list_any (has_surface surface) (stacked_popups owned) ≡ list_any (popped_on surface) (flat_map popped_of owned.shell)
 any-popups owned surface =
@@ -282,7 +269,7 @@ module _ (forest-trees : (bound : ℕ) (all : Surfaces) → IsForest bound all �
 
   -- what stands of a client
   stands-of : (c surface : ℕ) (d : Desktop) → list_any (is_of c surface) d.standing ≡ true → stands surface (toplevels_of c d) ≡ true
-  stands-of c surface d there = any-kept (λ s. s.surface == surface) (λ s. s.client == c) d.standing ∙ there
+  stands-of c surface d there = any-filtered (λ s. s.surface == surface) (λ s. s.client == c) d.standing ∙ there
 
   pub orderly-sound : (d : Desktop) → AreOrderly d → IsSound d
   orderly-sound d orderly = record {

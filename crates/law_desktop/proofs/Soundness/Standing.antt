@@ -3,8 +3,9 @@ use Rattle.std.proofs.Common.{◌≡◌, ◌≢◌, ℕ, List, [], ◌∷◌, �
 use Rattle.std.specs.Prelude.{◌==◌, ◌||◌, not, find, filter}
 use Rattle.std.specs.List.{list_any}
 use Rattle.std.specs.Option.{option_map, option_map_or}
-use Rattle.std.proofs.lemmas.Bool.{eqb-true, ne_eqb, or_left, or_right}
+use Rattle.std.proofs.lemmas.Bool.{and_from, eqb-true, false_from_ne_true, ne_eqb, or_left, or_right, true_from_ne_false, true≢false}
 use Rattle.std.proofs.lemmas.List.Elements.{filter-append}
+use Rattle.std.proofs.lemmas.Option.{same_Some}
 use Rattle.wl_shell.specs.Popups.{Popped, dismiss, dismissed_among, dismissed_with, dismissing, is_among, is_parent_of, is_toplevel, is_toplevel_kind, new_popup, orphan, orphaning, popped_of}
 use Rattle.wl_shell.specs.Popups.{popup_changed, with_grab, with_popup, with_popup_role}
 use Rattle.wl_shell.specs.declared.stage.Stage.{Stage}
@@ -13,16 +14,20 @@ use Rattle.wl_shell.specs.Shell.{with_change, with_new, without_xdg, xdg_at, xdg
 use Rattle.wl_shell.specs.Shell.{xdg_with}
 use Rattle.spec_desktop.specs.Stacking.{Standing, is_of, with_mapped, without_surface_of, Owned}
 use Rattle.spec_desktop.specs.Windows.{mapping_place, Window}
-use Rattle.spec_desktop.specs.Changing.{Placing, commit_done, effect_placing, placement_now, stacked_by, tree_committed, grabbed, popup_given_to, changed_for, drawing, grab_allowed, has_focus, in_rising_order, stacked_for}
+use Rattle.spec_desktop.specs.Changing.{Placing, commit_done, effect_placing, placement_now, stacked_by, tree_committed, grabbed, popup_given_to, changed_for, grab_allowed, has_focus, in_rising_order, stacked_for}
 use Rattle.spec_desktop.specs.Changing.{toplevel_ended}
 use Rattle.spec_desktop.specs.Demanding.{effect_for_xdg, is_dismissed, effect_of_commit, effect_on_xdg}
 use Rattle.law_desktop.specs.Laws.{AreApart}
 use Rattle.spec_desktop.specs.Desktop.{toplevels_of, Desktop, Resident}
 use Rattle.law_desktop.specs.Apart.{AreApartBy}
 use Rattle.law_desktop.proofs.Soundness.Orderly.{IsOn, HasNoRole, IsMapped, IsMappedRole, StandsSo, HasId, HasObjects, IsAsked, is_toplevel_at, HasRoles, IsAllowed}
-use Rattle.law_desktop.proofs.Lists.Keys.{differ, found-by, found-map, found-passes, some-same, apart-map, found-any}
+use Rattle.law_desktop.proofs.Lists.Keys.{found-by, found-map, found-passes, apart-map, found-any}
 use Rattle.law_desktop.proofs.Lists.Standings.{any-last, apart-left, mapped-apart, none-left, without-here}
-use Rattle.law_desktop.proofs.Marks.Stacks.{and-both, and-right, any-more, equal-numbers, unless}
+use Rattle.law_desktop.proofs.Marks.Stacks.{equal-numbers}
+use Rattle.law_desktop.proofs.Truth.{and-right}
+use Rattle.law_desktop.proofs.Lists.Tests.{any-more}
+use Rattle.law_desktop.proofs.Lists.Left.{filter-swap}
+use Rattle.law_desktop.proofs.Runs.Following.{drawing-owned}
 use Rattle.spec_desktop.specs.WlSurface.{will_show}
 use Rattle.spec_desktop.specs.Step.{asked_so_far, changed_by, toplevel_given}
 use Rattle.wl_shell.specs.Positioner.{Positioner}
@@ -55,25 +60,14 @@ found-kept p q (y ∷ ys) x found keeps = at (p y) (q y) refl refl found (λ e. 
   where
     at : (a b : Bool) → p y ≡ a → q y ≡ b → cond a (Some y) (find p ys) ≡ Some x → (find p ys ≡ Some x → find p (filter q ys) ≡ Some x) → find p (cond b (y ∷ filter q ys) (filter q ys)) ≡ Some x
     at true true e f here rest = ap (λ c. cond c (Some y) (find p (filter q ys))) e ∙ here
-    at true false e f here rest = absurd (differ (sym keeps ∙ ap q (sym (some-same y x here)) ∙ f))
+    at true false e f here rest = absurd (true≢false (sym keeps ∙ ap q (sym (same_Some y x here)) ∙ f))
     at false true e f here rest = ap (λ c. cond c (Some y) (find p (filter q ys))) e ∙ rest here
     at false false e f here rest = rest here
 
 -- two that are found and have one key are the same
 pub same-key : {X : Type 0} (has : ℕ → X → Bool) (p q : X → Bool) (key : ℕ) (xs : List X) (x y : X) → AreApartBy has xs → find p xs ≡ Some x → find q xs ≡ Some y → has key x ≡ true → has key y ≡ true
     → x ≡ y
-same-key has p q key xs x y apart a b f g = some-same x y (sym (found-by has p key xs x apart a f) ∙ found-by has q key xs y apart b g)
-
-filter-turned : {X : Type 0} (p q : X → Bool) (xs : List X) → filter p (filter q xs) ≡ filter q (filter p xs)
-filter-turned p q [] = refl
-filter-turned p q (x ∷ xs) = at (p x) (q x) refl refl (filter-turned p q xs)
-  where
-    at : (a b : Bool) → p x ≡ a → q x ≡ b → filter p (filter q xs) ≡ filter q (filter p xs) → filter p (cond b (x ∷ filter q xs) (filter q xs)) ≡ filter q (cond a (x ∷ filter p xs) (filter p xs))
-    at true true e f rest =
-        ap (λ c. cond c (x ∷ filter p (filter q xs)) (filter p (filter q xs))) e ∙ ap (λ ys. x ∷ ys) rest ∙ sym (ap (λ c. cond c (x ∷ filter q (filter p xs)) (filter q (filter p xs))) f)
-    at true false e f rest = rest ∙ sym (ap (λ c. cond c (x ∷ filter q (filter p xs)) (filter q (filter p xs))) f)
-    at false true e f rest = ap (λ c. cond c (x ∷ filter p (filter q xs)) (filter p (filter q xs))) e ∙ rest
-    at false false e f rest = rest
+same-key has p q key xs x y apart a b f g = same_Some x y (sym (found-by has p key xs x apart a f) ∙ found-by has q key xs y apart b g)
 
 -- ---- changes of the shell
 
@@ -185,25 +179,21 @@ any-both p q r both (x ∷ xs) any = at (q x) (p x) refl refl any (any-both p q 
 
 out-here : (c surface : ℕ) (ss : List Standing) → stands_at surface (of_client c (without_surface_of c surface ss)) ≡ true → ⊥
 out-here c surface ss any =
-    differ
-    (sym (any-both (λ s. s.surface == surface) (λ s. s.client == c) (is_of c surface) (λ s is here. and-both (s.client == c) (s.surface == surface) is here) (without_surface_of c surface ss) any)
+    true≢false
+    (sym (any-both (λ s. s.surface == surface) (λ s. s.client == c) (is_of c surface) (λ s is here. and_from (s.client == c) (s.surface == surface) is here) (without_surface_of c surface ss) any)
     ∙ without-here c surface ss)
-
-turned : (b : Bool) → (b ≡ false → ⊥) → b ≡ true
-turned true f = refl
-turned false f = absurd (f refl)
 
 out-another : (c surface other : ℕ) (ss : List Standing) → stands_at other (of_client c (without_surface_of c surface ss)) ≡ true → stands_at other (of_client c ss) ≡ true
 out-another c surface other ss any =
-    turned (stands_at other (of_client c ss))
-    (λ none. differ
-    (sym any ∙ ap (stands_at other) (filter-turned (λ s. s.client == c) (λ s. not (is_of c surface s)) ss) ∙ none-left (λ s. s.surface == other) (λ s. not (is_of c surface s)) (of_client c ss) none))
+    true_from_ne_false (stands_at other (of_client c ss))
+    (λ none. true≢false
+    (sym any ∙ ap (stands_at other) (filter-swap (λ s. s.client == c) (λ s. not (is_of c surface s)) ss) ∙ none-left (λ s. s.surface == other) (λ s. not (is_of c surface s)) (of_client c ss) none))
 
 pub standing-out :
     (c surface : ℕ) (ss : List Standing) (shell new : Shell) → ((other : ℕ) → other ≢ surface → IsMapped (xdg_of other shell) → IsMapped (xdg_of other new)) → StandsSo shell (of_client c ss)
     → StandsSo new (of_client c (without_surface_of c surface ss))
 standing-out c surface ss shell new keeps stands = record {
-  apart = subst AreApart (sym (filter-turned (λ s. s.client == c) (λ s. not (is_of c surface s)) ss)) (apart-left (λ s. not (is_of c surface s)) (of_client c ss) stands.apart);
+  apart = subst AreApart (sym (filter-swap (λ s. s.client == c) (λ s. not (is_of c surface s)) ss)) (apart-left (λ s. not (is_of c surface s)) (of_client c ss) stands.apart);
   mapped = λ other any.
       keeps other (λ same. out-here c surface ss (subst (λ n. stands_at n (of_client c (without_surface_of c surface ss)) ≡ true) same any)) (stands.mapped other (out-another c surface other ss any));
 }
@@ -217,8 +207,8 @@ on-top m c surface ss =
 
 of-none : (c surface : ℕ) (tops : List Standing) → stands_at surface tops ≡ false → list_any (is_of c surface) tops ≡ false
 of-none c surface tops none =
-    unless (list_any (is_of c surface) tops)
-    (λ any. differ (sym (any-more (is_of c surface) (λ s. s.surface == surface) (λ s is. and-right (s.client == c) (s.surface == surface) is) tops any) ∙ none))
+    false_from_ne_true (list_any (is_of c surface) tops)
+    (λ any. true≢false (sym (any-more (is_of c surface) (λ s. s.surface == surface) (λ s is. and-right (s.client == c) (s.surface == surface) is) tops any) ∙ none))
 
 pub standing-on :
     (m c surface : ℕ) (ss : List Standing) (shell new : Shell) → (IsMapped (xdg_of surface shell) → ⊥) → IsMapped (xdg_of surface new)
@@ -227,7 +217,7 @@ pub standing-on :
 standing-on m c surface ss shell new not_yet now keeps stands = subst (StandsSo new) (sym (on-top m c surface ss)) (record {
   apart =
       mapped-apart m c surface (of_client c ss) stands.apart
-      (of-none c surface (of_client c ss) (unless (stands_at surface (of_client c ss)) (λ any. not_yet (stands.mapped surface any))));
+      (of-none c surface (of_client c ss) (false_from_ne_true (stands_at surface (of_client c ss)) (λ any. not_yet (stands.mapped surface any))));
   mapped = λ other any. at other (surface == other) refl (sym (any-last (λ s. s.surface == other) (of_client c ss) (newest m c surface)) ∙ any);
 })
   where
@@ -251,7 +241,7 @@ mapped-kind (Some object) is = ap is_toplevel_kind is.0
 
 toplevel-kind : (k : Kind) → is_toplevel_kind k ≡ true → k ≡ Toplevel
 toplevel-kind Toplevel e = refl
-toplevel-kind (IsPopup popup) e = absurd (differ (sym e))
+toplevel-kind (IsPopup popup) e = absurd (true≢false (sym e))
 
 -- of one that is mapped a commit neither configures nor maps
 no-configure : (dismissed shows : Bool) → cond dismissed Stays (on_commit (Some Mapped) shows) ≡ Configures → ⊥
@@ -271,7 +261,7 @@ mapped-stays : (o : Option RoleObject) → IsMappedRole o → IsMappedRole (opti
 mapped-stays None is = is
 mapped-stays (Some object) is = (is.0, refl)
 
-arriving-surface : (o : Option Placed) (y : XdgSurface) → (arriving o y).surface ≡ y.surface
+pub arriving-surface : (o : Option Placed) (y : XdgSurface) → (arriving o y).surface ≡ y.surface
 arriving-surface None y = refl
 arriving-surface (Some placed) y = refl
 
@@ -301,7 +291,7 @@ mapping-surface : (y : XdgSurface) → (mapping y).surface ≡ y.surface
 mapping-surface y = arriving-surface (waiting_in y.role) y
 
 becomes-mapped : (o : Option RoleObject) → option_map_or (λ object. is_toplevel_kind object.kind) o false ≡ true → IsMappedRole (option_map (at_stage Mapped) o)
-becomes-mapped None is = absurd (differ (sym is))
+becomes-mapped None is = absurd (true≢false (sym is))
 becomes-mapped (Some object) is = (toplevel-kind object.kind is, refl)
 
 module _ (c surface : ℕ) (shell : Shell) (x : XdgSurface) (apart : AreApartBy (λ id x. x.id == id) shell) (found : xdg_of surface shell ≡ Some x) where
@@ -332,7 +322,7 @@ module _ (c surface : ℕ) (shell : Shell) (x : XdgSurface) (apart : AreApartBy 
       → IsMapped (xdg_of other (with_change x.id change shell))
   commit-unmaps-popup change other keeps none is =
       mapped-changed x.id change shell other keeps
-      (λ y here same role. absurd (differ (sym (mapped-kind x.role (subst (λ (z : XdgSurface). IsMappedRole z.role) (it-changes other y here same) role)) ∙ none))) is
+      (λ y here same role. absurd (true≢false (sym (mapped-kind x.role (subst (λ (z : XdgSurface). IsMappedRole z.role) (it-changes other y here same) role)) ∙ none))) is
 
   stays-mapped : (other : ℕ) → IsMapped (xdg_of other shell) → IsMapped (xdg_of other (with_change x.id mapping shell))
   stays-mapped other is =
@@ -427,12 +417,12 @@ standing-popup-given id xdg parent p r tops apart bare stands = at (xdg_at xdg r
 
 -- an object is of one interface
 one-interface : (o : Option Object) → is_object_of XdgPopup o ≡ true → is_object_of XdgToplevel o ≡ true → ⊥
-one-interface None a b = differ (sym a)
+one-interface None a b = true≢false (sym a)
 one-interface (Some object) a b = let e = eqb-true (interface_number object.interface) 18 a in let f = eqb-true (interface_number object.interface) 17 b in omega (arith, e, f)
 
 toplevel-role : (id : ℕ) (o : Option RoleObject) → is_role id o ≡ true → IsMappedRole o → is_toplevel_at id o ≡ true
 toplevel-role id None is here = is
-toplevel-role id (Some object) is here = and-both (object.id == id) (is_toplevel_kind object.kind) is (ap is_toplevel_kind here.0)
+toplevel-role id (Some object) is here = and_from (object.id == id) (is_toplevel_kind object.kind) is (ap is_toplevel_kind here.0)
 
 -- the role object with this id isn't mapped: it is a popup
 popup-unmapped : (id xdg : ℕ) (r : Resident) → HasObjects r → is_object_of XdgPopup (r.peer.objects id) ≡ true → HasId xdg (xdg_with id r.owned.shell) → (surface : ℕ) (x : XdgSurface)
@@ -530,13 +520,9 @@ repositioned-role : (b : Bool) (serial : ℕ) (placement : Option Placed) (p : P
 repositioned-role true serial placement p y is = popup-role (copying p) y.role is
 repositioned-role false serial placement p y is = popup-role (copying p) y.role is
 
-repositioned-surface : (b : Bool) (serial : ℕ) (placement : Option Placed) (p : Positioner) (y : XdgSurface) → (repositioning b serial placement p y).surface ≡ y.surface
+pub repositioned-surface : (b : Bool) (serial : ℕ) (placement : Option Placed) (p : Positioner) (y : XdgSurface) → (repositioning b serial placement p y).surface ≡ y.surface
 repositioned-surface true serial placement p y = refl
 repositioned-surface false serial placement p y = refl
-
-repositioned-drawn : (b : Bool) (r : Resident) → (drawing b r).owned ≡ r.owned
-repositioned-drawn true r = refl
-repositioned-drawn false r = refl
 
 standing-repositioned : (where_to : Placing) (p : Positioner) (o : Option Popped) (r : Resident) (tops : List Standing) → StandsSo r.owned.shell tops
     → StandsSo (popup_repositioned where_to p o r).owned.shell tops
@@ -544,7 +530,7 @@ standing-repositioned where_to p None r tops stands = stands
 standing-repositioned where_to p (Some q) r tops stands =
     let b : Bool = is_configured q in
     let placement : Option Placed = where_to (copying p q.popup) in
-    subst (λ (o : Owned). StandsSo o.shell tops) (sym (repositioned-drawn b (xdg_changed q.xdg.id (repositioning b r.peer.serial placement p) r)))
+    subst (λ (o : Owned). StandsSo o.shell tops) (sym (drawing-owned b (xdg_changed q.xdg.id (repositioning b r.peer.serial placement p) r)))
     (standing-same r.owned.shell _ tops
     (λ other is. mapped-changed q.xdg.id (repositioning b r.peer.serial placement p) r.owned.shell other (repositioned-surface b r.peer.serial placement p)
     (λ y here same role. repositioned-role b r.peer.serial placement p y role) is) stands)
@@ -569,10 +555,6 @@ standing-asked c (ConfigureAgain xdg) r d is has stands =
     (λ other here. mapped-changed xdg (configuring r.peer.serial) r.owned.shell other (λ y. refl) (λ y there same role. role) here) stands
 standing-asked c Ignore r d is has stands = stands
 
-drawing-shell : (b : Bool) (r : Resident) → (drawing b r).owned ≡ r.owned
-drawing-shell true r = refl
-drawing-shell false r = refl
-
 -- What stands of a client is mapped, and stands once.
 pub standing-kept :
     (c : ℕ) (demand : Demand) (r : Resident) (windows : List Window) (d : Desktop) → IsAllowed r demand → HasObjects r → HasRoles r → StandsSo r.owned.shell (toplevels_of c d)
@@ -586,7 +568,7 @@ standing-kept c (EndSubsurface id) r windows d is has roles stands = stands
 standing-kept c (SetMode link true) r windows d is has roles stands = stands
 standing-kept c (SetMode link false) r windows d is has roles stands = stands
 standing-kept c (GetPointer id version) r windows d is has roles stands =
-    subst (λ (o : Owned). StandsSo o.shell (toplevels_of c d)) (sym (drawing-shell (has_focus c d.pointer.focus) (record r { pointers = in_rising_order id r.pointers }))) stands
+    subst (λ (o : Owned). StandsSo o.shell (toplevels_of c d)) (sym (drawing-owned (has_focus c d.pointer.focus) (record r { pointers = in_rising_order id r.pointers }))) stands
 standing-kept c (MakeCursor surface) r windows d is has roles stands = stands
 standing-kept c (GetPopup id version xdg parent p) r windows d is has roles stands = standing-popup-given id xdg parent p r (toplevels_of c d) has.shell.0 is.1 stands
 standing-kept c (Reposition xdg token p) r windows d is has roles stands =

@@ -2,37 +2,23 @@
 use Rattle.std.proofs.Common.{◌≡◌, ℕ, zero, suc, Bool, true, false, List, [], ◌∷◌, ◌++◌, Option, Some, None, refl, ap, sym, subst, ◌∙◌, arith}
 use Rattle.std.specs.Prelude.{◌==◌, ◌||◌, ◌+◌, ◌+ℤ◌, cond, flat_map}
 use Rattle.std.specs.List.{list_any}
-use Rattle.std.proofs.lemmas.Bool.{eqb-true}
+use Rattle.std.proofs.lemmas.Bool.{eqb-true, false_from_ne_true, or_from, or_left, or_right}
 use Rattle.wl_surface.specs.Request.{Buffer, Member, Itself, Child}
 use Rattle.wl_surface.specs.State.{History, Values, applied, counting, is_member, order, position}
 use Rattle.wl_surface.specs.Surfaces.{Link, Surfaces, history_in, link_at}
 use Rattle.spec_desktop.specs.Windows.{Owner, Place, Window, child_windows, corner_at, member_windows, shown_windows, surface_windows, tree, window_with}
 use Rattle.spec_desktop.specs.Marks.{AreDistinct, is_same_surface}
 use Rattle.law_desktop.specs.Soundness.{AreOnce, AreTrees, IsLive}
-use Rattle.law_desktop.proofs.Marks.Stacks.{Each, and-left, and-right, differ, each-map, equal-numbers, or-left, or-right, same-number, unless}
+use Rattle.law_desktop.proofs.Marks.Stacks.{equal-numbers, same-number}
+use Rattle.law_desktop.proofs.Truth.{and-left, and-right, differ, or-left, or-right}
+use Rattle.law_desktop.proofs.Lists.Each.{Each, each-append, each-map}
 
 -- ---- lists
-
-pub or-none : (a b : Bool) → a ≡ false → b ≡ false → (a || b) ≡ false
-or-none true b e f = absurd (differ (sym e))
-or-none false b e f = f
-
-pub or-here : (a b : Bool) → a ≡ true → (a || b) ≡ true
-or-here true b e = refl
-or-here false b e = absurd (differ e)
-
-pub or-there : (a b : Bool) → b ≡ true → (a || b) ≡ true
-or-there true b e = refl
-or-there false b e = e
 
 pub none-append : {X : Type 0} (p : X → Bool) (xs ys : List X) → list_any p xs ≡ false → list_any p ys ≡ false → list_any p (xs ++ ys) ≡ false
 none-append p [] ys e f = f
 none-append p (x ∷ xs) ys e f =
-    or-none (p x) (list_any p (xs ++ ys)) (or-left (p x) (list_any p xs) e) (none-append p xs ys (or-right (p x) (list_any p xs) e) f)
-
-pub each-append : {X : Type 0} (P : X → Type 0) (xs ys : List X) → Each P xs → Each P ys → Each P (xs ++ ys)
-each-append P [] ys e f = f
-each-append P (x ∷ xs) ys e f = (e.0, each-append P xs ys e.1 f)
+    or_from (p x) (list_any p (xs ++ ys)) (or-left (p x) (list_any p xs) e) (none-append p xs ys (or-right (p x) (list_any p xs) e) f)
 
 pub each-flat : {X Y : Type 0} (P : Y → Type 0) (f : X → List Y) (xs : List X) → Each (λ x. Each P (f x)) xs → Each P (flat_map f xs)
 each-flat P f [] e = tt
@@ -42,9 +28,9 @@ each-flat P f (x ∷ xs) e = each-append P (f x) (flat_map f xs) e.0 (each-flat 
 pub all-there : {X : Type 0} (same : X → X → Bool) → ((x : X) → same x x ≡ true) → (xs : List X) → Each (λ x. list_any (same x) xs ≡ true) xs
 all-there same self [] = tt
 all-there same self (x ∷ xs) = (
-  or-here (same x x) (list_any (same x) xs) (self x),
+  or_left (same x x) (list_any (same x) xs) (self x),
   each-map (λ y. list_any (same y) xs ≡ true) (λ y. (same y x || list_any (same y) xs) ≡ true)
-      (λ y e. or-there (same y x) (list_any (same y) xs) e) xs (all-there same self xs),
+      (λ y e. or_right (same y x) (list_any (same y) xs) e) xs (all-there same self xs),
 )
 
 append-distinct : (ws vs : List Window) → AreDistinct ws → AreDistinct vs → Each (λ w. list_any (is_same_surface w) vs ≡ false) ws → AreDistinct (ws ++ vs)
@@ -53,7 +39,7 @@ append-distinct (w ∷ ws) vs a b d = (none-append (is_same_surface w) ws vs a.0
 
 none-each : (w : Window) (P : Window → Type 0) (vs : List Window) → Each P vs → ((v : Window) → P v → is_same_surface w v ≡ true → ⊥) → list_any (is_same_surface w) vs ≡ false
 none-each w P [] e f = refl
-none-each w P (v ∷ vs) e f = or-none (is_same_surface w v) (list_any (is_same_surface w) vs) (unless (is_same_surface w v) (f v e.0)) (none-each w P vs e.1 f)
+none-each w P (v ∷ vs) e f = or_from (is_same_surface w v) (list_any (is_same_surface w) vs) (false_from_ne_true (is_same_surface w v) (f v e.0)) (none-each w P vs e.1 f)
 
 -- Where each gives distinct windows, and two that give a window of one surface are the same, all give distinct windows.
 pub flat-distinct : {X : Type 0} (f : X → List Window) (Ok : X → Type 0) (Of : X → Window → Type 0) (same : X → X → Bool) → ((x : X) → Ok x → AreDistinct (f x)) → ((x : X) → Ok x → Each (Of x) (f x))
@@ -165,7 +151,7 @@ GiveDistinct next = (c : ℕ) (at : Place) → AreDistinct (next c at)
 abbrev IsIn : History → Member → Type 0
 IsIn h m = list_any (is_member m) (order (counting h)) ≡ true
 
-member-self : (m : Member) → is_member m m ≡ true
+pub member-self : (m : Member) → is_member m m ≡ true
 member-self Itself = refl
 member-self (Child l) = same-number l
 

@@ -3,7 +3,7 @@ use Rattle.std.proofs.Common.{◌≡◌, ℕ, Bool, true, false, Option, Some, N
 use Rattle.std.specs.Prelude.{◌==◌, ◌&&◌, ◌||◌, cond, fold, map}
 use Rattle.std.specs.List.{list_any}
 use Rattle.std.specs.Option.{option_map_or}
-use Rattle.std.proofs.lemmas.Bool.{eqb-true}
+use Rattle.std.proofs.lemmas.Bool.{and_from, eqb-true, false_from_ne_true, or_from, or_left, or_right}
 use Rattle.wl_surface.specs.Surfaces.{Surfaces}
 use Rattle.spec_desktop.specs.Stacking.{Owned, Standing, is_of, root_of}
 use Rattle.spec_desktop.specs.Windows.{Root, StackedPopup, Window, owner_of, root_on, roots_of, stacked, stacked_on, tree, windows_of}
@@ -12,8 +12,10 @@ use Rattle.law_desktop.specs.Laws.{AreApart}
 use Rattle.spec_desktop.specs.Marks.{AreDistinct, is_same_surface}
 use Rattle.spec_desktop.specs.Popups.{stacked_popups}
 use Rattle.law_desktop.specs.Soundness.{AreOnce, AreTrees, IsNoChild, IsSound, SoundIsDistinct, has_surface}
-use Rattle.law_desktop.proofs.Marks.Stacks.{Each, and-both, and-right, differ, each-both, each-map, equal-numbers, or-left, or-right, same-number, unless}
-use Rattle.law_desktop.proofs.Soundness.Trees.{IsUnder, Under, all-there, each-append, each-flat, flat-distinct, none-append, or-none, same-client, same-surface, tree-distinct, tree-each, under-one}
+use Rattle.law_desktop.proofs.Marks.Stacks.{equal-numbers, same-number}
+use Rattle.law_desktop.proofs.Soundness.Trees.{IsUnder, Under, all-there, each-flat, flat-distinct, none-append, same-client, same-surface, tree-distinct, tree-each, under-one}
+use Rattle.law_desktop.proofs.Truth.{and-right, differ, or-left, or-right}
+use Rattle.law_desktop.proofs.Lists.Each.{Each, each-append, each-both, each-map}
 
 -- ---- the roots of a toplevel
 
@@ -43,17 +45,9 @@ Shape p rs [] = Unit {0}
 Shape p rs (r ∷ []) = (r.surface ≡ p.surface) × (InParent p.parent rs ≡ true)
 Shape p rs (r ∷ q ∷ qs) = ⊥
 
-or-later : (a b : Bool) → b ≡ true → (a || b) ≡ true
-or-later true b e = refl
-or-later false b e = e
-
-or-now : (a b : Bool) → a ≡ true → (a || b) ≡ true
-or-now true b e = refl
-or-now false b e = absurd (differ e)
-
 shape-more : (p : StackedPopup) (r : Root) (rs on : List Root) → Shape p rs on → Shape p (r ∷ rs) on
 shape-more p r rs [] e = tt
-shape-more p r rs (q ∷ []) e = (e.0, or-later (is_on p.parent r) (InParent p.parent rs) e.1)
+shape-more p r rs (q ∷ []) e = (e.0, or_right (is_on p.parent r) (InParent p.parent rs) e.1)
 shape-more p r rs (q ∷ s ∷ ss) e = e
 
 on-shape : (surfaces : Surfaces) (p : StackedPopup) (rs : List Root) → Shape p rs (stacked_on surfaces p rs)
@@ -61,7 +55,7 @@ on-shape surfaces p [] = tt
 on-shape surfaces p (r ∷ rs) = by (on-shape surfaces p rs) (p.is_mapped && is_on p.parent r) refl
   where
     by : Shape p rs (stacked_on surfaces p rs) → (b : Bool) → (p.is_mapped && is_on p.parent r) ≡ b → Shape p (r ∷ rs) (cond b (root_on surfaces r p ∷ []) (stacked_on surfaces p rs))
-    by shape true e = (refl, or-now (is_on p.parent r) (InParent p.parent rs) (and-right p.is_mapped (is_on p.parent r) e))
+    by shape true e = (refl, or_left (is_on p.parent r) (InParent p.parent rs) (and-right p.is_mapped (is_on p.parent r) e))
     by shape false e = shape-more p r rs (stacked_on surfaces p rs) shape
 
 in-shape : (p : StackedPopup) (rs on : List Root) (x : ℕ) → Shape p rs on → In x on ≡ true → (p.surface ≡ x) × (InParent p.parent rs ≡ true)
@@ -74,7 +68,7 @@ in-shape p rs (r ∷ []) x e f = (sym e.0 ∙ eqb-true r.surface x (first (roots
 in-shape p rs (r ∷ q ∷ qs) x e f = absurd e
 
 -- each root is one of these
-on-each : (P : Root → Type 0) (surfaces : Surfaces) (p : StackedPopup) → ((r : Root) → P r → P (root_on surfaces r p)) → (rs : List Root) → Each P rs → Each P (stacked_on surfaces p rs)
+pub on-each : (P : Root → Type 0) (surfaces : Surfaces) (p : StackedPopup) → ((r : Root) → P r → P (root_on surfaces r p)) → (rs : List Root) → Each P rs → Each P (stacked_on surfaces p rs)
 on-each P surfaces p f [] e = tt
 on-each P surfaces p f (r ∷ rs) e = by (on-each P surfaces p f rs e.1) (p.is_mapped && is_on p.parent r)
   where
@@ -82,7 +76,7 @@ on-each P surfaces p f (r ∷ rs) e = by (on-each P surfaces p f rs e.1) (p.is_m
     by rest true = (f r e.0, tt)
     by rest false = rest
 
-stacked-each : (P : Root → Type 0) (surfaces : Surfaces) (rs : List Root) (ps : List StackedPopup) → Each P rs → Each (λ p. (r : Root) → P r → P (root_on surfaces r p)) ps
+pub stacked-each : (P : Root → Type 0) (surfaces : Surfaces) (rs : List Root) (ps : List StackedPopup) → Each P rs → Each (λ p. (r : Root) → P r → P (root_on surfaces r p)) ps
     → Each P (fold (stacked surfaces) rs ps)
 stacked-each P surfaces rs [] e f = e
 stacked-each P surfaces rs (p ∷ ps) e f =
@@ -99,7 +93,7 @@ shape-once p rs (r ∷ []) e = (refl, tt)
 shape-once p rs (r ∷ q ∷ qs) e = absurd e
 
 shape-none : (p : StackedPopup) (rs on : List Root) (x : ℕ) → Shape p rs on → (p.surface ≡ x → ⊥) → In x on ≡ false
-shape-none p rs on x e f = unless (In x on) (λ g. f (in-shape p rs on x e g).0)
+shape-none p rs on x e f = false_from_ne_true (In x on) (λ g. f (in-shape p rs on x e g).0)
 
 -- the popups after one that isn't among them have other surfaces
 others : (p : StackedPopup) (ps : List StackedPopup) → list_any (same_popup p) ps ≡ false → Each (λ q. p.surface ≡ q.surface → ⊥) ps
@@ -137,7 +131,7 @@ abbrev AreAway : List Root → List Root → Type 0
 AreAway rs qs = (x : ℕ) → In x rs ≡ true → In x qs ≡ true → ⊥
 
 in-either : (x : ℕ) (rs qs : List Root) → In x (rs ++ qs) ≡ true → (In x rs ≡ true → ⊥) → (In x qs ≡ true → ⊥) → ⊥
-in-either x rs qs e f g = differ (sym (none-append (roots_at x) rs qs (unless (In x rs) f) (unless (In x qs) g)) ∙ e)
+in-either x rs qs e f g = differ (sym (none-append (roots_at x) rs qs (false_from_ne_true (In x rs) f) (false_from_ne_true (In x qs) g)) ∙ e)
 
 no-parent : (rs : List Root) → InParent None rs ≡ false
 no-parent [] = refl
@@ -179,7 +173,7 @@ IsLevel surfaces popups t = IsNoChild t.surface (surfaces t.client) × (list_any
 new-popups : (t : Root) (ps : List StackedPopup) → list_any (has_surface t.surface) ps ≡ false → Each (λ p. In p.surface (t ∷ []) ≡ false) ps
 new-popups t [] e = tt
 new-popups t (p ∷ ps) e = (
-  or-none (roots_at p.surface t) false (unless (roots_at p.surface t) (λ f. differ (sym (or-left (has_surface t.surface p) (list_any (has_surface t.surface) ps) e)
+  or_from (roots_at p.surface t) false (false_from_ne_true (roots_at p.surface t) (λ f. differ (sym (or-left (has_surface t.surface p) (list_any (has_surface t.surface) ps) e)
       ∙ equal-numbers p.surface t.surface (sym (eqb-true t.surface p.surface f))))) refl,
   new-popups t ps (or-right (has_surface t.surface p) (list_any (has_surface t.surface) ps) e),
 )
@@ -202,7 +196,7 @@ pub record OfLevel (surfaces : ℕ → Surfaces) (popups : ℕ → List StackedP
   pub under : IsUnder t.client (surfaces t.client) root w
 
 -- a window is under one root
-one-root : (all : Surfaces) → AreTrees all → (c a b : ℕ) (w v : Window) → IsNoChild a all → IsNoChild b all → IsUnder c all a w → IsUnder c all b v → is_same_surface w v ≡ true → a ≡ b
+pub one-root : (all : Surfaces) → AreTrees all → (c a b : ℕ) (w v : Window) → IsNoChild a all → IsNoChild b all → IsUnder c all a w → IsUnder c all b v → is_same_surface w v ≡ true → a ≡ b
 one-root all t c a b w v e f u r same =
     under-one all t u.levels r.levels a b v.surface (subst (λ x. Under all u.levels a x) (same-surface w v same) u.under) r.under (t.top a e ∙ sym (t.top b f))
 
@@ -268,7 +262,7 @@ same-levels : (surfaces : ℕ → Surfaces) (popups : ℕ → List StackedPopup)
     → OfLevel surfaces popups t w → OfLevel surfaces popups s v → is_same_surface w v ≡ true → same_level t s ≡ true
 same-levels surfaces popups holds t s w v level-t level-s of-w of-v same =
     let client : s.client ≡ t.client = sym of-v.under.of_client ∙ (sym (same-client w v same) ∙ of-w.under.of_client) in
-    and-both (s.client == t.client) (s.surface == t.surface) (equal-numbers s.client t.client client)
+    and_from (s.client == t.client) (s.surface == t.surface) (equal-numbers s.client t.client client)
     (same-toplevel surfaces popups holds t.client t s w v refl client level-t level-s of-w of-v same)
 
 -- ---- the whole desktop
@@ -277,12 +271,12 @@ abbrev standing_same : Standing → Standing → Bool
 standing_same s r = is_of s.client s.surface r
 
 standing-self : (s : Standing) → standing_same s s ≡ true
-standing-self s = and-both (s.client == s.client) (s.surface == s.surface) (same-number s.client) (same-number s.surface)
+standing-self s = and_from (s.client == s.client) (s.surface == s.surface) (same-number s.client) (same-number s.surface)
 
 none-mapped : (owned : ℕ → Owned) (s : Standing) (ss : List Standing) → list_any (standing_same s) ss ≡ false → list_any (same_level (root_of owned s)) (map (root_of owned) ss) ≡ false
 none-mapped owned s [] e = refl
 none-mapped owned s (r ∷ rs) e =
-    or-none (standing_same s r) (list_any (same_level (root_of owned s)) (map (root_of owned) rs)) (or-left (standing_same s r) (list_any (standing_same s) rs) e)
+    or_from (standing_same s r) (list_any (same_level (root_of owned s)) (map (root_of owned) rs)) (or-left (standing_same s r) (list_any (standing_same s) rs) e)
     (none-mapped owned s rs (or-right (standing_same s r) (list_any (standing_same s) rs) e))
 
 once-mapped : (owned : ℕ → Owned) (ss : List Standing) → AreApart ss → AreOnce same_level (map (root_of owned) ss)

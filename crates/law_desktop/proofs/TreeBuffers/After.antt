@@ -1,6 +1,6 @@
 -- The buffers of some surfaces stand for those of all, where those that pass are among them.
 use Rattle.std.proofs.Common.{◌≡◌, ℕ, List, ◌++◌, Bool, true, ap, ◌∙◌, ◌⊎◌, inl, inr}
-use Rattle.std.proofs.lemmas.Bool.{eqb-true}
+use Rattle.std.proofs.lemmas.Bool.{and_from, eqb-true}
 use Rattle.std.proofs.lemmas.List.Elements.{Contains-append_cases}
 use Rattle.std.specs.Prelude.{◌==◌, ◌&&◌, not}
 use Rattle.std.specs.List.{Contains, list_any}
@@ -12,10 +12,10 @@ use Rattle.wl_surface.specs.Surfaces.{is_used}
 use Rattle.spec_desktop.specs.Changing.{after_all}
 use Rattle.spec_desktop.specs.Desktop.{Resident}
 use Rattle.spec_desktop.specs.Step.{is_number, is_over, letting_go, with_peer}
-use Rattle.law_desktop.proofs.Marks.Stacks.{and-both, and-left, and-right}
 use Rattle.law_desktop.specs.TreeBuffersLaws.{AreAmong, AreOne, IsByNumber, had_in, has_number}
 use Rattle.law_desktop.proofs.TreeBuffers.Alike.{lets-alike}
-use Rattle.law_desktop.proofs.TreeBuffers.Lists.{any-in, in-any, truth}
+use Rattle.law_desktop.proofs.TreeBuffers.Lists.{any-in, in-any}
+use Rattle.law_desktop.proofs.Truth.{and-left, and-right, truth}
 
 -- ---- some buffers of all
 
@@ -50,7 +50,7 @@ covers q p all these q_by p_by one among each =
         let number : c.number ≡ b.number = eqb-true c.number b.number other.passes in
         let object : c.object ≡ b.object = (one c b (among c other.within) found.within number).1 in
         in-any (λ b. q b && p b) these c other.within
-        (and-both (q c) (p c) (q_by c b number object ∙ and-left (q b) (p b) found.passes)
+        (and_from (q c) (p c) (q_by c b number object ∙ and-left (q b) (p b) found.passes)
         (p_by c b number object ∙ and-right (q b) (p b) found.passes))
 
 -- ---- those that are over

@@ -8,13 +8,16 @@ use Rattle.spec_desktop.specs.Peer.{released}
 use Rattle.wl_store.specs.Stores.{Stock}
 use Rattle.wl_surface.specs.Request.{Buffer}
 use Rattle.spec_desktop.specs.Step.{each_once, without_buffer}
-use Rattle.law_desktop.proofs.Marks.Stacks.{Each, differ, each-map, or-left, or-right, same-number}
+use Rattle.law_desktop.proofs.Marks.Stacks.{same-number}
 use Rattle.law_desktop.proofs.Soundness.ObjectsCalls.{any-filtered}
 use Rattle.law_desktop.proofs.KeptRecords.Keeping.Letting.{each-once}
 use Rattle.law_desktop.specs.TreeBuffersLaws.{AreOne, IsByNumber, has_number, has_passing}
-use Rattle.law_desktop.proofs.TreeBuffers.Lists.{each-in, each-left, first-in, later-in}
+use Rattle.law_desktop.proofs.TreeBuffers.Lists.{each-in, first-in, later-in}
 use Rattle.law_desktop.proofs.TreeBuffers.Orders.{going}
-use Rattle.law_desktop.proofs.TreeBuffers.Stores.{commute, filter-swap}
+use Rattle.law_desktop.proofs.TreeBuffers.Stores.{commute}
+use Rattle.law_desktop.proofs.Truth.{differ, or-left, or-right}
+use Rattle.law_desktop.proofs.Lists.Each.{Each, each-left, each-map}
+use Rattle.law_desktop.proofs.Lists.Left.{filter-swap}
 
 -- ---- numbers
 

@@ -1,22 +1,8 @@
 -- What is so of each element of a list, and of those that pass a test.
-use Rattle.std.proofs.Common.{◌≡◌, ◌<◌, suc, List, [], ◌∷◌, Bool, true, false, cond, length, refl, sym, arith}
+use Rattle.std.proofs.Common.{◌≡◌, ◌<◌, suc, List, [], ◌∷◌, Bool, true, length, refl, arith}
 use Rattle.std.proofs.lemmas.List.Folds.{Any-from_list_any, list_any-from_Any}
-use Rattle.std.specs.Prelude.{filter}
 use Rattle.std.specs.List.{Contains, list_any}
-use Rattle.law_desktop.proofs.Marks.Stacks.{Each}
-
-pub truth : (a b : Bool) → (a ≡ true → b ≡ true) → (b ≡ true → a ≡ true) → a ≡ b
-truth true b f g = sym (f refl)
-truth false true f g = g refl
-truth false false f g = refl
-
-left-if : {X : Type 0} (P : X → Type 0) (b : Bool) (x : X) (ys : List X) → P x → Each P ys → Each P (cond b (x ∷ ys) ys)
-left-if P true x ys p a = (p, a)
-left-if P false x ys p a = a
-
-pub each-left : {X : Type 0} (P : X → Type 0) (q : X → Bool) (xs : List X) → Each P xs → Each P (filter q xs)
-each-left P q [] a = a
-each-left P q (x ∷ xs) a = left-if P (q x) x (filter q xs) a.0 (each-left P q xs a.1)
+use Rattle.law_desktop.proofs.Lists.Each.{Each}
 
 pub first-in : {X : Type 0} (x : X) (xs : List X) → Contains (x ∷ xs) x
 first-in x xs = (0, omega arith, refl)

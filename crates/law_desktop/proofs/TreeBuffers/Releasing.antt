@@ -1,6 +1,6 @@
 -- The wl_buffers that are released, by their objects in rising order.
 use Rattle.std.proofs.Common.{◌≡◌, ℕ, List, [], ◌∷◌, Bool, true, false, Option, Some, None, cond, refl, ap, sym, ◌∙◌, map}
-use Rattle.std.proofs.lemmas.Bool.{eqb-true}
+use Rattle.std.proofs.lemmas.Bool.{eqb-true, not-true}
 use Rattle.std.specs.List.Sorted.{IsStrictlyIncreasing}
 use Rattle.std.specs.List.{Contains, list_any}
 use Rattle.std.specs.Option.{option_map}
@@ -17,13 +17,16 @@ use Rattle.spec_desktop.specs.Desktop.{Resident}
 use Rattle.spec_desktop.specs.Releases.{is_released}
 use Rattle.spec_desktop.specs.Replies.{by_object, has_object, is_same_buffer, releases}
 use Rattle.spec_desktop.specs.Step.{each_once, without_buffer}
-use Rattle.law_desktop.proofs.Marks.Stacks.{Each, and-left, and-right, differ, each-both, each-false, each-map, same-number}
+use Rattle.law_desktop.proofs.Marks.Stacks.{same-number}
 use Rattle.law_desktop.proofs.Soundness.ObjectsCalls.{any-filtered}
 use Rattle.law_desktop.proofs.KeptRecords.Keeping.Letting.{each-once}
 use Rattle.law_desktop.specs.TreeBuffersLaws.{AreAmong, AreOne, IsByNumber, has_number, shown_in}
 use Rattle.law_desktop.proofs.TreeBuffers.After.{covers}
 use Rattle.law_desktop.proofs.TreeBuffers.Alike.{Alike, Apart, alike-of, apart-left, apart-once}
 use Rattle.law_desktop.proofs.TreeBuffers.Rising.{Differ, Rising, all-among, all-rising, all_put, rising-of, same-rising}
+use Rattle.law_desktop.proofs.Truth.{and-left, and-right, differ}
+use Rattle.law_desktop.proofs.Lists.Each.{Each, each-both, each-map}
+use Rattle.law_desktop.proofs.Lists.Tests.{each-false}
 
 -- ---- objects
 
@@ -131,10 +134,6 @@ passing-live r (b ∷ bs) = at (is_released r b) refl (passing-live r bs)
         → Each (λ b. has_object r b ≡ true) (cond c (b ∷ filter (is_released r) bs) (filter (is_released r) bs))
     at true e rest = (and-right (not (is_busy b.number r.owned.surfaces)) (has_object r b) e, rest)
     at false e rest = rest
-
-not-true : (b : Bool) → not b ≡ true → b ≡ false
-not-true true e = absurd (differ e)
-not-true false e = refl
 
 -- ---- the law
 

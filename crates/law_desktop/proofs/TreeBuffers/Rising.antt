@@ -7,7 +7,9 @@ use Rattle.std.specs.List.{AllPairs}
 use Rattle.std.specs.Prelude.{◌==◌, ◌||◌, fold, nat_lt, slice_index_or}
 use Rattle.wl_shell.specs.Popups.{is_among}
 use Rattle.spec_desktop.specs.Changing.{in_rising_order}
-use Rattle.law_desktop.proofs.Marks.Stacks.{Each, differ, each-both, each-map, same-number}
+use Rattle.law_desktop.proofs.Marks.Stacks.{same-number}
+use Rattle.law_desktop.proofs.Truth.{differ, or-swapped}
+use Rattle.law_desktop.proofs.Lists.Each.{Each, each-both, each-map}
 
 -- ---- rising numbers
 
@@ -81,11 +83,6 @@ same-rising (n ∷ ns) (m ∷ ms) a b same = ap (λ k. k ∷ ns) first ∙ ap (�
 
 -- ---- one more is put in
 
-or-swap : (a b c : Bool) → (a || (b || c)) ≡ (b || (a || c))
-or-swap true true c = refl
-or-swap true false c = refl
-or-swap false b c = refl
-
 pub put-among : (n k : ℕ) (ms : List ℕ) → is_among k (in_rising_order n ms) ≡ ((n == k) || is_among k ms)
 put-among n k [] = refl
 put-among n k (m ∷ ms) = at (nat_lt n m) (put-among n k ms)
@@ -93,7 +90,7 @@ put-among n k (m ∷ ms) = at (nat_lt n m) (put-among n k ms)
     at : (b : Bool) → is_among k (in_rising_order n ms) ≡ ((n == k) || is_among k ms)
         → is_among k (cond b (n ∷ m ∷ ms) (m ∷ in_rising_order n ms)) ≡ ((n == k) || ((m == k) || is_among k ms))
     at true later = refl
-    at false later = ap (λ c. (m == k) || c) later ∙ or-swap (m == k) (n == k) (is_among k ms)
+    at false later = ap (λ c. (m == k) || c) later ∙ or-swapped (m == k) (n == k) (is_among k ms)
 
 put-above : (low n : ℕ) (ms : List ℕ) → low < n → Each (λ m. low < m) ms → Each (λ m. low < m) (in_rising_order n ms)
 put-above low n [] less above = (less, tt)

@@ -5,21 +5,9 @@ use Rattle.std.specs.Prelude.{◌==◌, not, filter, find, is_some, nat_le}
 use Rattle.std.specs.Option.{option_map_or}
 use Rattle.spec_desktop.specs.Peer.{released}
 use Rattle.wl_store.specs.Stores.{Held, Stock, store_at, with_change, without_store}
+use Rattle.law_desktop.proofs.Lists.Left.{filter-swap, find-filter}
 
 -- ---- lists
-
-pub filter-swap : {X : Type 0} (p q : X → Bool) (xs : List X) → filter p (filter q xs) ≡ filter q (filter p xs)
-filter-swap p q [] = refl
-filter-swap {X} p q (x ∷ xs) = at (p x) (q x) refl refl (filter-swap p q xs)
-  where
-    at : (a b : Bool) → p x ≡ a → q x ≡ b → filter p (filter q xs) ≡ filter q (filter p xs)
-        → filter p (cond b (x ∷ filter q xs) (filter q xs)) ≡ filter q (cond a (x ∷ filter p xs) (filter p xs))
-    at true true e f same =
-        ap (λ c. cond c (x ∷ filter p (filter q xs)) (filter p (filter q xs))) e ∙ ap (λ ys. x ∷ ys) same
-        ∙ sym (ap (λ c. cond c (x ∷ filter q (filter p xs)) (filter q (filter p xs))) f)
-    at true false e f same = same ∙ sym (ap (λ c. cond c (x ∷ filter q (filter p xs)) (filter q (filter p xs))) f)
-    at false true e f same = ap (λ c. cond c (x ∷ filter p (filter q xs)) (filter p (filter q xs))) e ∙ same
-    at false false e f same = same
 
 filter-map : {X : Type 0} (p : X → Bool) (f : X → X) (xs : List X) → ((x : X) → p (f x) ≡ p x)
     → filter p (map f xs) ≡ map f (filter p xs)
@@ -34,18 +22,6 @@ filter-map {X} p f (x ∷ xs) keeps = at (p x) (keeps x) (filter-map p f xs keep
 map-swap : {X : Type 0} (f g : X → X) (xs : List X) → ((x : X) → f (g x) ≡ g (f x)) → map f (map g xs) ≡ map g (map f xs)
 map-swap f g [] same = refl
 map-swap f g (x ∷ xs) same = ap (λ y. y ∷ map f (map g xs)) (same x) ∙ ap (λ ys. g (f x) ∷ ys) (map-swap f g xs same)
-
--- what is found is left where the filter lets it pass
-find-filter : {X : Type 0} (p q : X → Bool) (xs : List X) → ((x : X) → p x ≡ true → q x ≡ true) → find p (filter q xs) ≡ find p xs
-find-filter p q [] passes = refl
-find-filter {X} p q (x ∷ xs) passes = at (p x) (q x) refl refl (find-filter p q xs passes)
-  where
-    at : (a b : Bool) → p x ≡ a → q x ≡ b → find p (filter q xs) ≡ find p xs
-        → find p (cond b (x ∷ filter q xs) (filter q xs)) ≡ cond a (Some x) (find p xs)
-    at true true e f same = ap (λ c. cond c (Some x) (find p (filter q xs))) e
-    at true false e f same = absurd (cc (passes x e))
-    at false true e f same = ap (λ c. cond c (Some x) (find p (filter q xs))) e ∙ same
-    at false false e f same = same
 
 -- what is found doesn't change
 find-map : {X : Type 0} (p : X → Bool) (f : X → X) (xs : List X) → ((x : X) → p (f x) ≡ p x) → ((x : X) → p x ≡ true → f x ≡ x)

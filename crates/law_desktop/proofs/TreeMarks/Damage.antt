@@ -2,13 +2,15 @@
 use Rattle.std.proofs.Common.{◌≡◌, ℕ, Bool, true, false, List, [], ◌∷◌, ◌++◌, ap, ◌∙◌}
 use Rattle.std.specs.Prelude.{ℤ, ◌-ℤ◌, ◌&&◌, ◌||◌, not}
 use Rattle.std.specs.List.{list_any}
-use Rattle.std.proofs.lemmas.Bool.{and_right}
+use Rattle.std.proofs.lemmas.Bool.{and_right, false_from_ne_true}
 use Rattle.spec_desktop.specs.Windows.{Window, contains}
 use Rattle.spec_desktop.specs.Marks.{Applied, AreDistinct, at_least, has_moved_past, in_output, is_before, is_changed_at, is_damaged_at, is_kept_in, is_restacked_at, shared_by}
-use Rattle.law_desktop.proofs.Marks.Stacks.{AreSame, Each, and-left, and-right, each-false, each-map, unless}
+use Rattle.law_desktop.proofs.Marks.Stacks.{AreSame}
 use Rattle.law_desktop.specs.TreeMarksLaws.{AreUndamaged, MarksDamageAlone, among, is_struck_at}
-use Rattle.law_desktop.proofs.TreeMarks.Lists.{any-as, any-middle, any-none, any-of, each-first, each-second, none-first, none-second}
+use Rattle.law_desktop.proofs.Lists.Tests.{any-as, any-middle, any-none, any-of, each-false, none-first, none-second}
 use Rattle.law_desktop.proofs.TreeMarks.Records.{before-same, each-kept, one-before, same-append, same-self, same-tested, same-turned}
+use Rattle.law_desktop.proofs.Truth.{and-left, and-right}
+use Rattle.law_desktop.proofs.Lists.Each.{Each, each-first, each-map, each-second}
 
 module _ (x y : ℤ) where
   -- windows that others keep are unchanged
@@ -46,7 +48,7 @@ module _ (x y : ℤ) where
   -- of windows that stand in the same order none moved past another
   none-restacked : (old new : List Window) → AreSame old new → AreDistinct old → is_restacked_at old new x y ≡ false
   none-restacked old new same apart =
-      unless (is_restacked_at old new x y)
+      false_from_ne_true (is_restacked_at old new x y)
       (λ e.
       any-of ⊥ (λ w. list_any (moves old new w) old) old e
       (λ w f.

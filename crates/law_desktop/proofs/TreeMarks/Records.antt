@@ -2,13 +2,15 @@
 use Rattle.std.proofs.Common.{◌≡◌, Bool, true, false, List, [], ◌∷◌, ◌++◌, refl, ap, sym, ◌∙◌, arith}
 use Rattle.std.specs.Prelude.{ℕ, ◌==◌, ◌&&◌, ◌||◌, if◌then◌else◌}
 use Rattle.std.specs.List.{list_any}
-use Rattle.std.proofs.lemmas.Bool.{or_left, or_right}
+use Rattle.std.proofs.lemmas.Bool.{false_from_ne_true, or_left, or_right}
 use Rattle.std.proofs.lemmas.Bool.Decides.{nat_tests}
 use Rattle.std.proofs.lemmas.List.Folds.{list_any-append}
 use Rattle.spec_desktop.specs.Windows.{Window}
 use Rattle.spec_desktop.specs.Marks.{AreDistinct, has_same_record, is_before, is_of_tree, is_same_surface, same_records}
-use Rattle.law_desktop.proofs.Marks.Stacks.{AreSame, Each, and-left, and-right, any-surface, before-cons, differ, each-map, fields, or-left, or-right, recorded, unless}
-use Rattle.law_desktop.proofs.TreeMarks.Lists.{any-first, either-of, none-second}
+use Rattle.law_desktop.proofs.Marks.Stacks.{AreSame, any-surface, before-cons, before-there, fields, recorded}
+use Rattle.law_desktop.proofs.Lists.Tests.{any-first, none-second}
+use Rattle.law_desktop.proofs.Truth.{and-left, and-right, differ, either-of, or-left, or-right}
+use Rattle.law_desktop.proofs.Lists.Each.{Each, each-map}
 
 -- ---- one window
 
@@ -104,20 +106,10 @@ before-same a b (w ∷ ws) [] e = absurd e
 
 -- ---- surfaces that have one window each
 
--- what another stands before is there
-before-there : (w v : Window) (xs : List Window) → is_before w v xs ≡ true → list_any (is_same_surface v) xs ≡ true
-before-there w v [] e = e
-before-there w v (x ∷ xs) e = or_right (is_same_surface v x) (list_any (is_same_surface v) xs) (at (is_same_surface w x) e (before-there w v xs))
-  where
-    at : (same : Bool) → (if same then list_any (is_same_surface v) xs else is_before w v xs) ≡ true
-        → (is_before w v xs ≡ true → list_any (is_same_surface v) xs ≡ true) → list_any (is_same_surface v) xs ≡ true
-    at true f later = f
-    at false f later = later f
-
 -- of the surface of the first window none of the others is
 others-apart : (w x : Window) (xs : List Window) → list_any (is_same_surface x) xs ≡ false → is_same_surface w x ≡ true
     → list_any (is_same_surface w) xs ≡ false
-others-apart w x xs apart same = unless (list_any (is_same_surface w) xs) (λ there. differ (sym apart ∙ any-surface w x xs same there))
+others-apart w x xs apart same = false_from_ne_true (list_any (is_same_surface w) xs) (λ there. differ (sym apart ∙ any-surface w x xs same there))
 
 -- of two windows that are told apart one stands before the other
 pub one-before : (w v : Window) (xs : List Window) → AreDistinct xs → is_before w v xs ≡ true → is_before v w xs ≡ true → ⊥
@@ -149,7 +141,7 @@ apart-second w (x ∷ xs) ys apart e = at (is_same_surface w x) refl e (apart-se
 
 pub apart-first : (w : Window) (xs ys : List Window) → AreDistinct (xs ++ ys) → list_any (is_same_surface w) ys ≡ true
     → list_any (is_same_surface w) xs ≡ false
-apart-first w xs ys apart e = unless (list_any (is_same_surface w) xs) (λ f. differ (sym (apart-second w xs ys apart f) ∙ e))
+apart-first w xs ys apart e = false_from_ne_true (list_any (is_same_surface w) xs) (λ f. differ (sym (apart-second w xs ys apart f) ∙ e))
 
 -- ---- one before another, of two lists
 

@@ -5,9 +5,10 @@ use Rattle.std.specs.List.{list_all, list_any}
 use Rattle.std.proofs.lemmas.Bool.{eqb-true}
 use Rattle.spec_desktop.specs.Windows.{Window}
 use Rattle.spec_desktop.specs.Marks.{is_of_tree}
-use Rattle.law_desktop.proofs.Marks.Stacks.{and-left, and-right, each-map}
 use Rattle.law_desktop.specs.TreeMarksLaws.{IsTreeOfRoot, has_root}
-use Rattle.law_desktop.proofs.TreeMarks.Lists.{all-each, any-as, any-none, each-all, each-of}
+use Rattle.law_desktop.proofs.Lists.Tests.{all-each, any-as, any-none, each-all}
+use Rattle.law_desktop.proofs.Truth.{and-left, and-right}
+use Rattle.law_desktop.proofs.Lists.Each.{each-map, each-of}
 
 -- of the tree of a window are those that have its root
 root-tree : (client root : ℕ) (w : Window) → has_root client root w ≡ true → (v : Window) → is_of_tree w v ≡ has_root client root v

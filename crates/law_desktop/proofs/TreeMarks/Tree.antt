@@ -2,14 +2,15 @@
 use Rattle.std.proofs.Common.{◌≡◌, Bool, true, List, ◌++◌, sym, ◌∙◌}
 use Rattle.std.specs.Prelude.{ℤ, ◌&&◌, ◌||◌, not}
 use Rattle.std.specs.List.{list_any}
-use Rattle.std.proofs.lemmas.Bool.{or_left, or_right}
+use Rattle.std.proofs.lemmas.Bool.{and_from, or_left, or_right}
 use Rattle.spec_desktop.specs.Windows.{Window, contains}
 use Rattle.spec_desktop.specs.Marks.{Applied, AreDistinct, has_moved_past, has_same_record, in_output, is_before, is_changed_at, is_damaged_at, is_kept_in, is_restacked_at, is_same_surface, shared_by}
-use Rattle.law_desktop.proofs.Marks.Stacks.{Each, and-both, and-left, and-right, any-more, differ, each-map}
 use Rattle.law_desktop.specs.TreeMarksLaws.{AreUndamaged, MarksTreeAlone, among, is_in_any, is_struck_at}
-use Rattle.law_desktop.proofs.TreeMarks.Lists.{any-first, any-of, any-second, any-three, either-of}
+use Rattle.law_desktop.proofs.Lists.Tests.{any-first, any-more, any-of, any-second, any-three}
 use Rattle.law_desktop.proofs.TreeMarks.Records.{apart-first, apart-second, before-first, before-in-first, before-in-second, before-second, distinct-second, each-kept, one-before, same-self}
 use Rattle.law_desktop.proofs.TreeMarks.Damage.{first-undamaged, none-changed, none-damaged, second-undamaged}
+use Rattle.law_desktop.proofs.Truth.{and-left, and-right, differ, either-of}
+use Rattle.law_desktop.proofs.Lists.Each.{Each, each-map}
 
 -- ---- a window that another moved past, or that moved past another, is one of the tree
 
@@ -121,5 +122,5 @@ module _ (below above was is : List Window) (x y : ℤ) where
 
 pub marks-tree-alone : MarksTreeAlone
 marks-tree-alone below above was is applied apart apart' undamaged width height x y marked =
-    and-both (in_output width height x y) (is_in_any x y was || is_in_any x y is) (and-left (in_output width height x y) _ marked)
+    and_from (in_output width height x y) (is_in_any x y was || is_in_any x y is) (and-left (in_output width height x y) _ marked)
     (marked-in-tree below above was is x y applied apart apart' undamaged (and-right (in_output width height x y) _ marked))

@@ -2,16 +2,17 @@
 use Rattle.std.proofs.Common.{◌≡◌, ℕ, Bool, true, false, List, ◌++◌, refl, ap, ◌∙◌}
 use Rattle.std.specs.Prelude.{ℤ, ◌&&◌, ◌||◌, None, Option, not, filter}
 use Rattle.std.specs.List.{list_all, list_any}
-use Rattle.std.proofs.lemmas.Bool.{and_right, or_from, or_left, or_right}
+use Rattle.std.proofs.lemmas.Bool.{and_from, and_right, or_from, or_left, or_right}
 use Rattle.std.proofs.lemmas.List.Elements.{filter-append}
 use Rattle.std.proofs.lemmas.List.{append-nil}
 use Rattle.spec_desktop.specs.Windows.{Window, contains}
 use Rattle.spec_desktop.specs.Marks.{at_least, has_changed_tree, in_output, is_allowed_at, is_of_tree, is_raised, same_records}
-use Rattle.law_desktop.proofs.Marks.Stacks.{Each, and-both, and-left, and-right, each-both, each-false, each-map}
 use Rattle.law_desktop.specs.TreeMarksLaws.{IsOneTree, MarksNothingMore, MayMarkWholeTree, among, is_in_any}
-use Rattle.law_desktop.proofs.TreeMarks.Lists.{any-as, any-each-more, any-first, any-none, any-second}
-use Rattle.law_desktop.proofs.TreeMarks.Lists.{each-all, each-append, each-first, each-of, each-second, either-of, filter-all, filter-none, none-first, none-second, none-turned}
+use Rattle.law_desktop.proofs.Lists.Tests.{any-as, any-each-more, any-first, any-none, any-second, each-false}
+use Rattle.law_desktop.proofs.Lists.Tests.{each-all, filter-all, filter-none, none-first, none-second, none-turned}
 use Rattle.law_desktop.proofs.TreeMarks.Records.{records-self, tree-turned}
+use Rattle.law_desktop.proofs.Truth.{and-left, and-right, either-of}
+use Rattle.law_desktop.proofs.Lists.Each.{Each, each-append, each-both, each-first, each-map, each-of, each-second}
 
 -- ---- the tree of a window among the others
 
@@ -78,7 +79,7 @@ module _ (below above was is : List Window) (one : IsOneTree below above was is)
       any-second (is_allowed_at old new raised x y) below (ws ++ above)
       (any-first (is_allowed_at old new raised x y) ws above
       (any-each-more (λ w. contains w x y) (is_allowed_at old new raised x y) (λ w. has_changed_tree old new w ≡ true)
-      (λ w e in_it. and-both (contains w x y) (has_changed_tree old new w || is_raised raised w) in_it
+      (λ w e in_it. and_from (contains w x y) (has_changed_tree old new w || is_raised raised w) in_it
       (or_left (has_changed_tree old new w) (is_raised raised w) e)) ws changed here))
 
   -- where they don't, no point is
@@ -122,7 +123,7 @@ module _ (below above was is : List Window) (one : IsOneTree below above was is)
 pub may-mark-whole-tree : MayMarkWholeTree
 may-mark-whole-tree below above was is applied one differs raised width height x y here =
     or_right (at_least width height applied (among below above was) (among below above is) x y) _
-    (and-both (in_output width height x y) (allows below above was is one raised x y) (and-left (in_output width height x y) _ here)
+    (and_from (in_output width height x y) (allows below above was is one raised x y) (and-left (in_output width height x y) _ here)
     (whole-tree below above was is one differs raised x y (and-right (in_output width height x y) _ here)))
 
 no-more : (least out more : Bool) → more ≡ false → (least || (out && more)) ≡ least

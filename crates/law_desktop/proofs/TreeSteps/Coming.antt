@@ -1,7 +1,7 @@
 -- A link that comes keeps all that counts.
 use Rattle.std.proofs.Common.{◌≡◌, ℕ, ◌==◌, true, false, None, ap, sym, ◌∙◌}
 use Rattle.std.specs.Option.{option_map}
-use Rattle.std.proofs.lemmas.Bool.{eqb-true}
+use Rattle.std.proofs.lemmas.Bool.{eqb-true, false_from_ne_true}
 use Rattle.wl_surface.specs.declared.role.Role.TheVariants.{Subsurface}
 use Rattle.wl_surface.specs.Request.{AddChild}
 use Rattle.wl_surface.specs.State.{History, counting}
@@ -12,10 +12,10 @@ use Rattle.wl_surface.specs.Hanging.{AreTied, kid_of, kids_of}
 use Rattle.wl_surface.specs.Stacks.{has_child}
 use Rattle.wl_surface.proofs.Linking.{never-there}
 use Rattle.law_desktop.proofs.Lists.Keys.{new-elsewhere}
-use Rattle.law_desktop.proofs.Marks.Stacks.{differ, unless}
 use Rattle.law_desktop.specs.TreeStepsLaws.{IsNamed}
 use Rattle.law_desktop.specs.TreeRequests.{LinkKeepsAll}
 use Rattle.law_desktop.proofs.TreeSteps.Commits.{count-asked, cut-asked, history-asked, role-keeps-all, within-requests}
+use Rattle.law_desktop.proofs.Truth.{differ}
 
 module _ (all : Surfaces) (tied : AreTied all) (number child parent : ℕ) (free : link_at number all ≡ None) where
   abbrev fresh : Link
@@ -23,7 +23,7 @@ module _ (all : Surfaces) (tied : AreTied all) (number child parent : ℕ) (free
 
   -- no surface names the link yet
   unnamed : (n : ℕ) → IsNamed n all → (number == n) ≡ false
-  unnamed n named = unless (number == n) never
+  unnamed n named = false_from_ne_true (number == n) never
     where
       never : (number == n) ≡ true → ⊥
       never e =

@@ -11,10 +11,10 @@ use Rattle.wl_surface.specs.TreeLaws.{AreOnceLinked}
 use Rattle.wl_surface.proofs.TreesApplying.{applies-descendants}
 use Rattle.wl_surface.proofs.Coming.{history-applied}
 use Rattle.wl_surface.proofs.Hanging.{committed-within, history-changed, take-more}
-use Rattle.law_desktop.proofs.Marks.Stacks.{differ}
 use Rattle.law_desktop.specs.TreeStepsLaws.{KeepsOthers}
 use Rattle.law_desktop.specs.TreeRequests.{CommitKeepsOthers, RequestKeepsAll, RoleKeepsAll}
 use Rattle.law_desktop.proofs.TreeSteps.Fewer.{HadParents, by-fewer, is-other, none-descends}
+use Rattle.law_desktop.proofs.Truth.{differ}
 
 -- ---- one surface is asked
 

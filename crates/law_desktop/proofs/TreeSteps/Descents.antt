@@ -2,7 +2,8 @@
 use Rattle.std.proofs.Common.{◌≡◌, ℕ, zero, suc, ◌+◌, ◌≤◌, ◌⊎◌, inl, inr, ◌==◌, Bool, true, false, cond, Some, None, List, [], ◌∷◌, refl, ap, sym, subst, ◌∙◌, arith, eq-eqb}
 use Rattle.std.specs.Prelude.{find}
 use Rattle.std.specs.List.{list_any}
-use Rattle.std.proofs.lemmas.Bool.{eqb-true, or_cases}
+use Rattle.std.proofs.lemmas.Bool.{eqb-true, or_cases, or_right}
+use Rattle.std.proofs.lemmas.Option.{none-some}
 use Rattle.wl_surface.specs.Surfaces.{Link, Surfaces}
 use Rattle.wl_surface.specs.Trees.{descends_from, levels, link_of}
 use Rattle.wl_surface.specs.Hanging.{AreNumbered}
@@ -10,9 +11,8 @@ use Rattle.wl_surface.specs.TreeLaws.{is_live_of}
 use Rattle.wl_surface.proofs.TreesEnding.{live-parts}
 use Rattle.wl_surface.proofs.Linking.{none-found}
 use Rattle.law_desktop.specs.Soundness.{AreTrees, IsLive}
-use Rattle.law_desktop.proofs.Lists.Keys.{found-passes, none-some}
+use Rattle.law_desktop.proofs.Lists.Keys.{found-passes}
 use Rattle.law_desktop.proofs.Soundness.LinkedDepths.{by-link, descends-itself, descends-link, descends-none}
-use Rattle.law_desktop.proofs.Soundness.Trees.{or-there}
 use Rattle.law_desktop.specs.TreeStepsLaws.{HasRoot, NoChildIsTop, RootsApart}
 
 -- ---- levels
@@ -32,7 +32,7 @@ pub either-way : (n : ℕ) (all : Surfaces) (top s : ℕ) (a : Link) → link_of
 either-way n all top s a e under = or_cases (s == top) (descends_from n all top a.parent) (sym (descends-link n all top s a e) ∙ under)
 
 pub by-parent : (n : ℕ) (all : Surfaces) (top s : ℕ) (a : Link) → link_of s all ≡ Some a → descends_from n all top a.parent ≡ true → descends_from (suc n) all top s ≡ true
-by-parent n all top s a e under = descends-link n all top s a e ∙ or-there (s == top) (descends_from n all top a.parent) under
+by-parent n all top s a e under = descends-link n all top s a e ∙ or_right (s == top) (descends_from n all top a.parent) under
 
 -- by more levels no less descends
 pub within : (m k : ℕ) (all : Surfaces) (top s : ℕ) → m ≤ k → descends_from m all top s ≡ true → descends_from k all top s ≡ true
@@ -93,7 +93,7 @@ roots-apart all one other surface top-one top-other under-one under-other = root
 -- ---- links by their numbers
 
 -- a link that is found has its own number alone
-found-number : (p : Link → Bool) (ls : List Link) (l : Link) → AreNumbered ls → find p ls ≡ Some l → find (λ (k : Link). k.number == l.number) ls ≡ Some l
+pub found-number : (p : Link → Bool) (ls : List Link) (l : Link) → AreNumbered ls → find p ls ≡ Some l → find (λ (k : Link). k.number == l.number) ls ≡ Some l
 found-number p [] l apart e = absurd (cc)
 found-number p (x ∷ xs) l apart e = at (p x) e (found-number p xs l apart.1)
   where

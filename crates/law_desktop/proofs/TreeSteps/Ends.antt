@@ -2,7 +2,8 @@
 use Rattle.std.proofs.Common.{◌≡◌, ℕ, ◌==◌, ◌&&◌, Bool, true, false, cond, Some, None, List, [], ◌∷◌, refl, ap, sym, subst, ◌∙◌}
 use Rattle.std.specs.Prelude.{filter, find, fold, not}
 use Rattle.std.specs.List.{list_any}
-use Rattle.std.proofs.lemmas.Bool.{eqb-true}
+use Rattle.std.proofs.lemmas.Bool.{and_right, eqb-true, false_from_ne_true, or_from}
+use Rattle.std.proofs.lemmas.Option.{same_Some}
 use Rattle.wl_surface.specs.State.{apply}
 use Rattle.wl_surface.specs.Surfaces.{Link, Surfaces, history_in, link_at, without_surface}
 use Rattle.wl_surface.specs.Trees.{descends_from, ended_in, ending, levels, with_link}
@@ -13,15 +14,13 @@ use Rattle.wl_surface.proofs.Coming.{history-applied, history-without}
 use Rattle.wl_surface.proofs.TreesEnding.{end_one, ends-links, touches}
 use Rattle.wl_surface.proofs.Linking.{keeps-ending}
 use Rattle.wl_surface.proofs.Placing.{numbered}
-use Rattle.law_desktop.proofs.Lists.Keys.{some-same}
-use Rattle.law_desktop.proofs.Marks.Stacks.{differ, or-left, or-right, unless}
 use Rattle.law_desktop.proofs.Soundness.LinkedDepths.{descends-itself}
-use Rattle.law_desktop.proofs.Soundness.Trees.{or-none}
 use Rattle.law_desktop.specs.TreeStepsLaws.{KeepsOthers}
 use Rattle.law_desktop.specs.TreeRequests.{DestructionKeepsOthers, EndKeepsOthers}
 use Rattle.law_desktop.proofs.TreeSteps.Commits.{applied-keeps, kept-where}
 use Rattle.law_desktop.proofs.TreeSteps.Fewer.{gone-kids, had-parents, is-other, kept-kid, kid-link, once-kept}
 use Rattle.law_desktop.proofs.TreeSteps.Staying.{child-under}
+use Rattle.law_desktop.proofs.Truth.{differ, or-left, or-right}
 
 -- ---- one link ends
 
@@ -35,15 +34,11 @@ keeps-one number = keeps-where (λ l. l.number == number) ending keeps-ending
 abbrev lives_at : ℕ → Link → Bool
 lives_at number l = not l.has_ended && l.number == number
 
-and-false : (a b : Bool) → b ≡ false → (a && b) ≡ false
-and-false true b e = e
-and-false false b e = refl
-
 filter-none : (number : ℕ) (ls : List Link) → list_any (λ (k : Link). k.number == number) ls ≡ false → filter (lives_at number) ls ≡ []
 filter-none number [] e = refl
 filter-none number (x ∷ xs) e =
     ap (λ b. cond b (x ∷ filter (lives_at number) xs) (filter (lives_at number) xs))
-    (and-false (not x.has_ended) (x.number == number) (or-left (x.number == number) (list_any (λ (k : Link). k.number == number) xs) e))
+    (and_right (not x.has_ended) (x.number == number) (or-left (x.number == number) (list_any (λ (k : Link). k.number == number) xs) e))
     ∙ filter-none number xs (or-right (x.number == number) (list_any (λ (k : Link). k.number == number) xs) e)
 
 -- a number has one link
@@ -69,8 +64,8 @@ filter-one number (x ∷ xs) l apart e = at (x.number == number) refl e (filter-
         ap (λ b. cond (not x.has_ended && b) (x ∷ filter (lives_at number) xs) (filter (lives_at number) xs)) f
         ∙ (ap (λ b. cond b (x ∷ filter (lives_at number) xs) (filter (lives_at number) xs)) (both (not x.has_ended))
         ∙ (one (not x.has_ended) (filter (lives_at number) xs) (here (eqb-true x.number number f))
-        ∙ ap (λ (k : Link). cond (not k.has_ended) (k ∷ []) []) (some-same x l e)))
-    at false f e next = ap (λ b. cond b (x ∷ filter (lives_at number) xs) (filter (lives_at number) xs)) (and-false (not x.has_ended) (x.number == number) f) ∙ next e
+        ∙ ap (λ (k : Link). cond (not k.has_ended) (k ∷ []) []) (same_Some x l e)))
+    at false f e next = ap (λ b. cond b (x ∷ filter (lives_at number) xs) (filter (lives_at number) xs)) (and_right (not x.has_ended) (x.number == number) f) ∙ next e
 
 module _ (all : Surfaces) (once : AreOnceLinked all.links) (number : ℕ) (link : Link) (here : link_at number all ≡ Some link) where
   -- the links of the others live on
@@ -78,7 +73,7 @@ module _ (all : Surfaces) (once : AreOnceLinked all.links) (number : ℕ) (link 
   ending-kid n child is none =
       let kid = kid-link (link_at n all) child is in
       kept-kid (ending_at link.number) (keeps-one link.number) all n child kid.0 is kid.1
-      (stays kid.0 (kid.0.number == link.number) (unless (kid.0.number == link.number) (never kid.0 kid.1 kid.3)))
+      (stays kid.0 (kid.0.number == link.number) (false_from_ne_true (kid.0.number == link.number) (never kid.0 kid.1 kid.3)))
     where
       stays : (k : Link) (b : Bool) → b ≡ false → cond b (ending k) k ≡ k
       stays k true e = absurd (differ (sym e))
@@ -87,7 +82,7 @@ module _ (all : Surfaces) (once : AreOnceLinked all.links) (number : ℕ) (link 
       never : (k : Link) → link_at n all ≡ Some k → k.child ≡ child → (k.number == link.number) ≡ true → ⊥
       never k at-k of-k e =
           let same : n ≡ number = sym (numbered n all.links k at-k) ∙ (eqb-true k.number link.number e ∙ numbered number all.links link here) in
-          let it : link ≡ k = some-same link k (sym here ∙ (ap (λ m. link_at m all) (sym same) ∙ at-k)) in
+          let it : link ≡ k = same_Some link k (sym here ∙ (ap (λ m. link_at m all) (sym same) ∙ at-k)) in
           differ (sym none ∙ (ap (descends_from levels all link.child) (sym of-k ∙ ap (λ (l : Link). l.child) (sym it)) ∙ descends-itself levels all link.child))
 
   ended-keeps : KeepsOthers link.child all (ended_in all link)
@@ -133,8 +128,8 @@ module _ (all : Surfaces) (once : AreOnceLinked all.links) (id : ℕ) where
       apart : (k : Link) → link_at n all ≡ Some k → k.has_ended ≡ false → k.child ≡ child → touches id k ≡ false
       apart k at-k lives of-k =
           let other = ap (descends_from levels all id) of-k ∙ none in
-          or-none (k.child == id) (k.parent == id) (is-other all id k.child other)
-          (unless (k.parent == id) (λ e. differ (sym other
+          or_from (k.child == id) (k.parent == id) (is-other all id k.child other)
+          (false_from_ne_true (k.parent == id) (λ e. differ (sym other
           ∙ child-under all n k 16 id id once (record { here = at-k; lives = lives }) (eqb-true k.parent id e) (descends-itself 16 all id))))
 
   left-keeps : KeepsOthers id all (without_surface id left)

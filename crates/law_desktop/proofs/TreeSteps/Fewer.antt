@@ -3,7 +3,8 @@ use Rattle.std.proofs.Common.{◌≡◌, ℕ, zero, suc, ◌≤◌, ◌⊎◌, i
 use Rattle.std.specs.Prelude.{find, not}
 use Rattle.std.specs.List.{list_any}
 use Rattle.std.specs.Option.{option_map}
-use Rattle.std.proofs.lemmas.Bool.{eqb-true}
+use Rattle.std.proofs.lemmas.Bool.{and_from, eqb-true, false_from_ne_true, not_from_false}
+use Rattle.std.proofs.lemmas.Option.{none-some, same_Some}
 use Rattle.wl_surface.specs.Surfaces.{Link, Surfaces, link_at}
 use Rattle.wl_surface.specs.Trees.{descends_from, levels, link_of}
 use Rattle.wl_surface.specs.Hanging.{kid_of, kids_of}
@@ -11,18 +12,17 @@ use Rattle.wl_surface.specs.TreeLaws.{AreOnceLinked, is_live_of}
 use Rattle.wl_surface.proofs.Changing.{KeepsLink, at-each, none-live}
 use Rattle.wl_surface.proofs.TreesEnding.{live-parts}
 use Rattle.wl_surface.proofs.Linking.{none-found}
-use Rattle.law_desktop.proofs.Lists.Keys.{none-some, some-same}
-use Rattle.law_desktop.proofs.Marks.Stacks.{and-both, differ, unless}
 use Rattle.law_desktop.proofs.Soundness.LinkedDepths.{by-link}
 use Rattle.law_desktop.proofs.TreeSteps.Descents.{at-top, by-parent, either-way, is-top, at-zero, within}
+use Rattle.law_desktop.proofs.Truth.{differ}
 
 -- a surface that doesn't descend from another is another
 pub is-other : (all : Surfaces) (id surface : ℕ) → descends_from levels all id surface ≡ false → (surface == id) ≡ false
-is-other all id surface none = unless (surface == id) (λ same. differ (sym none ∙ at-top levels all id surface (eqb-true surface id same)))
+is-other all id surface none = false_from_ne_true (surface == id) (λ same. differ (sym none ∙ at-top levels all id surface (eqb-true surface id same)))
 
 -- by fewer levels no more descends
 pub by-fewer : (m k : ℕ) (all : Surfaces) (top s : ℕ) → m ≤ k → descends_from k all top s ≡ false → descends_from m all top s ≡ false
-by-fewer m k all top s le none = unless (descends_from m all top s) (λ under. differ (sym none ∙ within m k all top s le under))
+by-fewer m k all top s le none = false_from_ne_true (descends_from m all top s) (λ under. differ (sym none ∙ within m k all top s le under))
 
 -- ---- no link is new
 
@@ -43,13 +43,9 @@ had-descended all new had (suc n) top s under =
     at l was (inr higher) next = by-parent n all top s was.0 was.1 (ap (descends_from n all top) was.2 ∙ next higher)
 
 pub none-descends : (all new : Surfaces) → HadParents all new → (n top s : ℕ) → descends_from n all top s ≡ false → descends_from n new top s ≡ false
-none-descends all new had n top s none = unless (descends_from n new top s) (λ under. differ (sym none ∙ had-descended all new had n top s under))
+none-descends all new had n top s none = false_from_ne_true (descends_from n new top s) (λ under. differ (sym none ∙ had-descended all new had n top s under))
 
 -- ---- each link is made of one
-
-lives-not : (b : Bool) → b ≡ false → not b ≡ true
-lives-not true e = absurd (cc)
-lives-not false e = refl
 
 module _ (g : Link → Link) (keeps : KeepsLink g) where
   lived : (l : Link) (b : Bool) → l.has_ended ≡ b → (g l).has_ended ≡ false → l.has_ended ≡ false
@@ -67,7 +63,7 @@ module _ (g : Link → Link) (keeps : KeepsLink g) where
       lived-here : is_live_of c (g x) ≡ true → is_live_of c x ≡ true
       lived-here f =
           let parts = live-parts (g x).has_ended ((g x).child == c) f in
-          and-both (not x.has_ended) (x.child == c) (lives-not x.has_ended (lived x x.has_ended refl parts.0)) (ap (λ n. n == c) (sym (keeps.child x)) ∙ parts.1)
+          and_from (not x.has_ended) (x.child == c) (not_from_false x.has_ended (lived x x.has_ended refl parts.0)) (ap (λ n. n == c) (sym (keeps.child x)) ∙ parts.1)
 
       behind : (k : Link) (b : Bool) → is_live_of c x ≡ b → find (is_live_of c) xs ≡ Some k → cond b (Some x) (find (is_live_of c) xs) ≡ Some k
       behind k false h found = found
@@ -77,7 +73,7 @@ module _ (g : Link → Link) (keeps : KeepsLink g) where
 
       at : (b : Bool) → is_live_of c (g x) ≡ b → cond b (Some (g x)) (find (is_live_of c) (map g xs)) ≡ Some l
           → (find (is_live_of c) (map g xs) ≡ Some l → Was c xs l) → Was c (x ∷ xs) l
-      at true f e next = (x, ap (λ b. cond b (Some x) (find (is_live_of c) xs)) (lived-here f), some-same (g x) l e)
+      at true f e next = (x, ap (λ b. cond b (Some x) (find (is_live_of c) xs)) (lived-here f), same_Some (g x) l e)
       at false f e next = let was = next e in (was.0, behind was.0 (is_live_of c x) refl was.1, was.2)
 
   pub once-kept : (ls : List Link) → AreOnceLinked ls → AreOnceLinked (map g ls)
@@ -123,4 +119,4 @@ kid-link (Some k) child e = at k.has_ended refl e
   where
     at : (b : Bool) → k.has_ended ≡ b → cond b None (Some k.child) ≡ Some child → IsKidLink (Some k) child
     at true f e = absurd (none-some child e)
-    at false f e = (k, refl, f, some-same k.child child e)
+    at false f e = (k, refl, f, same_Some k.child child e)

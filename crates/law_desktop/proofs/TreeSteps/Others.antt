@@ -1,20 +1,21 @@
 -- Where the surfaces that don't descend from one are kept, so are the trees that it is not in.
 use Rattle.std.proofs.Common.{◌≡◌, ℕ, true, false, None, ap, sym, subst, ◌∙◌, arith}
+use Rattle.std.proofs.lemmas.Bool.{false_from_ne_true}
 use Rattle.std.specs.Option.{option_map}
 use Rattle.wl_surface.specs.State.{counting}
 use Rattle.wl_surface.specs.Surfaces.{Surfaces}
 use Rattle.wl_surface.specs.Trees.{descends_from, levels, link_of}
 use Rattle.wl_surface.specs.Hanging.{AreNumbered}
 use Rattle.law_desktop.specs.Soundness.{AreTrees}
-use Rattle.law_desktop.proofs.Marks.Stacks.{differ, unless}
 use Rattle.law_desktop.specs.TreeStepsLaws.{KeepsOthers, KeepsTree, OtherTreesStay}
 use Rattle.law_desktop.proofs.TreeSteps.Descents.{has-root, roots-same, through}
 use Rattle.law_desktop.proofs.TreeSteps.Staying.{tree-stays}
+use Rattle.law_desktop.proofs.Truth.{differ}
 
 module _ (all : Surfaces) (id root : ℕ) (trees : AreTrees all) (apart : AreNumbered all.links) (top : link_of root all ≡ None) (other : descends_from levels all root id ≡ false) where
   -- nothing of the tree of one root descends from a surface of another
   pub none-under : (surface : ℕ) → descends_from levels all root surface ≡ true → descends_from levels all id surface ≡ false
-  none-under surface under = unless (descends_from levels all id surface) never
+  none-under surface under = false_from_ne_true (descends_from levels all id surface) never
     where
       never : descends_from levels all id surface ≡ true → ⊥
       never below =

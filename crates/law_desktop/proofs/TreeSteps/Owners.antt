@@ -11,12 +11,12 @@ use Rattle.wl_surface.specs.Stacks.{Kids}
 use Rattle.wl_surface.proofs.Placing.{live-found}
 use Rattle.law_desktop.proofs.Soundness.Trees.{under-depth}
 use Rattle.law_desktop.specs.Soundness.{AreTrees}
-use Rattle.law_desktop.proofs.Marks.Stacks.{Each, each-map}
 use Rattle.law_desktop.proofs.Soundness.Trees.{IsUnder, Under, each-flat, tree-each}
 use Rattle.std.specs.Option.{option_map}
 use Rattle.wl_surface.specs.State.{counting}
 use Rattle.law_desktop.proofs.TreeSteps.Descents.{at-top, by-parent, within}
-use Rattle.law_desktop.proofs.TreeSteps.Reading.{Next, each-always, kid_by, member_by, reads-surface, shown_by, surface_by}
+use Rattle.law_desktop.proofs.TreeSteps.Reading.{Next, kid_by, member_by, reads-surface, shown_by, surface_by}
+use Rattle.law_desktop.proofs.Lists.Each.{Each, each-map, each-of}
 
 -- ---- owners
 
@@ -40,7 +40,7 @@ module _ (next : Next) (owner : Owner) (each : (child : ℕ) (place : Place) →
   shown-owned surface rs corner None = tt
   shown-owned surface rs corner (Some buffer) =
       each-flat (λ w. w.owner ≡ owner) (member_by next owner kids surface rs corner) (order rs)
-      (each-always (λ m. AreOwned owner (member_by next owner kids surface rs corner m)) (member-owned surface rs corner) (order rs))
+      (each-of (λ m. AreOwned owner (member_by next owner kids surface rs corner m)) (member-owned surface rs corner) (order rs))
 
   surface-owned : (surface : ℕ) (place : Place) (o : Option (List Request)) → AreOwned owner (surface_by next owner kids surface place o)
   surface-owned surface place None = tt

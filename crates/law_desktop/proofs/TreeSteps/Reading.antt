@@ -8,7 +8,7 @@ use Rattle.wl_surface.specs.Surfaces.{Link, Surfaces, link_at}
 use Rattle.spec_desktop.specs.Windows.{Owner, Place, Window, child_windows, corner_at, member_windows, moved, shown_windows, surface_windows, window_with}
 use Rattle.wl_surface.specs.Hanging.{kid_of, kids_of}
 use Rattle.wl_surface.specs.Stacks.{Kids}
-use Rattle.law_desktop.proofs.Marks.Stacks.{Each}
+use Rattle.law_desktop.proofs.Lists.Each.{Each, each-of}
 
 -- what the levels below show
 abbrev pub Next : Type 0
@@ -36,10 +36,6 @@ pub flat-each : {X Y : Type 0} (f g : X → List Y) (xs : List X) → Each (λ x
 flat-each f g [] same = refl
 flat-each f g (x ∷ xs) same = ap (λ ys. ys ++ flat_map f xs) same.0 ∙ ap (λ ys. g x ++ ys) (flat-each f g xs same.1)
 
-pub each-always : {X : Type 0} (P : X → Type 0) → ((x : X) → P x) → (xs : List X) → Each P xs
-each-always P f [] = tt
-each-always P f (x ∷ xs) = (f x, each-always P f xs)
-
 reads-kid : (next : Next) (h : History) (corner : Place) (l : ℕ) (o : Option Link) → child_windows next h corner l o ≡ kid_by next (counting h) corner l (kid_of o)
 reads-kid next h corner l None = refl
 reads-kid next h corner l (Some link) = at link.has_ended
@@ -60,7 +56,7 @@ reads-shown : (next : Next) (owner : Owner) (all : Surfaces) (surface : ℕ) (h 
 reads-shown next owner all surface h corner None = refl
 reads-shown next owner all surface h corner (Some buffer) =
     flat-each (member_windows next owner all surface h corner) (member_by next owner (kids_of all) surface (counting h) corner) (order (counting h))
-    (each-always (λ m. member_windows next owner all surface h corner m ≡ member_by next owner (kids_of all) surface (counting h) corner m)
+    (each-of (λ m. member_windows next owner all surface h corner m ≡ member_by next owner (kids_of all) surface (counting h) corner m)
     (reads-member next owner all surface h corner) (order (counting h)))
 
 pub reads-surface : (next : Next) (owner : Owner) (all : Surfaces) (surface : ℕ) (place : Place) (o : Option History)

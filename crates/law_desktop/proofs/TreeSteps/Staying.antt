@@ -11,16 +11,12 @@ use Rattle.wl_surface.specs.Hanging.{kid_of, kids_of}
 use Rattle.wl_surface.specs.TreeLaws.{AreOnceLinked}
 use Rattle.wl_surface.proofs.Placing.{live-found}
 use Rattle.law_desktop.specs.Soundness.{AreTrees, IsLive}
-use Rattle.law_desktop.proofs.Marks.Stacks.{each-map, same-number}
 use Rattle.law_desktop.proofs.Soundness.LinkedDepths.{descends-itself}
-use Rattle.law_desktop.proofs.Soundness.Trees.{all-there}
+use Rattle.law_desktop.proofs.Soundness.Trees.{all-there, member-self}
 use Rattle.law_desktop.specs.TreeStepsLaws.{AllTreesStay, IsNamed, KeepsTree, TreeStays}
 use Rattle.law_desktop.proofs.TreeSteps.Descents.{by-parent, within}
 use Rattle.law_desktop.proofs.TreeSteps.Reading.{Next, flat-each, kid_by, member_by, reads-surface, shown_by, surface_by}
-
-member-self : (m : Member) → is_member m m ≡ true
-member-self Itself = refl
-member-self (Child l) = same-number l
+use Rattle.law_desktop.proofs.Lists.Each.{each-map}
 
 -- the child of a link that lives is a level below its parent
 pub child-under : (all : Surfaces) (number : ℕ) (link : Link) (m top surface : ℕ) → AreOnceLinked all.links → IsLive number link all → link.parent ≡ surface → descends_from m all top surface ≡ true

@@ -26,9 +26,10 @@ use Rattle.spec_desktop.specs.WlSubsurface.{has_subsurface, is_of_child}
 use Rattle.law_desktop.specs.Soundness.{IsLive}
 use Rattle.law_desktop.proofs.Soundness.Allowed.{allowed}
 use Rattle.law_desktop.proofs.Soundness.Orderly.{HasRoles, IsAllowed, IsAskable, IsAsked, IsForest, IsOrderly}
-use Rattle.law_desktop.proofs.Marks.Stacks.{and-right, any-more, differ}
 use Rattle.law_desktop.proofs.XdgRoots.Named.{IsSettable, Names, named}
 use Rattle.law_desktop.proofs.XdgRoots.Runs.{MessageHolds}
+use Rattle.law_desktop.proofs.Truth.{and-right, differ}
+use Rattle.law_desktop.proofs.Lists.Tests.{any-more}
 
 -- nobody's child by a link that lives
 abbrev pub IsFree : ℕ → Surfaces → Type 0

@@ -54,10 +54,10 @@ use Rattle.spec_desktop.specs.XdgPopup.{grab_of, is_no_popup, may_be_parent, pop
 use Rattle.spec_desktop.specs.XdgShell.{has_any, is_foreign, is_no_toplevel, role_of, state_asked}
 use Rattle.spec_desktop.specs.WlSurface.{will_be_whole}
 use Rattle.law_desktop.proofs.Soundness.Allowed.{link-lives}
-use Rattle.law_desktop.proofs.Soundness.AllowedHeard.{judged-hears}
+use Rattle.law_desktop.proofs.Soundness.AllowedHeard.{fit-here, judged-hears}
 use Rattle.law_desktop.proofs.Soundness.AllowedOwn.{IsHeardBy}
 use Rattle.law_desktop.proofs.Soundness.Orderly.{IsObject, IsOfParent}
-use Rattle.law_desktop.proofs.Marks.Stacks.{and-left, and-right}
+use Rattle.law_desktop.proofs.Truth.{and-left, and-right}
 
 -- a place that is asked is of a link of the surface that lives
 abbrev pub IsSettable : ℕ → Surfaces → Request → Type 0
@@ -93,10 +93,6 @@ own-request : (r : Resident) (object version : ℕ) (request : Asked) → AllNam
 own-request r object version request = own-named r (action_of (known_of r.peer) object version request)
 
 -- ---- subsurfaces
-
-fit-here : (b : Bool) (x : Bool) → (if b then false else x) ≡ true → x ≡ true
-fit-here true x e = absurd (cc)
-fit-here false x e = e
 
 -- an object that may not be null, behind a new id and another object
 named-third : (objects : Objects) (new : Option Interface) (first second : Interface) (kinds : List Kind) (fields : List Field)

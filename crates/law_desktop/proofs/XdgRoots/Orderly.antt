@@ -1,36 +1,29 @@
 -- What is known of the links and the wl_subsurfaces of a client in a desktop that is reached.
 use Rattle.std.proofs.Common.{◌≡◌, ℕ, ◌+◌, List, [], ◌∷◌, Bool, true, false, cond, Option, Some, None, refl, ap, sym, subst, ◌∙◌}
-use Rattle.std.specs.Prelude.{◌==◌, ◌&&◌, ◌||◌, find, is_some, not}
+use Rattle.std.specs.Prelude.{◌==◌, ◌&&◌, find, is_some, not}
 use Rattle.std.specs.List.{list_any}
-use Rattle.std.proofs.lemmas.Bool.{eqb-true}
+use Rattle.std.proofs.lemmas.Bool.{eqb-true, true≢false}
+use Rattle.std.proofs.lemmas.Option.{none-some}
 use Rattle.spec_desktop.specs.declared.cause.Cause.{Cause}
 use Rattle.wl_surface.specs.Surfaces.{Link, Surfaces}
 use Rattle.spec_desktop.specs.Stacking.{Standing}
 use Rattle.wl_shell.specs.Shell.{xdg_of}
 use Rattle.wl_surface.specs.Hanging.{AreNumbered}
 use Rattle.wl_surface.specs.TreeLaws.{AreOnceLinked, is_live_of}
-use Rattle.spec_desktop.specs.declared.answers.Done.{Done}
-use Rattle.spec_desktop.specs.Act.{Act}
 use Rattle.spec_desktop.specs.Desktop.{Desktop, Resident, client_at, empty, owned_of, toplevels_of}
-use Rattle.spec_desktop.specs.LeftOut.{LeftOut}
 use Rattle.spec_desktop.specs.WlSubsurface.{is_of_child}
 use Rattle.law_desktop.specs.Apart.{AreApartBy}
-use Rattle.law_desktop.specs.RunLaws.{Lasts}
 use Rattle.law_desktop.specs.Soundness.{IsNoChild}
-use Rattle.law_desktop.proofs.Lists.Keys.{any-found, differ, found-any, none-first, none-later, none-some}
-use Rattle.law_desktop.proofs.Marks.Stacks.{and-left, and-right, equal-numbers}
+use Rattle.law_desktop.proofs.Lists.Keys.{any-found, found-any}
+use Rattle.law_desktop.proofs.Marks.Stacks.{equal-numbers}
 use Rattle.law_desktop.proofs.Soundness.Orderly.{AreOrderly, IsForest, IsOrderly, IsOrderlyAt, IsOrderlyBy}
 use Rattle.law_desktop.proofs.Soundness.Run.{empty-orderly}
-use Rattle.law_desktop.proofs.Soundness.RunIsSound.{happens-keeps}
+use Rattle.law_desktop.proofs.Soundness.RunIsSound.{lasts-keeps}
+use Rattle.law_desktop.proofs.Truth.{and-left, and-right}
+use Rattle.law_desktop.proofs.Lists.Tests.{none-any}
 use Rattle.law_desktop.specs.Roots.{LinksAreApart, LinksHaveSubsurfaces, XdgSurfacesAreRoots}
 
 -- ---- every desktop that is reached is orderly
-
-pub lasts-orderly : (left : LeftOut) (acts : List Act) (dones : List Done) (d e : Desktop) → AreOrderly d → Lasts left acts dones d e → AreOrderly e
-lasts-orderly left [] [] d e orderly h = rw h orderly
-lasts-orderly left [] (done ∷ dones) d e orderly h = absurd h
-lasts-orderly left (act ∷ acts) [] d e orderly h = absurd h
-lasts-orderly left (act ∷ acts) (done ∷ dones) d e orderly h = lasts-orderly left acts dones h.0 e (happens-keeps left act done d h.0 orderly h.1) h.2
 
 by-status : (s : Option Cause) (r : Resident) (tops : List Standing) → IsOrderlyBy s r tops → IsOrderly (r.peer.requests + 1) r tops
 by-status None r tops known = known
@@ -43,24 +36,24 @@ client-orderly c d r orderly here = by-status r.peer.status r (toplevels_of c d)
 -- ---- xdg_surfaces
 
 roots-of : (o : Option Resident) (tops : List Standing) → IsOrderlyAt o tops → (surface : ℕ) → is_some (xdg_of surface (owned_of o).shell) ≡ true → IsNoChild surface (owned_of o).surfaces
-roots-of None tops known surface has number link live same = absurd (differ (sym has))
+roots-of None tops known surface has number link live same = absurd (true≢false (sym has))
 roots-of (Some r) tops known surface has number link live same =
     let roles = (by-status r.peer.status r tops known).roles in
-    differ (sym has ∙ ap is_some (ap (λ n. xdg_of n r.owned.shell) (sym same) ∙ roles.bare number link live))
+    true≢false (sym has ∙ ap is_some (ap (λ n. xdg_of n r.owned.shell) (sym same) ∙ roles.bare number link live))
 
 pub xdg-surfaces-are-roots : XdgSurfacesAreRoots
 xdg-surfaces-are-roots left output acts dones d h c surface has =
-    roots-of (client_at c d) (toplevels_of c d) (lasts-orderly left acts dones (empty output) d (empty-orderly output) h c) surface has
+    roots-of (client_at c d) (toplevels_of c d) (lasts-keeps left acts dones (empty output) d (empty-orderly output) h c) surface has
 
 -- ---- wl_subsurfaces
 
 names : (child : ℕ) (o : Option ℕ) → is_of_child child o ≡ true → o ≡ Some child
-names child None is = absurd (differ (sym is))
+names child None is = absurd (true≢false (sym is))
 names child (Some k) is = ap (λ n. Some n) (eqb-true k child is)
 
 pub links-have-subsurfaces : LinksHaveSubsurfaces
 links-have-subsurfaces left output acts dones d h c r here number link live =
-    let it = client-orderly c d r (lasts-orderly left acts dones (empty output) d (empty-orderly output) h) here in
+    let it = client-orderly c d r (lasts-keeps left acts dones (empty output) d (empty-orderly output) h) here in
     let found = any-found (λ id s. s.id == id) (λ s. (s.link == number) && is_of_child link.child s.surface) r.subsurfaces it.objects.subsurfaces.0 (it.roles.named number link live) in
     let at = found.2 found.0.id (equal-numbers found.0.id found.0.id refl) in
     record {
@@ -76,10 +69,6 @@ links-have-subsurfaces left output acts dones d h c r here number link live =
 
 abbrev has_number : ℕ → Link → Bool
 has_number number l = l.number == number
-
-none-any : {X : Type 0} (p : X → Bool) (xs : List X) → find p xs ≡ None → list_any p xs ≡ false
-none-any p [] none = refl
-none-any p (x ∷ xs) none = ap (λ b. b || list_any p xs) (none-first (p x) x (find p xs) none) ∙ none-any p xs (none-later (p x) x (find p xs) none)
 
 numbered : (ls : List Link) → AreApartBy has_number ls → AreNumbered ls
 numbered [] apart = tt
@@ -117,7 +106,7 @@ once-linked (x ∷ xs) apart once = (
         absurd (none-some y.0 (sym (apart.0 y.0.number (equal-numbers x.number y.0.number same)) ∙ there))
       where
         not-ended : (b : Bool) → not b ≡ true → b ≡ false
-        not-ended true f = absurd (differ (sym f))
+        not-ended true f = absurd (true≢false (sym f))
         not-ended false f = refl
 
 pub forest-apart : (bound : ℕ) (all : Surfaces) → IsForest bound all → AreNumbered all.links × AreOnceLinked all.links
@@ -133,4 +122,4 @@ links-apart (Some r) tops known = forest-apart (r.peer.requests + 1) r.owned.sur
 
 pub links-are-apart : LinksAreApart
 links-are-apart left output acts dones d h c =
-    links-apart (client_at c d) (toplevels_of c d) (lasts-orderly left acts dones (empty output) d (empty-orderly output) h c)
+    links-apart (client_at c d) (toplevels_of c d) (lasts-keeps left acts dones (empty output) d (empty-orderly output) h c)

@@ -1,7 +1,7 @@
 -- What holds of the surfaces and the wl_subsurfaces of a client that owns nothing, and that each accepted message keeps, holds whatever
 -- happens.
 use Rattle.std.proofs.Common.{◌≡◌, ℕ, zero, suc, ◌+◌, ◌-◌, take, drop, List, [], ◌∷◌, ◌++◌, length, Bool, true, false, Option, Some, None, Result, refl, ap, sym, subst, ◌∙◌, inl, inr}
-use Rattle.std.specs.Prelude.{Ok, Err, ◌⊎◌, if◌then◌else◌, nat_le, replicate}
+use Rattle.std.specs.Prelude.{Ok, Err, ◌⊎◌, if◌then◌else◌, nat_le}
 use Rattle.wl_wire.specs.Wire.{split_of}
 use Rattle.wl_wire.specs.declared.header.Split.{Split}
 use Rattle.wl_wire.specs.declared.header.Split.TheVariants.{Message, More, Bad}
@@ -47,6 +47,7 @@ use Rattle.law_desktop.proofs.Soundness.RunIsSound.{frames, happens-keeps}
 use Rattle.law_desktop.proofs.Soundness.RunMessages.{serves-so}
 use Rattle.law_desktop.proofs.Soundness.RunSteady.{callbacks-steady, changed-steady}
 use Rattle.law_desktop.proofs.Soundness.RunTold.{Known as KnownOrderly, alike, known-same, known-so, settling-known}
+use Rattle.law_desktop.proofs.Soundness.First.{no-client}
 
 -- ---- clients by their numbers
 
@@ -67,15 +68,6 @@ unfolding IsEither
 number-either rs zero c x = inr refl
 number-either rs (suc k) zero x = inr refl
 number-either rs (suc k) (suc n) x = place-either rs k n x
-
-no-place : (n k : ℕ) → place (replicate n None) k ≡ None
-no-place zero k = refl
-no-place (suc n) zero = refl
-no-place (suc n) (suc k) = no-place n k
-
-no-client : (output : Output) (c : ℕ) → client_at c (empty output) ≡ None
-no-client output zero = refl
-no-client output (suc k) = no-place 32 k
 
 -- ---- what holds
 

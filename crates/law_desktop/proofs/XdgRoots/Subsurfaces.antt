@@ -1,20 +1,23 @@
 -- A client's wl_subsurfaces are told apart by their links and by their surfaces, which are there.
 use Rattle.std.proofs.Common.{◌≡◌, ℕ, ◌+◌, ◌<◌, List, [], ◌∷◌, ◌++◌, Bool, true, false, Option, Some, None, cond, map, refl, ap, sym, ◌∙◌, arith, ◌⊎◌, inl, inr}
-use Rattle.std.specs.Prelude.{◌==◌, ◌||◌, filter, is_some}
+use Rattle.std.specs.Prelude.{◌==◌, filter, is_some}
 use Rattle.std.specs.List.{list_any}
 use Rattle.std.specs.Option.{option_map_or}
-use Rattle.std.proofs.lemmas.Bool.{eqb-true, or_cases}
+use Rattle.std.proofs.lemmas.Bool.{eqb-true, false_from_ne_true, or_cases, true≢false}
 use Rattle.wl_surface.specs.Surface.{asking, with_role}
 use Rattle.wl_surface.specs.Surfaces.{Surfaces, no_surfaces, surface_at}
 use Rattle.spec_desktop.specs.Changing.{without_child}
 use Rattle.spec_desktop.specs.Desktop.{Subsurface}
 use Rattle.spec_desktop.specs.WlSubsurface.{is_of_child}
 use Rattle.law_desktop.specs.Apart.{AreApartBy}
-use Rattle.law_desktop.proofs.Lists.Keys.{apart-left, apart-map, differ, new-apart}
+use Rattle.law_desktop.proofs.Lists.Keys.{apart-left, apart-map, new-apart}
 use Rattle.law_desktop.proofs.Lists.Standings.{any-last}
-use Rattle.law_desktop.proofs.Soundness.ObjectsKeys.{any-less, any-map, any-of-filter, apart-less, is-false, none-found}
+use Rattle.law_desktop.proofs.Soundness.ObjectsKeys.{any-less, any-map, apart-less}
 use Rattle.law_desktop.proofs.Soundness.ObjectsThere.{there-changed, there-committed, there-desynchronised, there-destroyed, there-linked, there-more, there-unlinked}
 use Rattle.law_desktop.proofs.XdgRoots.Keeping.{Keeps}
+use Rattle.law_desktop.proofs.Lists.Left.{any-there}
+use Rattle.law_desktop.proofs.Lists.Tests.{find-none}
+use Rattle.law_desktop.proofs.InOrder.Subsurfaces.{none-of}
 
 abbrev pub has_link : ℕ → Subsurface → Bool
 has_link number s = s.link == number
@@ -29,7 +32,7 @@ pub record AreOwn (bound : ℕ) (all : Surfaces) (ss : List Subsurface) : Type 0
   pub there : (surface : ℕ) → list_any (is_of surface) ss ≡ true → is_some (surface_at surface all) ≡ true
 
 pub own-first : (bound : ℕ) → AreOwn bound no_surfaces []
-own-first bound = record { links = tt; early = λ number any. absurd (differ (sym any)); surfaces = tt; there = λ surface any. absurd (differ (sym any)) }
+own-first bound = record { links = tt; early = λ number any. absurd (true≢false (sym any)); surfaces = tt; there = λ surface any. absurd (true≢false (sym any)) }
 
 -- the surfaces that were there are
 own-grown : (bound : ℕ) (all new : Surfaces) (ss : List Subsurface) → ((id : ℕ) → is_some (surface_at id all) ≡ true → is_some (surface_at id new) ≡ true) → AreOwn bound all ss → AreOwn bound new ss
@@ -49,13 +52,13 @@ module _ (bound id child : ℕ) (all : Surfaces) (ss : List Subsurface) (there :
   new = record { id = id; link = bound; surface = Some child }
 
   fresh : list_any (has_link bound) ss ≡ false
-  fresh = is-false (list_any (has_link bound) ss) (λ any. let low = own.early bound any in omega (arith, low))
+  fresh = false_from_ne_true (list_any (has_link bound) ss) (λ any. let low = own.early bound any in omega (arith, low))
 
   own-more : AreOwn (bound + 1) all (ss ++ new ∷ [])
   own-more = record {
-    links = new-apart has_link ss new (λ key is. none-found (has_link key) ss (ap (λ n. list_any (has_link n) ss) (sym (eqb-true bound key is)) ∙ fresh)) own.links;
+    links = new-apart has_link ss new (λ key is. find-none (has_link key) ss (ap (λ n. list_any (has_link n) ss) (sym (eqb-true bound key is)) ∙ fresh)) own.links;
     early = λ number any. low number (or_cases (list_any (has_link number) ss) (bound == number) (sym (any-last (has_link number) ss new) ∙ any));
-    surfaces = new-apart is_of ss new (λ key is. none-found (is_of key) ss (ap (λ n. list_any (is_of n) ss) (sym (eqb-true child key is)) ∙ none)) own.surfaces;
+    surfaces = new-apart is_of ss new (λ key is. find-none (is_of key) ss (ap (λ n. list_any (is_of n) ss) (sym (eqb-true child key is)) ∙ none)) own.surfaces;
     there = λ surface any. here surface (or_cases (list_any (is_of surface) ss) (child == surface) (sym (any-last (is_of surface) ss new) ∙ any));
   }
     where
@@ -71,9 +74,9 @@ module _ (bound id child : ℕ) (all : Surfaces) (ss : List Subsurface) (there :
 own-left : (bound : ℕ) (which : Subsurface → Bool) (all : Surfaces) (ss : List Subsurface) → AreOwn bound all ss → AreOwn bound all (filter which ss)
 own-left bound which all ss own = record {
   links = apart-left has_link which ss own.links;
-  early = λ number any. own.early number (any-of-filter (has_link number) which ss any);
+  early = λ number any. own.early number (any-there (has_link number) which ss any);
   surfaces = apart-left is_of which ss own.surfaces;
-  there = λ surface any. own.there surface (any-of-filter (is_of surface) which ss any);
+  there = λ surface any. own.there surface (any-there (is_of surface) which ss any);
 }
 
 -- ---- a surface goes, and its wl_subsurface is inert
@@ -90,7 +93,7 @@ inert-of : (surface key : ℕ) (s : Subsurface) → is_of key (without_child sur
 inert-of surface key s = at (option_map_or (λ child. child == surface) s.surface false)
   where
     at : (b : Bool) → is_of key (cond b (record s { surface = None }) s) ≡ true → is_of key s ≡ true
-    at true is = absurd (differ (sym is))
+    at true is = absurd (true≢false (sym is))
     at false is = is
 
 inert-none : (surface : ℕ) (s : Subsurface) → is_of surface (without_child surface s) ≡ false
@@ -104,10 +107,6 @@ inert-none surface s = at (option_map_or (λ child. child == surface) s.surface 
     at true e = refl
     at false e = never s.surface e
 
-none-of : (p : Subsurface → Bool) (ss : List Subsurface) → ((s : Subsurface) → p s ≡ false) → list_any p ss ≡ false
-none-of p [] none = refl
-none-of p (s ∷ ss) none = ap (λ b. b || list_any p ss) (none s) ∙ none-of p ss none
-
 own-inert : (bound surface : ℕ) (all now : Surfaces) (ss : List Subsurface)
     → ((id : ℕ) → (id == surface) ≡ false → is_some (surface_at id now) ≡ is_some (surface_at id all))
     → AreOwn bound all ss → AreOwn bound now (map (without_child surface) ss)
@@ -116,7 +115,7 @@ own-inert bound surface all now ss others own = record {
   early = λ number any. own.early number (any-less (has_link number) (without_child surface) ss (λ s is. ap (λ n. n == number) (sym (inert-link surface s)) ∙ is) any);
   surfaces = apart-less is_of (without_child surface) ss (λ key s. inert-of surface key s) own.surfaces;
   there = λ key any.
-      others key (is-false (key == surface) (λ same. differ (sym any ∙ ap (λ n. list_any (is_of n) (map (without_child surface) ss)) (eqb-true key surface same)
+      others key (false_from_ne_true (key == surface) (λ same. true≢false (sym any ∙ ap (λ n. list_any (is_of n) (map (without_child surface) ss)) (eqb-true key surface same)
       ∙ any-map (is_of surface) (without_child surface) ss ∙ none-of (λ s. is_of surface (without_child surface s)) ss (inert-none surface))))
       ∙ own.there key (any-less (is_of key) (without_child surface) ss (λ s is. inert-of surface key s is) any);
 }

@@ -5,8 +5,9 @@ use Rattle.std.specs.List.{list_any}
 use Rattle.std.specs.Option.{option_map}
 use Rattle.std.specs.Ordering.{is_eq, nat_cmp}
 use Rattle.std.proofs.Math.Path.{fun_ext}
-use Rattle.std.proofs.lemmas.Bool.{eqb-true, ne_eqb}
+use Rattle.std.proofs.lemmas.Bool.{eqb-true, false_from_ne_true, ne_eqb, true≢false}
 use Rattle.std.proofs.lemmas.Bool.Decides.{nat_tests}
+use Rattle.std.proofs.lemmas.Option.{none-some}
 use Rattle.wl_links.specs.Stacks.{Stacks, added, moved}
 use Rattle.wl_links.specs.declared.link.Link.{Link as KeptLink}
 use Rattle.wl_links.specs.Family.{Tied, at_parent, changed_at, childless, committed, joined, kept_in, links_in, pending_as, stacks_in}
@@ -32,16 +33,16 @@ use Rattle.wl_surface.proofs.Stacking.{order-last, position-last}
 use Rattle.spec_desktop.specs.Changing.{unlinked_at}
 use Rattle.spec_desktop.specs.Desktop.{Resident, Subsurface, client_at, owned_of}
 use Rattle.law_desktop.specs.Soundness.{IsLive}
-use Rattle.law_desktop.proofs.Lists.Keys.{differ, found-by, found-none, found-passes, new-elsewhere, none-some}
-use Rattle.law_desktop.proofs.Marks.Stacks.{and-left, and-right, equal-numbers}
+use Rattle.law_desktop.proofs.Lists.Keys.{found-by, found-none, found-passes, new-elsewhere}
+use Rattle.law_desktop.proofs.Marks.Stacks.{equal-numbers}
 use Rattle.law_desktop.proofs.Soundness.Moves.{destroyed-live}
-use Rattle.law_desktop.proofs.Soundness.ObjectsKeys.{is-false}
 use Rattle.law_desktop.proofs.Soundness.Orderly.{IsAskable, IsForest, IsOfParent}
 use Rattle.law_desktop.proofs.Soundness.Standing.{found-first}
 use Rattle.law_desktop.specs.Roots.{SurfacesAreTied}
 use Rattle.law_desktop.proofs.XdgRoots.Keeping.{IsFree, Keeps, messages-hold}
 use Rattle.law_desktop.proofs.XdgRoots.Named.{IsSettable}
 use Rattle.law_desktop.proofs.XdgRoots.Runs.{HoldsAt, lasts-hold}
+use Rattle.law_desktop.proofs.Truth.{and-left, and-right}
 
 -- ---- what hangs together can be kept so
 
@@ -57,7 +58,7 @@ turned a k = at (a == k) refl
   where
     at : (b : Bool) → (a == k) ≡ b → b ≡ (k == a)
     at true e = sym (equal-numbers k a (sym (eqb-true a k e)))
-    at false e = sym (is-false (k == a) (λ same. differ (sym (equal-numbers a k (sym (eqb-true k a same))) ∙ e)))
+    at false e = sym (false_from_ne_true (k == a) (λ same. true≢false (sym (equal-numbers a k (sym (eqb-true k a same))) ∙ e)))
 
 abbrev link_book : List Link → List (ℕ × KeptLink)
 link_book [] = []
@@ -235,7 +236,7 @@ tied-unlinked None all tied = tied
 tied-unlinked (Some number) all tied = tied-all-ended (filter (λ l. not l.has_ended && l.number == number) all.links) all tied
 
 some-history : (o : Option Surface) → is_some o ≡ true → (h : History) × (option_map (λ (s : Surface). s.history) o ≡ Some h)
-some-history None is = absurd (differ (sym is))
+some-history None is = absurd (true≢false (sym is))
 some-history (Some s) is = (s.history, refl)
 
 -- a child of no link that lives has no parent
@@ -250,7 +251,7 @@ no-parent all bound child forest free =
     }) (eqb-true l.child child (and-right (not l.has_ended) (l.child == child) passes)))
   where
     not-ended : (b : Bool) → not b ≡ true → b ≡ false
-    not-ended true f = absurd (differ (sym f))
+    not-ended true f = absurd (true≢false (sym f))
     not-ended false f = refl
 
 -- the number of the request is no link's yet

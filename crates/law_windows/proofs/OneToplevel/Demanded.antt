@@ -2,6 +2,7 @@
 -- is between what has to be marked and what may be.
 use Rattle.std.proofs.Common.{◌≡◌, ℕ, Bool, true, false, Option, Some, None, List, [], refl, ap, sym, subst, ◌∙◌}
 use Rattle.std.proofs.lemmas.List.{append-nil}
+use Rattle.std.proofs.lemmas.Option.{none-some}
 use Rattle.spec_desktop.specs.Peer.{Peer}
 use Rattle.wl_surface.specs.Surfaces.{Surfaces}
 use Rattle.wl_shell.specs.Shell.{Effect, XdgSurface, xdg_of}
@@ -15,16 +16,15 @@ use Rattle.spec_desktop.specs.Marks.{AreDistinct, at_least, in_output}
 use Rattle.spec_desktop.specs.Moments.{applied_between}
 use Rattle.spec_desktop.specs.Stacked.{all_windows}
 use Rattle.spec_desktop.specs.Step.{with_peer}
-use Rattle.law_desktop.proofs.Lists.Keys.{none-some}
 use Rattle.law_desktop.specs.TreeMarksLaws.{AreUndamaged}
 use Rattle.law_desktop.specs.TreeStepsLaws.{IsRootOf}
 use Rattle.law_desktop.proofs.TreeMarks.Damage.{marks-damage-alone}
-use Rattle.law_desktop.proofs.TreeSteps.Damage.{and-none}
 use Rattle.law_desktop.specs.Renaming.{AreToldApart, has_surface}
 use Rattle.law_desktop.specs.Done.{touched_by}
 use Rattle.law_desktop.specs.Marked.{MarksByTreesBetween}
 use Rattle.law_desktop.specs.StackedWith.{ChangesAt, ChangesWith, popup_of}
 use Rattle.law_desktop.proofs.RootsOf.Each.{demands-change}
+use Rattle.law_desktop.proofs.Truth.{and-false}
 use Rattle.law_windows.specs.Telling.{TellsTrees}
 use Rattle.law_windows.proofs.OneTree.Naming.{commit-there, desync-there, end-there, unlink-there}
 use Rattle.law_windows.specs.Runs.Demands.{ChangesFound, NoSurfaceComes, NothingIsMarked, TouchesFound, TouchesNothing}
@@ -84,7 +84,7 @@ nothing-is-marked d e stays x y =
     ∙ (ap (λ (ws : List Window). at_least d.output.width d.output.height (applied_between d e) ws ws x y) whole
     ∙ (marks-damage-alone (all_windows d) [] [] [] (applied_between d e) (subst AreDistinct whole stays.distinct)
     (subst (λ (ws : List Window). AreUndamaged (applied_between d e) ws) whole stays.undamaged) refl d.output.width d.output.height x y
-    ∙ and-none (in_output d.output.width d.output.height x y)))
+    ∙ and-false (in_output d.output.width d.output.height x y)))
 
 pub touches-nothing : TouchesNothing
 touches-nothing c r p demand d e was none =

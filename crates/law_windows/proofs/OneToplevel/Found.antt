@@ -3,18 +3,18 @@ use Rattle.std.proofs.Common.{◌≡◌, ℕ, Bool, true, false, cond, Option, S
 use Rattle.std.specs.Prelude.{◌==◌, ◌||◌, ◌⊎◌, find, flat_map}
 use Rattle.std.specs.List.{list_any}
 use Rattle.std.specs.Option.{option_and_then, option_map, option_or}
-use Rattle.std.proofs.lemmas.Bool.{eqb-true, or_left, or_right}
+use Rattle.std.proofs.lemmas.Bool.{and_from, eqb-true, false_from_ne_true, or_left, or_right}
 use Rattle.std.proofs.lemmas.List.Folds.{list_any-append}
+use Rattle.std.proofs.lemmas.Option.{same_Some}
 use Rattle.wl_surface.specs.Surfaces.{history_in}
 use Rattle.spec_desktop.specs.Stacking.{Standing, is_of, root_of, shows_buffer}
 use Rattle.spec_desktop.specs.Windows.{Owner, Root, StackedPopup, Window, owner_of}
 use Rattle.spec_desktop.specs.Desktop.{Desktop, owned_in}
 use Rattle.spec_desktop.specs.Stacked.{all_windows}
 use Rattle.law_desktop.specs.Soundness.{AreOnce, has_surface}
-use Rattle.law_desktop.proofs.Lists.Keys.{some-same}
 use Rattle.law_desktop.proofs.Lists.Standings.{of-client, of-surface}
-use Rattle.law_desktop.proofs.Marks.Stacks.{Each, and-both, and-left, and-right, differ, each-both, each-map, equal-numbers, same-number, unless}
-use Rattle.law_desktop.proofs.Soundness.Trees.{all-there, each-append, each-flat, or-here}
+use Rattle.law_desktop.proofs.Marks.Stacks.{equal-numbers, same-number}
+use Rattle.law_desktop.proofs.Soundness.Trees.{all-there, each-flat}
 use Rattle.law_desktop.proofs.Soundness.Windows.{In, same_popup, same_root}
 use Rattle.law_desktop.specs.TreeMarksLaws.{has_root}
 use Rattle.law_desktop.proofs.TreeSteps.Owners.{tree-owned}
@@ -24,8 +24,12 @@ use Rattle.law_desktop.specs.StackedWith.{HoldsParent, IsStackedAs, popup_of, st
 use Rattle.law_desktop.proofs.RootsOf.Away.{IsIn, IsOnRoot, each-in, root-or-popup}
 use Rattle.law_desktop.proofs.RootsOf.Kept.{IsRoot, are-roots, popups_in, shown, shown_of, surfaces_in, tree_in}
 use Rattle.law_desktop.proofs.RootsOf.Orders.{in-order-has-trees}
-use Rattle.law_desktop.proofs.RootsOf.Stacked.{all-found, found-any, found-is, none-any}
+use Rattle.law_desktop.proofs.RootsOf.Stacked.{all-found, found-any}
 use Rattle.law_desktop.proofs.RootsOf.Staying.{all-each, in_parent}
+use Rattle.law_desktop.proofs.Truth.{and-left, and-right, differ}
+use Rattle.law_desktop.proofs.Lists.Each.{Each, each-append, each-both, each-map}
+use Rattle.law_desktop.proofs.Lists.Tests.{none-any}
+use Rattle.law_desktop.proofs.Lists.Keys.{found-passes}
 use Rattle.law_windows.proofs.TurnedWindows.Shown.{shows-window}
 use Rattle.law_windows.specs.Runs.Lookup.{FindsToplevels, FindsToplevelsInOrder, toplevel_by_parent, toplevel_found, toplevel_in}
 
@@ -72,7 +76,7 @@ found-with c root t d (w ∷ ws) each e = at (has_root c root w) refl (found-wit
         record {
           standing = is.standing;
           stands = ap₂ (λ a b. find (is_of a b) d.standing) (eqb-true c w.owner.client (and-left (c == w.owner.client) (root == w.owner.root) its))
-              (sym (some-same w.owner.toplevel t e)) ∙ is.stands;
+              (sym (same_Some w.owner.toplevel t e)) ∙ is.stands;
           there = ap (λ n. In n (stacked_roots d is.standing)) (eqb-true root w.owner.root (and-right (c == w.owner.client) (root == w.owner.root) its)) ∙ is.there;
         }
     at false its later e = later e
@@ -108,8 +112,8 @@ module _ (d : Desktop) (had : HasTrees d) (s : Standing) (stands : list_any (is_
           absurd (differ (sym (shows-window 16 (owner_of r) (surfaces_in d r.client) r.surface r.place
           (ap₂ (λ n c. shows_buffer (history_in n (surfaces_in d c))) (eqb-true r.surface x own) is.client ∙ shows) none)))
       some (w ∷ ws) whole each =
-          or-here (has_root s.client x w) (list_any (has_root s.client x) ws)
-          (and-both (s.client == w.owner.client) (x == w.owner.root) (equal-numbers s.client w.owner.client (sym (ap (λ (o : Owner). o.client) each.0 ∙ is.client)))
+          or_left (has_root s.client x w) (list_any (has_root s.client x) ws)
+          (and_from (s.client == w.owner.client) (x == w.owner.root) (equal-numbers s.client w.owner.client (sym (ap (λ (o : Owner). o.client) each.0 ∙ is.client)))
           (equal-numbers x w.owner.root (sym (ap (λ (o : Owner). o.root) each.0 ∙ eqb-true r.surface x own))))
 
   in-trees : (rs : List Root) → Each (IsRoot s) rs → In x rs ≡ true → shows_buffer (history_in x (surfaces_in d s.client)) ≡ true
@@ -134,7 +138,7 @@ among-all p q d (r ∷ ss) s found has = list_any-append p (shown d r) (shown_of
   where
     at : (b : Bool) → cond b (Some r) (find q ss) ≡ Some s → (find q ss ≡ Some s → list_any p (shown_of d ss) ≡ true)
         → (list_any p (shown d r) || list_any p (shown_of d ss)) ≡ true
-    at true e later = or_left (list_any p (shown d r)) _ (subst (λ (t : Standing). list_any p (shown d t) ≡ true) (sym (some-same r s e)) has)
+    at true e later = or_left (list_any p (shown d r)) _ (subst (λ (t : Standing). list_any p (shown d t) ≡ true) (sym (same_Some r s e)) has)
     at false e later = or_right (list_any p (shown d r)) _ (later e)
 
 none-mapped : {X Y : Type 0} (f : X → Y) (o : Option X) → option_map f o ≡ None → o ≡ None
@@ -146,9 +150,9 @@ none-mapped f (Some x) e = absurd (cc)
 once-found : (root : ℕ) (p q : StackedPopup) (ps : List StackedPopup) → AreOnce same_popup ps → IsIn q ps → q.surface ≡ root → find (has_surface root) ps ≡ Some p → q ≡ p
 once-found root p q [] once here own found = absurd here
 once-found root p q (x ∷ ps) once (inl same) own found =
-    sym same ∙ some-same x p (sym (ap (λ b. cond b (Some x) (find (has_surface root) ps)) (equal-numbers x.surface root (ap (λ (y : StackedPopup). y.surface) same ∙ own))) ∙ found)
+    sym same ∙ same_Some x p (sym (ap (λ b. cond b (Some x) (find (has_surface root) ps)) (equal-numbers x.surface root (ap (λ (y : StackedPopup). y.surface) same ∙ own))) ∙ found)
 once-found root p q (x ∷ ps) once (inr here) own found =
-    once-found root p q ps once.1 here own (sym (ap (λ b. cond b (Some x) (find (has_surface root) ps)) (unless (has_surface root x) twice)) ∙ found)
+    once-found root p q ps once.1 here own (sym (ap (λ b. cond b (Some x) (find (has_surface root) ps)) (false_from_ne_true (has_surface root x) twice)) ∙ found)
   where
     any-in : (p : StackedPopup → Bool) (ys : List StackedPopup) → IsIn q ys → p q ≡ true → list_any p ys ≡ true
     any-in p [] here e = absurd here
@@ -170,10 +174,10 @@ module _ (c root : ℕ) (d : Desktop) (had : HasTrees d) where
 
   -- a root without windows is stacked with none
   unstacked : (x : ℕ) → toplevel_in c x (all_windows d) ≡ None → (t : ℕ) (s : Standing) → find (is_of c t) d.standing ≡ Some s → In x (stacked_roots d s) ≡ false
-  unstacked x none t s stands = unless (In x (stacked_roots d s)) never
+  unstacked x none t s stands = false_from_ne_true (In x (stacked_roots d s)) never
     where
       its : is_of c t s ≡ true
-      its = found-is (is_of c t) d.standing s stands
+      its = found-passes (is_of c t) d.standing s stands
 
       there : list_any (is_of s.client s.surface) d.standing ≡ true
       there = ap₂ (λ a b. list_any (is_of a b) d.standing) (of-client c t s its) (of-surface c t s its) ∙ found-any (is_of c t) d.standing s stands
@@ -186,7 +190,7 @@ module _ (c root : ℕ) (d : Desktop) (had : HasTrees d) where
 
   module _ (t : ℕ) (has : HasRoot c root t d) where
     its : is_of c t has.standing ≡ true
-    its = found-is (is_of c t) d.standing has.standing has.stands
+    its = found-passes (is_of c t) d.standing has.standing has.stands
 
     or-popup : (In root (root_of (owned_in d) has.standing ∷ []) ≡ true) ⊎ IsOnRoot (stacked_roots d has.standing) (popups_in d has.standing.client) root
     or-popup = root-or-popup (surfaces_in d has.standing.client) root (root_of (owned_in d) has.standing ∷ []) (popups_in d has.standing.client) has.there

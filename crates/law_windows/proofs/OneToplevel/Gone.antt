@@ -6,9 +6,11 @@ use Rattle.std.proofs.lemmas.Bool.{or_left, or_right}
 use Rattle.std.proofs.lemmas.List.{append-nil}
 use Rattle.wl_paint.specs.Damage.{has}
 use Rattle.wl_surface.specs.declared.applied.Change.{Change}
-use Rattle.law_desktop.proofs.Marks.Stacks.{Each, differ, equal-numbers}
+use Rattle.law_desktop.proofs.Marks.Stacks.{equal-numbers}
 use Rattle.wl_scene.specs.declared.tree_window.TreeWindow.{TreeWindow}
 use Rattle.law_desktop.proofs.RootsOf.Away.{IsIn}
+use Rattle.law_desktop.proofs.Truth.{differ}
+use Rattle.law_desktop.proofs.Lists.Each.{Each}
 use Rattle.wl_scene.specs.Repaint.{marks, marks_trees, tree_of, window_has}
 use Rattle.law_windows.proofs.RepaintLists.{any-as}
 use Rattle.law_windows.specs.RenamedWindows.{told_by}

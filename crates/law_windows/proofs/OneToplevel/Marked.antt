@@ -4,7 +4,7 @@ use Rattle.std.proofs.Common.{◌≡◌, ℕ, ◌==◌, Bool, true, false, Optio
 use Rattle.std.specs.Prelude.{ℤ, ◌&&◌, ◌||◌, find, nat_lt, pos}
 use Rattle.std.specs.List.{All, list_all}
 use Rattle.std.specs.Option.{option_map}
-use Rattle.std.proofs.lemmas.Bool.{or_left, or_right}
+use Rattle.std.proofs.lemmas.Bool.{and_from, false_from_ne_true, or_left, or_right}
 use Rattle.wl_paint.specs.Damage.{has}
 use Rattle.wl_surface.specs.Surface.{Surface}
 use Rattle.wl_surface.specs.Surfaces.{Surfaces, surface_at}
@@ -14,8 +14,7 @@ use Rattle.spec_desktop.specs.Desktop.{Desktop}
 use Rattle.spec_desktop.specs.Marks.{in_output}
 use Rattle.spec_desktop.specs.Moments.{applied_between, marks_at_least, marks_at_most}
 use Rattle.law_desktop.proofs.Lists.Standings.{of-client}
-use Rattle.law_desktop.proofs.Marks.Stacks.{Each, and-both, and-left, and-right, differ, each-both, each-map, unless}
-use Rattle.law_desktop.proofs.Soundness.Trees.{each-append, each-flat}
+use Rattle.law_desktop.proofs.Soundness.Trees.{each-flat}
 use Rattle.law_desktop.specs.Standing.{AreTurned}
 use Rattle.law_desktop.proofs.KeptRecords.Keeping.StandingTurned.{applied-turned}
 use Rattle.law_desktop.proofs.TreeSteps.Owners.{tree-owned}
@@ -24,8 +23,10 @@ use Rattle.law_desktop.specs.Marked.{MarksByTreesBetween, marks_by_trees}
 use Rattle.law_desktop.specs.StackedWith.{stacked_roots}
 use Rattle.law_desktop.specs.Toplevel.{has_toplevel, windows_with, windows_with_standing}
 use Rattle.law_desktop.proofs.RootsOf.Kept.{IsRoot, are-roots, surfaces_in, tree_in}
-use Rattle.law_desktop.proofs.RootsOf.Stacked.{found-is}
 use Rattle.law_desktop.proofs.RootsOf.Staying.{all-each, each-all}
+use Rattle.law_desktop.proofs.Truth.{and-left, and-right, differ}
+use Rattle.law_desktop.proofs.Lists.Each.{Each, each-append, each-both, each-map}
+use Rattle.law_desktop.proofs.Lists.Keys.{found-passes}
 use Rattle.wl_scene.specs.Repaint.{marks_trees}
 use Rattle.law_windows.specs.RenamedMarks.{IsAppliedByName}
 use Rattle.law_windows.specs.RenamedWindows.{told_by}
@@ -41,7 +42,7 @@ use Rattle.law_windows.proofs.OneToplevel.Told.{marks-trees-by-name, told-togeth
 
 pub all-so : {X : Type 0} (p : X → Bool) (xs : List X) → Each (λ x. p x ≡ true) xs → list_all p xs ≡ true
 all-so p [] each = refl
-all-so p (x ∷ xs) each = and-both (p x) (list_all p xs) each.0 (all-so p xs each.1)
+all-so p (x ∷ xs) each = and_from (p x) (list_all p xs) each.0 (all-so p xs each.1)
 
 pub so-each : {X : Type 0} (p : X → Bool) (xs : List X) → list_all p xs ≡ true → Each (λ x. p x ≡ true) xs
 so-each p [] all = tt
@@ -60,7 +61,7 @@ with-each P c t d trees = at (find (is_of c t) d.standing) refl
         each-flat P (tree_in d) (stacked_roots d s)
         (each-map (IsRoot s) (λ r. Each P (tree_in d r))
         (λ r is.
-        let own : r.client ≡ c = is.client ∙ of-client c t s (found-is (is_of c t) d.standing s found) in
+        let own : r.client ≡ c = is.client ∙ of-client c t s (found-passes (is_of c t) d.standing s found) in
         subst (λ n. Each P (tree 17 (owner_of r) (surfaces_in d n) r.surface r.place)) (sym own) (trees (owner_of r) r.place own))
         (stacked_roots d s) (are-roots d s))
 
@@ -174,7 +175,7 @@ either-false true b e = absurd (differ (sym e))
 pub adds-at-least : (A : Type 0) → AddsAtLeast A
 adds-at-least A d e f changes was is marks old new adds x y wide high clean =
     let both = either-false (has old x y) _ (sym (adds marks.together_before marks.together_after x y wide high) ∙ clean) in
-    (both.0, unless (marks_at_least d e (pos x) (pos y)) (λ marked. differ (sym both.1 ∙ marks.least (pos x) (pos y) marked)))
+    (both.0, false_from_ne_true (marks_at_least d e (pos x) (pos y)) (λ marked. differ (sym both.1 ∙ marks.least (pos x) (pos y) marked)))
 
 pub adds-at-most : (A : Type 0) → AddsAtMost A
 adds-at-most A d e f changes was is marks old new inside adds raised x y wide high marked = at (has old x y) refl
@@ -184,6 +185,6 @@ adds-at-most A d e f changes was is marks old new inside adds raised x y wide hi
     at false clean =
         or_right (has old x y) _
         (marks.most raised (pos x) (pos y)
-        (and-both _ _ (inside x y wide high)
+        (and_from _ _ (inside x y wide high)
         (sym (ap (λ b. b || marks_trees (map (told_by f) was) (map (told_by f) is) changes (pos x) (pos y)) clean)
         ∙ (sym (adds marks.together_before marks.together_after x y wide high) ∙ marked))))

@@ -2,12 +2,13 @@
 use Rattle.std.proofs.Common.{◌≡◌, ℕ, Bool, true, false, cond, Option, Some, None, List, [], ◌∷◌, refl, ap, sym, subst, ◌∙◌}
 use Rattle.std.specs.Prelude.{◌==◌, ◌&&◌, find}
 use Rattle.std.specs.Option.{option_and_then, option_map, option_or}
-use Rattle.std.proofs.lemmas.Bool.{eqb-true}
+use Rattle.std.proofs.lemmas.Bool.{and_from, eqb-true}
+use Rattle.std.proofs.lemmas.Option.{same_Some}
 use Rattle.spec_desktop.specs.Objects.{ById}
 use Rattle.spec_desktop.specs.Windows.{Owner, StackedPopup, Window}
 use Rattle.spec_desktop.specs.Stacked.{all_windows}
-use Rattle.law_desktop.proofs.Lists.Keys.{some-same}
-use Rattle.law_desktop.proofs.Marks.Stacks.{and-both, and-left, and-right, equal-numbers}
+use Rattle.law_desktop.proofs.Marks.Stacks.{equal-numbers}
+use Rattle.law_desktop.proofs.Truth.{and-left, and-right}
 use Rattle.wl_scene.specs.StackedAgreement.{AreNumberedOnce}
 use Rattle.law_desktop.specs.TreeMarksLaws.{has_root}
 use Rattle.law_desktop.specs.StackedWith.{popup_of}
@@ -49,7 +50,7 @@ module _ (K : Type 0) (owner : K → Owner) (numbers : ℕ → ById ℕ) (c : �
       kept e =
           let client : (owner k).client ≡ c = eqb-true (owner k).client c (and-left ((owner k).client == c) ((owner k).root == number) e) in
           let its : (owner k).root ≡ number = eqb-true (owner k).root number (and-right ((owner k).client == c) ((owner k).root == number) e) in
-          and-both (c == w.owner.client) (root == w.owner.root) (equal-numbers c w.owner.client (sym client ∙ is.client))
+          and_from (c == w.owner.client) (root == w.owner.root) (equal-numbers c w.owner.client (sym client ∙ is.client))
           (equal-numbers root w.owner.root
           (once root w.owner.root number named (ap (λ n. numbers n w.owner.root) (sym client) ∙ (is.root ∙ ap (λ n. Some n) its))))
 
@@ -57,9 +58,9 @@ module _ (K : Type 0) (owner : K → Owner) (numbers : ℕ → ById ℕ) (c : �
       shown e =
           let client : (owner k).client ≡ c = is.client ∙ sym (eqb-true c w.owner.client (and-left (c == w.owner.client) (root == w.owner.root) e)) in
           let its : root ≡ w.owner.root = eqb-true root w.owner.root (and-right (c == w.owner.client) (root == w.owner.root) e) in
-          and-both ((owner k).client == c) ((owner k).root == number) (equal-numbers (owner k).client c client)
+          and_from ((owner k).client == c) ((owner k).root == number) (equal-numbers (owner k).client c client)
           (equal-numbers (owner k).root number
-          (some-same (owner k).root number (sym is.root ∙ (ap (λ n. numbers n w.owner.root) client ∙ (ap (numbers c) (sym its) ∙ named)))))
+          (same_Some (owner k).root number (sym is.root ∙ (ap (λ n. numbers n w.owner.root) client ∙ (ap (numbers c) (sym its) ∙ named)))))
 
   toplevels-alike : (root number : ℕ) → numbers c root ≡ Some number → (ks : List K) (ws : List Window) → AreKeptFor owner numbers ks ws
       → IsNumberOf (numbers c) (toplevel_kept owner c number ks) (toplevel_in c root ws)

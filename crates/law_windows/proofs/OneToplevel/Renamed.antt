@@ -8,7 +8,7 @@ use Rattle.wl_surface.specs.Surfaces.{Surfaces, history_in}
 use Rattle.spec_desktop.specs.Stacking.{Standing, is_of, shows_buffer}
 use Rattle.spec_desktop.specs.Windows.{Owner, Root, Window, owner_of, tree}
 use Rattle.law_desktop.proofs.Lists.Standings.{of-client, of-surface}
-use Rattle.law_desktop.proofs.Marks.Stacks.{Each, differ, each-map, same-number}
+use Rattle.law_desktop.proofs.Marks.Stacks.{same-number}
 use Rattle.law_desktop.proofs.Soundness.Trees.{all-there}
 use Rattle.law_desktop.proofs.Soundness.Windows.{In, same_root}
 use Rattle.law_desktop.proofs.TreeSteps.Reading.{flat-each}
@@ -18,8 +18,11 @@ use Rattle.wl_scene.specs.declared.tree_window.TreeWindow.{TreeWindow}
 use Rattle.law_desktop.specs.StackedWith.{stacked_roots}
 use Rattle.law_desktop.specs.Toplevel.{windows_with_standing}
 use Rattle.law_desktop.proofs.RootsOf.Kept.{IsRoot, are-roots, surfaces_in, tree_in}
-use Rattle.law_desktop.proofs.RootsOf.Stacked.{found-any, found-is}
+use Rattle.law_desktop.proofs.RootsOf.Stacked.{found-any}
 use Rattle.law_desktop.proofs.RootsOf.Staying.{all-each}
+use Rattle.law_desktop.proofs.Truth.{differ}
+use Rattle.law_desktop.proofs.Lists.Each.{Each, each-map}
+use Rattle.law_desktop.proofs.Lists.Keys.{found-passes}
 use Rattle.law_windows.specs.RenamedWindows.{IsNamedAlone, told_by}
 use Rattle.law_windows.proofs.OneTree.Naming.{history-there}
 use Rattle.law_windows.proofs.RenamedWindows.Trees.{tells-trees-by-name}
@@ -55,7 +58,7 @@ runs-heed-no-names f owner c t d had is = at (find (is_of c t) d.standing) refl
   where
     of-one : (s : Standing) → find (is_of c t) d.standing ≡ Some s → told_run f owner c d (Some s) ≡ map (told_by f) (windows_with_standing d (Some s))
     of-one s found =
-        let its : is_of c t s ≡ true = found-is (is_of c t) d.standing s found in
+        let its : is_of c t s ≡ true = found-passes (is_of c t) d.standing s found in
         let client : s.client ≡ c = of-client c t s its in
         let stands : list_any (is_of s.client s.surface) d.standing ≡ true =
         ap₂ (λ a b. list_any (is_of a b) d.standing) client (of-surface c t s its) ∙ found-any (is_of c t) d.standing s found in

@@ -10,13 +10,11 @@ use Rattle.spec_desktop.specs.Desktop.{Desktop, owned_in}
 use Rattle.spec_desktop.specs.Stacked.{all_windows}
 use Rattle.law_desktop.specs.Laws.{AreApart}
 use Rattle.law_desktop.specs.Soundness.{IsSound}
-use Rattle.law_desktop.proofs.Isolation.Own.{any-raised}
 use Rattle.law_desktop.proofs.Lists.Standings.{apart-last}
-use Rattle.law_desktop.proofs.Marks.Stacks.{Each, differ, each-map, equal-numbers, or-left, or-right}
+use Rattle.law_desktop.proofs.Marks.Stacks.{equal-numbers}
 use Rattle.law_desktop.proofs.Soundness.Trees.{none-append}
-use Rattle.law_desktop.proofs.TreeMarks.Lists.{filter-all, filter-none}
+use Rattle.law_desktop.proofs.Lists.Tests.{filter-all, filter-none}
 use Rattle.law_desktop.proofs.TreeSteps.Damage.{applies-nothing}
-use Rattle.law_desktop.proofs.TreeSteps.Reading.{each-always}
 use Rattle.law_desktop.specs.Changes.{HasTrees}
 use Rattle.law_desktop.specs.Marked.{MarksByTreesBetween}
 use Rattle.law_desktop.specs.Toplevel.{ChangesToplevel, SameRoot, has_toplevel, windows_with, windows_with_standing}
@@ -26,6 +24,9 @@ use Rattle.law_desktop.proofs.RootsOf.Same.{IsOfTree, apart-all, of-trees, same-
 use Rattle.law_desktop.proofs.RootsOf.Stacks.{IsFound, found-among, none-or-found}
 use Rattle.law_desktop.proofs.RootsOf.Staying.{each-all}
 use Rattle.law_desktop.proofs.RootsOf.Turns.{AreApart as AreOtherSurfaces, all-from, popup_surfaces}
+use Rattle.law_desktop.proofs.Truth.{differ, or-left, or-right}
+use Rattle.law_desktop.proofs.Lists.Each.{Each, each-map, each-of}
+use Rattle.law_desktop.proofs.PointerAside.Moved.{any-raised}
 use Rattle.law_windows.proofs.OneTree.Named.{nothing-told-by-name}
 use Rattle.law_windows.proofs.TurnedWindows.Told.{filter-among}
 use Rattle.law_windows.specs.Runs.Moves.{IsWhole, MovesAreMarked, MovesChangeOneToplevel, RaisesLiftRuns, RunIsOfAll, StaysWhole, lifted, shifted}
@@ -255,7 +256,7 @@ moves-change c t place d is stands = at (none-or-found c t d.standing is.trees.s
     apart = apart-all c t d is.trees.sound (is.trees.sound.levels c t stands)
 
     others : OthersAreKept c t d (shifted c t place d)
-    others = each-always (λ s. is_of c t s ≡ false → ToplevelIsKept d (shifted c t place d) s) (λ s not_its. foreign-kept d (shifted c t place d) s refl) d.standing
+    others = each-of (λ s. is_of c t s ≡ false → ToplevelIsKept d (shifted c t place d) s) (λ s not_its. foreign-kept d (shifted c t place d) s refl) d.standing
 
     same : All (λ w. All (SameRoot w) (windows_with c t d)) (windows_with c t (shifted c t place d))
     same =

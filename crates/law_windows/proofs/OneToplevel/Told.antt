@@ -9,14 +9,15 @@ use Rattle.wl_surface.specs.Surfaces.{Surfaces}
 use Rattle.wl_surface.specs.declared.applied.Change.{Change}
 use Rattle.spec_desktop.specs.Windows.{Window}
 use Rattle.spec_desktop.specs.Marks.{Applied}
-use Rattle.law_desktop.proofs.Marks.Stacks.{Each, differ}
 use Rattle.law_desktop.specs.TreeMarksLaws.{has_root}
-use Rattle.law_desktop.proofs.TreeMarks.Lists.{filter-none}
+use Rattle.law_desktop.proofs.Lists.Tests.{filter-none}
 use Rattle.wl_scene.specs.declared.tree_window.TreeWindow.{TreeWindow}
 use Rattle.law_desktop.specs.Renaming.{AreToldApart, has_surface}
 use Rattle.law_desktop.specs.Marked.{marks_of_tree}
 use Rattle.law_desktop.specs.Toplevel.{of_root}
-use Rattle.law_desktop.proofs.RootsOf.Staying.{all-each, each-all, each-first}
+use Rattle.law_desktop.proofs.RootsOf.Staying.{all-each, each-all}
+use Rattle.law_desktop.proofs.Truth.{differ}
+use Rattle.law_desktop.proofs.Lists.Each.{Each, each-first}
 use Rattle.law_windows.specs.RepaintLaws.{AreOfClient, AreOfTree}
 use Rattle.wl_scene.specs.Repaint.{marks, tree_of}
 use Rattle.law_windows.proofs.RepaintLaw.{same-as-records}

@@ -10,9 +10,9 @@ use Rattle.spec_desktop.specs.Stacking.{Standing, is_of as is_standing, root_of}
 use Rattle.spec_desktop.specs.Windows.{Window}
 use Rattle.spec_desktop.specs.Desktop.{Desktop, owned_in}
 use Rattle.spec_desktop.specs.Stacked.{all_windows}
-use Rattle.law_desktop.proofs.Lists.Keys.{new-here}
+use Rattle.law_desktop.proofs.Lists.Keys.{found-passes, new-here}
 use Rattle.law_desktop.proofs.Lists.Standings.{of-client, of-surface}
-use Rattle.law_desktop.proofs.Marks.Stacks.{Each, and-left, differ, each-map, or-left, or-right, same-number}
+use Rattle.law_desktop.proofs.Marks.Stacks.{same-number}
 use Rattle.wl_scene.specs.declared.stacked.Stacked.{Stacked}
 use Rattle.wl_scene.specs.Stacked.{is_of, raised, replaced, run_of, stacked, without_run}
 use Rattle.wl_scene.proofs.StackedTogether.{place-none}
@@ -22,8 +22,11 @@ use Rattle.wl_scene.proofs.Standing.{run-is-stacked, run-is-there, stacked-are-t
 use Rattle.law_desktop.specs.Changes.{HasTrees}
 use Rattle.law_desktop.specs.Toplevel.{ChangesToplevel, has_toplevel, windows_with, windows_with_standing}
 use Rattle.law_desktop.proofs.RootsOf.Kept.{no-toplevel, popups_in, shown, shown_of, surfaces_in}
-use Rattle.law_desktop.proofs.RootsOf.Stacked.{found-any, found-is, none-any}
+use Rattle.law_desktop.proofs.RootsOf.Stacked.{found-any}
 use Rattle.law_desktop.proofs.RootsOf.Staying.{each-all, in-stacked}
+use Rattle.law_desktop.proofs.Truth.{and-left, differ, or-left, or-right}
+use Rattle.law_desktop.proofs.Lists.Each.{Each, each-map}
+use Rattle.law_desktop.proofs.Lists.Tests.{none-any}
 use Rattle.law_windows.proofs.RepaintLists.{all-first, all-second}
 use Rattle.law_windows.specs.RenamedWindows.{told_by}
 use Rattle.law_windows.proofs.OneTree.Stacks.{find-none}
@@ -91,7 +94,7 @@ stands-shown c t d had none = at (find (is_standing c t) d.standing) refl none
     at : (o : Option Standing) → find (is_standing c t) d.standing ≡ o → windows_with_standing d o ≡ [] → find (is_standing c t) d.standing ≡ None
     at None found empty = found
     at (Some s) found empty =
-        let its : is_standing c t s ≡ true = found-is (is_standing c t) d.standing s found in
+        let its : is_standing c t s ≡ true = found-passes (is_standing c t) d.standing s found in
         let stands : list_any (is_standing s.client s.surface) d.standing ≡ true =
         ap₂ (λ a b. list_any (is_standing a b) d.standing) (of-client c t s its) (of-surface c t s its) ∙ found-any (is_standing c t) d.standing s found in
         let own = in-stacked (surfaces_in d s.client) s.surface (root_of (owned_in d) s ∷ []) (popups_in d s.client) (or_left (s.surface == s.surface) false (same-number s.surface)) in

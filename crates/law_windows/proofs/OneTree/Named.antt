@@ -3,6 +3,7 @@ use Rattle.std.proofs.Common.{◌≡◌, ℕ, pos, true, false, Option, Some, Li
 use Rattle.std.specs.List.{AllByRecursion}
 use Rattle.std.specs.Option.{option_map}
 use Rattle.std.proofs.lemmas.List.Elements.{All-from_recursion}
+use Rattle.std.proofs.lemmas.Option.{same_Some}
 use Rattle.wl_surface.specs.State.{History, applied as counts, height_of}
 use Rattle.wl_surface.specs.declared.applied.Change.{Change}
 use Rattle.wl_surface.specs.Surfaces.{Link, Surfaces, history_in, link_at}
@@ -11,8 +12,7 @@ use Rattle.wl_surface.specs.Linked.{IsLink}
 use Rattle.spec_desktop.specs.Windows.{Owner, Window, tree}
 use Rattle.spec_desktop.specs.Marks.{Applied}
 use Rattle.spec_desktop.specs.Moments.{is_applied_by}
-use Rattle.law_desktop.proofs.Lists.Keys.{some-same}
-use Rattle.law_desktop.proofs.Marks.Stacks.{Each, each-map}
+use Rattle.law_desktop.proofs.Lists.Each.{Each, each-map}
 use Rattle.law_desktop.specs.RenamingChanges.{CommitsSurface, DestroysSurface, Desynchronises, Unlinks}
 use Rattle.law_desktop.specs.RenamingLaws.{FindsLinks, KeepsPlaces, ReadsSurfaces}
 use Rattle.law_desktop.specs.Renaming.{IsRenamedAs, IsRenaming, has_surface, renamed, renamed_link}
@@ -69,7 +69,7 @@ named-link finds f all number link here lives = record {
 }
 
 some-lives : (o : Option Link) (link : Link) → o ≡ Some link → link.has_ended ≡ false → (l : Link) → o ≡ Some l → l.has_ended ≡ false
-some-lives o link here lives l e = subst (λ (k : Link). k.has_ended ≡ false) (some-same link l (sym here ∙ e)) lives
+some-lives o link here lives l e = subst (λ (k : Link). k.has_ended ≡ false) (same_Some link l (sym here ∙ e)) lives
 
 pub desync-told-by-name : (A : Type 0) → ReadsSurfaces → FindsLinks → Desynchronises → DesyncTellsApplied A → DesyncToldByName A
 desync-told-by-name A reads finds desynchronises tells f all number link changes is once here lives told =

@@ -3,8 +3,9 @@ use Rattle.std.proofs.Common.{◌≡◌, ℕ, zero, suc, ◌≤◌, ◌==◌, �
 use Rattle.std.specs.Prelude.{filter, find, fold, not}
 use Rattle.std.specs.List.{AllByRecursion, list_any}
 use Rattle.std.specs.Option.{option_map}
-use Rattle.std.proofs.lemmas.Bool.{eqb-true}
+use Rattle.std.proofs.lemmas.Bool.{eqb-true, false_from_ne_true, or_from}
 use Rattle.std.proofs.lemmas.List.Elements.{recursion_from_All}
+use Rattle.std.proofs.lemmas.Option.{none-some, same_Some}
 use Rattle.wl_surface.specs.Request.{Commit}
 use Rattle.wl_surface.specs.State.{History}
 use Rattle.wl_surface.specs.Surface.{Surface, applying, asking}
@@ -16,9 +17,9 @@ use Rattle.wl_surface.specs.TreeLaws.{AreOnceLinked, is_live_of}
 use Rattle.law_desktop.specs.Soundness.{AreTrees}
 use Rattle.wl_surface.proofs.TreesEnding.{live-parts}
 use Rattle.wl_surface.proofs.Linking.{none-found}
-use Rattle.law_desktop.proofs.Lists.Keys.{found-map, found-passes, none-left, none-some, some-same}
-use Rattle.law_desktop.proofs.Marks.Stacks.{differ, equal-numbers, or-left, or-right, unless}
-use Rattle.law_desktop.proofs.Soundness.Trees.{or-none}
+use Rattle.law_desktop.proofs.Lists.Keys.{found-map, found-passes, none-left}
+use Rattle.law_desktop.proofs.Marks.Stacks.{equal-numbers}
+use Rattle.law_desktop.proofs.Truth.{differ, or-left, or-right}
 use Rattle.law_desktop.specs.RenamingLaws.{KeepsPlaces}
 use Rattle.law_desktop.specs.Renaming.{HasEnds, IsRenaming, has_surface, renamed, renamed_link}
 use Rattle.law_windows.specs.ToldLaws.{AreShallow}
@@ -125,8 +126,8 @@ module _ (f : ℕ → ℕ) (all : Surfaces) (is : IsRenaming f all) where
       → list_any (is_live_of (f l.child)) (map (renamed_link f) ks) ≡ false
   none-named l ends lives [] are none = refl
   none-named l ends lives (k ∷ ks) are none =
-      or-none (is_live_of (f l.child) (renamed_link f k)) (list_any (is_live_of (f l.child)) (map (renamed_link f) ks))
-      (unless (is_live_of (f l.child) (renamed_link f k)) (same-child l k ends are.0 lives (or-left (is_live_of l.child k) (list_any (is_live_of l.child) ks) none)))
+      or_from (is_live_of (f l.child) (renamed_link f k)) (list_any (is_live_of (f l.child)) (map (renamed_link f) ks))
+      (false_from_ne_true (is_live_of (f l.child) (renamed_link f k)) (same-child l k ends are.0 lives (or-left (is_live_of l.child k) (list_any (is_live_of l.child) ks) none)))
       (none-named l ends lives ks are.1 (or-right (is_live_of l.child k) (list_any (is_live_of l.child) ks) none))
 
   once-named : (ls : List Link) → AllByRecursion (HasEnds all) ls → AreOnceLinked ls → AreOnceLinked (map (renamed_link f) ls)
@@ -185,7 +186,7 @@ found-number p (x ∷ xs) l apart e = at (p x) e (found-number p xs l apart.1)
     at : (b : Bool) → cond b (Some x) (find p xs) ≡ Some l → (find p xs ≡ Some l → find (λ (k : Link). k.number == l.number) xs ≡ Some l)
         → find (λ (k : Link). k.number == l.number) (x ∷ xs) ≡ Some l
     at true e next =
-        let it = some-same x l e in
+        let it = same_Some x l e in
         ap (λ b. cond b (Some x) (find (λ (k : Link). k.number == l.number) xs)) (equal-numbers x.number l.number (ap (λ (k : Link). k.number) it)) ∙ ap (λ (k : Link). Some k) it
     at false e next = behind (x.number == l.number) refl (next e)
 

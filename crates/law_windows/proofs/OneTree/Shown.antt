@@ -5,8 +5,8 @@ use Rattle.wl_surface.specs.Request.{Buffer, Member, Itself, Child}
 use Rattle.wl_surface.specs.State.{History, applied, counting, height_of, order, position, width_of}
 use Rattle.wl_surface.specs.Surfaces.{Link, Surfaces, history_in, link_at}
 use Rattle.spec_desktop.specs.Windows.{Owner, Place, Window, child_windows, corner_at, member_windows, shown_windows, surface_windows, tree, window_of, window_with}
-use Rattle.law_desktop.proofs.Marks.Stacks.{Each}
 use Rattle.law_desktop.proofs.Soundness.Trees.{each-flat}
+use Rattle.law_desktop.proofs.Lists.Each.{Each}
 
 -- the window is of this owner, and shows one of these surfaces
 pub record IsShown (owner : Owner) (all : Surfaces) (w : Window) : Type 0 where

@@ -10,13 +10,15 @@ use Rattle.spec_desktop.specs.Stacking.{Standing, is_of}
 use Rattle.spec_desktop.specs.Windows.{Owner, Root, Window, owner_of, tree}
 use Rattle.spec_desktop.specs.Desktop.{Desktop, owned_in}
 use Rattle.spec_desktop.specs.Stacked.{all_windows}
-use Rattle.law_desktop.proofs.Marks.Stacks.{Each, each-map, equal-numbers}
+use Rattle.law_desktop.proofs.Marks.Stacks.{equal-numbers}
 use Rattle.law_desktop.proofs.TreeSteps.Owners.{tree-owned}
 use Rattle.law_desktop.specs.Changes.{HasTrees}
 use Rattle.law_desktop.specs.StackedWith.{stacked_roots}
 use Rattle.law_desktop.proofs.RootsOf.Kept.{IsRoot, IsShownBy, are-roots, are-shown, foreign-kept, kept-shown, shown, shown_of, surfaces_in, tree_in}
 use Rattle.law_desktop.proofs.RootsOf.Stacked.{all-found, found-any}
-use Rattle.law_desktop.proofs.MessageWays.Lists.{filter-all, filter-none}
+use Rattle.law_desktop.proofs.Lists.Each.{Each, each-map}
+use Rattle.law_desktop.proofs.Lists.Left.{filter-none-each}
+use Rattle.law_desktop.proofs.Lists.Tests.{filter-all}
 use Rattle.law_windows.specs.Grabs.Dismissed.{Dismisses, is_dismissed_at, is_of_others}
 use Rattle.law_windows.specs.Grabs.Windows.{DismissedWindowsGo}
 use Rattle.law_windows.proofs.PopupsDismissed.Roots.{roots-go}
@@ -67,7 +69,7 @@ module _ (is : Popped → Bool) (c : ℕ) (d e : Desktop) (goes : Dismisses is c
         at true f more =
             ap₂ (λ (ws vs : List Window). ws ++ vs) (root-stays r its ∙ sym (filter-all stays (tree_in d r) (root-windows r its true f))) more
         at false f more =
-            more ∙ ap (λ ws. ws ++ filter stays (flat_map (tree_in d) rs)) (sym (filter-none stays (tree_in d r) (root-windows r its false f)))
+            more ∙ ap (λ ws. ws ++ filter stays (flat_map (tree_in d) rs)) (sym (filter-none-each stays (tree_in d r) (root-windows r its false f)))
 
     own-shown : (s : Standing) → list_any (is_of s.client s.surface) d.standing ≡ true → s.client ≡ c → shown e s ≡ filter stays (shown d s)
     own-shown s stands own =

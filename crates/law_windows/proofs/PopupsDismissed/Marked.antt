@@ -2,7 +2,7 @@
 use Rattle.std.proofs.Common.{◌≡◌, ℕ, ℤ, Bool, true, false, cond, List, [], ◌∷◌, refl, ap, sym, subst, ◌∙◌, inl, inr}
 use Rattle.std.specs.Prelude.{◌==◌, ◌&&◌, ◌||◌, filter, not}
 use Rattle.std.specs.List.{list_any}
-use Rattle.std.proofs.lemmas.Bool.{eqb-false, eqb-true, or_left, or_right}
+use Rattle.std.proofs.lemmas.Bool.{and_from, eqb-false, eqb-true, false_from_ne_true, or_left, or_right}
 use Rattle.wl_surface.specs.Surfaces.{history_in}
 use Rattle.wl_shell.specs.Popups.{Popped}
 use Rattle.spec_desktop.specs.Windows.{Window, contains}
@@ -10,13 +10,17 @@ use Rattle.spec_desktop.specs.Desktop.{Desktop}
 use Rattle.spec_desktop.specs.Marks.{AreDistinct, at_least, in_output, is_changed_at, is_kept_in, is_same_surface}
 use Rattle.spec_desktop.specs.Moments.{applied_between, marks_at_least}
 use Rattle.spec_desktop.specs.Stacked.{all_windows}
-use Rattle.law_desktop.proofs.Marks.Stacks.{Each, and-both, and-left, and-right, any-more, any-recorded, differ, or-left, or-right, surface-turned, unless}
+use Rattle.law_desktop.proofs.Marks.Stacks.{any-recorded, surface-turned}
 use Rattle.law_desktop.specs.Changes.{HasTrees}
 use Rattle.law_desktop.proofs.RootsOf.Away.{IsIn}
 use Rattle.law_desktop.proofs.RootsOf.Kept.{same-undamaged, surfaces_in}
 use Rattle.law_windows.proofs.OneToplevel.Numbered.{same-tests}
 use Rattle.law_desktop.proofs.MessageWays.Gone.{all-distinct}
-use Rattle.law_desktop.proofs.MessageWays.Lists.{any-left, is_gone_at, least-gone}
+use Rattle.law_desktop.proofs.MessageWays.Lists.{is_gone_at, least-gone}
+use Rattle.law_desktop.proofs.Truth.{and-left, and-right, differ, or-left, or-right}
+use Rattle.law_desktop.proofs.Lists.Each.{Each}
+use Rattle.law_desktop.proofs.Lists.Tests.{any-more}
+use Rattle.law_desktop.proofs.Lists.Left.{any-there}
 use Rattle.law_windows.specs.Grabs.Dismissed.{Dismisses, is_of_dismissed, is_of_others}
 use Rattle.law_windows.specs.Grabs.Marks.{DismissalMarks}
 use Rattle.law_windows.proofs.PopupsDismissed.Gone.{windows-go}
@@ -85,7 +89,7 @@ each-left P p (x ∷ xs) each = at (p x) (each-left P p xs each.1)
     at false more = more
 
 none-left : {X : Type 0} (p q : X → Bool) (xs : List X) → list_any p xs ≡ false → list_any p (filter q xs) ≡ false
-none-left p q xs none = unless (list_any p (filter q xs)) (λ e. differ (sym none ∙ any-left q p xs e))
+none-left p q xs none = false_from_ne_true (list_any p (filter q xs)) (λ e. differ (sym none ∙ any-there p q xs e))
 
 -- ---- windows that go, where no surface has two
 
@@ -100,7 +104,7 @@ gone-distinct keep (w ∷ ws) distinct = (
   where
     at : (v : Window) → is_same_surface w v ≡ false → list_any (is_same_surface v) (filter keep ws) ≡ false → (b : Bool)
         → list_any (is_same_surface v) (cond b (w ∷ filter keep ws) (filter keep ws)) ≡ false
-    at v other none true = ap (λ b. b || list_any (is_same_surface v) (filter keep ws)) (unless (is_same_surface v w) (λ e. differ (sym other ∙ surface-turned v w e))) ∙ none
+    at v other none true = ap (λ b. b || list_any (is_same_surface v) (filter keep ws)) (false_from_ne_true (is_same_surface v w) (λ e. differ (sym other ∙ surface-turned v w e))) ∙ none
     at v other none false = none
 
     later : (vs : List Window) → list_any (is_same_surface w) vs ≡ false
@@ -144,7 +148,7 @@ module _ (is : Popped → Bool) (c : ℕ) (d e : Desktop) (had : HasTrees d) (go
 
     from-marked : marks_at_least d e x y ≡ true → (in_output width height x y && list_any out_at (all_windows d)) ≡ true
     from-marked marked =
-        and-both (in_output width height x y) (list_any out_at (all_windows d)) (and-left (in_output width height x y) _ marked)
+        and_from (in_output width height x y) (list_any out_at (all_windows d)) (and-left (in_output width height x y) _ marked)
         (any-more (is_gone_at stays (all_windows d) x y) out_at (λ w f. ap (λ b. contains w x y && b) (sym (not-twice (is_of_dismissed c e w))) ∙ f) (all_windows d)
         (least-gone stays (all_windows d) x y (applied_between d e) (all-distinct d had) (λ w kept p q. nothing-applied w p q) width height (sym left-marks ∙ marked)))
 
@@ -153,12 +157,12 @@ module _ (is : Popped → Bool) (c : ℕ) (d e : Desktop) (had : HasTrees d) (go
         one-that (list_any (is_changed_at (filter stays (all_windows d)) x y) (all_windows d) ≡ true) out_at (all_windows d) any
         (λ w among f.
         any-in (is_changed_at (filter stays (all_windows d)) x y) w (all_windows d) among
-        (and-both (contains w x y) (not (is_kept_in (filter stays (all_windows d)) w)) (and-left (contains w x y) (is_of_dismissed c e w) f)
+        (and_from (contains w x y) (not (is_kept_in (filter stays (all_windows d)) w)) (and-left (contains w x y) (is_of_dismissed c e w) f)
         (ap not (none-kept w among (and-right (contains w x y) (is_of_dismissed c e w) f)))))
       where
         none-kept : (w : Window) → IsIn w (all_windows d) → is_of_dismissed c e w ≡ true → is_kept_in (filter stays (all_windows d)) w ≡ false
         none-kept w among f =
-            unless (is_kept_in (filter stays (all_windows d)) w)
+            false_from_ne_true (is_kept_in (filter stays (all_windows d)) w)
             (λ kept. differ
             (sym (each-in (λ w. stays w ≡ false → list_any (is_same_surface w) (filter stays (all_windows d)) ≡ false) (all_windows d)
             (gone-distinct stays (all_windows d) (all-distinct d had)) w among (ap not f))
@@ -167,7 +171,7 @@ module _ (is : Popped → Bool) (c : ℕ) (d e : Desktop) (had : HasTrees d) (go
     to-marked : (in_output width height x y && list_any out_at (all_windows d)) ≡ true → marks_at_least d e x y ≡ true
     to-marked gone =
         left-marks
-        ∙ and-both (in_output width height x y) _ (and-left (in_output width height x y) (list_any out_at (all_windows d)) gone)
+        ∙ and_from (in_output width height x y) _ (and-left (in_output width height x y) (list_any out_at (all_windows d)) gone)
         (or_left _ _ (or_left (list_any (is_changed_at (filter stays (all_windows d)) x y) (all_windows d)) _
         (gone-changed (and-right (in_output width height x y) (list_any out_at (all_windows d)) gone))))
 

@@ -3,8 +3,9 @@ use Rattle.std.proofs.Common.{◌≡◌, ℕ, Bool, true, false, cond, List, Opt
 use Rattle.std.specs.Prelude.{◌==◌, ◌&&◌, ◌||◌, filter, fold, not}
 use Rattle.std.specs.List.{list_any}
 use Rattle.std.specs.Option.{option_and_then, option_map, option_map_or}
-use Rattle.std.proofs.lemmas.Bool.{eqb-true}
+use Rattle.std.proofs.lemmas.Bool.{eqb-true, false_from_ne_true}
 use Rattle.std.proofs.lemmas.List.Elements.{filter-append}
+use Rattle.std.proofs.lemmas.Option.{same_Some}
 use Rattle.wl_geom.specs.declared.rect.Rect.{Rect}
 use Rattle.wl_surface.specs.Surfaces.{Surfaces, history_in}
 use Rattle.wl_shell.specs.Popups.{Popped, dismiss, dismissed_after, dismissed_among, dismissed_with, is_among, is_dismissed_in, is_mapped_stage, is_parent_of, is_popup_mapped}
@@ -16,19 +17,20 @@ use Rattle.spec_desktop.specs.Windows.{Root, StackedPopup, has_parent, root_on, 
 use Rattle.spec_desktop.specs.Desktop.{Desktop, owned_in}
 use Rattle.law_desktop.specs.Soundness.{AreOnce}
 use Rattle.law_desktop.proofs.Lists.Keys.{found-by, found-passes}
-use Rattle.law_desktop.proofs.Marks.Stacks.{Each, any-more, differ, each-both, each-map, equal-numbers, or-left, or-right, unless}
-use Rattle.law_desktop.proofs.Soundness.Trees.{each-append}
+use Rattle.law_desktop.proofs.Marks.Stacks.{equal-numbers}
 use Rattle.law_desktop.proofs.Soundness.Windows.{same_popup}
 use Rattle.law_desktop.specs.Standing.{HasMappedToplevel, IsMappedToplevel}
 use Rattle.law_desktop.specs.Changes.{HasTrees}
 use Rattle.law_desktop.specs.StackedWith.{stacked_roots}
-use Rattle.law_desktop.proofs.RootsOf.Commits.{some-is}
 use Rattle.law_desktop.proofs.RootsOf.Dismissed.{numbered-by, numbered-role}
 use Rattle.law_desktop.proofs.RootsOf.Kept.{popups_in, surfaces_in}
 use Rattle.law_desktop.proofs.RootsOf.Left.{since-geometry}
 use Rattle.law_desktop.proofs.RootsOf.Popped.{AreNumberedAlike, IsPopped, IsThrough, KeepsNumbers, all-through, first_or, popups-through, surface-through, through, xdg-through}
 use Rattle.law_desktop.proofs.RootsOf.Shells.{all-popped-of}
-use Rattle.law_desktop.proofs.MessageWays.Lists.{filter-all, filter-none}
+use Rattle.law_desktop.proofs.Truth.{differ, or-left, or-right}
+use Rattle.law_desktop.proofs.Lists.Each.{Each, each-append, each-both, each-map}
+use Rattle.law_desktop.proofs.Lists.Tests.{any-more, filter-all}
+use Rattle.law_desktop.proofs.Lists.Left.{filter-none-each}
 use Rattle.law_windows.specs.Grabs.Dismissed.{Dismisses, is_dismissed_at}
 
 -- ---- truth
@@ -50,7 +52,7 @@ on-kept keep all q (r ∷ rs) each = at (keep r) refl (on-kept keep all q rs eac
     at true f more = ap (λ (qs : List Root). cond (q.is_mapped && has_parent r.surface q) (root_on all r q ∷ []) qs) more
     at false f more =
         more
-        ∙ sym (ap (λ b. cond (q.is_mapped && b) (root_on all r q ∷ []) (stacked_on all q rs)) (unless (has_parent r.surface q) (λ g. differ (sym f ∙ each.0 g)))
+        ∙ sym (ap (λ b. cond (q.is_mapped && b) (root_on all r q ∷ []) (stacked_on all q rs)) (false_from_ne_true (has_parent r.surface q) (λ g. differ (sym f ∙ each.0 g)))
         ∙ ap (λ b. cond b (root_on all r q ∷ []) (stacked_on all q rs)) (and-none q.is_mapped))
 
 -- one that isn't mapped has none
@@ -302,11 +304,11 @@ module _ (is : Popped → Bool) (c : ℕ) (d e : Desktop) (had : HasTrees d) (go
   other-ids : (p : Popped) → IsKnown p → (ps : List Popped) → Each IsKnown ps → list_any (same_popup (as_stacked p)) (map as_stacked ps) ≡ false → Each (λ q. (q.xdg.id == p.xdg.id) ≡ false) ps
   other-ids p known [] others none = tt
   other-ids p known (q ∷ qs) others none = (
-    unless (q.xdg.id == p.xdg.id)
+    false_from_ne_true (q.xdg.id == p.xdg.id)
         (λ f. differ (sym (or-left (same_popup (as_stacked p) (as_stacked q)) (list_any (same_popup (as_stacked p)) (map as_stacked qs)) none)
         ∙ equal-numbers q.xdg.surface p.xdg.surface
         (ap (λ (x : XdgSurface). x.surface)
-        (some-is q.xdg p.xdg (sym others.0.popped.there.by_id ∙ (ap (λ n. xdg_at n own.shell) (eqb-true q.xdg.id p.xdg.id f) ∙ known.popped.there.by_id)))))),
+        (same_Some q.xdg p.xdg (sym others.0.popped.there.by_id ∙ (ap (λ n. xdg_at n own.shell) (eqb-true q.xdg.id p.xdg.id f) ∙ known.popped.there.by_id)))))),
     other-ids p known qs others.1 (or-right (same_popup (as_stacked p) (as_stacked q)) (list_any (same_popup (as_stacked p)) (map as_stacked qs)) none),
   )
 
@@ -319,7 +321,7 @@ module _ (is : Popped → Bool) (c : ℕ) (d e : Desktop) (had : HasTrees d) (go
     parent-kept : is_among p.xdg.id ids ≡ false → (r : Root) → IsEarlier so r → has_parent r.surface (as_stacked p) ≡ true → keep r ≡ true
     parent-kept stays r before parent =
         ap not
-        (unless (out r.surface)
+        (false_from_ne_true (out r.surface)
         (λ f. at f p.popup.parent refl parent))
       where
         found : out r.surface ≡ true → (n : ℕ) → p.popup.parent ≡ Some n → (o : Option XdgSurface) → xdg_at n own.shell ≡ o
@@ -345,7 +347,7 @@ module _ (is : Popped → Bool) (c : ℕ) (d e : Desktop) (had : HasTrees d) (go
     new = stacked_on (owned_in d c).surfaces (stacked_popup (owned_in d c) p) rs
 
     mapped-lives : is_popup_mapped p ≡ true → p.popup.is_dismissed ≡ false
-    mapped-lives f = unless p.popup.is_dismissed (λ g. differ (sym (ap (λ b. is_mapped_stage p.object.stage && not b) g ∙ and-none (is_mapped_stage p.object.stage)) ∙ f))
+    mapped-lives f = false_from_ne_true p.popup.is_dismissed (λ g. differ (sym (ap (λ b. is_mapped_stage p.object.stage && not b) g ∙ and-none (is_mapped_stage p.object.stage)) ∙ f))
 
     -- what is so of its surface, if it is mapped, is so of the roots that it has
     new-each : (P : ℕ → Type 0) → (is_popup_mapped p ≡ true → P p.xdg.surface) → Each (λ r. P r.surface) new
@@ -362,7 +364,7 @@ module _ (is : Popped → Bool) (c : ℕ) (d e : Desktop) (had : HasTrees d) (go
         at true f =
             ap (λ qs. filter keep rs ++ qs)
             (unmapped-on all (became p) (filter keep rs) (gone-unmapped p known f)
-            ∙ sym (filter-none keep new (new-each (λ n. not (is_dismissed_at n now.shell) ≡ false) (λ mapped. ap not (among-out p known.popped f)))))
+            ∙ sym (filter-none-each keep new (new-each (λ n. not (is_dismissed_at n now.shell) ≡ false) (λ mapped. ap not (among-out p known.popped f)))))
             ∙ sym (filter-append keep rs new)
         at false f =
             ap (stacked all (filter keep rs)) (same-stacked p known f)
@@ -380,7 +382,7 @@ module _ (is : Popped → Bool) (c : ℕ) (d e : Desktop) (had : HasTrees d) (go
       where
         own-earlier : is_popup_mapped p ≡ true → IsEarlierAt longer p.xdg.surface
         own-earlier mapped f x here =
-            subst (λ (y : XdgSurface). is_among y.id longer ≡ true) (some-is p.xdg x (sym known.popped.there.by_surface ∙ here))
+            subst (λ (y : XdgSurface). is_among y.id longer ≡ true) (same_Some p.xdg x (sym known.popped.there.by_surface ∙ here))
             (at (is_among p.xdg.id ids) refl)
           where
             at : (b : Bool) → is_among p.xdg.id ids ≡ b → is_among p.xdg.id longer ≡ true

@@ -10,11 +10,11 @@ use Rattle.wl_shell.specs.Shell.{IsPopup, Kind, RoleObject, Shell, Toplevel, Xdg
 use Rattle.spec_desktop.specs.Stacking.{shows_buffer}
 use Rattle.spec_desktop.specs.Desktop.{Desktop, owned_in}
 use Rattle.law_desktop.specs.Laws.{AreApart}
-use Rattle.law_desktop.proofs.Marks.Stacks.{differ}
 use Rattle.law_desktop.specs.Shown.{AreShown, heeded_stage, is_dismissed_kind, is_mapped_now, is_mapped_toplevel, waits_now}
 use Rattle.law_desktop.specs.Standing.{AreTurned, is_mapped_at, waits_at}
 use Rattle.law_desktop.specs.Changes.{HasTrees}
 use Rattle.law_desktop.proofs.RootsOf.Popped.{xdg-through}
+use Rattle.law_desktop.proofs.Truth.{differ}
 use Rattle.law_windows.specs.Grabs.Dismissed.{Dismisses}
 use Rattle.law_windows.specs.Grabs.Windows.{DismissedStaysShown}
 use Rattle.law_windows.proofs.PopupsDismissed.Roots.{gone, gone-numbers, ids}

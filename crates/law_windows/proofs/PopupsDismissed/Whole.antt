@@ -17,11 +17,11 @@ use Rattle.law_desktop.specs.Apart.{AreApartBy}
 use Rattle.law_desktop.specs.Laws.{AreApart}
 use Rattle.law_desktop.specs.Soundness.{AreOnce, AreTrees, IsNoChild, has_surface}
 use Rattle.law_desktop.proofs.Lists.Keys.{found-map}
-use Rattle.law_desktop.proofs.Marks.Stacks.{Each}
 use Rattle.law_desktop.specs.Standing.{HasMappedToplevel, IsMappedToplevel}
 use Rattle.law_desktop.specs.Changes.{HasTrees}
 use Rattle.law_desktop.proofs.RootsOf.Kept.{popups_in, surfaces_in}
 use Rattle.law_desktop.proofs.RootsOf.Staying.{all-each, each-all}
+use Rattle.law_desktop.proofs.Lists.Each.{Each}
 use Rattle.law_windows.specs.Grabs.Dismissed.{Dismisses}
 use Rattle.law_windows.specs.Grabs.Windows.{DismissedStaysWhole}
 use Rattle.law_windows.proofs.PopupsDismissed.Roots.{BecomeSo, gone-numbers, ids, popups-become}

@@ -6,17 +6,17 @@ use Rattle.std.specs.Cmp.{nat_eq_equiv}
 use Rattle.std.specs.List.{AllByRecursion, IsDistinct, list_any}
 use Rattle.std.specs.Set.{is_member}
 use Rattle.std.specs.Option.{option_map}
-use Rattle.std.proofs.lemmas.Bool.{or_left, or_parts, or_right}
+use Rattle.std.proofs.lemmas.Bool.{or_left, or_parts, or_right, true≢false}
 use Rattle.std.proofs.lemmas.List.{length-map}
 use Rattle.std.proofs.lemmas.List.Elements.{recursion_from_All}
 use Rattle.std.proofs.lemmas.Map.Made.{length-le_from_is_member}
-use Rattle.law_desktop.proofs.Lists.Keys.{differ}
-use Rattle.law_desktop.proofs.Marks.Stacks.{Each, and-left}
 use Rattle.law_desktop.specs.Standing.{HasMappedToplevel}
 use Rattle.law_desktop.specs.Renaming.{has_surface}
 use Rattle.law_desktop.specs.NamedPopups.{RenamesOwned, renamed_owned, renamed_shell, renamed_xdg}
 use Rattle.law_desktop.proofs.PopupsByNames.Popped.{each-there}
 use Rattle.law_desktop.proofs.PopupsByNames.Rooted.{of-renamed}
+use Rattle.law_desktop.proofs.Truth.{and-left}
+use Rattle.law_desktop.proofs.Lists.Each.{Each}
 use Rattle.spec_desktop.specs.Objects.{ById}
 use Rattle.spec_desktop.specs.Desktop.{Desktop, owned_in}
 use Rattle.spec_desktop.specs.Marks.{AreDistinct, is_same_surface}
@@ -84,7 +84,7 @@ mapped-renamed f None is = is
 mapped-renamed f (Some x) is = is
 
 found-too : (t s : Option Standing) → IsFoundAs t s → is_some t ≡ true → is_some s ≡ true
-found-too None s alike is = absurd (differ (sym is))
+found-too None s alike is = absurd (true≢false (sym is))
 found-too (Some t) None alike is = absurd alike
 found-too (Some t) (Some s) alike is = refl
 
@@ -92,7 +92,7 @@ any-found : (c toplevel : ℕ) (ss : List Standing) → is_some (find (is_of c t
 any-found c toplevel ss is = at (find (is_of c toplevel) ss) refl is
   where
     at : (o : Option Standing) → find (is_of c toplevel) ss ≡ o → is_some o ≡ true → list_any (is_of c toplevel) ss ≡ true
-    at None e is = absurd (differ (sym is))
+    at None e is = absurd (true≢false (sym is))
     at (Some s) e is = found-any c toplevel ss s e
 
 module _ {A : Type 0} (f g : ℕ → ℕ) (c toplevel k : ℕ) (mid : Kept A) (e : Desktop) (trees : HasTrees e) (holds : HoldsAs g mid (owned_in e c))

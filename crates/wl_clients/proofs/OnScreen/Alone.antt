@@ -1,9 +1,10 @@
 -- A message that touches no tree of surfaces is served, from what its parts say.
 use Rattle.std.proofs.Common.{◌≡◌, ℕ, ◌<◌, List, Option, None, Some, refl, ap, sym, subst, ◌∙◌, inl, inr}
+use Rattle.std.proofs.lemmas.Bool.{true≢false}
+use Rattle.std.proofs.lemmas.Option.{none-some}
 use Rattle.std.specs.Prelude.{is_some, pos, true, ◌||◌}
 use Rattle.wl_wire.specs.Wire.{split_of}
 use Rattle.wl_links.specs.declared.link.Link.{Link}
-use Rattle.law_desktop.proofs.Lists.Keys.{differ, none-some}
 use Rattle.law_desktop.specs.Ordered.{Ordered, OwnsOrdered}
 use Rattle.wl_paint.specs.Damage.{has}
 use Rattle.spec_desktop.specs.declared.cause.Cause.{Cause}
@@ -59,7 +60,7 @@ use Rattle.wl_clients.proofs.OnScreen.Touches.{IsTouchNamed, touch-named}
 childless : {A : Type 0} (v : Kept A) (numbers : ById ℕ) (subsurfaces : List Subsurface) → AreOfSurfaces v.subsurfaces numbers subsurfaces → (object child : ℕ) → IsChildOf v object None
     → IsChildOf v object (Some child) → ⊥
 childless v numbers subsurfaces are object child gone there =
-    differ (sym there.1 ∙ ap (λ (o : Option Link). is_some o) (gone numbers subsurfaces are child there.0))
+    true≢false (sym there.1 ∙ ap (λ (o : Option Link). is_some o) (gone numbers subsurfaces are child there.0))
 
 untouched-kind : {A : Type 0} (v : Kept A) (numbers : ById ℕ) (subsurfaces : List Subsurface) → AreOfSurfaces v.subsurfaces numbers subsurfaces → (k : Kind) (object target : ℕ) (touch : Touch)
     → IsTouchedIn v object target k None → IsTouchOf k object target v touch → ⊥

@@ -1,9 +1,8 @@
 -- A message that touches no tree of surfaces: the toplevels and their windows stay as they are, unless its client ended.
 use Rattle.std.proofs.Common.{◌≡◌, ℕ, ◌<◌, Bool, true, false, cond, List, [], Option, None, Some, eqb-true, refl, ap, sym, subst, ◌∙◌, inl}
 use Rattle.std.specs.Prelude.{is_some, pos, ◌||◌, ◌==◌}
-use Rattle.std.proofs.lemmas.Bool.{or_left}
+use Rattle.std.proofs.lemmas.Bool.{or_left, true≢false}
 use Rattle.wl_wire.specs.Wire.{split_of}
-use Rattle.law_desktop.proofs.Lists.Keys.{differ}
 use Rattle.wl_scene.specs.StackedAgreement.{AreStacked}
 use Rattle.law_desktop.specs.Renaming.{has_surface}
 use Rattle.wl_paint.specs.Damage.{Damaged, has}
@@ -63,8 +62,8 @@ module _ {A : Type 0} (c : ℕ) (others : ℕ → ById ℕ) (base d : Desktop) (
 
       at : (m n : Option ℕ) → numbers mid id ≡ m → numbers old id ≡ n → numbers mid id ≡ numbers old id
       at (Some a) (Some b) is_a is_b = is_a ∙ (ap (λ (n : ℕ). Some n) (sym (keeps id b a is_b is_a)) ∙ sym is_b)
-      at None n none is_b = absurd (differ (sym is-numbered ∙ ap (λ (o : Option ℕ). is_some o) none))
-      at (Some a) None is_a none = absurd (differ (sym was-numbered ∙ ap (λ (o : Option ℕ). is_some o) none))
+      at None n none is_b = absurd (true≢false (sym is-numbered ∙ ap (λ (o : Option ℕ). is_some o) none))
+      at (Some a) None is_a none = absurd (true≢false (sym was-numbered ∙ ap (λ (o : Option ℕ). is_some o) none))
 
   pub same-numbers : (n id : ℕ) → has_surface id (owned_in d n).surfaces ≡ true → has_surface id (owned_in e n).surfaces ≡ true
       → with_numbers c (numbers mid) others n id ≡ with_numbers c (numbers old) others n id

@@ -1,7 +1,8 @@
 -- What a message that touches a surface demands, and the damage that is told of it.
 use Rattle.std.proofs.Common.{◌≡◌, ℕ, true, Option, Some, None, [], refl, ap, sym, subst, ◌∙◌, inl, inr, ◌⊎◌}
+use Rattle.std.proofs.lemmas.Bool.{true≢false}
+use Rattle.std.proofs.lemmas.Option.{none-some}
 use Rattle.std.specs.Prelude.{is_some}
-use Rattle.law_desktop.proofs.Lists.Keys.{differ, none-some}
 use Rattle.law_desktop.specs.Ordered.{OwnsOrdered}
 use Rattle.spec_desktop.specs.Peer.{Peer}
 use Rattle.spec_desktop.specs.Demand.{Demand, EndToplevel}
@@ -32,7 +33,7 @@ touch-or-out old r stacking T number (EndToplevel i x surface) h so = inr (so.0,
 touch-or-out old r stacking T number wanted h so = inl (h.0, h.1)
 
 applied-value : {X : Type 0} (o : Option X) → is_some o ≡ true → (x : X) × (o ≡ Some x)
-applied-value None some = absurd (differ (sym some))
+applied-value None some = absurd (true≢false (sym some))
 applied-value (Some x) some = (x, refl)
 
 module _ {A : Type 0} (old mid : Kept A) (r : Resident) (p : Peer) (c : ℕ) (d : Desktop) (resident : IsResident old r) (owns : OwnsOrdered r) (asked : Asked) (asks : IsAsked old.client asked)

@@ -1,8 +1,9 @@
 -- Which messages may change what several surfaces show; and that no other is a commit.
 use Rattle.std.proofs.Common.{◌≡◌, ℕ, List, Bool, true, false, Option, Some, None, refl, sym, subst, ◌∙◌, inl, inr, ◌⊎◌}
+use Rattle.std.proofs.lemmas.Bool.{true≢false}
+use Rattle.std.proofs.lemmas.Option.{none-some}
 use Rattle.std.specs.Prelude.{is_some, slice_index_or}
 use Rattle.wl_links.specs.Family.{links_in}
-use Rattle.law_desktop.proofs.Lists.Keys.{differ, none-some}
 use Rattle.law_desktop.specs.Ordered.{OwnsOrdered}
 use Rattle.law_desktop.specs.Subsurfaces.{AreOfSurfaces, child_of}
 use Rattle.spec_desktop.specs.Objects.{ById}
@@ -42,7 +43,7 @@ module _ {A : Type 0} (v : Kept A) (numbers : ById ℕ) (subsurfaces : List Subs
           → is_some (links_in v.owned.surfaces.family child) ≡ b → Decided (λ child. IsOnlyChild v object child)
       by child there same true lives = inl (child, ((there, lives), same))
       by child there same false ended =
-          inr (λ other only. differ (sym (subst (λ (n : ℕ). is_some (links_in v.owned.surfaces.family n) ≡ true) (same other only.0.0) only.0.1) ∙ ended))
+          inr (λ other only. true≢false (sym (subst (λ (n : ℕ). is_some (links_in v.owned.surfaces.family n) ≡ true) (same other only.0.0) only.0.1) ∙ ended))
 
       at : (o : Option ℕ) → child_of object subsurfaces ≡ o → Decided (λ child. IsOnlyChild v object child)
       at None e = inr (λ child only. let k = are.known child object only.0.0 in none-some k.0 (sym e ∙ k.2))

@@ -1,5 +1,6 @@
 -- A message that is served, from what its parts say: the client ended by it.
 use Rattle.std.proofs.Common.{◌≡◌, ℕ, ◌<◌, Bool, true, false, Option, Some, None, List, [], refl, ap, sym, subst, ◌∙◌, inl, inr}
+use Rattle.std.proofs.lemmas.Bool.{true≢false}
 use Rattle.std.specs.Prelude.{is_some, pos, ◌||◌, ◌==◌, filter, not}
 use Rattle.std.specs.List.{list_any}
 use Rattle.wl_wire.specs.Wire.{split_of}
@@ -13,7 +14,6 @@ use Rattle.spec_desktop.specs.Happens.{Serves}
 use Rattle.spec_desktop.specs.LeftOut.{nothing_left_out}
 use Rattle.spec_desktop.specs.Stacked.{all_windows}
 use Rattle.spec_desktop.specs.Through.{ServesThrough}
-use Rattle.law_desktop.proofs.Lists.Keys.{differ}
 use Rattle.law_desktop.proofs.Runs.Through.{messages_lead_through}
 use Rattle.wl_scene.specs.StackedAgreement.{AreStacked}
 use Rattle.law_desktop.proofs.InOrder.Laws.{messages_keep_in_order}
@@ -94,7 +94,7 @@ module _ {A : Type 0} (laws : WayLaws) (c : ℕ) (others : ℕ → ById ℕ) (ba
       (gone-at e serves (over-at e q after))
 
   pub ended-on : (e : Desktop) (q : Resident) → IsSeated c others base left (pile_of new) e q → status_in c e ≡ None → ⊥
-  ended-on e q after lives = differ (sym (over-at e q after) ∙ ap (λ (o : Option Cause). is_some o) lives)
+  ended-on e q after lives = true≢false (sym (over-at e q after) ∙ ap (λ (o : Option Cause). is_some o) lives)
 
   -- ---- one to which it leads
 
@@ -135,7 +135,7 @@ module _ {A : Type 0} (laws : WayLaws) (c : ℕ) (others : ℕ → ById ℕ) (ba
         at false undone turned way =
             twice-through laws c (with_numbers c (numbers old) others) was.stacked.windows d e before.windows trees (trees-at e serves) p.is was.damage new.damage p.points
             lead.0 way.0 (gone-at e serves over) (undone refl) (inside-so d was.damage width height)
-        at true undone turned (inl way) = absurd (differ (sym over ∙ ap (λ (s : Option Cause). is_some s) way.1))
+        at true undone turned (inl way) = absurd (true≢false (sym over ∙ ap (λ (s : Option Cause). is_some s) way.1))
         at true undone turned (inr s) =
             struck-through laws c (with_numbers c (numbers old) others) was.stacked.windows d e before.windows trees (trees-at e serves) p.is was.damage new.damage p.points
             r f lead.0 s (turned refl lead.0 s) (inside-so d was.damage width height)

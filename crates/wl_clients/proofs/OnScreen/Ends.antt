@@ -17,6 +17,8 @@ use Rattle.spec_desktop.specs.declared.refusals.ErrorCode.TheVariants.{NoMemory}
 use Rattle.spec_desktop.specs.declared.refusals.Refusal.{Refusal}
 use Rattle.wl_shell.specs.Kept.{Book, kept_of}
 use Rattle.std.proofs.lemmas.List.Elements.{All-from_recursion}
+use Rattle.std.proofs.lemmas.Bool.{true≢false}
+use Rattle.std.proofs.lemmas.Option.{none-some}
 use Rattle.law_desktop.specs.Renaming.{HasEnds}
 use Rattle.wl_requests.specs.declared.residents.Resident.{Resident as Kept}
 use Rattle.spec_desktop.specs.Stacking.{nothing_owned}
@@ -31,7 +33,6 @@ use Rattle.wl_surface.specs.Slots.{Slots, StandForAll, kept_at, nobody, count as
 use Rattle.law_desktop.proofs.Keeping.OwningTies.{count-same, is-kept, nothing-at}
 use Rattle.wl_clients.specs.Seats.{IsBare}
 use Rattle.wl_clients.specs.View.{OwnedView, owned_view}
-use Rattle.law_desktop.proofs.Lists.Keys.{differ, none-some}
 use Rattle.law_desktop.proofs.Keeping.FramingWaits.{framed-none}
 use Rattle.wl_surface.specs.declared.frames.Waiting.{Waiting}
 use Rattle.wl_surface.specs.Surfaces.{no_surfaces}
@@ -52,7 +53,7 @@ queued-over true Later p q later (inl h) = (Memory, p, h)
 queued-over true Later p q later (inr h) = later h
 
 pub queues-over : (es : List Said) (p q : Peer) → p.status ≡ None → Queues es p q → is_some q.status ≡ true → IsOver q
-queues-over [] p q lives h some = absurd (differ (lives-not q.status (ap (λ (x : Peer). x.status) h ∙ lives) some))
+queues-over [] p q lives h some = absurd (true≢false (lives-not q.status (ap (λ (x : Peer). x.status) h ∙ lives) some))
 queues-over (e ∷ es) p q lives h some =
     queued-over (has_room p.unsent e) (Queues es (queued e p) q) p q (λ rest. queues-over es (queued e p) q lives rest some) h
 
@@ -117,10 +118,10 @@ owns-nothing held owned none bare =
         stand = bare.surfaces.surfaces;
         count = none-counted owned.surfaces.states bare.surfaces.surfaces;
         hang = bare.surfaces.hang;
-        there = λ number here. absurd (differ (sym (bare.surfaces.there number here)));
+        there = λ number here. absurd (true≢false (sym (bare.surfaces.there number here)));
       };
       shell = record { each = λ surface. rw (none.surfaces surface) tt; apart = tt };
-      known = λ number e. absurd (differ (sym e ∙ ap (λ o. is_some o) (none-kept owned.shell number bare.shell)));
+      known = λ number e. absurd (true≢false (sym e ∙ ap (λ o. is_some o) (none-kept owned.shell number bare.shell)));
       named = none.shell;
       toplevels = none.roles;
       roles = tt;
@@ -204,7 +205,7 @@ nameless-seat v o r seat gone =
 
     none-there : (n : Option ℕ) → is_some n ≡ false → n ≡ None
     none-there None e = refl
-    none-there (Some n) e = absurd (differ e)
+    none-there (Some n) e = absurd (true≢false e)
 
 -- ---- a newcomer
 

@@ -1,7 +1,7 @@
 -- The toplevel of a surface, where it is found by the surface's number.
 use Rattle.std.proofs.Common.{◌≡◌, ℕ, Bool, true, false, cond, Option, Some, None, List, [], ◌∷◌, sym}
+use Rattle.std.proofs.lemmas.Bool.{true≢false}
 use Rattle.std.specs.Prelude.{find}
-use Rattle.law_desktop.proofs.Lists.Keys.{differ}
 use Rattle.spec_desktop.specs.Objects.{ById}
 use Rattle.spec_desktop.specs.Stacking.{Standing, is_of}
 use Rattle.wl_clients.specs.Agreement.{IsStack}
@@ -25,5 +25,5 @@ found-as numbers c root k once named (t ∷ ts) (s ∷ ss) is =
         → IsFoundAs (cond a (Some t) (find (is_of c k) ts)) (cond b (Some s) (find (is_of c root) ss))
     at true true e rest = is.0.place
     at false false e rest = rest
-    at true false e rest = absurd (differ e)
-    at false true e rest = absurd (differ (sym e))
+    at true false e rest = absurd (true≢false e)
+    at false true e rest = absurd (true≢false (sym e))

@@ -7,7 +7,8 @@ use Rattle.std.specs.Set.{is_member}
 use Rattle.std.proofs.lemmas.Bool.{or_left, or_parts, or_right}
 use Rattle.std.proofs.lemmas.List.{length-map}
 use Rattle.std.proofs.lemmas.Map.Made.{length-le_from_is_member}
-use Rattle.law_desktop.proofs.Marks.Stacks.{Each, and-left, and-right}
+use Rattle.law_desktop.proofs.Truth.{and-left, and-right}
+use Rattle.law_desktop.proofs.Lists.Each.{Each}
 use Rattle.law_desktop.specs.Renaming.{has_surface}
 use Rattle.spec_desktop.specs.Marks.{AreDistinct, is_same_surface}
 use Rattle.law_windows.specs.Runs.Marks.{IsThereIn}

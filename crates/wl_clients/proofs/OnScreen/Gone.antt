@@ -3,7 +3,7 @@ use Rattle.std.proofs.Common.{◌≡◌, ℕ, ◌<◌, Bool, true, false, List, 
 use Rattle.std.specs.Prelude.{ℤ, None, pos, ◌==◌, ◌&&◌, ◌||◌}
 use Rattle.std.specs.List.{list_any}
 use Rattle.std.proofs.Math.Bool.{or_assoc}
-use Rattle.std.proofs.lemmas.Bool.{or_left}
+use Rattle.std.proofs.lemmas.Bool.{false_from_ne_true, or_left}
 use Rattle.wl_paint.specs.Damage.{Damaged, has}
 use Rattle.spec_desktop.specs.Objects.{ById}
 use Rattle.spec_desktop.specs.Windows.{Window, contains}
@@ -12,11 +12,10 @@ use Rattle.spec_desktop.specs.LeftOut.{nothing_left_out}
 use Rattle.spec_desktop.specs.Marks.{in_output}
 use Rattle.spec_desktop.specs.Moments.{marks_at_least, marks_at_least_through, marks_at_most_through}
 use Rattle.spec_desktop.specs.Stacked.{all_windows}
-use Rattle.law_desktop.proofs.Marks.Stacks.{differ, or-left, or-right, or-second, unless}
 use Rattle.wl_scene.specs.StackedAgreement.{AreStacked, IsStacked, told_by}
 use Rattle.law_desktop.specs.Touching.{any_window_at, has_window_at}
 use Rattle.law_desktop.specs.TreeMarksLaws.{is_in_any}
-use Rattle.law_desktop.proofs.TreeMarks.Lists.{either-of}
+use Rattle.law_desktop.proofs.Truth.{differ, either-of, or-left, or-right, or-second}
 use Rattle.wl_scene.specs.Repaint.{window_has}
 use Rattle.law_windows.proofs.OneToplevel.Demanded.{nothing-is-marked}
 use Rattle.wl_scene.specs.declared.stacked.Stacked.{Stacked}
@@ -92,7 +91,7 @@ module _ (laws : WayLaws) (c : ℕ) (numbers : ℕ → ById ℕ) (kept : List St
   gone-least gone x y wide high clean =
       let free = sym (pointed x y wide high) ∙ clean in (
         or-left (has d0 x y) (here (pos x) (pos y)) free,
-        unless (marks_at_least d e (pos x) (pos y))
+        false_from_ne_true (marks_at_least d e (pos x) (pos y))
             (λ marked. differ (sym (or-right (has d0 x y) (here (pos x) (pos y)) free)
             ∙ or_left (has_window_at c (pos x) (pos y) d) _ (laws.least c d e trees gone (pos x) (pos y) marked))),
       )
@@ -107,7 +106,7 @@ module _ (laws : WayLaws) (c : ℕ) (numbers : ℕ → ById ℕ) (kept : List St
     λ clean.
         let free = sym (pointed x y wide high) ∙ clean in (
           or-left (has d0 x y) (here (pos x) (pos y)) free,
-          unless (marks_at_least_through all_windows d path (pos x) (pos y))
+          false_from_ne_true (marks_at_least_through all_windows d path (pos x) (pos y))
               (λ marked. differ (sym (or-right (has d0 x y) (here (pos x) (pos y)) free) ∙ least (pos x) (pos y) marked)),
         ),
     λ marked. at (has d0 x y) refl (sym (pointed x y wide high) ∙ marked),

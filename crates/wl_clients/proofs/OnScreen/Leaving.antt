@@ -12,13 +12,13 @@ use Rattle.spec_desktop.specs.Windows.{Root, StackedPopup, Window, has_parent, o
 use Rattle.spec_desktop.specs.Desktop.{Desktop, Resident, become_by, owned_in, owned_of, resident_of}
 use Rattle.spec_desktop.specs.Popups.{stacked_popups}
 use Rattle.spec_desktop.specs.Stacked.{all_windows}
-use Rattle.law_desktop.proofs.Marks.Stacks.{Each, differ, each-map}
 use Rattle.law_desktop.proofs.Marks.Painted.{each-kept}
 use Rattle.law_desktop.proofs.Runs.Places.{number-other}
-use Rattle.law_desktop.proofs.Soundness.Trees.{each-append, each-flat}
+use Rattle.law_desktop.proofs.Soundness.Trees.{each-flat}
 use Rattle.law_desktop.proofs.TreeSteps.Owners.{tree-owned}
-use Rattle.law_desktop.proofs.TreeSteps.Reading.{each-always}
-use Rattle.law_desktop.proofs.TreeMarks.Lists.{any-none, filter-all, filter-none}
+use Rattle.law_desktop.proofs.Lists.Tests.{any-none, filter-all, filter-none}
+use Rattle.law_desktop.proofs.Truth.{differ}
+use Rattle.law_desktop.proofs.Lists.Each.{Each, each-append, each-map, each-of}
 use Rattle.wl_scene.specs.declared.stacked.Stacked.{Stacked}
 use Rattle.wl_scene.specs.Stacked.{without_client as without_client_of}
 use Rattle.wl_scene.specs.StackedAgreement.{AreStacked}
@@ -127,7 +127,7 @@ pub left-stacked : (c : ℕ) (old new : ById ℕ) (others : ℕ → ById ℕ) (a
     → AreStacked (with_numbers c new others) (without_client_of c all) (filter (λ w. not (w.owner.client == c)) ws)
 left-stacked c old new others all ws are =
     let left = filter (is_of_other c) ws in
-    let each = each-kept (is_of_other c) (λ w. Unit {0}) ws (each-always (λ w. Unit {0}) (λ w. tt) ws) in
+    let each = each-kept (is_of_other c) (λ w. Unit {0}) ws (each-of (λ w. Unit {0}) (λ w. tt) ws) in
     stacked-renumbered (with_numbers c old others) (with_numbers c new others) (without_client_of c all) left
     (All-from_recursion (λ w. with_numbers c new others w.owner.client w.owner.toplevel ≡ with_numbers c old others w.owner.client w.owner.toplevel) left
     (each-map (λ w. (is_of_other c w ≡ true) × Unit {0}) (λ w. with_numbers c new others w.owner.client w.owner.toplevel ≡ with_numbers c old others w.owner.client w.owner.toplevel)

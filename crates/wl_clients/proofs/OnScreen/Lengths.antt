@@ -3,7 +3,6 @@ use Rattle.std.proofs.Common.{◌≡◌, ◌+◌, ℕ, Bool, true, false, cond, 
 use Rattle.std.specs.Prelude.{◌&&◌, find, flat_map, fold}
 use Rattle.std.specs.Option.{option_map}
 use Rattle.std.proofs.lemmas.List.{length-append}
-use Rattle.law_desktop.proofs.Marks.Stacks.{differ}
 use Rattle.wl_scene.proofs.Moved.{moved-trees-are-as-long}
 use Rattle.wl_paint.specs.Damage.{Damaged}
 use Rattle.spec_desktop.specs.Desktop.{Desktop, owned_in}
@@ -15,6 +14,7 @@ use Rattle.wl_surface.specs.Surfaces.{Surfaces}
 use Rattle.law_desktop.specs.Toplevel.{windows_with, windows_with_standing}
 use Rattle.wl_scene.specs.declared.tree_window.TreeWindow.{TreeWindow}
 use Rattle.wl_clients.specs.Runs.{MarksRuns}
+use Rattle.law_desktop.proofs.Truth.{differ}
 
 -- ---- roots
 

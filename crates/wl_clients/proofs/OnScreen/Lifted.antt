@@ -2,7 +2,7 @@
 use Rattle.std.proofs.Common.{◌≡◌, ℕ, Bool, true, false, List, [], ◌∷◌, ◌++◌, Some, refl, ap, ap₂, subst, sym, ◌∙◌}
 use Rattle.std.specs.Prelude.{ℤ, ◌==◌, ◌&&◌, ◌||◌, cond, filter, find, not}
 use Rattle.std.specs.List.{list_any}
-use Rattle.std.proofs.lemmas.Bool.{eqb-true}
+use Rattle.std.proofs.lemmas.Bool.{and_from, eqb-true, false_from_ne_true}
 use Rattle.std.proofs.lemmas.List.{append-nil}
 use Rattle.std.proofs.lemmas.List.Elements.{filter-append}
 use Rattle.std.proofs.lemmas.List.Folds.{list_any-append}
@@ -13,19 +13,22 @@ use Rattle.spec_desktop.specs.Marks.{at_least, has_changed_tree, in_output, is_a
 use Rattle.spec_desktop.specs.Moments.{applied_between, marks_at_least, marks_at_most}
 use Rattle.spec_desktop.specs.Stacked.{all_windows}
 use Rattle.law_desktop.specs.Soundness.{IsSound, has_surface}
-use Rattle.law_desktop.proofs.Isolation.Own.{any-kept}
 use Rattle.law_desktop.proofs.Lists.Standings.{of-client, of-surface}
-use Rattle.law_desktop.proofs.Marks.Stacks.{Each, and-both, and-left, and-right, any-more, differ, each-both, each-map, equal-numbers, same-number, unless}
-use Rattle.law_desktop.proofs.Soundness.Trees.{all-there, each-append, each-flat}
+use Rattle.law_desktop.proofs.Marks.Stacks.{equal-numbers, same-number}
+use Rattle.law_desktop.proofs.Soundness.Trees.{all-there, each-flat}
 use Rattle.law_desktop.proofs.Soundness.Windows.{In, same_root, sound_is_distinct}
-use Rattle.law_desktop.proofs.TreeMarks.Lists.{any-each-more, either-of}
+use Rattle.law_desktop.proofs.Lists.Tests.{any-each-more, any-more}
 use Rattle.law_desktop.proofs.TreeMarks.Records.{records-self}
 use Rattle.law_desktop.proofs.TreeSteps.Owners.{tree-owned}
 use Rattle.law_desktop.specs.StackedWith.{stacked_roots}
 use Rattle.law_desktop.specs.Toplevel.{has_toplevel}
 use Rattle.law_desktop.proofs.RootsOf.Away.{toplevels-away}
 use Rattle.law_desktop.proofs.RootsOf.Kept.{IsRoot, are-roots, popups_in, shown, shown_of, surfaces_in, tree_in}
-use Rattle.law_desktop.proofs.RootsOf.Stacked.{all-found, found-any, found-is}
+use Rattle.law_desktop.proofs.RootsOf.Stacked.{all-found, found-any}
+use Rattle.law_desktop.proofs.Truth.{and-left, and-right, differ, either-of}
+use Rattle.law_desktop.proofs.Lists.Each.{Each, each-append, each-both, each-map}
+use Rattle.law_desktop.proofs.Lists.Left.{any-filtered}
+use Rattle.law_desktop.proofs.Lists.Keys.{found-passes}
 use Rattle.law_windows.specs.Runs.Moves.{IsWhole, lifted}
 use Rattle.law_windows.proofs.OneToplevel.Shifted.{raises-lift-runs}
 use Rattle.wl_clients.proofs.OnScreen.Raised.{least-passing}
@@ -35,7 +38,7 @@ use Rattle.wl_clients.proofs.OnScreen.Standings.{undamaged-still}
 
 -- what is left was there
 any-left : {X : Type 0} (keep p : X → Bool) (xs : List X) → list_any p (filter keep xs) ≡ true → list_any p xs ≡ true
-any-left keep p xs e = any-more (λ x. keep x && p x) p (λ x f. and-right (keep x) (p x) f) xs (sym (any-kept p keep xs) ∙ e)
+any-left keep p xs e = any-more (λ x. keep x && p x) p (λ x f. and-right (keep x) (p x) f) xs (sym (any-filtered p keep xs) ∙ e)
 
 -- of those that pass one test all pass the other, or none does
 module _ {X : Type 0} (p : X → Bool) where
@@ -56,7 +59,7 @@ module _ {X : Type 0} (p : X → Bool) where
     where
       at : (b : Bool) → f x ≡ b → (p x ≡ true → f x ≡ false) → filter p (filter f xs) ≡ [] → filter p (cond b (x ∷ filter f xs) (filter f xs)) ≡ []
       at true e so more =
-          ap (λ a. cond a (x ∷ filter p (filter f xs)) (filter p (filter f xs))) (unless (p x) (λ is. differ (sym (so is) ∙ e))) ∙ more
+          ap (λ a. cond a (x ∷ filter p (filter f xs)) (filter p (filter f xs))) (false_from_ne_true (p x) (λ is. differ (sym (so is) ∙ e))) ∙ more
       at false e so more = more
 
   passed-same : (q : X → Bool) (b : Bool) (xs : List X) → Each (λ x. p x ≡ true → q x ≡ b) xs → filter p (filter (λ x. not (q x)) xs ++ filter q xs) ≡ filter p xs
@@ -109,16 +112,16 @@ module _ (d : Desktop) (sound : IsSound d) (c root : ℕ) where
   no-popup : (t : ℕ) (s : Standing) → find (is_of c t) d.standing ≡ Some s → list_any (has_surface s.surface) (popups_in d c) ≡ false
   no-popup t s found =
       sound.levels c s.surface
-      (subst (λ n. list_any (is_of c n) d.standing ≡ true) (sym (of-surface c t s (found-is (is_of c t) d.standing s found))) (found-any (is_of c t) d.standing s found))
+      (subst (λ n. list_any (is_of c n) d.standing ≡ true) (sym (of-surface c t s (found-passes (is_of c t) d.standing s found))) (found-any (is_of c t) d.standing s found))
 
   one-toplevel : (t u : ℕ) → HasRoot d c root t → HasRoot d c root u → t ≡ u
   one-toplevel t u a b = at (t == u) refl
     where
       its : is_of c t a.standing ≡ true
-      its = found-is (is_of c t) d.standing a.standing a.stands
+      its = found-passes (is_of c t) d.standing a.standing a.stands
 
       others : is_of c u b.standing ≡ true
-      others = found-is (is_of c u) d.standing b.standing b.stands
+      others = found-passes (is_of c u) d.standing b.standing b.stands
 
       at : (same : Bool) → (t == u) ≡ same → t ≡ u
       at true e = eqb-true t u e
@@ -175,8 +178,8 @@ module _ (c t : ℕ) (d : Desktop) (whole : IsWhole d) where
     allowed-its w a e =
         let raised : is_raised (Some (c, t)) w ≡ true =
         sym (ap (λ b. b || is_raised (Some (c, t)) w) (tree-unchanged w a)) ∙ and-right (contains w x y) (has_changed_tree ws (all_windows up) w || is_raised (Some (c, t)) w) e in
-        and-both (contains w x y) (has_toplevel c t w) (and-left (contains w x y) (has_changed_tree ws (all_windows up) w || is_raised (Some (c, t)) w) e)
-        (and-both (c == w.owner.client) (t == w.owner.toplevel)
+        and_from (contains w x y) (has_toplevel c t w) (and-left (contains w x y) (has_changed_tree ws (all_windows up) w || is_raised (Some (c, t)) w) e)
+        (and_from (c == w.owner.client) (t == w.owner.toplevel)
         (equal-numbers c w.owner.client (sym (eqb-true w.owner.client c (and-left (w.owner.client == c) (w.owner.toplevel == t) raised))))
         (equal-numbers t w.owner.toplevel (sym (eqb-true w.owner.toplevel t (and-right (w.owner.client == c) (w.owner.toplevel == t) raised)))))
 
@@ -198,8 +201,8 @@ module _ (c t : ℕ) (d : Desktop) (whole : IsWhole d) where
         (undamaged-still d (raised c t d.standing) (all_windows d)) d.output.width d.output.height
         (sym (ap (λ (vs : List Window). at_least d.output.width d.output.height (applied_between d (lifted c t d)) (all_windows d) vs x y) parts) ∙ least) in
         any-more (λ w. has_toplevel c t w && contains w x y) (λ w. contains w x y && has_toplevel c t w)
-        (λ w both. and-both (contains w x y) (has_toplevel c t w) (and-right (has_toplevel c t w) (contains w x y) both) (and-left (has_toplevel c t w) (contains w x y) both))
-        (all_windows d) (sym (any-kept (λ w. contains w x y) (λ w. has_toplevel c t w) (all_windows d)) ∙ held)
+        (λ w both. and_from (contains w x y) (has_toplevel c t w) (and-right (has_toplevel c t w) (contains w x y) both) (and-left (has_toplevel c t w) (contains w x y) both))
+        (all_windows d) (sym (any-filtered (λ w. contains w x y) (λ w. has_toplevel c t w) (all_windows d)) ∙ held)
 
     abbrev inside : Bool
     inside = in_output d.output.width d.output.height x y
@@ -213,7 +216,7 @@ module _ (c t : ℕ) (d : Desktop) (whole : IsWhole d) where
     raised-within marked =
         either-of ((in_output d.output.width d.output.height x y && list_any is_its (all_windows d)) ≡ true) (marks_at_least d (lifted c t d) x y)
         (in_output d.output.width d.output.height x y && (list_any allowed (all_windows d) || list_any allowed (all_windows (lifted c t d)))) marked
-        (λ least. and-both inside (list_any is_its (all_windows d)) (and-left inside _ least) (passing least))
-        (λ more. and-both inside (list_any is_its (all_windows d)) (and-left inside _ more)
+        (λ least. and_from inside (list_any is_its (all_windows d)) (and-left inside _ least) (passing least))
+        (λ more. and_from inside (list_any is_its (all_windows d)) (and-left inside _ more)
         (either-of (list_any is_its (all_windows d) ≡ true) (list_any allowed (all_windows d)) (list_any allowed (all_windows (lifted c t d))) (and-right inside _ more)
         any-allowed (λ later. any-allowed (from-up allowed later))))

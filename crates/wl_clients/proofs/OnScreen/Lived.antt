@@ -1,8 +1,7 @@
 -- A message of a client that lives on, from the desktop to which it leads.
 use Rattle.std.proofs.Common.{◌≡◌, ℕ, Bool, true, false, Option, None, List, [], ◌∷◌, refl, ap, sym, ◌∙◌, inl, inr}
 use Rattle.std.specs.Prelude.{is_some, pos, ◌||◌}
-use Rattle.std.proofs.lemmas.Bool.{or_left, or_right}
-use Rattle.law_desktop.proofs.Marks.Stacks.{differ, unless}
+use Rattle.std.proofs.lemmas.Bool.{false_from_ne_true, or_left, or_right}
 use Rattle.law_desktop.proofs.Runs.Through.{messages_lead_through}
 use Rattle.wl_scene.specs.StackedAgreement.{AreStacked}
 use Rattle.wl_paint.specs.Damage.{Damaged, has}
@@ -20,6 +19,7 @@ use Rattle.law_desktop.proofs.ShownSurfaces.Laws.{messages_keep_shown}
 use Rattle.law_desktop.specs.Ordered.{Ordered}
 use Rattle.law_desktop.specs.Changes.{HasTrees}
 use Rattle.law_desktop.proofs.RootsOf.Orders.{in-order-has-trees}
+use Rattle.law_desktop.proofs.Truth.{differ}
 use Rattle.law_desktop.specs.Ways.{RouteBy}
 use Rattle.law_desktop.specs.WaysLaws.{TwiceMarks}
 use Rattle.wl_requests.specs.declared.residents.Resident.{Resident as Kept}
@@ -39,7 +39,7 @@ twice-through twice d e path d0 d2 is trees least most x y wide high = (
   λ clean.
       let both = least x y wide high clean in (
         both.0,
-        unless (marks_at_least_through all_windows d path (pos x) (pos y)) (λ marked. differ (sym both.1 ∙ (twice d e path is trees (pos x) (pos y)).0 marked)),
+        false_from_ne_true (marks_at_least_through all_windows d path (pos x) (pos y)) (λ marked. differ (sym both.1 ∙ (twice d e path is trees (pos x) (pos y)).0 marked)),
       ),
   λ marked. at (has d0 x y) refl (most x y wide high marked),
 )

@@ -1,5 +1,7 @@
 -- A message of a client that lives on, from what its parts say.
 use Rattle.std.proofs.Common.{◌≡◌, ℕ, ◌-◌, take, drop, Bool, true, false, Option, None, refl, ap, sym, subst, ◌∙◌, inl, inr, ◌⊎◌}
+use Rattle.std.proofs.lemmas.Bool.{true≢false}
+use Rattle.std.proofs.lemmas.Option.{none-some}
 use Rattle.std.specs.Prelude.{Result, Ok, Err, is_some}
 use Rattle.wl_wire.specs.Wire.{split_of}
 use Rattle.wl_wire.specs.declared.header.Split.{Split}
@@ -18,7 +20,6 @@ use Rattle.spec_desktop.specs.Demand.{Demand, CommitTree, EndToplevel}
 use Rattle.spec_desktop.specs.Demanding.{effect_of_commit, judge_all}
 use Rattle.spec_desktop.specs.Desktop.{Desktop, Resident}
 use Rattle.spec_desktop.specs.LeftOut.{nothing_left_out}
-use Rattle.law_desktop.proofs.Lists.Keys.{differ, none-some}
 use Rattle.law_desktop.specs.Ordered.{OwnsOrdered}
 use Rattle.law_desktop.specs.Done.{touched_by}
 use Rattle.law_desktop.specs.Messages.{IsDemanded}
@@ -85,8 +86,8 @@ top-demanded {A} (Whole object opcode size) c r d old mid n h alive = at (judge_
     at (Ok demand) is told stacks =
         let top = top-commits old r demand n stacks in
         (top.0, is ∙ ap (λ (x : Demand). let j : Result Demand Refusal = Ok x in j) top.1, top.2)
-    at (Err refusal) is told stacks = absurd (differ (ended-by-peer mid told.0 told.2.peer (over-ended told.0 (errs-over refusal (with_rest (drop size r.peer.rest) r.peer) told.0 told.1)) alive))
-top-demanded Bad c r d old mid n h alive = absurd (differ (ended-by-peer mid h.0 h.2.peer (over-ended h.0 (errs-over (display_error InvalidMethod) r.peer h.0 h.1)) alive))
+    at (Err refusal) is told stacks = absurd (true≢false (ended-by-peer mid told.0 told.2.peer (over-ended told.0 (errs-over refusal (with_rest (drop size r.peer.rest) r.peer) told.0 told.1)) alive))
+top-demanded Bad c r d old mid n h alive = absurd (true≢false (ended-by-peer mid h.0 h.2.peer (over-ended h.0 (errs-over (display_error InvalidMethod) r.peer h.0 h.1)) alive))
 top-demanded More c r d old mid n h alive = absurd h
 
 -- ---- what touches no tree leaves the stack as it is
@@ -103,9 +104,9 @@ demanded-stays (Whole object opcode size) c r d old mid stacking h alive none = 
     at : (judged : Result Demand Refusal) → judge_all nothing_left_out r object opcode (take (size - 8) (drop 8 r.peer.rest)) ≡ judged
         → AnswersSo judged c (with_peer (with_rest (drop size r.peer.rest) r.peer) r) d old mid → StacksSo old r judged stacking → stacking ≡ on.Stays
     at (Ok demand) is told stacks = untouched-stays old r demand stacking stacks (none demand is)
-    at (Err refusal) is told stacks = absurd (differ (ended-by-peer mid told.0 told.2.peer (over-ended told.0 (errs-over refusal (with_rest (drop size r.peer.rest) r.peer) told.0 told.1)) alive))
+    at (Err refusal) is told stacks = absurd (true≢false (ended-by-peer mid told.0 told.2.peer (over-ended told.0 (errs-over refusal (with_rest (drop size r.peer.rest) r.peer) told.0 told.1)) alive))
 demanded-stays Bad c r d old mid stacking h alive none =
-    absurd (differ (ended-by-peer mid h.0 h.2.peer (over-ended h.0 (errs-over (display_error InvalidMethod) r.peer h.0 h.1)) alive))
+    absurd (true≢false (ended-by-peer mid h.0 h.2.peer (over-ended h.0 (errs-over (display_error InvalidMethod) r.peer h.0 h.1)) alive))
 demanded-stays More c r d old mid stacking h alive none = absurd h
 
 module _ {A : Type 0} (c : ℕ) (r : Resident) (d : Desktop) (old mid : Kept A) (resident : IsResident old r) (owns : OwnsOrdered r) (asked : Asked) (placing : Placing)
@@ -117,7 +118,7 @@ module _ {A : Type 0} (c : ℕ) (r : Resident) (d : Desktop) (old mid : Kept A) 
     where
       at : (b : Bool) → is_some applied ≡ b → TakesAs b (split_of r.peer.rest) c r d old mid → is_some applied ≡ true
       at true is h = is
-      at false is h = absurd (differ (undone (split_of r.peer.rest) c r d old mid h alive))
+      at false is h = absurd (true≢false (undone (split_of r.peer.rest) c r d old mid h alive))
 
   -- A toplevel that was mapped was by such a request.
   pub top-applied : ((touch : Touch) × IsTouchOfAsked asked old touch) ⊎ ((touch : Touch) → IsTouchOfAsked asked old touch → ⊥)

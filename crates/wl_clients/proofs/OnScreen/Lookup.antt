@@ -3,9 +3,8 @@ use Rattle.std.proofs.Common.{◌≡◌, ℕ, Bool, true, false, cond, Option, S
 use Rattle.std.specs.Prelude.{◌==◌, ◌||◌, find, flat_map, fold, nat_lt}
 use Rattle.std.specs.List.{list_any}
 use Rattle.std.specs.Option.{option_and_then, option_map}
-use Rattle.std.proofs.lemmas.Bool.{eqb-true, or_left, or_right}
-use Rattle.law_desktop.proofs.Lists.Keys.{differ, found-passes}
-use Rattle.law_desktop.proofs.Marks.Stacks.{Each}
+use Rattle.std.proofs.lemmas.Bool.{eqb-true, or_left, or_right, true≢false}
+use Rattle.law_desktop.proofs.Lists.Keys.{found-passes}
 use Rattle.law_desktop.specs.Soundness.{has_surface as is_of_surface}
 use Rattle.spec_desktop.specs.Objects.{ById}
 use Rattle.law_desktop.specs.Renaming.{has_surface}
@@ -29,6 +28,7 @@ use Rattle.law_desktop.specs.Changes.{HasTrees}
 use Rattle.law_desktop.specs.StackedWith.{popup_of}
 use Rattle.law_desktop.proofs.RootsOf.Popped.{IsPopped}
 use Rattle.law_desktop.proofs.RootsOf.Shells.{all-popped-of}
+use Rattle.law_desktop.proofs.Lists.Each.{Each}
 use Rattle.wl_shell.specs.Kept.{Kept as KeptXdg, kept_of}
 use Rattle.wl_shell.specs.Popups.{Popped, by_number, kind_popup, popped_kind, popped_of, popped_role, popup_in, popups_of}
 use Rattle.wl_shell.specs.Shell.{IsPopup, Kind, Popup, RoleObject, Shell, Toplevel, XdgSurface, xdg_at, xdg_of}
@@ -155,7 +155,7 @@ module _ (o : Owned) (surface : ℕ) where
       → ((it : Popup) → popup ≡ Some it → list_any (popped_on surface) ps ≡ true)
       → IsStackedOf o popup (find (is_of_surface surface) (map (stacked_popup o) ps))
   first-found [] each None is known = tt
-  first-found [] each (Some it) is known = differ (sym (known it refl))
+  first-found [] each (Some it) is known = true≢false (sym (known it refl))
   first-found (p ∷ ps) each popup is known = at (popped_on surface p) refl popup is known (first-found ps each.1 popup is)
     where
       at : (b : Bool) → popped_on surface p ≡ b → (popup : Option Popup) → popup_with (xdg_of surface o.shell) ≡ popup

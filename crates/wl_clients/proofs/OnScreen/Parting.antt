@@ -1,11 +1,11 @@
 -- A message that touches a surface, and by which its client ends: what is left, and which windows are told of a toplevel for a moment.
 use Rattle.std.proofs.Common.{arith, ◌≡◌, ℕ, ◌<◌, ◌≤◌, true, false, Option, Some, None, List, [], ◌++◌, refl, ap, sym, subst, ◌∙◌, inl, inr, ◌⊎◌}
+use Rattle.std.proofs.lemmas.Bool.{true≢false}
 use Rattle.std.specs.Prelude.{is_some, length, pos, ◌||◌, vec_capacity}
 use Rattle.std.specs.List.{list_any}
 use Rattle.wl_wire.specs.Wire.{split_of}
 use Rattle.wl_wire.specs.declared.header.Split.{Split}
 use Rattle.wl_wire.specs.declared.header.Split.TheVariants.{Message as Whole, More, Bad}
-use Rattle.law_desktop.proofs.Lists.Keys.{differ}
 use Rattle.law_desktop.specs.Ordered.{Ordered, OwnsOrdered}
 use Rattle.wl_paint.specs.Damage.{Damaged, has}
 use Rattle.spec_desktop.specs.declared.cause.Cause.{Cause}
@@ -99,7 +99,7 @@ module _ {A : Type 0} (laws : MessageLaws) (c : ℕ) (others : ℕ → ById ℕ)
   done some = at applied some stack
     where
       at : (o : Option (Applied A)) → is_some o ≡ true → sitting.IsRestackedIf o c stacking was.scene p.between → IsRestacked c stacking was.scene p.between
-      at None some h = absurd (differ (sym some))
+      at None some h = absurd (true≢false (sym some))
       at (Some applied) some h = h
 
   settled : IsSettled mid.client.ended applied c stacking mid left was.scene new.scene
@@ -117,7 +117,7 @@ module _ {A : Type 0} (laws : MessageLaws) (c : ℕ) (others : ℕ → ById ℕ)
     where
       at : (o : Option (Applied A)) → is_some o ≡ false → IsToldIf o c found mid p.between.standing ready p.is → p.is ≡ ready.spare.is.items
       at None none h = h
-      at (Some applied) none h = absurd (differ none)
+      at (Some applied) none h = absurd (true≢false none)
 
   filled : is_some applied ≡ true → (o : Owned) (owner : Owner) → IsRunHeldIf c mid found p.between.standing o
       → length (run_on c owner o found p.between.standing) ≤ count old.owned.surfaces.states → p.is ≡ run_on c owner o found p.between.standing
@@ -126,7 +126,7 @@ module _ {A : Type 0} (laws : MessageLaws) (c : ℕ) (others : ℕ → ById ℕ)
     where
       at : (x : Option (Applied A)) → is_some x ≡ true → IsToldIf x c found mid p.between.standing ready p.is
           → p.is ≡ ready.spare.is.items ++ run_on c owner o found p.between.standing
-      at None some h = absurd (differ (sym some))
+      at None some h = absurd (true≢false (sym some))
       at (Some applied) is h = h o owner held (fits-so _ _ _ _ (a.room some).run fits)
 
   -- where no toplevel was found none is
@@ -173,7 +173,7 @@ module _ {A : Type 0} (laws : MessageLaws) (c : ℕ) (others : ℕ → ById ℕ)
       where
         first : ((touch : Touch) × IsTouchOfAsked asked old touch) ⊎ ((touch : Touch) → IsTouchOfAsked asked old touch → ⊥) → HoldsFirst (split_of r.peer.rest) c r d old mid
         first (inl t) = a.holds t.0 t.1 some its-resident its-owns its-placing
-        first (inr never) = absurd (differ (sym some ∙ ap (λ (o : Option (Applied A)). is_some o) (a.nothing never)))
+        first (inr never) = absurd (true≢false (sym some ∙ ap (λ (o : Option (Applied A)). is_some o) (a.nothing never)))
 
     -- those that the toplevel has there
     pub tells-then : IsTurned c d (seat.named_by old) p.is s.own

@@ -2,10 +2,10 @@
 -- desktop.
 use Rattle.std.proofs.Common.{◌≡◌, ℕ, true, Option, Some, None, List, [], ◌∷◌, ap, ap₂, sym, subst, ◌∙◌}
 use Rattle.std.specs.Prelude.{ℤ, ◌==◌, IfSome, pos}
-use Rattle.std.proofs.lemmas.Bool.{or_left, or_right}
+use Rattle.std.proofs.lemmas.Bool.{and_from, or_left, or_right}
 use Rattle.std.specs.List.{list_any}
 use Rattle.std.specs.Option.{option_and_then}
-use Rattle.law_desktop.proofs.Marks.Stacks.{and-both, equal-numbers, same-number}
+use Rattle.law_desktop.proofs.Marks.Stacks.{equal-numbers, same-number}
 use Rattle.law_desktop.specs.Renaming.{has_surface}
 use Rattle.law_desktop.specs.NamedPopups.{AreStandingAs}
 use Rattle.law_desktop.proofs.PopupsByNames.Rooted.{corners-named, standing-named}
@@ -61,7 +61,7 @@ standing-as nums c f o named (k ∷ ks) (s ∷ ss) there is = (
     surface = λ own. (
       named s.surface k.surface (subst (λ (n : ℕ). nums n s.surface ≡ Some k.surface) own is.0.surface),
       there s.surface
-          (or_left (is_of c s.surface s) (list_any (is_of c s.surface) ss) (and-both (s.client == c) (s.surface == s.surface) (equal-numbers s.client c own) (same-number s.surface))),
+          (or_left (is_of c s.surface s) (list_any (is_of c s.surface) ss) (and_from (s.client == c) (s.surface == s.surface) (equal-numbers s.client c own) (same-number s.surface))),
     );
   },
   standing-as nums c f o named ks ss (λ surface has. there surface (or_right (is_of c surface s) (list_any (is_of c surface) ss) has)) is.1,

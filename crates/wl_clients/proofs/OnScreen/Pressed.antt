@@ -1,7 +1,7 @@
 -- What a press marks that raises a toplevel, and then dismisses the popups of a client that holds a grab.
 use Rattle.std.proofs.Common.{◌≡◌, ℕ, ◌<◌, List, [], Bool, true, false, Option, Some, None, refl, ap, subst, sym, ◌∙◌, inl, inr}
 use Rattle.std.specs.Prelude.{ℤ, ◌⊎◌, ◌||◌, if◌then◌else◌, pos}
-use Rattle.std.proofs.lemmas.Bool.{or_left, or_right}
+use Rattle.std.proofs.lemmas.Bool.{false_from_ne_true, or_left, or_right}
 use Rattle.wl_paint.specs.Damage.{Damaged, has}
 use Rattle.wl_scene.specs.Marking.{IsAsLarge}
 use Rattle.spec_desktop.specs.Pointer.{Target}
@@ -13,9 +13,8 @@ use Rattle.spec_desktop.specs.Replies.{popups_done}
 use Rattle.spec_desktop.specs.Settling.{Midstep, Tells, without_grabs}
 use Rattle.spec_desktop.specs.Stacked.{all_windows}
 use Rattle.spec_desktop.specs.Through.{is_topmost}
-use Rattle.law_desktop.proofs.Marks.Stacks.{differ, or-left, or-right, unless}
 use Rattle.law_desktop.proofs.Soundness.Windows.{sound_is_distinct}
-use Rattle.law_desktop.proofs.TreeMarks.Lists.{either-of}
+use Rattle.law_desktop.proofs.Truth.{differ, either-of, or-left, or-right}
 use Rattle.law_desktop.specs.Shown.{ShownStand}
 use Rattle.law_desktop.specs.Ordered.{Ordered}
 use Rattle.law_windows.specs.Runs.Moves.{IsWhole, lifted}
@@ -72,7 +71,7 @@ module _ (still : NothingMarked) (d e : Desktop) (whole : IsWhole d) (x y : ℤ)
   least None goes first second = second
   least (Some t) (inl same) first second = ap (λ (m : Desktop). marks_at_least d m x y) same ∙ first
   least (Some t) (inr (c, goes)) first second =
-      unless (marks_at_least d e x y)
+      false_from_ne_true (marks_at_least d e x y)
       (λ marked. differ
       (sym (or-none (marks_at_least d (lifted t.client t.surface d) x y) (marks_at_least (lifted t.client t.surface d) e x y) first second)
       ∙ press-marks-at-least (λ p. p.popup.has_grab) c t.client t.surface d e whole goes x y marked))

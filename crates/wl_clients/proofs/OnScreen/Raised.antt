@@ -2,17 +2,19 @@
 use Rattle.std.proofs.Common.{◌≡◌, Bool, true, false, List, [], ◌∷◌, ◌++◌, cond, refl, ap, sym, ◌∙◌}
 use Rattle.std.specs.Prelude.{ℕ, ℤ, ◌&&◌, ◌||◌, if◌then◌else◌, filter, not, Option}
 use Rattle.std.specs.List.{list_any}
-use Rattle.std.proofs.lemmas.Bool.{or_left, or_right}
+use Rattle.std.proofs.lemmas.Bool.{and_from, or_left, or_right}
 use Rattle.std.proofs.lemmas.List.Folds.{list_any-append}
 use Rattle.spec_desktop.specs.Windows.{Window, contains}
 use Rattle.spec_desktop.specs.Marks.{Applied, AreDistinct, at_least, at_most, has_changed_tree, has_moved_past, has_same_record, in_output, is_allowed_at, is_before, is_changed_at, is_damaged_at}
 use Rattle.spec_desktop.specs.Marks.{is_kept_in, is_raised, is_restacked_at, is_same_surface, shared_by}
-use Rattle.law_desktop.proofs.Isolation.Own.{any-kept}
-use Rattle.law_desktop.proofs.Marks.Stacks.{Each, and-both, and-left, and-right, any-more, any-surface, differ, each-map}
+use Rattle.law_desktop.proofs.Marks.Stacks.{any-surface}
 use Rattle.law_desktop.specs.TreeMarksLaws.{AreUndamaged, is_in_any}
-use Rattle.law_desktop.proofs.TreeMarks.Lists.{any-each-more, any-of, either-of}
+use Rattle.law_desktop.proofs.Lists.Tests.{any-each-more, any-more, any-of}
 use Rattle.law_desktop.proofs.TreeMarks.Records.{before-in-first, each-kept, one-before, same-self}
 use Rattle.law_desktop.proofs.TreeMarks.Damage.{none-changed, none-damaged}
+use Rattle.law_desktop.proofs.Truth.{and-left, and-right, differ, either-of}
+use Rattle.law_desktop.proofs.Lists.Each.{Each, each-map}
+use Rattle.law_desktop.proofs.Lists.Left.{any-filtered}
 
 -- ---- those that pass behind the others
 
@@ -41,7 +43,7 @@ any-parts p q xs = list_any-append p (filter (λ x. not (q x)) xs) (filter q xs)
 
 -- what is left was there
 any-left : {X : Type 0} (keep p : X → Bool) (xs : List X) → list_any p (filter keep xs) ≡ true → list_any p xs ≡ true
-any-left keep p xs e = any-more (λ x. keep x && p x) p (λ x f. and-right (keep x) (p x) f) xs (sym (any-kept p keep xs) ∙ e)
+any-left keep p xs e = any-more (λ x. keep x && p x) p (λ x f. and-right (keep x) (p x) f) xs (sym (any-filtered p keep xs) ∙ e)
 
 -- ---- the order of windows
 
@@ -164,10 +166,10 @@ module _ (its : Window → Bool) (old : List Window) (x y : ℤ) where
       → in_output width height x y ≡ true → Held → at_most width height applied raised old new x y ≡ true
   most-passing raised so applied width height inside held =
       or_right (at_least width height applied old new x y) _
-      (and-both (in_output width height x y) _ inside
+      (and_from (in_output width height x y) _ inside
       (or_left (list_any (is_allowed_at old new raised x y) old) (list_any (is_allowed_at old new raised x y) new)
       (any-each-more (λ w. its w && contains w x y) (is_allowed_at old new raised x y) (λ w. its w ≡ true → is_raised raised w ≡ true)
       (λ w is e.
-      and-both (contains w x y) (has_changed_tree old new w || is_raised raised w) (and-right (its w) (contains w x y) e)
+      and_from (contains w x y) (has_changed_tree old new w || is_raised raised w) (and-right (its w) (contains w x y) e)
       (or_right (has_changed_tree old new w) (is_raised raised w) (is (and-left (its w) (contains w x y) e)))) old so
-      (sym (any-kept (λ w. contains w x y) its old) ∙ held))))
+      (sym (any-filtered (λ w. contains w x y) its old) ∙ held))))

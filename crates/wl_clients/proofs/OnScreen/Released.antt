@@ -3,9 +3,10 @@ use Rattle.std.proofs.Common.{◌≡◌, ◌≤◌, ◌<◌, ℕ, Bool, true, fa
 use Rattle.std.specs.Prelude.{◌==◌, ◌&&◌, ◌||◌, filter, find, not, pos}
 use Rattle.std.specs.List.{list_any}
 use Rattle.std.specs.Option.{option_map}
-use Rattle.std.proofs.lemmas.Bool.{eqb-true}
-use Rattle.law_desktop.proofs.Lists.Keys.{differ, found-any, found-passes}
-use Rattle.law_desktop.proofs.Marks.Stacks.{and-both, and-left, and-right, equal-numbers}
+use Rattle.std.proofs.lemmas.Bool.{and_from, eqb-true, true≢false}
+use Rattle.law_desktop.proofs.Lists.Keys.{found-any, found-passes}
+use Rattle.law_desktop.proofs.Marks.Stacks.{equal-numbers}
+use Rattle.law_desktop.proofs.Truth.{and-left, and-right}
 use Rattle.wl_scene.specs.Marking.{IsAsLarge}
 use Rattle.wl_paint.specs.Damage.{Damaged, has}
 use Rattle.wl_scene.specs.Repaint.{window_has}
@@ -90,7 +91,7 @@ no-more k (x ∷ xs) = at (k x) (no-more k xs)
     at false le = omega (arith, le)
 
 fewer-left : {X : Type 0} (t : X → Bool) (xs : List X) → list_any t xs ≡ true → length (filter (λ x. not (t x)) xs) < length xs
-fewer-left t [] some = absurd (differ (sym some))
+fewer-left t [] some = absurd (true≢false (sym some))
 fewer-left t (x ∷ xs) some = at (t x) some (fewer-left t xs) (no-more (λ x. not (t x)) xs)
   where
     at : (b : Bool) → (b || list_any t xs) ≡ true → (list_any t xs ≡ true → length (filter (λ x. not (t x)) xs) < length xs)
@@ -118,12 +119,12 @@ module _ (c : ℕ) (book : Book) (all : List Stacked) (s : Stacked) (found : fin
 
   own : is_rooted c root s ≡ true
   own =
-      and-both (s.client == c) (s.window.root == root) (and-left (s.client == c) (is_dismissed_kept book s.window.root) its)
+      and_from (s.client == c) (s.window.root == root) (and-left (s.client == c) (is_dismissed_kept book s.window.root) its)
       (equal-numbers s.window.root root named)
 
   within : (v : Stacked) → is_rooted c root v ≡ true → is_gone c book v ≡ true
   within v is =
-      and-both (v.client == c) (is_dismissed_kept book v.window.root) (and-left (v.client == c) (v.window.root == root) is)
+      and_from (v.client == c) (is_dismissed_kept book v.window.root) (and-left (v.client == c) (v.window.root == root) is)
       (ap (is_dismissed_kept book) (eqb-true v.window.root root (and-right (v.client == c) (v.window.root == root) is) ∙ sym named)
       ∙ and-right (s.client == c) (is_dismissed_kept book s.window.root) its)
 

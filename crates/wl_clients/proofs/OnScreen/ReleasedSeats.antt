@@ -4,10 +4,9 @@ use Rattle.std.proofs.Common.{◌≡◌, ◌<◌, ℕ, Bool, true, false, cond, 
 use Rattle.std.specs.Prelude.{ℤ, ◌+◌, ◌==◌, ◌&&◌, ◌||◌, filter, not, pos}
 use Rattle.std.specs.List.{list_any}
 use Rattle.std.specs.Option.{option_and_then}
-use Rattle.std.proofs.lemmas.Bool.{eqb-true}
+use Rattle.std.proofs.lemmas.Bool.{eqb-true, true≢false}
 use Rattle.wl_client.specs.View.{ClientView, opened}
 use Rattle.wl_proto.specs.declared.interface.Interface.TheVariants.{WlSurface}
-use Rattle.law_desktop.proofs.Lists.Keys.{differ}
 use Rattle.wl_scene.specs.StackedAgreement.{AreStacked, IsStacked}
 use Rattle.wl_scene.proofs.Standing.{any-same}
 use Rattle.law_desktop.specs.Ordered.{Ordered, OwnsOrdered}
@@ -205,7 +204,7 @@ module _ {A : Type 0} (laws : ReleaseLaws) (c : ℕ) (others : ℕ → ById ℕ)
       frames = framed;
       subsurfaces = subst (λ (held : Held). AreOfSurfaces new.subsurfaces (targets_in WlSurface held) r.subsurfaces) (sym objects)
           (subst (λ (ids : List (Option ℕ)). AreOfSurfaces ids (targets_in WlSurface old.client.objects) r.subsurfaces) (sym subsurfaces) before.seat.subsurfaces);
-      ended = λ some. absurd (differ (none-is released.0.status (stays.0 ∙ alive) some));
+      ended = λ some. absurd (true≢false (none-is released.0.status (stays.0 ∙ alive) some));
     }
 
     seated : IsSeated c others base (opened_kept new) (record { scene = was.scene; windows = filter (is_left c new.owned.shell) was.windows }) (with_released c released.0 r d)

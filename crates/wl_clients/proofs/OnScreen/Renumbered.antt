@@ -3,10 +3,10 @@ use Rattle.std.proofs.Common.{◌≡◌, ℕ, Bool, true, false, Option, Some, N
 use Rattle.std.specs.Prelude.{◌==◌}
 use Rattle.std.specs.List.{list_any}
 use Rattle.std.specs.Option.{option_map}
-use Rattle.std.proofs.lemmas.Bool.{or_left, or_right}
+use Rattle.std.proofs.lemmas.Bool.{and_from, or_left, or_right}
 use Rattle.std.proofs.lemmas.List.Elements.{All-from_recursion}
-use Rattle.law_desktop.proofs.Marks.Stacks.{Each, and-both, differ, each-both, each-map, same-number}
-use Rattle.law_desktop.proofs.Soundness.Trees.{each-append, each-flat}
+use Rattle.law_desktop.proofs.Marks.Stacks.{same-number}
+use Rattle.law_desktop.proofs.Soundness.Trees.{each-flat}
 use Rattle.spec_desktop.specs.Objects.{ById}
 use Rattle.wl_surface.specs.State.{History}
 use Rattle.wl_surface.specs.Surface.{Surface}
@@ -26,6 +26,8 @@ use Rattle.wl_scene.proofs.Standing.{stacked-renumbered}
 use Rattle.law_desktop.specs.Changes.{HasTrees}
 use Rattle.law_desktop.specs.StackedWith.{stacked_roots}
 use Rattle.law_desktop.proofs.RootsOf.Kept.{IsRoot, are-roots, shown, shown_of, surfaces_in, tree_in}
+use Rattle.law_desktop.proofs.Truth.{differ}
+use Rattle.law_desktop.proofs.Lists.Each.{Each, each-append, each-both, each-map}
 
 -- ---- the surfaces of windows
 
@@ -101,7 +103,7 @@ windows-there d trees = each d.standing (λ a b here. here)
         (top-there d trees s
         (stand s.client s.surface
         (or_left (is_of s.client s.surface s) (list_any (is_of s.client s.surface) ss)
-        (and-both (s.client == s.client) (s.surface == s.surface) (same-number s.client) (same-number s.surface))))))
+        (and_from (s.client == s.client) (s.surface == s.surface) (same-number s.client) (same-number s.surface))))))
         (stacked_roots d s) (are-roots d s)))
         (each ss (λ a b here. stand a b (or_right (is_of a b s) (list_any (is_of a b) ss) here)))
 

@@ -1,5 +1,6 @@
 -- What a message that is done does to the stack of toplevels, and what is kept of the windows after it.
 use Rattle.std.proofs.Common.{arith, ◌≡◌, ℕ, ◌==◌, Bool, true, false, cond, Option, Some, None, List, [], ◌∷◌, ◌++◌, map, refl, ap, sym, subst, ◌∙◌, inl, inr, ◌⊎◌}
+use Rattle.std.proofs.lemmas.Bool.{true≢false}
 use Rattle.std.specs.Prelude.{find, is_some, not, ◌&&◌, ◌||◌}
 use Rattle.std.specs.List.{list_any}
 use Rattle.spec_desktop.specs.Objects.{ById}
@@ -18,7 +19,7 @@ use Rattle.spec_desktop.specs.Demanding.{effect_of_commit}
 use Rattle.spec_desktop.specs.Desktop.{Desktop, Resident, owned_in}
 use Rattle.spec_desktop.specs.Stacked.{all_windows}
 use Rattle.spec_desktop.specs.Step.{with_peer}
-use Rattle.law_desktop.proofs.Lists.Keys.{differ, found-by}
+use Rattle.law_desktop.proofs.Lists.Keys.{found-by}
 use Rattle.law_desktop.proofs.Marks.Stacks.{equal-numbers, same-number}
 use Rattle.law_desktop.specs.Laws.{AreApart}
 use Rattle.law_desktop.specs.TreeStepsLaws.{IsRootOf}
@@ -74,7 +75,7 @@ unpopped (Some x) is = at x.role is
   where
     kind : (k : Kind) → is_toplevel_kind k ≡ true → kind_popup k ≡ None
     kind Toplevel e = refl
-    kind (IsPopup popup) e = absurd (differ (sym e))
+    kind (IsPopup popup) e = absurd (true≢false (sym e))
 
     at : (o : Option RoleObject) → is_toplevel (Some (record x { role = o })) ≡ true → popup_in o ≡ None
     at None e = refl
@@ -99,7 +100,7 @@ its-toplevel c root d trees is =
     (finds-toplevels c root d trees)
 
 some-of : (x : Option Xdg) → is_toplevel x ≡ true → is_some x ≡ true
-some-of None is = absurd (differ (sym is))
+some-of None is = absurd (true≢false (sym is))
 some-of (Some x) is = refl
 
 pub its-root : (c id root : ℕ) (d : Desktop) → HasTrees d → is_toplevel (xdg_of id (owned_in d c).shell) ≡ true → IsRootOf (owned_in d c).surfaces id root → root ≡ id

@@ -2,12 +2,12 @@
 use Rattle.std.proofs.Common.{◌≡◌, ℕ, zero, suc, ◌<◌, ◌==◌, Bool, true, false, cond, Some, List, [], ◌∷◌, ◌++◌, length, map, refl, ap, sym, subst, ◌∙◌, arith}
 use Rattle.std.specs.Prelude.{ℤ, pos, slice_index_or, ◌||◌, filter, not}
 use Rattle.std.specs.List.{list_any}
-use Rattle.std.proofs.lemmas.Bool.{eqb-true, or_left, or_right}
+use Rattle.std.proofs.lemmas.Bool.{and_from, eqb-true, false_from_ne_true, or_left, or_right}
 use Rattle.std.proofs.lemmas.Int.{ints}
 use Rattle.wl_proto.specs.declared.interface.Interface.TheVariants.{WlSurface}
 use Rattle.law_desktop.specs.Laws.{AreApart}
 use Rattle.law_desktop.proofs.Lists.Standings.{of-client, of-surface}
-use Rattle.law_desktop.proofs.Marks.Stacks.{and-both, and-left, and-right, differ, equal-numbers, or-left, or-right, unless}
+use Rattle.law_desktop.proofs.Marks.Stacks.{equal-numbers}
 use Rattle.law_desktop.proofs.Soundness.Windows.{sound_is_distinct}
 use Rattle.wl_paint.specs.Damage.{Damaged, has}
 use Rattle.spec_desktop.specs.Objects.{ById}
@@ -23,7 +23,8 @@ use Rattle.spec_desktop.specs.Moments.{applied_between, marks_at_least, marks_at
 use Rattle.spec_desktop.specs.Stacked.{all_windows}
 use Rattle.spec_desktop.specs.Through.{is_topmost}
 use Rattle.law_desktop.specs.TreeMarksLaws.{is_in_any}
-use Rattle.law_desktop.proofs.TreeSteps.Reading.{each-always}
+use Rattle.law_desktop.proofs.Truth.{and-left, and-right, differ, or-left, or-right}
+use Rattle.law_desktop.proofs.Lists.Each.{each-of}
 use Rattle.law_desktop.specs.Ordered.{Ordered}
 use Rattle.law_windows.specs.Runs.Moves.{IsWhole}
 use Rattle.law_windows.proofs.OneToplevel.Shifted.{raises-lift-runs, stays-whole}
@@ -201,7 +202,7 @@ module _ {A : Type 0} (c : ℕ) (others : ℕ → ById ℕ) (base d : Desktop) (
 
   its-raised : (w : Window) → its w ≡ true → is_raised (Some (c, surface)) w ≡ true
   its-raised w is =
-      and-both (w.owner.client == c) (w.owner.toplevel == surface)
+      and_from (w.owner.client == c) (w.owner.toplevel == surface)
       (equal-numbers w.owner.client c (sym (eqb-true c w.owner.client (and-left (c == w.owner.client) (surface == w.owner.toplevel) is))))
       (equal-numbers w.owner.toplevel surface (sym (eqb-true surface w.owner.toplevel (and-right (c == w.owner.client) (surface == w.owner.toplevel) is))))
 
@@ -215,7 +216,7 @@ module _ {A : Type 0} (c : ℕ) (others : ℕ → ById ℕ) (base d : Desktop) (
     raised-least x y wide high clean =
         let free = sym (points x y wide high) ∙ clean in (
           or-left (has d0 x y) _ free,
-          unless (marks_at_least d e (pos x) (pos y))
+          false_from_ne_true (marks_at_least d e (pos x) (pos y))
               (λ marked.
               differ
               (sym (or-right (has d0 x y) _ free)
@@ -234,7 +235,7 @@ module _ {A : Type 0} (c : ℕ) (others : ℕ → ById ℕ) (base d : Desktop) (
         at false clean =
             or_right (has d0 x y) _
             (ap (λ (ws : List Window). at_most d.output.width d.output.height (applied_between d e) (Some (c, surface)) (all_windows d) ws (pos x) (pos y)) parts
-            ∙ most-passing its (all_windows d) (pos x) (pos y) (Some (c, surface)) (each-always (λ w. its w ≡ true → is_raised (Some (c, surface)) w ≡ true) its-raised (all_windows d))
+            ∙ most-passing its (all_windows d) (pos x) (pos y) (Some (c, surface)) (each-of (λ w. its w ≡ true → is_raised (Some (c, surface)) w ≡ true) its-raised (all_windows d))
             (applied_between d e) d.output.width d.output.height (inside x y wide high)
             (sym (held (pos x) (pos y))
             ∙ (sym (ap (λ b. b || list_any (window_has (pos x) (pos y)) (run_kept c (Some k) pile.windows)) clean) ∙ (sym (points x y wide high) ∙ marked))))

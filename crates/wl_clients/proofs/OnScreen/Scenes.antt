@@ -2,13 +2,13 @@
 use Rattle.std.proofs.Common.{◌≡◌, ℕ, ◌+◌, List, [], ◌∷◌, ◌++◌, Bool, true, false, cond, Some, refl, ap, sym, subst, ◌∙◌, arith}
 use Rattle.std.specs.Prelude.{◌==◌, ◌&&◌, ◌||◌, ◌%◌, not, filter}
 use Rattle.std.specs.List.{list_any}
-use Rattle.std.proofs.lemmas.Bool.{eqb-true}
+use Rattle.std.proofs.lemmas.Bool.{and_from, eqb-true, true≢false}
 use Rattle.spec_desktop.specs.Objects.{ById}
 use Rattle.spec_desktop.specs.Stacking.{Standing, is_of, with_mapped, without_client, without_surface_of}
 use Rattle.spec_desktop.specs.Windows.{mapping_place}
 use Rattle.wl_clients.specs.Agreement.{IsStack, IsStanding, with_numbers}
-use Rattle.law_desktop.proofs.Lists.Keys.{differ}
-use Rattle.law_desktop.proofs.Marks.Stacks.{and-both, equal-numbers, or-left, or-right, same-number}
+use Rattle.law_desktop.proofs.Marks.Stacks.{equal-numbers, same-number}
+use Rattle.law_desktop.proofs.Truth.{or-left, or-right}
 
 -- ---- other numbers
 
@@ -22,7 +22,7 @@ or-true false b h = h
 
 first-has : (s : Standing) (ss : List Standing) → Has (s ∷ ss) s.client s.surface
 first-has s ss =
-    rw (and-both (s.client == s.client) (s.surface == s.surface) (same-number s.client) (same-number s.surface)) refl
+    rw (and_from (s.client == s.client) (s.surface == s.surface) (same-number s.client) (same-number s.surface)) refl
 
 -- the numbers of the surfaces that stand are all that counts
 pub stack-by : (numbers others : ℕ → ById ℕ) (ks ss : List Standing) → ((c surface n : ℕ) → Has ss c surface → numbers c surface ≡ Some n → others c surface ≡ Some n) → IsStack numbers ks ss
@@ -46,8 +46,8 @@ stack-left numbers p q same (k ∷ ks) (s ∷ ss) is = at (p k) (q s) (same k s 
     at : (a b : Bool) → a ≡ b → IsStack numbers (filter p ks) (filter q ss) → IsStack numbers (cond a (k ∷ filter p ks) (filter p ks)) (cond b (s ∷ filter q ss) (filter q ss))
     at true true e rest = (is.0, rest)
     at false false e rest = rest
-    at true false e rest = absurd (differ e)
-    at false true e rest = absurd (differ (sym e))
+    at true false e rest = absurd (true≢false e)
+    at false true e rest = absurd (true≢false (sym e))
 stack-left numbers p q same [] (s ∷ ss) is = absurd is
 stack-left numbers p q same (k ∷ ks) [] is = absurd is
 
@@ -58,7 +58,7 @@ stack-without numbers c ks ss is =
 
 same-test : (a b : Bool) → (a ≡ true → b ≡ true) → (b ≡ true → a ≡ true) → a ≡ b
 same-test true b f g = sym (f refl)
-same-test false true f g = absurd (differ (sym (g refl)))
+same-test false true f g = absurd (true≢false (sym (g refl)))
 same-test false false f g = refl
 
 -- a client's number of a surface is that of no other of its surfaces
@@ -154,5 +154,5 @@ none-standing c (s ∷ ss) none = at (s.client == c) refl (none-standing c ss (�
   where
     at : (b : Bool) → (s.client == c) ≡ b → list_any (λ s. s.client == c) ss ≡ false → (b || list_any (λ s. s.client == c) ss) ≡ false
     at true e rest =
-        absurd (differ (sym (and-both (s.client == c) (s.surface == s.surface) e (same-number s.surface)) ∙ or-left (is_of c s.surface s) (list_any (is_of c s.surface) ss) (none s.surface)))
+        absurd (true≢false (sym (and_from (s.client == c) (s.surface == s.surface) e (same-number s.surface)) ∙ or-left (is_of c s.surface s) (list_any (is_of c s.surface) ss) (none s.surface)))
     at false e rest = rest

@@ -1,8 +1,8 @@
 -- A client whose toplevels stand by surfaces that it has is at its seat.
 use Rattle.std.proofs.Common.{◌≡◌, ℕ, List, Option, Some, None, refl, ap, sym, ◌∙◌, true}
+use Rattle.std.proofs.lemmas.Bool.{true≢false}
 use Rattle.std.specs.Prelude.{is_some}
 use Rattle.std.specs.Option.{option_and_then}
-use Rattle.law_desktop.proofs.Lists.Keys.{differ}
 use Rattle.wl_scene.specs.StackedAgreement.{AreStacked}
 use Rattle.law_desktop.specs.Shown.{ShownStand, is_mapped_toplevel}
 use Rattle.spec_desktop.specs.Objects.{ById}
@@ -25,7 +25,7 @@ use Rattle.wl_shell.specs.Shell.{XdgSurface as Xdg, xdg_of}
 known-by : {N : Type 0} (kept : ℕ → Option N) (n : Option ℕ) (x : Option Xdg) (is_kept : Option N → Option Xdg → Type 0) → is_kept (option_and_then kept n) x → ((y : Xdg) → is_kept None (Some y) → ⊥)
     → is_mapped_toplevel x ≡ true → is_some n ≡ true
 known-by kept (Some n) x is_kept h none mapped = refl
-known-by kept None None is_kept h none mapped = absurd (differ (sym mapped))
+known-by kept None None is_kept h none mapped = absurd (true≢false (sym mapped))
 known-by kept None (Some y) is_kept h none mapped = absurd (none y h)
 
 -- the toplevels of a client that stand are those of its surfaces

@@ -1,9 +1,10 @@
 -- What is known before a message that touches a surface, from what was prepared for it.
 use Rattle.std.proofs.Common.{◌≡◌, ℕ, Bool, true, false, Option, Some, None, List, [], refl, sym, subst, ◌∙◌}
+use Rattle.std.proofs.lemmas.Bool.{true≢false}
+use Rattle.std.proofs.lemmas.Option.{none-some, same_Some}
 use Rattle.std.specs.Prelude.{Result, Ok, Err, OnOk, is_ok, is_some}
 use Rattle.std.specs.declared.alloc.AllocError.{AllocError}
 use Rattle.wl_links.specs.Family.{links_in, parents_of, root_by}
-use Rattle.law_desktop.proofs.Lists.Keys.{differ, none-some, some-same}
 use Rattle.spec_desktop.specs.Objects.{ById}
 use Rattle.spec_desktop.specs.Desktop.{Desktop, Resident, Subsurface}
 use Rattle.law_desktop.specs.Subsurfaces.{AreOfSurfaces}
@@ -35,7 +36,7 @@ use Rattle.wl_clients.proofs.OnScreen.Given.{HoldsGiven, TakesGiven, TakesGivenA
 
 prepared-so : (result : Result (Unit {0}) AllocError) (P : Type 0) → is_ok result ≡ true → OnOk result P → P
 prepared-so (Ok u) P ok h = h
-prepared-so (Err e) P ok h = absurd (differ (sym ok))
+prepared-so (Err e) P ok h = absurd (true≢false (sym ok))
 
 pub asks-so : {A : Type 0} (c : ℕ) (r : Resident) (d : Desktop) (v mid : Kept A) (b : Bool) (was ready : Screen A)
     (asked : Asked) (placing : Placing) (surface root : ℕ) (found : Option ℕ) (stacking : Stacking)
@@ -58,7 +59,7 @@ asks-so c r d v mid b was ready asked placing surface root found stacking applie
       lives = lives;
       asks = asks;
       by = by;
-      root_is = sym (some-same (root_by 16 (parents_of (links_in v.owned.surfaces.family)) surface) root root_is);
+      root_is = sym (same_Some (root_by 16 (parents_of (links_in v.owned.surfaces.family)) surface) root root_is);
       top = top;
       found_is = found_is;
       placed = placed;
@@ -74,12 +75,12 @@ asks-so c r d v mid b was ready asked placing surface root found stacking applie
     }
 
 pub ended-so : {X : Type 0} (o : Option X) → is_some o ≡ true → (x : X) × (o ≡ Some x)
-ended-so None some = absurd (differ (sym some))
+ended-so None some = absurd (true≢false (sym some))
 ended-so (Some x) some = (x, refl)
 
 pub lives-so : {X : Type 0} (o : Option X) → is_some o ≡ false → o ≡ None
 lives-so None none = refl
-lives-so (Some x) none = absurd (differ none)
+lives-so (Some x) none = absurd (true≢false none)
 
 -- ---- a wl_pointer is asked for by a message that touches no tree
 

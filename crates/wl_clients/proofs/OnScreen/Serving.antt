@@ -4,6 +4,7 @@ use Rattle.std.proofs.Common.{arith, ◌≡◌, ℕ, ◌<◌, ◌≤◌, Bool, t
 use Rattle.std.specs.Prelude.{pos, ◌||◌, Result, Ok, Err, is_some, length}
 use Rattle.std.specs.List.{list_any}
 use Rattle.std.proofs.lemmas.List.{length-map}
+use Rattle.std.proofs.lemmas.Bool.{true≢false}
 use Rattle.wl_wire.specs.declared.header.Split.{Split}
 use Rattle.wl_wire.specs.declared.header.Split.TheVariants.{Message as Whole, More, Bad}
 use Rattle.spec_desktop.specs.declared.refusals.ErrorCode.TheVariants.{InvalidMethod}
@@ -21,7 +22,6 @@ use Rattle.spec_desktop.specs.LeftOut.{nothing_left_out}
 use Rattle.spec_desktop.specs.Marks.{in_output}
 use Rattle.spec_desktop.specs.Stacked.{all_windows}
 use Rattle.spec_desktop.specs.Step.{with_peer}
-use Rattle.law_desktop.proofs.Lists.Keys.{differ}
 use Rattle.wl_scene.specs.StackedAgreement.{AreStacked}
 use Rattle.law_desktop.specs.Renaming.{has_surface}
 use Rattle.law_desktop.specs.NamedPopups.{renamed_owned}
@@ -307,7 +307,7 @@ module _ {A : Type 0} (between : MarksByTreesBetween) (c : ℕ) (others : ℕ �
         where
           out : ((n : ℕ) × (stacking ≡ on.Out n)) ⊎ ((n : ℕ) → stacking ≡ on.Out n → ⊥) → t.changes.step.is ≡ []
           out (inl o) = none-left t o.0 o.1
-          out (inr never) = absurd (differ (sym (told.stays never).0 ∙ none))
+          out (inr never) = absurd (true≢false (sym (told.stays never).0 ∙ none))
 
       at : Turns c (nums c) f told.list own_root found d e
           → (StaysPainted d e × (is ≡ [])) ⊎ ((toplevel : ℕ) × (step : ChangesToplevel c toplevel d e) × (is ≡ map (told_by f) step.is))

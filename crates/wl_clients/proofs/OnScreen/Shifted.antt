@@ -9,7 +9,6 @@ use Rattle.wl_links.specs.Family.{Tied}
 use Rattle.law_desktop.specs.Standing.{HasMappedToplevel, IsMappedToplevel}
 use Rattle.law_desktop.proofs.Lists.Keys.{found-any, found-passes}
 use Rattle.law_desktop.proofs.Lists.Standings.{of-client, of-surface}
-use Rattle.law_desktop.proofs.Marks.Stacks.{Each, and-left, differ, each-map}
 use Rattle.wl_scene.specs.StackedAgreement.{AreNumberedBy, AreNumberedOnce, AreStacked, told_by}
 use Rattle.wl_scene.proofs.Standing.{run-is-stacked, stacked-are-told}
 use Rattle.law_desktop.specs.Renaming.{IsRenaming, has_surface, renamed}
@@ -20,6 +19,8 @@ use Rattle.law_desktop.specs.Twins.{IsKeptByNumbers}
 use Rattle.law_desktop.proofs.OwnedPopups.Renamed.{order-renamed}
 use Rattle.law_desktop.proofs.Keeping.OwningTies.{named-there, number-of-name, renaming-of}
 use Rattle.law_desktop.proofs.Twins.{kept-by-numbers}
+use Rattle.law_desktop.proofs.Truth.{and-left, differ}
+use Rattle.law_desktop.proofs.Lists.Each.{Each, each-map}
 use Rattle.wl_paint.specs.Damage.{Damaged, has}
 use Rattle.spec_desktop.specs.Objects.{ById}
 use Rattle.spec_desktop.specs.Desktop.{Desktop, Resident, owned_in}

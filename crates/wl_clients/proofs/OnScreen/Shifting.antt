@@ -5,9 +5,7 @@ use Rattle.std.specs.List.{list_any}
 use Rattle.std.proofs.lemmas.Int.{ints}
 use Rattle.wl_proto.specs.declared.interface.Interface.TheVariants.{WlSurface}
 use Rattle.law_desktop.specs.InOrder.{InOrderAt, InOrderBy}
-use Rattle.law_desktop.proofs.Isolation.Own.{any-kept}
 use Rattle.law_desktop.proofs.Lists.Keys.{found-any, found-passes}
-use Rattle.law_desktop.proofs.Marks.Stacks.{differ, or-left, or-right}
 use Rattle.law_desktop.specs.Ordered.{Ordered, OwnsOrdered}
 use Rattle.law_desktop.specs.Owning.{targets_in}
 use Rattle.law_desktop.specs.RoleNames.{names_of}
@@ -26,7 +24,9 @@ use Rattle.wl_scene.specs.Stacked.{replaced, run_of}
 use Rattle.spec_desktop.specs.Popups.{place_or_origin, standing_place}
 use Rattle.spec_desktop.specs.Stacking.{Owned, Standing, is_of, moved_to}
 use Rattle.spec_desktop.specs.Windows.{Owner, Place, moved}
-use Rattle.law_desktop.proofs.RootsOf.Stacked.{none-any}
+use Rattle.law_desktop.proofs.Truth.{differ, or-left, or-right}
+use Rattle.law_desktop.proofs.Lists.Tests.{none-any}
+use Rattle.law_desktop.proofs.Lists.Left.{any-filtered}
 use Rattle.wl_shell.specs.Popups.{popups_of}
 use Rattle.wl_clients.specs.Agreement.{IsStack, with_numbers}
 use Rattle.wl_clients.specs.Marking.{MarksAtLeast, MarksMost}
@@ -169,7 +169,7 @@ module _ {A : Type 0} (marked : MovesAreMarked A) (c : ℕ) (others : ℕ → By
         at None e is = e
         at (Some cause) e is =
             absurd
-            (differ (sym (sym (any-kept (λ s. s.surface == surface) (λ s. s.client == c) d.standing) ∙ ap (list_any (λ (s : Standing). s.surface == surface)) is.1) ∙ stands))
+            (differ (sym (sym (any-filtered (λ s. s.surface == surface) (λ s. s.client == c) d.standing) ∙ ap (list_any (λ (s : Standing). s.surface == surface)) is.1) ∙ stands))
 
     owned-here : owned_in d c ≡ r.owned
     owned-here = ap owned_of before.based.there

@@ -1,10 +1,10 @@
 -- A client at its seat, apart from the others, with the toplevels that stand; and what is left of one that ended.
 use Rattle.std.proofs.Common.{◌≡◌, ℕ, true, false, List, [], Option, Some, None, refl, ap, sym, subst, ◌∙◌}
+use Rattle.std.proofs.lemmas.Bool.{true≢false}
 use Rattle.std.specs.Prelude.{◌%◌, is_some}
 use Rattle.wl_client.specs.Agreement.{IsPeer}
 use Rattle.wl_client.specs.View.{ClientView}
 use Rattle.wl_proto.specs.declared.interface.Interface.TheVariants.{WlSurface}
-use Rattle.law_desktop.proofs.Lists.Keys.{differ}
 use Rattle.law_desktop.proofs.Runs.Places.{left_by, number-same, number-twice}
 use Rattle.law_desktop.specs.Owning.{targets_in}
 use Rattle.spec_desktop.specs.declared.cause.Cause.{Cause}
@@ -91,7 +91,7 @@ gone-scene s c old others new x q d y was is scene same count standing stays =
       standing = subst (λ (ks : List Standing). IsStack (with_numbers c new others) ks (without_client c y.standing)) (sym standing)
           (subst (λ (ss : List Standing). IsStack (with_numbers c new others) (without_client c was.standing) ss) (sym same)
           (stack-by (with_numbers c old others) (with_numbers c new others) (without_client c was.standing) (without_client c d.standing)
-          (numbers-by c old new others (without_client c d.standing) (λ surface n has is. absurd (differ (sym has ∙ none-stands c surface d.standing))))
+          (numbers-by c old new others (without_client c d.standing) (λ surface n has is. absurd (true≢false (sym has ∙ none-stands c surface d.standing))))
           (stack-without (with_numbers c old others) c was.standing d.standing scene.standing)));
       next = stays ∙ (scene.next ∙ ap (λ (m : ℕ). m % 8) (sym count));
     }

@@ -11,12 +11,13 @@ use Rattle.spec_desktop.specs.Moments.{applied_between, history_of, marks_at_lea
 use Rattle.spec_desktop.specs.Stacked.{all_windows}
 use Rattle.law_desktop.specs.Shown.{ShownStand}
 use Rattle.law_desktop.specs.TreeMarksLaws.{AreUndamaged}
-use Rattle.law_desktop.proofs.TreeMarks.Lists.{any-none}
-use Rattle.law_desktop.proofs.TreeSteps.Damage.{and-none, applies-nothing}
-use Rattle.law_desktop.proofs.TreeSteps.Reading.{each-always}
+use Rattle.law_desktop.proofs.Lists.Tests.{any-none}
+use Rattle.law_desktop.proofs.TreeSteps.Damage.{applies-nothing}
 use Rattle.law_desktop.specs.Ordered.{Ordered}
 use Rattle.law_desktop.specs.Changes.{HasTrees}
 use Rattle.law_desktop.proofs.RootsOf.Orders.{in-order-has-trees}
+use Rattle.law_desktop.proofs.Truth.{and-false}
+use Rattle.law_desktop.proofs.Lists.Each.{each-of}
 use Rattle.law_windows.specs.Runs.Moves.{IsWhole}
 use Rattle.law_windows.proofs.OneToplevel.Demanded.{nothing-is-marked}
 use Rattle.wl_requests.specs.declared.residents.Resident.{Resident as Kept}
@@ -40,12 +41,12 @@ never-applied : (d : Desktop) (ss : List Standing) (client surface : ℕ) (x y :
 never-applied d ss client surface x y =
     ap (λ b. (int_le (pos 0) x && int_le (pos 0) y) && b)
     (applies-nothing (history_of d client surface) (history_of (standing_so d ss) client surface) refl (unsigned_abs x) (unsigned_abs y))
-    ∙ and-none (int_le (pos 0) x && int_le (pos 0) y)
+    ∙ and-false (int_le (pos 0) x && int_le (pos 0) y)
 
 pub undamaged-still : (d : Desktop) (ss : List Standing) (ws : List Window) → AreUndamaged (applied_between d (standing_so d ss)) ws
 undamaged-still d ss ws x y =
     any-none (λ (w : Window). applied_between d (standing_so d ss) w.owner.client w.surface x y) ws
-    (each-always (λ w. applied_between d (standing_so d ss) w.owner.client w.surface x y ≡ false) (λ w. never-applied d ss w.owner.client w.surface x y) ws)
+    (each-of (λ w. applied_between d (standing_so d ss) w.owner.client w.surface x y ≡ false) (λ w. never-applied d ss w.owner.client w.surface x y) ws)
 
 -- where nothing changes, nothing is marked
 pub still-unmarked : (d : Desktop) (x y : ℤ) → HasTrees d → marks_at_least d d x y ≡ false

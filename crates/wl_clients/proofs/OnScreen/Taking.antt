@@ -1,8 +1,8 @@
 -- A message of a client is served: what becomes of it and of the toplevels that stand.
 use Rattle.std.proofs.Common.{◌≡◌, ℕ, ◌+◌, ◌-◌, List, [], ◌∷◌, take, drop, Bool, true, false, cond, Option, Some, None, Result, refl, ap, sym, subst, ◌∙◌, inl, inr, ◌⊎◌}
+use Rattle.std.proofs.lemmas.Bool.{true≢false}
 use Rattle.std.specs.Prelude.{Ok, Err, is_some, not, ◌==◌, ◌&&◌}
 use Rattle.wl_client.specs.Agreement.{IsPeer}
-use Rattle.law_desktop.proofs.Lists.Keys.{differ}
 use Rattle.law_desktop.proofs.Runs.Places.{left_by}
 use Rattle.law_desktop.proofs.Soundness.RunSteady.{changed-steady}
 use Rattle.law_desktop.specs.Ordered.{Ordered, OwnsOrdered}
@@ -157,17 +157,17 @@ lacks-status p q lacks none = none-is q.status none (over-ended q (lacks-over p 
 -- who lives was told
 told-lives : (done : Bool) (c : ℕ) (demand : Demand) (r : Resident) (d : Desktop) (q : Peer) → Told done c demand r d q → q.status ≡ None → (done ≡ true) × Told true c demand r d q
 told-lives true c demand r d q h none = (refl, h)
-told-lives false c demand r d q h none = absurd (differ (lacks-status r.peer q h.1 none))
+told-lives false c demand r d q h none = absurd (true≢false (lacks-status r.peer q h.1 none))
 
 -- nothing was applied, or something was
 unapplied : {A : Type 0} (applied : Option (Applied A)) (c : ℕ) (stacking : Stacking) (was between : Stack) → is_some applied ≡ false → IsRestackedIf applied c stacking was between
     → between ≡ was
 unapplied None c stacking was between none h = h
-unapplied (Some applied) c stacking was between none h = absurd (differ none)
+unapplied (Some applied) c stacking was between none h = absurd (true≢false none)
 
 restacked : {A : Type 0} (applied : Option (Applied A)) (c : ℕ) (stacking : Stacking) (was between : Stack) → is_some applied ≡ true → IsRestackedIf applied c stacking was between
     → IsRestacked c stacking was between
-restacked None c stacking was between some h = absurd (differ (sym some))
+restacked None c stacking was between some h = absurd (true≢false (sym some))
 restacked (Some applied) c stacking was between some h = h
 
 -- either way the stack stays
@@ -246,7 +246,7 @@ module _ {A : Type 0} (c : ℕ) (others : ℕ → ById ℕ) (base d : Desktop) (
   numbers-on none e known surface n has was_n = at (numbers mid surface) refl (known surface has)
     where
       at : (o : Option ℕ) → numbers mid surface ≡ o → is_some o ≡ true → o ≡ Some n
-      at None here some = absurd (differ (sym some))
+      at None here some = absurd (true≢false (sym some))
       at (Some m) here some = ap (λ (k : ℕ). Some k) (sym (is.left.numbers none surface n m was_n here))
 
   scene-on : mid.client.ended ≡ None → (e : Desktop) (stack : Stack) → IsScene named stack e → Known c mid e → IsScene (with_numbers c (numbers mid) others) stack e
@@ -267,7 +267,7 @@ module _ {A : Type 0} (c : ℕ) (others : ℕ → ById ℕ) (base d : Desktop) (
           owns = is.left.owns none;
           frames = rw (told-requests (said_of c demand r d) changed.peer q told status) (is.left.frames none);
           subsurfaces = is.left.subsurfaces none;
-          ended = λ some. absurd (differ (none-is q.status status some));
+          ended = λ some. absurd (true≢false (none-is q.status status some));
         };
         scene = λ known. scene-on none (become_by None c changed q after) stack (record { standing = scene.standing; next = scene.next }) known;
       })
@@ -345,7 +345,7 @@ module _ {A : Type 0} (c : ℕ) (others : ℕ → ById ℕ) (base d : Desktop) (
         become c changed q after,
         left_by q.status changed q,
         (q, told, refl),
-        told-sits s status told (λ none id e maps. differ (knows.mapped id (e, maps) ∙ none)) new between now h left,
+        told-sits s status told (λ none id e maps. true≢false (knows.mapped id (e, maps) ∙ none)) new between now h left,
       )
       at false told knows = (
         become c r q d,

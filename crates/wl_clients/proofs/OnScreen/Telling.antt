@@ -1,6 +1,7 @@
 -- What is told to one client of the desk, and a piece of its stream: the toplevels and their windows stay.
 use Rattle.std.proofs.Common.{◌≡◌, ℕ, List, length, Bool, true, false, Option, Some, None, refl, ap, sym, subst, ◌∙◌, inl, inr, ◌⊎◌, map}
 use Rattle.std.proofs.Math.Path.{fun_ext}
+use Rattle.std.proofs.lemmas.Bool.{true≢false}
 use Rattle.std.specs.List.{list_any}
 use Rattle.std.specs.Prelude.{is_some, nat_le, drop, filter, if◌then◌else◌, not, ◌==◌, ◌≢◌}
 use Rattle.wl_store.specs.Stores.{write_refusal}
@@ -22,7 +23,6 @@ use Rattle.spec_desktop.specs.Happens.{callbacks_due, frames_told}
 use Rattle.spec_desktop.specs.Popups.{stacked_popups}
 use Rattle.spec_desktop.specs.Stacked.{all_windows}
 use Rattle.law_desktop.specs.Laws.{OwnsNothing}
-use Rattle.law_desktop.proofs.Lists.Keys.{differ}
 use Rattle.law_desktop.proofs.Runs.Fates.{same-or}
 use Rattle.law_desktop.proofs.Runs.Moves.{callbacks-status}
 use Rattle.law_desktop.proofs.Runs.Places.{left_by, number-other, number-same}
@@ -186,7 +186,7 @@ module _ {A : Type 0} (c : ℕ) (others : ℕ → ById ℕ) (base d : Desktop) (
         owns = rw (told.lives none, told.owned) is.seat.owns;
         frames = rw (told.lives none, told.owned, told.requests none) is.seat.frames;
         subsurfaces = rw (told.lives none, told.subsurfaces) is.seat.subsurfaces;
-        ended = λ some. absurd (differ (none-is q.status none some));
+        ended = λ some. absurd (true≢false (none-is q.status none some));
       }) kept stays
 
   nameless : is_some q.status ≡ true → AreNameless mid.client.objects
@@ -222,8 +222,8 @@ told-ended cause old mid r peer owned subsurfaces =
       peer = peer;
       owned = owned;
       subsurfaces = subsurfaces;
-      lives = λ none. absurd (differ (none-is (ended_by r.peer.status cause r.peer).status none (ended-so r.peer.status cause r.peer refl)));
-      requests = λ none. absurd (differ (none-is (ended_by r.peer.status cause r.peer).status none (ended-so r.peer.status cause r.peer refl)));
+      lives = λ none. absurd (true≢false (none-is (ended_by r.peer.status cause r.peer).status none (ended-so r.peer.status cause r.peer refl)));
+      requests = λ none. absurd (true≢false (none-is (ended_by r.peer.status cause r.peer).status none (ended-so r.peer.status cause r.peer refl)));
       gone = λ some. ended-over r.peer.status cause r.peer refl;
     }
 
@@ -243,13 +243,13 @@ ends-lives v cause p status lives w is = at p.status (ap (λ (o : Option Cause).
   where
     at : (s : Option Cause) → is_some s ≡ false → IsPeer w (ended_by s cause p)
     at None e = is
-    at (Some was) e = absurd (differ e)
+    at (Some was) e = absurd (true≢false e)
 
 pub ends-ended : (v : ClientView) (cause : Cause) (p : Peer) → is_some v.ended ≡ true → IsPeer v p → IsPeer v (ended_by p.status cause p)
 ends-ended v cause p ended is = at p.status (ap (λ (o : Option Cause). is_some o) (sym is.status) ∙ ended)
   where
     at : (s : Option Cause) → is_some s ≡ true → IsPeer v (ended_by s cause p)
-    at None e = absurd (differ (sym e))
+    at None e = absurd (true≢false (sym e))
     at (Some was) e = is
 
 -- ---- a frame
@@ -269,7 +269,7 @@ module _ {A : Type 0} (c : ℕ) (others : ℕ → ById ℕ) (base d : Desktop) (
         owns = left.owns ended;
         frames = rw (told-requests (frames_told time r) (done_due r).peer q told none) (left.frames ended);
         subsurfaces = left.subsurfaces ended;
-        ended = λ some. absurd (differ (none-is q.status none some));
+        ended = λ some. absurd (true≢false (none-is q.status none some));
       }) kept stays
 
   pub frames-seated : IsClearedBy mid.client.ended c mid new was now → IsSeated c others base new now (become c (done_due r) q d) (left_by q.status (done_due r) q)
@@ -287,11 +287,11 @@ pub frames-untold : (time c : ℕ) (r : Resident) (d : Desktop) → is_some r.pe
 frames-untold time c r d over = at r.peer.status over
   where
     at : (s : Option Cause) → is_some s ≡ true → FramesToldBy s time c r d d
-    at None e = absurd (differ (sym e))
+    at None e = absurd (true≢false (sym e))
     at (Some cause) e = refl
 
 -- ---- a piece
 
 pub lives-of : (o : Option Cause) → is_some o ≡ false → o ≡ None
 lives-of None e = refl
-lives-of (Some cause) e = absurd (differ e)
+lives-of (Some cause) e = absurd (true≢false e)

@@ -1,5 +1,6 @@
 -- Which surface a message touches, by what is kept of its client.
 use Rattle.std.proofs.Common.{◌≡◌, ℕ, ◌-◌, ◌⊎◌, inl, inr, List, Bool, true, false, Option, Some, None, Result, Ok, Err, take, drop, refl, ap, sym, subst, ◌∙◌}
+use Rattle.std.proofs.lemmas.Option.{none-some}
 use Rattle.std.specs.Prelude.{ℤ, ◌==◌, ◌||◌, if◌then◌else◌, is_some, ◌&&◌}
 use Rattle.std.specs.Option.{option_and_then, option_map}
 use Rattle.wl_wire.specs.Wire.{split_of}
@@ -58,7 +59,6 @@ use Rattle.spec_desktop.specs.WlSubsurface.{beside, demand_by_link, has_subsurfa
 use Rattle.spec_desktop.specs.WlSurface.{surface_created, transform_set, will_be_whole, scale_set}
 use Rattle.spec_desktop.specs.XdgPopup.{grab_of, is_no_popup, may_be_parent, popup_asked, popup_destroyed, popup_made, positioner_of, repositioned_by}
 use Rattle.spec_desktop.specs.XdgShell.{acknowledged_by, base_destroyed, geometry_set, role_of, state_asked, toplevel_made, xdg_surface_destroyed, xdg_surface_made}
-use Rattle.law_desktop.proofs.Lists.Keys.{none-some}
 use Rattle.law_desktop.specs.Ordered.{OwnsOrdered}
 use Rattle.law_desktop.specs.Done.{touched_by}
 use Rattle.law_desktop.specs.Messages.{IsDemanded}

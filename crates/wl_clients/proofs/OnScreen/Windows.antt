@@ -3,11 +3,10 @@
 use Rattle.std.proofs.Common.{◌≡◌, ℕ, Bool, true, false, None, List, [], ◌∷◌, ◌++◌, map, ap, sym, refl, ◌∙◌, inl, inr, ◌⊎◌}
 use Rattle.std.specs.Prelude.{ℤ, ◌==◌, ◌&&◌, ◌||◌, filter, if◌then◌else◌}
 use Rattle.std.specs.List.{list_any}
-use Rattle.std.proofs.lemmas.Bool.{eqb-true, or_left, or_right}
+use Rattle.std.proofs.lemmas.Bool.{and_from, eqb-true, or_left, or_right}
 use Rattle.wl_scene.specs.StackedAgreement.{told_by}
-use Rattle.law_desktop.proofs.Isolation.Own.{any-kept}
 use Rattle.law_desktop.proofs.Marks.Painted.{contains-same}
-use Rattle.law_desktop.proofs.Marks.Stacks.{AreSame, Each, and-both, and-left, and-right, any-more, differ, equal-numbers, same-number}
+use Rattle.law_desktop.proofs.Marks.Stacks.{AreSame, equal-numbers, same-number}
 use Rattle.spec_desktop.specs.Desktop.{Desktop}
 use Rattle.spec_desktop.specs.Marks.{in_output, same_records}
 use Rattle.spec_desktop.specs.Moments.{applied_between, marks_at_least, marks_at_most}
@@ -15,8 +14,11 @@ use Rattle.law_desktop.specs.Touching.{any_window_at, has_window_at}
 use Rattle.wl_scene.specs.Repaint.{window_has}
 use Rattle.spec_desktop.specs.Windows.{Window, contains}
 use Rattle.law_desktop.specs.TreeMarksLaws.{among, is_in_any, is_struck_at}
-use Rattle.law_desktop.proofs.TreeMarks.Lists.{any-each-more, any-first, any-of, any-second, any-three, each-all, each-first, each-second, either-of}
+use Rattle.law_desktop.proofs.Lists.Tests.{any-each-more, any-first, any-more, any-of, any-second, any-three, each-all}
 use Rattle.law_desktop.proofs.TreeMarks.Records.{same-tested}
+use Rattle.law_desktop.proofs.Truth.{and-left, and-right, differ, either-of}
+use Rattle.law_desktop.proofs.Lists.Each.{Each, each-first, each-second}
+use Rattle.law_desktop.proofs.Lists.Left.{any-filtered}
 use Rattle.law_desktop.specs.Marked.{MarksByTreesBetween, marks_by_trees, marks_of_tree}
 use Rattle.law_desktop.specs.Toplevel.{ChangesToplevel, has_toplevel, of_root}
 
@@ -36,7 +38,7 @@ any-one P p (x ∷ xs) e f =
 
 -- one that is left was there
 any-there : {X : Type 0} (p keep : X → Bool) (xs : List X) → list_any p (filter keep xs) ≡ true → list_any p xs ≡ true
-any-there p keep xs e = any-more (λ x. keep x && p x) p (λ x f. and-right (keep x) (p x) f) xs (sym (any-kept p keep xs) ∙ e)
+any-there p keep xs e = any-more (λ x. keep x && p x) p (λ x f. and-right (keep x) (p x) f) xs (sym (any-filtered p keep xs) ∙ e)
 
 -- ---- windows of a toplevel
 
@@ -57,7 +59,7 @@ same-points x y (w ∷ ws) [] same = absurd same
 own-if : (c toplevel : ℕ) (x y : ℤ) (ws : List Window) → Each (λ w. has_toplevel c toplevel w ≡ true) ws → is_in_any x y ws ≡ true → is_own_in c x y ws ≡ true
 own-if c toplevel x y ws its here =
     any-each-more (λ w. contains w x y) (λ w. (w.owner.client == c) && contains w x y) (λ w. has_toplevel c toplevel w ≡ true)
-    (λ w own inside. and-both (w.owner.client == c) (contains w x y)
+    (λ w own inside. and_from (w.owner.client == c) (contains w x y)
     (equal-numbers w.owner.client c (sym (eqb-true c w.owner.client (and-left (c == w.owner.client) (toplevel == w.owner.toplevel) own)))) inside) ws its here
 
 in-own : (c : ℕ) (x y : ℤ) (ws : List Window) → is_own_in c x y ws ≡ true → is_in_any x y ws ≡ true
@@ -167,8 +169,8 @@ module _ (between : MarksByTreesBetween) (c toplevel : ℕ) (d e : Desktop) (t :
         where
           in_root : is_in_any x y (of_root w.owner.root t.was) ≡ true
           in_root =
-              any-kept (λ v. contains v x y) (λ v. w.owner.root == v.owner.root) t.was
-              ∙ more (λ v. (w.owner.root == v.owner.root) && contains v x y) (and-both (w.owner.root == w.owner.root) (contains w x y) (same-number w.owner.root) in_it)
+              any-filtered (λ v. contains v x y) (λ v. w.owner.root == v.owner.root) t.was
+              ∙ more (λ v. (w.owner.root == v.owner.root) && contains v x y) (and_from (w.owner.root == w.owner.root) (contains w x y) (same-number w.owner.root) in_it)
 
           at : (b : Bool) → same_records (of_root w.owner.root t.was) (of_root w.owner.root t.is) ≡ b → After
           at true same =
@@ -178,7 +180,7 @@ module _ (between : MarksByTreesBetween) (c toplevel : ℕ) (d e : Desktop) (t :
           at false other =
               inl
               ((between c toplevel d e t None d.output.width d.output.height x y).1
-              (and-both (in_output d.output.width d.output.height x y) (marks_by_trees (applied_between d e) t.was t.is x y) inside
+              (and_from (in_output d.output.width d.output.height x y) (marks_by_trees (applied_between d e) t.was t.is x y) inside
               (any-first (λ v. marks_tree v.owner.root) t.was t.is
               (more (λ v. marks_tree v.owner.root)
               (ap

@@ -15,7 +15,7 @@ use Rattle.law_desktop.proofs.ByNames.Names.Reading.{IsBetween, Knows, children-
 
 -- ---- who is known stays
 
-some-mapped : (h : Surface → Surface) (o : Option Surface) → is_some (option_map h o) ≡ is_some o
+pub some-mapped : (h : Surface → Surface) (o : Option Surface) → is_some (option_map h o) ≡ is_some o
 some-mapped h None = refl
 some-mapped h (Some s) = refl
 

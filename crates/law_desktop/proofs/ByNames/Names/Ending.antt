@@ -4,7 +4,7 @@ use Rattle.std.proofs.Common.{eqb-true, eq-eqb}
 use Rattle.std.specs.Prelude.{filter, fold}
 use Rattle.std.specs.List.{AllByRecursion as Each, list_any}
 use Rattle.std.specs.Option.{option_or}
-use Rattle.std.proofs.lemmas.Bool.{and_from, and_parts, or_cases}
+use Rattle.std.proofs.lemmas.Bool.{and_from, and_parts, or_cases, or_left, or_right}
 use Rattle.std.proofs.lemmas.List.Folds.{find-append}
 use Rattle.wl_surface.specs.Surface.{Surface, applying, new_surface}
 use Rattle.wl_surface.specs.Surfaces.{Link, Surfaces, surface_at, with_change, with_new, without_surface}
@@ -23,25 +23,18 @@ last-there : (o : Option Surface) (b : Bool) (s : Surface) → b ≡ true → is
 last-there None b s is = rw is refl
 last-there (Some t) b s is = refl
 
-or-left : (a b : Bool) → a ≡ true → (a || b) ≡ true
-or-left a b is = rw is refl
-
-or-right : (a b : Bool) → b ≡ true → (a || b) ≡ true
-or-right true b is = refl
-or-right false b is = is
-
 pub new-known : {f : ℕ → ℕ} {known : ℕ → Bool} {all : Surfaces} → Knows f known all → (id : ℕ) → ((a : ℕ) → known a ≡ true → f a ≡ f id → a ≡ id)
     → Knows f (λ a. known a || a == id) (with_new id all)
 new-known {f} {known} {all} k id apart = record {
   apart = λ a b here there same. told a b same (or_cases (known a) (a == id) here) (or_cases (known b) (b == id) there);
   named =
       each-append (λ (s : Surface). (known s.id || s.id == id) ≡ true) all.surfaces (new_surface id ∷ [])
-      (each-weaker (λ (s : Surface). known s.id ≡ true) (λ (s : Surface). (known s.id || s.id == id) ≡ true) (λ s is. or-left (known s.id) (s.id == id) is) all.surfaces k.named)
-      (or-right (known id) (id == id) (eq-eqb id id refl), tt);
+      (each-weaker (λ (s : Surface). known s.id ≡ true) (λ (s : Surface). (known s.id || s.id == id) ≡ true) (λ s is. or_left (known s.id) (s.id == id) is) all.surfaces k.named)
+      (or_right (known id) (id == id) (eq-eqb id id refl), tt);
   there = λ a is. ap is_some (find-append (λ (s : Surface). s.id == a) all.surfaces (new_surface id ∷ [])) ∙ is-there a (or_cases (known a) (a == id) is);
   ends =
       each-weaker (IsBetween known) (IsBetween (λ a. known a || a == id))
-      (λ l between lives. let are = between lives in (or-left (known l.child) (l.child == id) are.0, or-left (known l.parent) (l.parent == id) are.1)) all.links k.ends;
+      (λ l between lives. let are = between lives in (or_left (known l.child) (l.child == id) are.0, or_left (known l.parent) (l.parent == id) are.1)) all.links k.ends;
 }
   where
     told : (a b : ℕ) → f a ≡ f b → (known a ≡ true) ⊎ ((a == id) ≡ true) → (known b ≡ true) ⊎ ((b == id) ≡ true) → a ≡ b
@@ -99,7 +92,7 @@ fold-left id (r ∷ rs) x left =
 kept-any : (p : Link → Bool) (ls : List Link) → Each (λ (l : Link). p l ≡ true → list_any (λ (r : Link). r.number == l.number) (filter p ls) ≡ true) ls
 kept-any p [] = tt
 kept-any p (x ∷ xs) = (
-  λ is. rw is (or-left (x.number == x.number) (list_any (λ (r : Link). r.number == x.number) (filter p xs)) (eq-eqb x.number x.number refl)),
+  λ is. rw is (or_left (x.number == x.number) (list_any (λ (r : Link). r.number == x.number) (filter p xs)) (eq-eqb x.number x.number refl)),
   each-weaker (λ (l : Link). p l ≡ true → list_any (λ (r : Link). r.number == l.number) (filter p xs) ≡ true)
       (λ (l : Link). p l ≡ true → list_any (λ (r : Link). r.number == l.number) (filter p (x ∷ xs)) ≡ true)
       (λ l is passes. more l (p x) (is passes)) xs (kept-any p xs),
@@ -107,7 +100,7 @@ kept-any p (x ∷ xs) = (
   where
     more : (l : Link) (b : Bool) → list_any (λ (r : Link). r.number == l.number) (filter p xs) ≡ true
         → list_any (λ (r : Link). r.number == l.number) (cond b (x ∷ filter p xs) (filter p xs)) ≡ true
-    more l true is = or-right (x.number == l.number) (list_any (λ (r : Link). r.number == l.number) (filter p xs)) is
+    more l true is = or_right (x.number == l.number) (list_any (λ (r : Link). r.number == l.number) (filter p xs)) is
     more l false is = is
 
 -- each link of a surface that lives is among its links

@@ -1,5 +1,5 @@
 -- A client that owns nothing is served as it is by itself.
-use Rattle.std.proofs.Common.{◌≡◌, ℕ, ◌-◌, take, drop, zero, suc, List, ◌++◌, Bool, true, false, Option, Some, None, Result, refl, ap, subst, sym, ◌∙◌, inl, inr}
+use Rattle.std.proofs.Common.{Bool, List, None, Option, Result, Some, ap, append-nil, drop, false, inl, inr, refl, subst, suc, sym, take, true, zero, ℕ, ◌++◌, ◌-◌, ◌∙◌, ◌≡◌}
 use Rattle.std.specs.Prelude.{Ok, Err}
 use Rattle.wl_wire.specs.Wire.{split_of}
 use Rattle.wl_wire.specs.declared.header.Split.{Split}
@@ -33,7 +33,6 @@ use Rattle.spec_desktop.specs.Step.{own_changed, with_peer}
 use Rattle.spec_desktop.specs.Used.{has_used, keeps_store}
 use Rattle.law_desktop.proofs.KeptRecords.Isolation.OwnOnly.{as_own, judge-owns}
 use Rattle.law_desktop.proofs.Pieces.Behind.{ask-stream}
-use Rattle.law_desktop.proofs.KeptRecords.Toplevels.Buffers.{nothing-after}
 use Rattle.law_desktop.proofs.KeptRecords.Toplevels.Serves.{IsDone, becomes-same, becomes-whole, by-pointer, is-done, kept-still, none-done, nothing-between, settles-to}
 use Rattle.law_desktop.proofs.Runs.Places.{client-become, client-kept, client-twice}
 
@@ -136,7 +135,7 @@ there-is p (Some r) h = (r, refl, h.0, h.1)
 own-replies : (c : ℕ) (action : Action) (r made : Resident) (d : Desktop) → OwnsNothing made → replies own_only c (Asks (Own action)) r made (all_windows d) d ≡ own_answers r.peer.output action
 own-replies c action r made d alone =
     let told = own_answers r.peer.output action in
-    nothing-between told (popups_done r made) ∙ ap (λ more. told ++ more) (none-done r made (subst (λ (x : Resident). AreToplevels x.owned.shell) (sym alone) tt)) ∙ nothing-after told
+    nothing-between told (popups_done r made) ∙ ap (λ more. told ++ more) (none-done r made (subst (λ (x : Resident). AreToplevels x.owned.shell) (sym alone) tt)) ∙ append-nil told
 
 module _ (c : ℕ) (there : Resident) (d : Desktop) (is : client_at c d ≡ Some there) (still : d.pointer ≡ first_pointer) where
   does-alone : (action : Action) (r : Resident) (q : Peer) → r.peer.status ≡ None → OwnsNothing r → Queues (own_answers r.peer.output action) (own_changed action r).peer q

@@ -1,5 +1,6 @@
 -- What is left of ends, of settling and of what is told where nobody points.
 use Rattle.std.proofs.Common.{◌≡◌, List, ◌∷◌, Bool, true, false, Option, None, ap, subst, sym, ◌∙◌, inl, inr, []}
+use Rattle.std.proofs.lemmas.Option.{none-some}
 use Rattle.spec_desktop.specs.declared.cause.Cause.{Cause}
 use Rattle.spec_desktop.specs.declared.cause.Cause.TheVariants.{Memory, Protocol, Slow}
 use Rattle.spec_desktop.specs.declared.refusals.Refusal.{Refusal}
@@ -9,7 +10,7 @@ use Rattle.spec_desktop.specs.Pointer.{first_pointer}
 use Rattle.spec_desktop.specs.Desktop.{Desktop}
 use Rattle.spec_desktop.specs.Settling.{EndsAndSettles, EndsFirst, Midstep, QueuesFirst, QueuesTo, SettlesAll, unstruck}
 use Rattle.law_desktop.proofs.KeptRecords.Toplevels.Serves.{ended_why}
-use Rattle.law_desktop.proofs.Lists.Keys.{none-some}
+use Rattle.law_desktop.proofs.EachClient.Told.{over}
 
 -- ---- the pointer isn't anywhere, so nothing is settled
 
@@ -36,10 +37,6 @@ told-back (event ∷ events) p q why h = at (has_room p.unsent event) (told-back
     at true later (inr h) = inr (later h)
 
 -- ---- a message
-
--- a client that ended doesn't live
-over : (cause : Cause) (p q : Peer) → q ≡ ended cause p → q.status ≡ None → ⊥
-over cause p q e alive = none-some cause (sym alive ∙ ap (λ (x : Peer). x.status) e)
 
 pub erred : (refusal : Refusal) (p q : Peer) → Errs refusal p q → q.status ≡ None → ⊥
 erred refusal p q h alive = at (has_room p.unsent (error_told refusal)) h

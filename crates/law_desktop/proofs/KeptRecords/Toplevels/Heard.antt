@@ -9,8 +9,9 @@ use Rattle.wl_surface.specs.Waiting.{Callback}
 use Rattle.law_desktop.specs.Apart.{AreObjects}
 use Rattle.law_desktop.proofs.Soundness.ObjectsCalls.{all_removed, is_left, left-apart, removed-others}
 use Rattle.law_desktop.proofs.Soundness.ObjectsHas.{has_callback}
-use Rattle.law_desktop.proofs.Soundness.ObjectsKeys.{any-of-filter, objects-new}
+use Rattle.law_desktop.proofs.Soundness.ObjectsKeys.{objects-new}
 use Rattle.law_desktop.proofs.Lists.Keys.{apart-left}
+use Rattle.law_desktop.proofs.Lists.Left.{any-there}
 
 -- each is once there, and a wl_callback
 abbrev pub AreHeard : List Callback → Objects → Type 0
@@ -32,5 +33,5 @@ module _ (calls : List Callback) (peer : Peer) (which : Callback → Bool) (hear
     apart-left has_callback (is_left (filter which calls)) calls heard.0,
     λ id any.
         ap (is_of WlCallback) (removed-others (filter which calls) peer id (left-apart which calls id heard.0 any))
-        ∙ heard.1 id (any-of-filter (has_callback id) (is_left (filter which calls)) calls any),
+        ∙ heard.1 id (any-there (has_callback id) (is_left (filter which calls)) calls any),
   )

@@ -1,5 +1,5 @@
 -- Which buffers are released: none where each busy one stays so, and where surfaces stay as they are.
-use Rattle.std.proofs.Common.{◌≡◌, ℕ, ◌≤◌, List, ◌∷◌, ◌++◌, Bool, true, false, Option, Some, None, cond, length, refl, ap, subst, sym, ◌∙◌, map, eq-eqb, []}
+use Rattle.std.proofs.Common.{Bool, List, None, Option, Some, [], ap, append-nil, cond, eq-eqb, false, length, map, refl, subst, sym, true, ℕ, ◌++◌, ◌∙◌, ◌∷◌, ◌≡◌, ◌≤◌}
 use Rattle.std.specs.Prelude.{◌==◌, ◌&&◌, ◌||◌, not, flat_map, fold}
 use Rattle.std.specs.List.{list_any}
 use Rattle.std.specs.Option.{option_map}
@@ -22,19 +22,20 @@ use Rattle.law_desktop.specs.Apart.{AreApartBy}
 use Rattle.spec_desktop.specs.Releases.{is_released}
 use Rattle.spec_desktop.specs.Replies.{buffers_busy, buffers_shown, by_object, is_same_buffer, releases}
 use Rattle.spec_desktop.specs.Step.{answers_to, changed_by, toplevel_given, with_surfaces}
-use Rattle.law_desktop.proofs.KeptRecords.Toplevels.Buffers.{nothing-after}
-use Rattle.law_desktop.proofs.KeptRecords.Keeping.Letting.{each-more, each-once, listed-each, named-so, none-left, or-any}
+use Rattle.law_desktop.proofs.KeptRecords.Keeping.Letting.{each-once, listed-each, named-so}
 use Rattle.law_desktop.proofs.Lists.Keys.{any-found, found-any, found-map}
 use Rattle.law_desktop.proofs.KeptRecords.Toplevels.Simply.{told_alone}
-use Rattle.law_desktop.proofs.Marks.Stacks.{Each, each-map}
+use Rattle.law_desktop.proofs.Lists.Each.{Each, each-append, each-map}
+use Rattle.law_desktop.proofs.Truth.{or-true}
+use Rattle.law_desktop.proofs.Lists.Left.{filter-none-each}
 
 -- ---- the buffers that are busy
 
 -- a surface shows each of them
 shown-each : (h : History) → Each (λ b. shows b.number h ≡ true) (buffers_shown h)
 shown-each h =
-    each-more Shown (listed (held h).buffer) (listed (applied h).buffer)
-    (listed-each Shown (held h).buffer (λ b e. ap (λ x. names b.number (applied h).buffer || x) (ap (names b.number) e ∙ named-so b) ∙ or-any (names b.number (applied h).buffer)))
+    each-append Shown (listed (held h).buffer) (listed (applied h).buffer)
+    (listed-each Shown (held h).buffer (λ b e. ap (λ x. names b.number (applied h).buffer || x) (ap (names b.number) e ∙ named-so b) ∙ or-true (names b.number (applied h).buffer)))
     (listed-each Shown (applied h).buffer (λ b e. ap (λ x. x || names b.number (held h).buffer) (ap (names b.number) e ∙ named-so b)))
   where
     Shown : Buffer → Type 0
@@ -46,7 +47,7 @@ any_shows n ss = list_any (λ s. shows n s.history) ss
 all-busy : (ss : List Surface) → Each (λ b. any_shows b.number ss ≡ true) (flat_map (λ s. buffers_shown s.history) ss)
 all-busy [] = tt
 all-busy (s ∷ ss) =
-    each-more (λ b. any_shows b.number (s ∷ ss) ≡ true) (buffers_shown s.history) (flat_map (λ s. buffers_shown s.history) ss)
+    each-append (λ b. any_shows b.number (s ∷ ss) ≡ true) (buffers_shown s.history) (flat_map (λ s. buffers_shown s.history) ss)
     (each-map (λ b. shows b.number s.history ≡ true) (λ b. any_shows b.number (s ∷ ss) ≡ true) (λ b is. or_left (shows b.number s.history) (any_shows b.number ss) is) (buffers_shown s.history)
     (shown-each s.history))
     (each-map (λ b. any_shows b.number ss ≡ true) (λ b. any_shows b.number (s ∷ ss) ≡ true) (λ b is. or_right (shows b.number s.history) (any_shows b.number ss) is)
@@ -66,7 +67,7 @@ told_of bs = map (λ b. said b.object (says WlBuffer 0 [])) (fold (λ bs b. by_o
 pub none-released : (old new : Resident) → ((n : ℕ) → is_busy n old.owned.surfaces ≡ true → is_busy n new.owned.surfaces ≡ true) → releases old new ≡ []
 none-released old new stays =
     ap told_of
-    (none-left (is_released new) (buffers_busy old.owned.surfaces)
+    (filter-none-each (is_released new) (buffers_busy old.owned.surfaces)
     (each-map (λ b. is_busy b.number old.owned.surfaces ≡ true) (λ b. is_released new b ≡ false) (λ b busy. busy-stays new b (stays b.number busy)) (buffers_busy old.owned.surfaces)
     (each-once (λ b. is_busy b.number old.owned.surfaces ≡ true) (flat_map (λ s. buffers_shown s.history) old.owned.surfaces.surfaces) (all-busy old.owned.surfaces.surfaces))))
 
@@ -116,7 +117,7 @@ role-released id role r apart =
     (λ n busy. changed-busy id (with_role role) n r.owned.surfaces apart (λ y. refl) (λ y e is. is) busy)
 
 only : (told more : List Said) → more ≡ [] → told ++ more ≡ told
-only told more none = ap (λ (es : List Said). told ++ es) none ∙ nothing-after told
+only told more none = ap (λ (es : List Said). told ++ es) none ∙ append-nil told
 
 -- what is asked but of a surface leaves each busy buffer so
 pub asked-told : (ask : Ask) (r : Resident) → AreApartBy (λ key s. s.id == key) r.owned.surfaces.surfaces → answers_to ask r ++ releases r (changed_by ask r) ≡ told_alone ask r

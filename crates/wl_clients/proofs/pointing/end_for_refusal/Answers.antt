@@ -1,5 +1,5 @@
 use Rattle.std.proofs.Common.{refl, ◌∙◌}
-use Rattle.law_desktop.proofs.Lists.Keys.{none-some, some-same}
+use Rattle.std.proofs.lemmas.Option.{none-some, same_Some}
 use Rattle.wl_clients.proofs.pointing.end_for_refusal.Goals as goal
 
 pub returns-in_default-clause-ends : goal.returns-in_default-clause-ends
@@ -13,7 +13,7 @@ returns-in_default-clause-sides g c = record { width = refl; height = refl }
 
 pub returns-clause-ends : goal.returns-clause-ends
 returns-clause-ends g c = λ cause refused lives.
-    rw (← some-same c.in-Some.cause cause (c.in-Some.ensures ∙ refused)) (c.end.ensures.refused lives)
+    rw (← same_Some c.in-Some.cause cause (c.in-Some.ensures ∙ refused)) (c.end.ensures.refused lives)
 
 pub returns-clause-marks : goal.returns-clause-marks
 returns-clause-marks g c = λ cause refused lives. c.end.ensures.marks_refused lives

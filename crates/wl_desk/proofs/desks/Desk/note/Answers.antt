@@ -1,6 +1,7 @@
 use Rattle.std.proofs.Common.{List, ap, sym, ◌∙◌}
+use Rattle.std.proofs.lemmas.Bool.{true≢false}
+use Rattle.std.proofs.lemmas.Option.{none-some}
 use Rattle.wl_client.specs.Pointers.{has_any}
-use Rattle.law_desktop.proofs.Lists.Keys.{differ, none-some}
 use Rattle.wl_clients.specs.declared.grabs.Latest.{Latest}
 use Rattle.wl_desk.specs.Serials.{changed_of, noted_by}
 use Rattle.wl_desk.specs.View.{latest_of}
@@ -12,7 +13,7 @@ pub returns-then-is_empty-clause-noted : goal.returns-then-is_empty-clause-noted
 returns-then-is_empty-clause-noted g c = λ some.
     let own = rw (← c.self.view_is) at some in
     let none = ap has_any (sym (rw (← c.deref.ensures.value) c.seat_of.ensures)) ∙ empty-none c.seat_of.result.now c.is_empty.result c.is_empty.ensures c.if-is_empty.true in
-    absurd (differ (sym own ∙ none))
+    absurd (true≢false (sym own ∙ none))
 
 pub returns-in_default-clause-noted : goal.returns-in_default-clause-noted
 returns-in_default-clause-noted g c = λ some n is. absurd (none-some n (sym c.in_default.is ∙ is))
@@ -28,7 +29,7 @@ pub returns-clause-same : goal.returns-clause-same
 returns-clause-same g c = λ none.
     let own = rw (← c.self.view_is) at none in
     let some = ap has_any (sym (rw (← c.deref.ensures.value) c.seat_of.ensures)) ∙ full-some c.seat_of.result.now c.is_empty.result c.is_empty.ensures c.if-is_empty.false in
-    absurd (differ (sym some ∙ own))
+    absurd (true≢false (sym some ∙ own))
 
 pub returns-clause-others : goal.returns-clause-others
 returns-clause-others g c = λ k apart.

@@ -1,7 +1,7 @@
 use Rattle.std.proofs.Common.{◌≡◌, ℕ, [], ◌∷◌, ap, subst, ◌∙◌}
+use Rattle.std.proofs.lemmas.Option.{same_Some}
 use Rattle.wl_client.specs.Said.{said_of}
 use Rattle.wl_proto.specs.declared.interface.Interface.TheVariants.{XdgPopup}
-use Rattle.law_desktop.proofs.Lists.Keys.{some-same}
 use Rattle.spec_desktop.specs.Peer.{QueuesTo}
 use Rattle.spec_desktop.specs.Told.{Said, said}
 use Rattle.wl_proto.specs.Messages.{says}
@@ -10,7 +10,7 @@ use Rattle.wl_requests.proofs.residents.Resident.tell_released.Goals as goal
 
 pub returns-clause-told : goal.returns-clause-told
 returns-clause-told g c = λ popup known p is.
-    let same : c.in-Some.popup ≡ popup = some-same c.in-Some.popup popup (c.in-Some.ensures ∙ known) in
+    let same : c.in-Some.popup ≡ popup = same_Some c.in-Some.popup popup (c.in-Some.ensures ∙ known) in
     let event : said_of c.popup_done_event.result ≡ said popup (says XdgPopup 1 []) = c.popup_done_event.ensures ∙ ap (λ (id : ℕ). said id (says XdgPopup 1 [])) same in
     let told = queued-or-not c.args.self.now.client c.queue-queued.new.self (said_of c.popup_done_event.result) c.queue-queued.result
     c.queue-queued.ensures.ok c.queue-queued.ensures.err c.queue-queued.ensures.cause p is in

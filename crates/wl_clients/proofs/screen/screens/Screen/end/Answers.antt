@@ -1,8 +1,8 @@
 use Rattle.std.proofs.Common.{◌≡◌, ◌≤◌, ℕ, Option, Some, None, true, length, ap, arith, refl, subst, sym, ◌∙◌}
+use Rattle.std.proofs.lemmas.Bool.{true≢false}
 use Rattle.wl_client.specs.Agreement.{IsPeer}
 use Rattle.std.specs.Prelude.{is_none, is_some}
 use Rattle.wl_client.proofs.Peers.{IsPeer-ended}
-use Rattle.law_desktop.proofs.Lists.Keys.{differ}
 use Rattle.law_desktop.proofs.Runs.Places.{left_by}
 use Rattle.spec_desktop.specs.Peer.{Peer}
 use Rattle.spec_desktop.specs.declared.cause.Cause.{Cause}
@@ -20,7 +20,7 @@ use Rattle.wl_clients.proofs.screen.screens.Screen.end.Goals.{then-not-has_ended
 
 -- who lives hasn't ended
 none-some-so : (o : Option Cause) → o ≡ None → is_some o ≡ true → ⊥
-none-some-so None e some = differ (sym some)
+none-some-so None e some = true≢false (sym some)
 none-some-so (Some cause) e some = absurd (cc)
 
 pub returns-clause-ends : goal.returns-clause-ends

@@ -1,6 +1,6 @@
 use Rattle.std.proofs.Common.{Option, ap, refl, subst, sym, ◌∙◌}
+use Rattle.std.proofs.lemmas.Bool.{true≢false}
 use Rattle.std.specs.Prelude.{is_some}
-use Rattle.law_desktop.proofs.Lists.Keys.{differ}
 use Rattle.wl_paint.specs.Damage.{Damaged, has}
 use Rattle.spec_desktop.specs.declared.cause.Cause.{Cause}
 use Rattle.wl_clients.specs.Seats.{IsClearedBy}
@@ -16,7 +16,7 @@ returns-then-not-has_ended-clause-clears g c =
     subst (λ (o : Option Cause). IsClearedBy o c.args.client v v pile pile) (sym (lives-so v.client.ended (sym c.has_ended.ensures ∙ c.if-not-has_ended.true))) (refl, refl)
 
 pub returns-then-not-has_ended-clause-points : goal.returns-then-not-has_ended-clause-points
-returns-then-not-has_ended-clause-points g c = λ over. absurd (differ (sym over ∙ (sym c.has_ended.ensures ∙ c.if-not-has_ended.true)))
+returns-then-not-has_ended-clause-points g c = λ over. absurd (true≢false (sym over ∙ (sym c.has_ended.ensures ∙ c.if-not-has_ended.true)))
 
 pub returns-clause-clears : goal.returns-clause-clears
 returns-clause-clears g c =
@@ -28,4 +28,4 @@ pub returns-clause-points : goal.returns-clause-points
 returns-clause-points g c = λ over x y wide high. ap (λ (m : Damaged). has m x y) c.clear.ensures.damage ∙ c.mark_client.ensures.points x y wide high
 
 pub returns-clause-lives : goal.returns-clause-lives
-returns-clause-lives g c = λ none. absurd (differ (sym (sym c.has_ended.ensures ∙ c.if-not-has_ended.false) ∙ ap (λ (o : Option Cause). is_some o) none))
+returns-clause-lives g c = λ none. absurd (true≢false (sym (sym c.has_ended.ensures ∙ c.if-not-has_ended.false) ∙ ap (λ (o : Option Cause). is_some o) none))

@@ -1,10 +1,10 @@
 -- Lists of which some elements are left, and those of which some pass a test.
-use Rattle.std.proofs.Common.{◌≡◌, Bool, true, false, List, [], ◌∷◌, cond, refl, ap, sym, ◌∙◌}
-use Rattle.std.specs.Prelude.{◌&&◌, ◌||◌, filter}
+use Rattle.std.proofs.Common.{Bool, List, Some, [], ap, cond, false, refl, sym, true, ◌++◌, ◌∙◌, ◌∷◌, ◌≡◌}
+use Rattle.std.specs.Prelude.{filter, find, ◌&&◌, ◌||◌}
 use Rattle.std.specs.List.{AllByRecursion, list_any}
 use Rattle.std.proofs.lemmas.Bool.{or_left, or_right}
-use Rattle.law_desktop.proofs.Marks.Stacks.{Each, differ}
-use Rattle.law_desktop.proofs.TreeMarks.Lists.{either-of}
+use Rattle.law_desktop.proofs.Truth.{differ, either-of}
+use Rattle.law_desktop.proofs.Lists.Each.{Each}
 
 pub each-recursive : {X : Type 0} (P : X → Type 0) (xs : List X) → AllByRecursion P xs → Each P xs
 each-recursive P [] each = tt
@@ -84,3 +84,40 @@ any-one P p [] e f = absurd (differ e)
 any-one P p (x ∷ xs) e f =
     either-of P (p x) (list_any p xs) e (λ g. f x g (λ q h. or_left (q x) (list_any q xs) h))
     (λ g. any-one P p xs g (λ z h more. f z h (λ q k. or_right (q x) (list_any q xs) (more q k))))
+
+pub filter-none-each : {X : Type 0} (q : X → Bool) (xs : List X) → Each (λ x. q x ≡ false) xs → filter q xs ≡ []
+filter-none-each q [] a = refl
+filter-none-each q (x ∷ xs) a = ap (λ b. cond b (x ∷ filter q xs) (filter q xs)) a.0 ∙ filter-none-each q xs a.1
+
+pub filter-swap : {X : Type 0} (p q : X → Bool) (xs : List X) → filter p (filter q xs) ≡ filter q (filter p xs)
+filter-swap p q [] = refl
+filter-swap {X} p q (x ∷ xs) = at (p x) (q x) refl refl (filter-swap p q xs)
+  where
+    at : (a b : Bool) → p x ≡ a → q x ≡ b → filter p (filter q xs) ≡ filter q (filter p xs)
+        → filter p (cond b (x ∷ filter q xs) (filter q xs)) ≡ filter q (cond a (x ∷ filter p xs) (filter p xs))
+    at true true e f same =
+        ap (λ c. cond c (x ∷ filter p (filter q xs)) (filter p (filter q xs))) e ∙ ap (λ ys. x ∷ ys) same
+        ∙ sym (ap (λ c. cond c (x ∷ filter q (filter p xs)) (filter q (filter p xs))) f)
+    at true false e f same = same ∙ sym (ap (λ c. cond c (x ∷ filter q (filter p xs)) (filter q (filter p xs))) f)
+    at false true e f same = ap (λ c. cond c (x ∷ filter p (filter q xs)) (filter p (filter q xs))) e ∙ same
+    at false false e f same = same
+
+-- what is found is left where the filter lets it pass
+pub find-filter : {X : Type 0} (p q : X → Bool) (xs : List X) → ((x : X) → p x ≡ true → q x ≡ true) → find p (filter q xs) ≡ find p xs
+find-filter p q [] passes = refl
+find-filter {X} p q (x ∷ xs) passes = at (p x) (q x) refl refl (find-filter p q xs passes)
+  where
+    at : (a b : Bool) → p x ≡ a → q x ≡ b → find p (filter q xs) ≡ find p xs
+        → find p (cond b (x ∷ filter q xs) (filter q xs)) ≡ cond a (Some x) (find p xs)
+    at true true e f same = ap (λ c. cond c (Some x) (find p (filter q xs))) e
+    at true false e f same = absurd (cc (passes x e))
+    at false true e f same = ap (λ c. cond c (Some x) (find p (filter q xs))) e ∙ same
+    at false false e f same = same
+
+pub filter-append : {X : Type 0} (k : X → Bool) (xs ys : List X) → filter k (xs ++ ys) ≡ filter k xs ++ filter k ys
+filter-append k [] ys = refl
+filter-append k (x ∷ xs) ys = at (k x) (filter-append k xs ys)
+  where
+    at : (b : Bool) → filter k (xs ++ ys) ≡ filter k xs ++ filter k ys → cond b (x ∷ filter k (xs ++ ys)) (filter k (xs ++ ys)) ≡ cond b (x ∷ filter k xs) (filter k xs) ++ filter k ys
+    at true e = ap (λ zs. x ∷ zs) e
+    at false e = e

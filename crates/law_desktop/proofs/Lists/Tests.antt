@@ -1,22 +1,27 @@
 -- Lists of which some or all elements pass a test.
-use Rattle.std.proofs.Common.{◌≡◌, Bool, true, false, List, [], ◌∷◌, ◌++◌, cond, refl, ap, sym, ◌∙◌}
-use Rattle.std.specs.Prelude.{◌&&◌, ◌||◌, filter}
+use Rattle.std.proofs.Common.{Bool, List, None, Some, [], ap, cond, false, refl, sym, true, ◌++◌, ◌∙◌, ◌∷◌, ◌≡◌}
+use Rattle.std.specs.Prelude.{filter, find, ◌&&◌, ◌||◌}
 use Rattle.std.specs.List.{list_all, list_any}
 use Rattle.std.proofs.lemmas.Bool.{or_left, or_right}
 use Rattle.std.proofs.lemmas.List.Folds.{list_any-append}
-use Rattle.law_desktop.proofs.Marks.Stacks.{Each, and-left, and-right, differ, each-map, or-left, or-right}
+use Rattle.law_desktop.proofs.Truth.{and-left, and-right, differ, either-more, either-none, either-of, or-false, or-left, or-right}
+use Rattle.law_desktop.proofs.Lists.Each.{Each, each-map}
 
--- ---- one of two, and one of a list
-
--- what follows from one of two and from the other
-pub either-of : (P : Type 0) (a b : Bool) → (a || b) ≡ true → (a ≡ true → P) → (b ≡ true → P) → P
-either-of P true b e f g = f refl
-either-of P false b e f g = g e
+-- ---- one of a list
 
 -- what follows from each of a list that passes
 pub any-of : {X : Type 0} (P : Type 0) (p : X → Bool) (xs : List X) → list_any p xs ≡ true → ((x : X) → p x ≡ true → P) → P
 any-of P p [] e f = absurd (differ e)
 any-of P p (x ∷ xs) e f = either-of P (p x) (list_any p xs) e (f x) (λ g. any-of P p xs g f)
+
+pub any-more : {X : Type 0} (p q : X → Bool) → ((x : X) → p x ≡ true → q x ≡ true) → (xs : List X) → list_any p xs ≡ true → list_any q xs ≡ true
+any-more p q f [] e = e
+any-more p q f (x ∷ xs) e = either-more (p x) (list_any p xs) (q x) (list_any q xs) e (f x) (any-more p q f xs)
+
+-- one that has it, and all that don't
+pub any-each : {X : Type 0} (q P : X → Bool) (xs : List X) → list_any q xs ≡ true → Each (λ x. P x ≡ false) xs → ((x : X) → q x ≡ true → P x ≡ true) → ⊥
+any-each q P [] e none f = differ e
+any-each q P (x ∷ xs) e none f = either-none (q x) (list_any q xs) e (λ g. differ (sym none.0 ∙ f x g)) (λ g. any-each q P xs g none.1 f)
 
 -- one that passes a first test passes a second, where that follows for each that has something more
 pub any-each-more : {X : Type 0} (p q : X → Bool) (P : X → Type 0) → ((x : X) → P x → p x ≡ true → q x ≡ true) → (xs : List X)
@@ -35,7 +40,25 @@ pub any-none : {X : Type 0} (p : X → Bool) (xs : List X) → Each (λ x. p x �
 any-none p [] each = refl
 any-none p (x ∷ xs) each = ap (λ b. b || list_any p xs) each.0 ∙ any-none p xs each.1
 
+-- ---- what is found
+
+pub none-any : {X : Type 0} (p : X → Bool) (xs : List X) → find p xs ≡ None → list_any p xs ≡ false
+none-any p [] e = refl
+none-any p (y ∷ ys) e = at (p y) (none-any p ys) e
+  where
+    at : (b : Bool) → (find p ys ≡ None → list_any p ys ≡ false) → cond b (Some y) (find p ys) ≡ None → (b || list_any p ys) ≡ false
+    at true later e = absurd (cc)
+    at false later e = later e
+
+pub find-none : {X : Type 0} (p : X → Bool) (xs : List X) → list_any p xs ≡ false → find p xs ≡ None
+find-none p [] none = refl
+find-none p (x ∷ xs) none = ap (λ b. cond b (Some x) (find p xs)) (or-left (p x) (list_any p xs) none) ∙ find-none p xs (or-right (p x) (list_any p xs) none)
+
 -- ---- all of a list
+
+pub each-false : {X : Type 0} (p : X → Bool) (xs : List X) → list_any p xs ≡ false → Each (λ x. p x ≡ false) xs
+each-false p [] e = tt
+each-false p (x ∷ xs) e = (or-left (p x) (list_any p xs) e, each-false p xs (or-right (p x) (list_any p xs) e))
 
 pub each-all : {X : Type 0} (p : X → Bool) (xs : List X) → list_all p xs ≡ true → Each (λ x. p x ≡ true) xs
 each-all p [] e = tt
@@ -45,23 +68,7 @@ pub all-each : {X : Type 0} (p : X → Bool) (xs : List X) → Each (λ x. p x �
 all-each p [] each = refl
 all-each p (x ∷ xs) each = ap (λ b. b && list_all p xs) each.0 ∙ all-each p xs each.1
 
-pub each-of : {X : Type 0} (P : X → Type 0) → ((x : X) → P x) → (xs : List X) → Each P xs
-each-of P f [] = tt
-each-of P f (x ∷ xs) = (f x, each-of P f xs)
-
 -- ---- one list after the other
-
-pub each-first : {X : Type 0} (P : X → Type 0) (xs ys : List X) → Each P (xs ++ ys) → Each P xs
-each-first P [] ys e = tt
-each-first P (x ∷ xs) ys e = (e.0, each-first P xs ys e.1)
-
-pub each-second : {X : Type 0} (P : X → Type 0) (xs ys : List X) → Each P (xs ++ ys) → Each P ys
-each-second P [] ys e = e
-each-second P (x ∷ xs) ys e = each-second P xs ys e.1
-
-pub each-append : {X : Type 0} (P : X → Type 0) (xs ys : List X) → Each P xs → Each P ys → Each P (xs ++ ys)
-each-append P [] ys e f = f
-each-append P (x ∷ xs) ys e f = (e.0, each-append P xs ys e.1 f)
 
 pub any-first : {X : Type 0} (p : X → Bool) (xs ys : List X) → list_any p xs ≡ true → list_any p (xs ++ ys) ≡ true
 any-first p xs ys e = list_any-append p xs ys ∙ or_left (list_any p xs) (list_any p ys) e
@@ -86,11 +93,7 @@ any-three P p xs ys zs e f g h =
 pub any-middle : {X : Type 0} (p : X → Bool) (xs ys zs : List X) → list_any p xs ≡ false → list_any p zs ≡ false
     → list_any p (xs ++ (ys ++ zs)) ≡ list_any p ys
 any-middle p xs ys zs e f =
-    list_any-append p xs (ys ++ zs) ∙ ap (λ b. b || list_any p (ys ++ zs)) e ∙ list_any-append p ys zs ∙ ap (λ b. list_any p ys || b) f ∙ or-none (list_any p ys)
-  where
-    or-none : (b : Bool) → (b || false) ≡ b
-    or-none true = refl
-    or-none false = refl
+    list_any-append p xs (ys ++ zs) ∙ ap (λ b. b || list_any p (ys ++ zs)) e ∙ list_any-append p ys zs ∙ ap (λ b. list_any p ys || b) f ∙ or-false (list_any p ys)
 
 -- ---- what is left of a list
 
