@@ -1,10 +1,10 @@
+pub mod Lists
 pub mod OneToplevel
 pub mod OneTree
 pub mod PopupsDismissed
 pub mod RenamedWindows
 pub mod RepaintBetween
 pub mod RepaintLaw
-pub mod RepaintLists
 pub mod ToldDamage
 pub mod ToldTogether
 pub mod ToldTrees

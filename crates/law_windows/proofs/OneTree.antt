@@ -1,4 +1,3 @@
 pub mod Named
 pub mod Naming
 pub mod Shown
-pub mod Stacks

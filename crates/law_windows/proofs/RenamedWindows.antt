@@ -1,5 +1,4 @@
 pub mod Between
-pub mod Lists
 pub mod Names
 mod Rows
 pub mod Shown

@@ -17,7 +17,7 @@ use Rattle.law_desktop.specs.TreeMarksLaws.{has_root, is_in_any, is_struck_at}
 use Rattle.wl_scene.specs.TreeWindows.{told_of}
 use Rattle.law_windows.specs.RepaintLaws.{IsAppliedBy, MarksAsApplied, SameAsRecords}
 use Rattle.wl_scene.specs.Repaint.{is_damaged_by, is_same_window, is_struck_by, number_of, window_has}
-use Rattle.law_windows.proofs.RepaintLists.{all-first, all-second, any-and, any-as, any-mapped, any-turned, each-map}
+use Rattle.law_windows.proofs.Lists.{all-first, all-second, any-and, any-as, any-mapped, any-turned, each-map}
 
 -- ---- records
 

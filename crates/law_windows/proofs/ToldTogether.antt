@@ -1,10 +1,9 @@
 -- Where the windows of each tree stand together, those of one are found from the lowest on.
-use Rattle.std.proofs.Common.{◌≡◌, ◌+◌, ◌-◌, ℕ, Bool, true, false, List, [], ◌∷◌, ◌++◌, cond, drop, flat_map, length, map, suc, take, refl, ap, sym, ◌∙◌, append_assoc, arith, inl, inr, ◌⊎◌}
-use Rattle.std.specs.Prelude.{◌==◌, ◌&&◌, ◌||◌, filter, not}
-use Rattle.std.specs.List.{list_all, list_any, position_or_len, prefix_len}
-use Rattle.std.proofs.lemmas.Bool.{and_parts, eqb-true}
+use Rattle.std.proofs.Common.{◌≡◌, ℕ, Bool, true, false, List, [], ◌∷◌, ◌++◌, cond, flat_map, map, refl, ap, sym, ◌∙◌, append_assoc, inl, inr, ◌⊎◌}
+use Rattle.std.specs.Prelude.{◌==◌}
+use Rattle.std.proofs.lemmas.Bool.{eqb-true}
 use Rattle.std.proofs.lemmas.List.Elements.{filter-append}
-use Rattle.std.proofs.lemmas.List.{append-nil, length-append, length-drop, map-append, nil_from_length, take_all}
+use Rattle.std.proofs.lemmas.List.{append-nil, map-append}
 use Rattle.spec_desktop.specs.Windows.{Window}
 use Rattle.wl_scene.specs.TreeWindows.{told_of}
 use Rattle.wl_scene.specs.declared.tree_window.TreeWindow.{TreeWindow}

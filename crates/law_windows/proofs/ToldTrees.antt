@@ -17,15 +17,15 @@ use Rattle.wl_scene.specs.declared.tree_window.TreeWindow.{TreeWindow}
 use Rattle.law_windows.specs.RepaintLaws.{AreOfClient, AreOfTree, IsAppliedBy, MarksTreesAsApplied, MarksTreesBetween}
 use Rattle.wl_scene.specs.Repaint.{marks, tree_of}
 use Rattle.law_windows.proofs.RepaintLaw.{marks-as-applied}
-use Rattle.law_windows.proofs.RepaintLists.{all-left, each-left}
+use Rattle.law_windows.proofs.Lists.{all-left, each-left}
 use Rattle.law_windows.proofs.ToldTogether.{told-tree}
 
 -- ---- one tree of them
 
-both-left : (root : ℕ) (was is : List Window) → of_root root (was ++ is) ≡ of_root root was ++ of_root root is
+pub both-left : (root : ℕ) (was is : List Window) → of_root root (was ++ is) ≡ of_root root was ++ of_root root is
 both-left root was is = filter-append (λ w. root == w.owner.root) was is
 
-of-root : (client root : ℕ) (was is : List Window) → AreOfClient client was is → AreOfTree client root (of_root root was) (of_root root is)
+pub of-root : (client root : ℕ) (was is : List Window) → AreOfClient client was is → AreOfTree client root (of_root root was) (of_root root is)
 of-root client root was is of-client = record {
   rooted = ap (list_all (has_root client root)) (sym (both-left root was is))
       ∙ all-left (λ w. client == w.owner.client) (λ w. root == w.owner.root) (has_root client root)

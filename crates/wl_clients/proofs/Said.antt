@@ -1,5 +1,6 @@
 -- What is said opaque of a window of a client's surface and is, is so of the window as it is lent.
 use Rattle.std.proofs.Common.{◌≡◌, ℕ, ◌+◌, ◌*◌, List, [], Bool, true, false, Option, Some, None, cond, refl, ap, sym, subst, ◌∙◌, length, ℤ, ◌-ℤ◌}
+use Rattle.std.proofs.lemmas.Bool.{and_from}
 use Rattle.std.specs.Prelude.{◌&&◌, nat_le, nat_lt}
 use Rattle.std.specs.Option.{option_map}
 use Rattle.wl_geom.specs.Rect.{bit, count_at, is_point}
@@ -22,7 +23,7 @@ use Rattle.spec_desktop.specs.Scratch.{color_in, pixel_at}
 use Rattle.wl_clients.specs.LentPictures.{picture_shown, window_kept}
 use Rattle.wl_clients.proofs.Colors.{no_color}
 use Rattle.wl_clients.proofs.Over.{buffer-in, bytes_from, bytes_or, lent_as, lent_window, now-from, point, shown-from, window}
-use Rattle.wl_scene.proofs.Truth.{and-both, and-left, and-right, differ}
+use Rattle.wl_scene.proofs.Truth.{and-left, and-right, differ}
 
 abbrev pub IsSo : Desktop → ℤ → ℤ → Window → Type 0
 IsSo d x y w = (contains w x y && holds (x -ℤ w.corner.x) (y -ℤ w.corner.y) w.opaque) ≡ true → (color_in d w x y).a ≡ 255
@@ -77,7 +78,7 @@ module _ (x y : ℤ) (nowhere : Area) (empty : IsRegion nowhere []) (owner : Own
     where
       by : (b : Bool) → IsSoOf (cond b (buffer_color bytes a.layout (point x y nowhere owner surface corner t scale a area opaque input)) no_color)
           → IsLentSo x y (lent_window nowhere corner area (cond b (Some (record { bytes = bytes; layout = a.layout; transform = transform_of t; scale = scale })) None))
-      by true so e = so (and-both (contains here x y) held (and-left (contains here x y) _ e) (said-held _ e))
+      by true so e = so (and_from (contains here x y) held (and-left (contains here x y) _ e) (said-held _ e))
       by false so e = unseen e
 
 module _ (x y : ℤ) (nowhere : Area) (empty : IsRegion nowhere []) (d : Desktop) (client : Option ClientView) (owner : Owner) (surface : ℕ) (same : option_map (λ (v : ClientView). v.stores) client ≡ option_map (λ (r : Resident). r.peer.stores)

@@ -1,14 +1,14 @@
 -- A demand that was done changes the windows of the toplevel that is found for the surface that it touches, or none, and what is marked of that
 -- is between what has to be marked and what may be.
-use Rattle.std.proofs.Common.{◌≡◌, ℕ, Bool, true, false, Option, Some, None, List, [], refl, ap, sym, subst, ◌∙◌}
+use Rattle.std.proofs.Common.{◌≡◌, ℕ, true, false, Option, Some, None, List, [], refl, ap, sym, subst, ◌∙◌}
 use Rattle.std.proofs.lemmas.List.{append-nil}
 use Rattle.std.proofs.lemmas.Option.{none-some}
 use Rattle.spec_desktop.specs.Peer.{Peer}
 use Rattle.wl_surface.specs.Surfaces.{Surfaces}
-use Rattle.wl_shell.specs.Shell.{Effect, XdgSurface, xdg_of}
+use Rattle.wl_shell.specs.Shell.{xdg_of}
 use Rattle.spec_desktop.specs.Stacking.{Owned}
 use Rattle.spec_desktop.specs.Windows.{Window}
-use Rattle.spec_desktop.specs.Changing.{Placing, changed_for, drawing, effect_placing, is_configure, link_with_id, placement_now, tree_committed, unlinked_at}
+use Rattle.spec_desktop.specs.Changing.{changed_for, link_with_id, placement_now, tree_committed, unlinked_at}
 use Rattle.spec_desktop.specs.Demand.{Demand, CommitTree, EndPopup, EndSubsurface, EndSurface, EndToplevel, SetMode}
 use Rattle.spec_desktop.specs.Demanding.{effect_of_commit}
 use Rattle.spec_desktop.specs.Desktop.{Desktop, Resident, owned_in, owned_of}
@@ -25,6 +25,7 @@ use Rattle.law_desktop.specs.Marked.{MarksByTreesBetween}
 use Rattle.law_desktop.specs.StackedWith.{ChangesAt, ChangesWith, popup_of}
 use Rattle.law_desktop.proofs.RootsOf.Each.{demands-change}
 use Rattle.law_desktop.proofs.Truth.{and-false}
+use Rattle.law_desktop.proofs.RootsOf.Commits.{effect-surfaces}
 use Rattle.law_windows.specs.Telling.{TellsTrees}
 use Rattle.law_windows.proofs.OneTree.Naming.{commit-there, desync-there, end-there, unlink-there}
 use Rattle.law_windows.specs.Runs.Demands.{ChangesFound, NoSurfaceComes, NothingIsMarked, TouchesFound, TouchesNothing}
@@ -39,19 +40,10 @@ unlinked-comes : (o : Option ℕ) (all : Surfaces) → NoneComes all (unlinked_a
 unlinked-comes None all surface there = there
 unlinked-comes (Some number) all surface there = sym (unlink-there number surface all) ∙ there
 
-drawn-owned : (b : Bool) (r : Resident) → (drawing b r).owned ≡ r.owned
-drawn-owned true r = refl
-drawn-owned false r = refl
-
--- what a commit comes to for the shell changes no surface
-placed-surfaces : (where_to : Placing) (surface : ℕ) (effect : Effect) (x : Option XdgSurface) (r : Resident) → (effect_placing where_to surface effect x r).owned.surfaces ≡ r.owned.surfaces
-placed-surfaces where_to surface effect None r = refl
-placed-surfaces where_to surface effect (Some x) r = ap (λ (o : Owned). o.surfaces) (drawn-owned (is_configure effect) _)
-
 touched-comes : (c : ℕ) (demand : Demand) (r : Resident) (d : Desktop) (id : ℕ) → touched_by demand r ≡ Some id → NoneComes r.owned.surfaces (changed_for c demand r d).owned.surfaces
 touched-comes c (CommitTree id) r d touched e surface there =
     sym (commit-there id surface r.owned.surfaces)
-    ∙ (sym (ap (has_surface surface) (placed-surfaces (placement_now c r d) id (effect_of_commit r id) (xdg_of id r.owned.shell) (tree_committed id r))) ∙ there)
+    ∙ (sym (ap (has_surface surface) (effect-surfaces (placement_now c r d) id (effect_of_commit r id) (xdg_of id r.owned.shell) (tree_committed id r))) ∙ there)
 touched-comes c (EndSurface id) r d touched e surface there = end-there id surface r.owned.surfaces there
 touched-comes c (EndSubsurface id) r d touched e surface there = unlinked-comes (link_with_id id r) r.owned.surfaces surface there
 touched-comes c (SetMode link true) r d touched e surface there = absurd (none-some touched e)

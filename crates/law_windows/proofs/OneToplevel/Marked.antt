@@ -4,7 +4,7 @@ use Rattle.std.proofs.Common.{◌≡◌, ℕ, ◌==◌, Bool, true, false, Optio
 use Rattle.std.specs.Prelude.{ℤ, ◌&&◌, ◌||◌, find, nat_lt, pos}
 use Rattle.std.specs.List.{All, list_all}
 use Rattle.std.specs.Option.{option_map}
-use Rattle.std.proofs.lemmas.Bool.{and_from, false_from_ne_true, or_left, or_right}
+use Rattle.std.proofs.lemmas.Bool.{and_from, false_from_ne_true, or_left, or_parts, or_right}
 use Rattle.wl_paint.specs.Damage.{has}
 use Rattle.wl_surface.specs.Surface.{Surface}
 use Rattle.wl_surface.specs.Surfaces.{Surfaces, surface_at}
@@ -24,9 +24,10 @@ use Rattle.law_desktop.specs.StackedWith.{stacked_roots}
 use Rattle.law_desktop.specs.Toplevel.{has_toplevel, windows_with, windows_with_standing}
 use Rattle.law_desktop.proofs.RootsOf.Kept.{IsRoot, are-roots, surfaces_in, tree_in}
 use Rattle.law_desktop.proofs.RootsOf.Staying.{all-each, each-all}
-use Rattle.law_desktop.proofs.Truth.{and-left, and-right, differ}
+use Rattle.law_desktop.proofs.Truth.{and-left, differ}
 use Rattle.law_desktop.proofs.Lists.Each.{Each, each-append, each-both, each-map}
 use Rattle.law_desktop.proofs.Lists.Keys.{found-passes}
+use Rattle.law_desktop.proofs.Lists.Tests.{all-each as all-so, each-all as so-each}
 use Rattle.wl_scene.specs.Repaint.{marks_trees}
 use Rattle.law_windows.specs.RenamedMarks.{IsAppliedByName}
 use Rattle.law_windows.specs.RenamedWindows.{told_by}
@@ -37,16 +38,6 @@ use Rattle.law_windows.proofs.ToldDamage.Shown.{between-is-applied}
 use Rattle.law_windows.proofs.TurnedWindows.Told.{each-surface}
 use Rattle.law_windows.specs.Runs.Marks.{AddsAtLeast, AddsAtMost, IsThereIn, RunIsTold, RunsAreMarked, RunsAreOfClient, RunsAreThere}
 use Rattle.law_windows.proofs.OneToplevel.Told.{marks-trees-by-name, told-together-by-name}
-
--- ---- lists
-
-pub all-so : {X : Type 0} (p : X → Bool) (xs : List X) → Each (λ x. p x ≡ true) xs → list_all p xs ≡ true
-all-so p [] each = refl
-all-so p (x ∷ xs) each = and_from (p x) (list_all p xs) each.0 (all-so p xs each.1)
-
-pub so-each : {X : Type 0} (p : X → Bool) (xs : List X) → list_all p xs ≡ true → Each (λ x. p x ≡ true) xs
-so-each p [] all = tt
-so-each p (x ∷ xs) all = (and-left (p x) (list_all p xs) all, so-each p xs (and-right (p x) (list_all p xs) all))
 
 -- ---- each window that is stacked with a toplevel
 
@@ -168,13 +159,9 @@ runs-are-marked A between c t d e step f changes told = record {
 
 -- ---- on what is to be painted
 
-either-false : (a b : Bool) → (a || b) ≡ false → (a ≡ false) × (b ≡ false)
-either-false false b e = (refl, e)
-either-false true b e = absurd (differ (sym e))
-
 pub adds-at-least : (A : Type 0) → AddsAtLeast A
 adds-at-least A d e f changes was is marks old new adds x y wide high clean =
-    let both = either-false (has old x y) _ (sym (adds marks.together_before marks.together_after x y wide high) ∙ clean) in
+    let both = or_parts (has old x y) _ (sym (adds marks.together_before marks.together_after x y wide high) ∙ clean) in
     (both.0, false_from_ne_true (marks_at_least d e (pos x) (pos y)) (λ marked. differ (sym both.1 ∙ marks.least (pos x) (pos y) marked)))
 
 pub adds-at-most : (A : Type 0) → AddsAtMost A

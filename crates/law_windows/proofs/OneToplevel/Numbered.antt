@@ -8,7 +8,7 @@ use Rattle.spec_desktop.specs.Objects.{ById}
 use Rattle.spec_desktop.specs.Windows.{Owner, StackedPopup, Window}
 use Rattle.spec_desktop.specs.Stacked.{all_windows}
 use Rattle.law_desktop.proofs.Marks.Stacks.{equal-numbers}
-use Rattle.law_desktop.proofs.Truth.{and-left, and-right}
+use Rattle.law_desktop.proofs.Truth.{and-left, and-right, truth}
 use Rattle.wl_scene.specs.StackedAgreement.{AreNumberedOnce}
 use Rattle.law_desktop.specs.TreeMarksLaws.{has_root}
 use Rattle.law_desktop.specs.StackedWith.{popup_of}
@@ -16,11 +16,6 @@ use Rattle.law_windows.specs.Runs.Lookup.{toplevel_by_parent, toplevel_in}
 use Rattle.law_windows.specs.Runs.Numbers.{AreKeptFor, FindsByNumbers, IsKeptFor, IsNumberOf, IsPopupBy, kept_by_parent, toplevel_kept}
 
 -- ---- options
-
-pub same-tests : (a b : Bool) → (a ≡ true → b ≡ true) → (b ≡ true → a ≡ true) → a ≡ b
-same-tests true b f g = sym (f refl)
-same-tests false true f g = g refl
-same-tests false false f g = refl
 
 module _ (numbers : ById ℕ) where
   or-alike : (a b x y : Option ℕ) → IsNumberOf numbers a b → IsNumberOf numbers x y → IsNumberOf numbers (option_or a x) (option_or b y)
@@ -44,7 +39,7 @@ module _ (K : Type 0) (owner : K → Owner) (numbers : ℕ → ById ℕ) (c : �
   has number k = ((owner k).client == c) && ((owner k).root == number)
 
   same-root : (root number : ℕ) (k : K) (w : Window) → IsKeptFor numbers (owner k) w → numbers c root ≡ Some number → has number k ≡ has_root c root w
-  same-root root number k w is named = same-tests (has number k) (has_root c root w) kept shown
+  same-root root number k w is named = truth (has number k) (has_root c root w) kept shown
     where
       kept : has number k ≡ true → has_root c root w ≡ true
       kept e =

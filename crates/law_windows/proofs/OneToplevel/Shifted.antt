@@ -13,7 +13,7 @@ use Rattle.law_desktop.specs.Soundness.{IsSound}
 use Rattle.law_desktop.proofs.Lists.Standings.{apart-last}
 use Rattle.law_desktop.proofs.Marks.Stacks.{equal-numbers}
 use Rattle.law_desktop.proofs.Soundness.Trees.{none-append}
-use Rattle.law_desktop.proofs.Lists.Tests.{filter-all, filter-none}
+use Rattle.law_desktop.proofs.Lists.Tests.{all-each, each-all as so-each, filter-all, filter-none}
 use Rattle.law_desktop.proofs.TreeSteps.Damage.{applies-nothing}
 use Rattle.law_desktop.specs.Changes.{HasTrees}
 use Rattle.law_desktop.specs.Marked.{MarksByTreesBetween}
@@ -30,7 +30,7 @@ use Rattle.law_desktop.proofs.PointerAside.Moved.{any-raised}
 use Rattle.law_windows.proofs.OneTree.Named.{nothing-told-by-name}
 use Rattle.law_windows.proofs.TurnedWindows.Told.{filter-among}
 use Rattle.law_windows.specs.Runs.Moves.{IsWhole, MovesAreMarked, MovesChangeOneToplevel, RaisesLiftRuns, RunIsOfAll, StaysWhole, lifted, shifted}
-use Rattle.law_windows.proofs.OneToplevel.Marked.{all-so, runs-are-marked, so-each}
+use Rattle.law_windows.proofs.OneToplevel.Marked.{runs-are-marked}
 
 -- ---- the toplevels
 
@@ -180,7 +180,7 @@ module _ (c t : ℕ) (d : Desktop) (sound : IsSound d) where
     whole = ap (shown_of d) f.parts ∙ shown-both d f.below (f.it ∷ f.above)
 
     its-run : list_all (has_toplevel c t) (shown d f.it) ≡ true
-    its-run = all-so (has_toplevel c t) (shown d f.it) (own-toplevel c t d f.it f.its)
+    its-run = all-each (has_toplevel c t) (shown d f.it) (own-toplevel c t d f.it f.its)
 
     lower : list_any (has_toplevel c t) (shown_of d f.below) ≡ false
     lower = no-toplevel c t d f.below f.no_lower

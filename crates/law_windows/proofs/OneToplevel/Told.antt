@@ -1,15 +1,13 @@
 -- The windows stacked with a toplevel, told by other names of their surfaces, tree by tree.
 use Rattle.std.proofs.Common.{◌≡◌, ℕ, ℤ, Bool, true, false, cond, List, [], ◌∷◌, ◌++◌, map, refl, ap, ap₂, sym, subst, ◌∙◌}
-use Rattle.std.specs.Prelude.{◌==◌, ◌||◌, filter, flat_map, nat_lt}
-use Rattle.std.specs.List.{list_all, list_any}
-use Rattle.std.proofs.lemmas.Bool.{and_from, eqb-true}
+use Rattle.std.specs.Prelude.{◌==◌, ◌||◌, filter, flat_map}
+use Rattle.std.specs.List.{list_any}
+use Rattle.std.proofs.lemmas.Bool.{eqb-true}
 use Rattle.std.proofs.lemmas.List.{map-append}
-use Rattle.std.proofs.lemmas.List.Elements.{filter-append}
 use Rattle.wl_surface.specs.Surfaces.{Surfaces}
 use Rattle.wl_surface.specs.declared.applied.Change.{Change}
 use Rattle.spec_desktop.specs.Windows.{Window}
 use Rattle.spec_desktop.specs.Marks.{Applied}
-use Rattle.law_desktop.specs.TreeMarksLaws.{has_root}
 use Rattle.law_desktop.proofs.Lists.Tests.{filter-none}
 use Rattle.wl_scene.specs.declared.tree_window.TreeWindow.{TreeWindow}
 use Rattle.law_desktop.specs.Renaming.{AreToldApart, has_surface}
@@ -18,15 +16,16 @@ use Rattle.law_desktop.specs.Toplevel.{of_root}
 use Rattle.law_desktop.proofs.RootsOf.Staying.{all-each, each-all}
 use Rattle.law_desktop.proofs.Truth.{differ}
 use Rattle.law_desktop.proofs.Lists.Each.{Each, each-first}
-use Rattle.law_windows.specs.RepaintLaws.{AreOfClient, AreOfTree}
+use Rattle.law_windows.specs.RepaintLaws.{AreOfClient}
 use Rattle.wl_scene.specs.Repaint.{marks, tree_of}
 use Rattle.law_windows.proofs.RepaintLaw.{same-as-records}
-use Rattle.law_windows.proofs.RepaintLists.{all-left, each-left}
+use Rattle.law_windows.proofs.Lists.{each-left}
 use Rattle.law_windows.proofs.ToldTogether.{turn-together}
 use Rattle.law_windows.specs.RenamedMarks.{AreNamedApart, IsAppliedByName}
 use Rattle.law_windows.specs.RenamedWindows.{has_window, told_by}
 use Rattle.law_windows.proofs.RenamedWindows.Names.{same-name}
 use Rattle.law_windows.proofs.RenamedWindows.Told.{marks-applied-by-name, same-by-name}
+use Rattle.law_windows.proofs.ToldTrees.{of-root}
 use Rattle.law_windows.specs.Runs.Marks.{IsThereIn, MarksTreesByName, ToldTogetherByName}
 
 -- ---- lists
@@ -101,18 +100,6 @@ told-together-by-name f all roots ws apart there turn =
     (ap (map (told_by f)) turn ∙ in-turn-named f all apart ws each roots)
 
 -- ---- what is marked of one tree
-
-both-left : (root : ℕ) (was is : List Window) → of_root root (was ++ is) ≡ of_root root was ++ of_root root is
-both-left root was is = filter-append (λ w. root == w.owner.root) was is
-
-of-root : (client root : ℕ) (was is : List Window) → AreOfClient client was is → AreOfTree client root (of_root root was) (of_root root is)
-of-root client root was is of-client = record {
-  rooted = ap (list_all (has_root client root)) (sym (both-left root was is))
-      ∙ all-left (λ w. client == w.owner.client) (λ w. root == w.owner.root) (has_root client root)
-      (λ w own here. and_from (client == w.owner.client) (root == w.owner.root) own here) (was ++ is) of-client.owned;
-  numbered = ap (list_all (λ w. nat_lt w.transform 8)) (sym (both-left root was is))
-      ∙ all-left (λ w. nat_lt w.transform 8) (λ w. root == w.owner.root) (λ w. nat_lt w.transform 8) (λ w own here. own) (was ++ is) of-client.numbered;
-}
 
 module _ (A : Type 0) (f : ℕ → ℕ) (all : Surfaces) (client : ℕ) (was is : List Window) (apart : AreToldApart f all) (there-was : Each (IsThereIn all) was) (there-is : Each (IsThereIn all) is)
     (of-client : AreOfClient client was is) (changes : List (Change A)) (applied : Applied) (each : Each (IsAppliedByName f changes applied) is) (x y : ℤ) where

@@ -26,16 +26,15 @@ use Rattle.law_desktop.proofs.RootsOf.Stacked.{found-any}
 use Rattle.law_desktop.proofs.RootsOf.Staying.{each-all, in-stacked}
 use Rattle.law_desktop.proofs.Truth.{and-left, differ, or-left, or-right}
 use Rattle.law_desktop.proofs.Lists.Each.{Each, each-map}
-use Rattle.law_desktop.proofs.Lists.Tests.{none-any}
-use Rattle.law_windows.proofs.RepaintLists.{all-first, all-second}
+use Rattle.law_desktop.proofs.Lists.Tests.{all-each, each-all as so-each, find-none, none-any}
+use Rattle.law_windows.proofs.Lists.{all-first, all-second}
 use Rattle.law_windows.specs.RenamedWindows.{told_by}
-use Rattle.law_windows.proofs.OneTree.Stacks.{find-none}
 use Rattle.law_windows.proofs.TurnedWindows.Told.{filter-among}
 use Rattle.law_windows.specs.Runs.Kept.{IsNumbered, RunComes, RunGoes, RunRises, RunStays, RunWasTold, StackedAreKept, kept_owner}
 use Rattle.law_windows.specs.Runs.Marks.{IsThereIn}
 use Rattle.law_windows.specs.Runs.Numbers.{AreKeptFor}
 use Rattle.law_windows.proofs.OneToplevel.Found.{in-shown}
-use Rattle.law_windows.proofs.OneToplevel.Marked.{all-so, so-each, there-each}
+use Rattle.law_windows.proofs.OneToplevel.Marked.{there-each}
 use Rattle.law_windows.proofs.OneToplevel.Shifted.{raises-lift-runs}
 
 -- ---- lists
@@ -142,7 +141,7 @@ module _ (numbers : ℕ → ById ℕ) (all : List Stacked) (c t k : ℕ) (f : �
   told-was =
       stacked-are-told numbers (run_of c k all) step.was c f
       (subst (λ ws. AreStacked numbers (run_of c k all) ws) mine (run-is-stacked numbers all (all_windows d) c t k is.are is.named is.once))
-      (all-so (λ w. c == w.owner.client) step.was
+      (all-each (λ w. c == w.owner.client) step.was
       (each-map (λ w. has_toplevel c t w ≡ true) (λ w. (c == w.owner.client) ≡ true) (λ w its. and-left (c == w.owner.client) (t == w.owner.toplevel) its) step.was
       (so-each (has_toplevel c t) step.was with-was))) named-was
     where

@@ -5,7 +5,7 @@ use Rattle.std.specs.List.{AllByRecursion, list_any}
 use Rattle.std.specs.Option.{option_map}
 use Rattle.std.proofs.lemmas.Bool.{eqb-true, false_from_ne_true, or_from}
 use Rattle.std.proofs.lemmas.List.Elements.{recursion_from_All}
-use Rattle.std.proofs.lemmas.Option.{none-some, same_Some}
+use Rattle.std.proofs.lemmas.Option.{none-some}
 use Rattle.wl_surface.specs.Request.{Commit}
 use Rattle.wl_surface.specs.State.{History}
 use Rattle.wl_surface.specs.Surface.{Surface, applying, asking}
@@ -16,10 +16,10 @@ use Rattle.wl_surface.specs.Hanging.{AreNumbered}
 use Rattle.wl_surface.specs.TreeLaws.{AreOnceLinked, is_live_of}
 use Rattle.law_desktop.specs.Soundness.{AreTrees}
 use Rattle.wl_surface.proofs.TreesEnding.{live-parts}
-use Rattle.wl_surface.proofs.Linking.{none-found}
 use Rattle.law_desktop.proofs.Lists.Keys.{found-map, found-passes, none-left}
 use Rattle.law_desktop.proofs.Marks.Stacks.{equal-numbers}
 use Rattle.law_desktop.proofs.Truth.{differ, or-left, or-right}
+use Rattle.law_desktop.proofs.TreeSteps.Descents.{found-number}
 use Rattle.law_desktop.specs.RenamingLaws.{KeepsPlaces}
 use Rattle.law_desktop.specs.Renaming.{HasEnds, IsRenaming, has_surface, renamed, renamed_link}
 use Rattle.law_windows.specs.ToldLaws.{AreShallow}
@@ -172,23 +172,6 @@ module _ (f : ℕ → ℕ) (all : Surfaces) (is : IsRenaming f all) where
           as-deep (depth levels (renamed f all) surface) (depth levels all it.0.child)
           (sym (ap (depth levels (renamed f all)) (eqb-true (f it.0.child) surface parts.1)) ∙ (places f all is levels it.0.child (it.1 parts.0).0).depth)
           (shallow it.0.child)
-
--- a link that is found has its own number alone
-found-number : (p : Link → Bool) (ls : List Link) (l : Link) → AreNumbered ls → find p ls ≡ Some l → find (λ (k : Link). k.number == l.number) ls ≡ Some l
-found-number p [] l apart e = absurd (none-some l e)
-found-number p (x ∷ xs) l apart e = at (p x) e (found-number p xs l apart.1)
-  where
-    behind : (b : Bool) → (x.number == l.number) ≡ b → find (λ (k : Link). k.number == l.number) xs ≡ Some l → cond b (Some x) (find (λ (k : Link). k.number == l.number) xs) ≡ Some l
-    behind true same found =
-        absurd (none-some l (sym (none-found (λ (k : Link). k.number == l.number) xs (ap (λ n. list_any (λ (k : Link). k.number == n) xs) (sym (eqb-true x.number l.number same)) ∙ apart.0)) ∙ found))
-    behind false same found = found
-
-    at : (b : Bool) → cond b (Some x) (find p xs) ≡ Some l → (find p xs ≡ Some l → find (λ (k : Link). k.number == l.number) xs ≡ Some l)
-        → find (λ (k : Link). k.number == l.number) (x ∷ xs) ≡ Some l
-    at true e next =
-        let it = same_Some x l e in
-        ap (λ b. cond b (Some x) (find (λ (k : Link). k.number == l.number) xs)) (equal-numbers x.number l.number (ap (λ (k : Link). k.number) it)) ∙ ap (λ (k : Link). Some k) it
-    at false e next = behind (x.number == l.number) refl (next e)
 
 not-deeper : (a p s : ℕ) → a ≤ p → s ≡ suc p → suc a ≤ s
 not-deeper a p s low e = omega arith

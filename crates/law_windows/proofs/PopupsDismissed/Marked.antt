@@ -2,7 +2,7 @@
 use Rattle.std.proofs.Common.{◌≡◌, ℕ, ℤ, Bool, true, false, cond, List, [], ◌∷◌, refl, ap, sym, subst, ◌∙◌, inl, inr}
 use Rattle.std.specs.Prelude.{◌==◌, ◌&&◌, ◌||◌, filter, not}
 use Rattle.std.specs.List.{list_any}
-use Rattle.std.proofs.lemmas.Bool.{and_from, eqb-false, eqb-true, false_from_ne_true, or_left, or_right}
+use Rattle.std.proofs.lemmas.Bool.{and_from, eqb-false, eqb-true, false_from_ne_true, or_left}
 use Rattle.wl_surface.specs.Surfaces.{history_in}
 use Rattle.wl_shell.specs.Popups.{Popped}
 use Rattle.spec_desktop.specs.Windows.{Window, contains}
@@ -14,16 +14,16 @@ use Rattle.law_desktop.proofs.Marks.Stacks.{any-recorded, surface-turned}
 use Rattle.law_desktop.specs.Changes.{HasTrees}
 use Rattle.law_desktop.proofs.RootsOf.Away.{IsIn}
 use Rattle.law_desktop.proofs.RootsOf.Kept.{same-undamaged, surfaces_in}
-use Rattle.law_windows.proofs.OneToplevel.Numbered.{same-tests}
 use Rattle.law_desktop.proofs.MessageWays.Gone.{all-distinct}
 use Rattle.law_desktop.proofs.MessageWays.Lists.{is_gone_at, least-gone}
-use Rattle.law_desktop.proofs.Truth.{and-left, and-right, differ, or-left, or-right}
+use Rattle.law_desktop.proofs.Truth.{and-left, and-right, differ, or-left, or-right, truth as same-tests}
 use Rattle.law_desktop.proofs.Lists.Each.{Each}
 use Rattle.law_desktop.proofs.Lists.Tests.{any-more}
-use Rattle.law_desktop.proofs.Lists.Left.{any-there}
+use Rattle.law_desktop.proofs.Lists.Standings.{none-left}
 use Rattle.law_windows.specs.Grabs.Dismissed.{Dismisses, is_of_dismissed, is_of_others}
 use Rattle.law_windows.specs.Grabs.Marks.{DismissalMarks}
 use Rattle.law_windows.proofs.PopupsDismissed.Gone.{windows-go}
+use Rattle.law_windows.proofs.Lists.{any-in, one-that}
 
 -- ---- truth
 
@@ -31,65 +31,12 @@ not-twice : (b : Bool) → not (not b) ≡ b
 not-twice true = refl
 not-twice false = refl
 
-and-none : (a : Bool) → (a && false) ≡ false
-and-none true = refl
-and-none false = refl
-
 -- ---- lists
-
--- one of a list that passes is among it
-one-that : {X : Type 0} (P : Type 0) (p : X → Bool) (xs : List X) → list_any p xs ≡ true → ((x : X) → IsIn x xs → p x ≡ true → P) → P
-one-that P p [] e f = absurd (differ e)
-one-that P p (x ∷ xs) e f = at (p x) refl e (λ more. one-that P p xs more (λ y among is. f y (inr among) is))
-  where
-    at : (b : Bool) → p x ≡ b → (b || list_any p xs) ≡ true → (list_any p xs ≡ true → P) → P
-    at true is g later = f x (inl refl) is
-    at false is g later = later g
-
-any-in : {X : Type 0} (p : X → Bool) (x : X) (xs : List X) → IsIn x xs → p x ≡ true → list_any p xs ≡ true
-any-in p x [] among is = absurd among
-any-in p x (y ∷ ys) (inl same) is = or_left (p y) (list_any p ys) (ap p same ∙ is)
-any-in p x (y ∷ ys) (inr among) is = or_right (p y) (list_any p ys) (any-in p x ys among is)
 
 each-in : {X : Type 0} (P : X → Type 0) (xs : List X) → Each P xs → (x : X) → IsIn x xs → P x
 each-in P [] each x among = absurd among
 each-in P (y ∷ ys) each x (inl same) = subst P same each.0
 each-in P (y ∷ ys) each x (inr among) = each-in P ys each.1 x among
-
--- one that passes is left where what is left passes
-in-left : {X : Type 0} (p q : X → Bool) (x : X) (xs : List X) → IsIn x xs → q x ≡ true → p x ≡ true → list_any p (filter q xs) ≡ true
-in-left p q x [] among keeps is = absurd among
-in-left p q x (y ∷ ys) (inl same) keeps is =
-    ap (λ b. list_any p (cond b (y ∷ filter q ys) (filter q ys))) (ap q same ∙ keeps) ∙ or_left (p y) (list_any p (filter q ys)) (ap p same ∙ is)
-in-left p q x (y ∷ ys) (inr among) keeps is = at (q y) (in-left p q x ys among keeps is)
-  where
-    at : (b : Bool) → list_any p (filter q ys) ≡ true → list_any p (cond b (y ∷ filter q ys) (filter q ys)) ≡ true
-    at true later = or_right (p y) (list_any p (filter q ys)) later
-    at false later = later
-
--- one that is left is among all, and passes
-from-left : {X : Type 0} (P : Type 0) (p q : X → Bool) (xs : List X) → list_any p (filter q xs) ≡ true → ((x : X) → IsIn x xs → q x ≡ true → p x ≡ true → P) → P
-from-left P p q [] e f = absurd (differ e)
-from-left P p q (x ∷ xs) e f = at (q x) refl e (λ more. from-left P p q xs more (λ y among keeps is. f y (inr among) keeps is))
-  where
-    by : q x ≡ true → (b : Bool) → p x ≡ b → (b || list_any p (filter q xs)) ≡ true → (list_any p (filter q xs) ≡ true → P) → P
-    by keeps true is g later = f x (inl refl) keeps is
-    by keeps false is g later = later g
-
-    at : (b : Bool) → q x ≡ b → list_any p (cond b (x ∷ filter q xs) (filter q xs)) ≡ true → (list_any p (filter q xs) ≡ true → P) → P
-    at true keeps g later = by keeps (p x) refl g later
-    at false out g later = later g
-
-each-left : {X : Type 0} (P : X → Type 0) (p : X → Bool) (xs : List X) → Each P xs → Each P (filter p xs)
-each-left P p [] each = tt
-each-left P p (x ∷ xs) each = at (p x) (each-left P p xs each.1)
-  where
-    at : (b : Bool) → Each P (filter p xs) → Each P (cond b (x ∷ filter p xs) (filter p xs))
-    at true more = (each.0, more)
-    at false more = more
-
-none-left : {X : Type 0} (p q : X → Bool) (xs : List X) → list_any p xs ≡ false → list_any p (filter q xs) ≡ false
-none-left p q xs none = false_from_ne_true (list_any p (filter q xs)) (λ e. differ (sym none ∙ any-there p q xs e))
 
 -- ---- windows that go, where no surface has two
 

@@ -27,17 +27,11 @@ use Rattle.law_desktop.proofs.RootsOf.Kept.{popups_in, surfaces_in}
 use Rattle.law_desktop.proofs.RootsOf.Left.{since-geometry}
 use Rattle.law_desktop.proofs.RootsOf.Popped.{AreNumberedAlike, IsPopped, IsThrough, KeepsNumbers, all-through, first_or, popups-through, surface-through, through, xdg-through}
 use Rattle.law_desktop.proofs.RootsOf.Shells.{all-popped-of}
-use Rattle.law_desktop.proofs.Truth.{differ, or-left, or-right}
+use Rattle.law_desktop.proofs.Truth.{and-false, differ, or-left, or-right}
 use Rattle.law_desktop.proofs.Lists.Each.{Each, each-append, each-both, each-map}
 use Rattle.law_desktop.proofs.Lists.Tests.{any-more, filter-all}
 use Rattle.law_desktop.proofs.Lists.Left.{filter-none-each}
 use Rattle.law_windows.specs.Grabs.Dismissed.{Dismisses, is_dismissed_at}
-
--- ---- truth
-
-and-none : (a : Bool) → (a && false) ≡ false
-and-none true = refl
-and-none false = refl
 
 -- ---- roots on others
 
@@ -53,7 +47,7 @@ on-kept keep all q (r ∷ rs) each = at (keep r) refl (on-kept keep all q rs eac
     at false f more =
         more
         ∙ sym (ap (λ b. cond (q.is_mapped && b) (root_on all r q ∷ []) (stacked_on all q rs)) (false_from_ne_true (has_parent r.surface q) (λ g. differ (sym f ∙ each.0 g)))
-        ∙ ap (λ b. cond b (root_on all r q ∷ []) (stacked_on all q rs)) (and-none q.is_mapped))
+        ∙ ap (λ b. cond b (root_on all r q ∷ []) (stacked_on all q rs)) (and-false q.is_mapped))
 
 -- one that isn't mapped has none
 unmapped-on : (all : Surfaces) (q : StackedPopup) (rs : List Root) → q.is_mapped ≡ false → stacked_on all q rs ≡ []
@@ -110,7 +104,7 @@ first_mapped (q ∷ qs) = is_popup_mapped q
 
 unmapped-kind : (y : XdgSurface) (object : RoleObject) (k : Kind) → first_mapped (popped_kind y object (with_popup dismiss k)) ≡ false
 unmapped-kind y object Toplevel = refl
-unmapped-kind y object (IsPopup popup) = and-none (is_mapped_stage object.stage)
+unmapped-kind y object (IsPopup popup) = and-false (is_mapped_stage object.stage)
 
 unmapped-role : (y : XdgSurface) (o : Option RoleObject) → first_mapped (popped_role y (option_map (with_popup_role dismiss) o)) ≡ false
 unmapped-role y None = refl
@@ -347,7 +341,7 @@ module _ (is : Popped → Bool) (c : ℕ) (d e : Desktop) (had : HasTrees d) (go
     new = stacked_on (owned_in d c).surfaces (stacked_popup (owned_in d c) p) rs
 
     mapped-lives : is_popup_mapped p ≡ true → p.popup.is_dismissed ≡ false
-    mapped-lives f = false_from_ne_true p.popup.is_dismissed (λ g. differ (sym (ap (λ b. is_mapped_stage p.object.stage && not b) g ∙ and-none (is_mapped_stage p.object.stage)) ∙ f))
+    mapped-lives f = false_from_ne_true p.popup.is_dismissed (λ g. differ (sym (ap (λ b. is_mapped_stage p.object.stage && not b) g ∙ and-false (is_mapped_stage p.object.stage)) ∙ f))
 
     -- what is so of its surface, if it is mapped, is so of the roots that it has
     new-each : (P : ℕ → Type 0) → (is_popup_mapped p ≡ true → P p.xdg.surface) → Each (λ r. P r.surface) new

@@ -20,7 +20,7 @@ use Rattle.law_windows.specs.RepaintLaws.{AreOfTree, SameAsRecords}
 use Rattle.wl_scene.specs.Repaint.{is_damaged_by, is_struck_by, same_windows, window_has}
 use Rattle.law_windows.specs.RenamedMarks.{AreNamedApart, IsAppliedByName, MarksAppliedByName, SameByName}
 use Rattle.law_windows.specs.RenamedWindows.{has_window, told_by}
-use Rattle.law_windows.proofs.RenamedWindows.Lists.{any-and, any-as, any-mapped, any-turned}
+use Rattle.law_windows.proofs.Lists.{any-and, any-as, any-mapped, any-turned}
 use Rattle.law_windows.proofs.RenamedWindows.Names.{same-name}
 
 -- ---- records

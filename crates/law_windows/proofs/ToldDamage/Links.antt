@@ -11,8 +11,8 @@ use Rattle.wl_surface.proofs.Changing.{KeepsLink, keeps-where, none-live, or-fal
 use Rattle.wl_surface.proofs.Linking.{keeps-ending}
 use Rattle.wl_surface.proofs.Placing.{numbered as number-found}
 use Rattle.law_windows.specs.ToldLaws.{DesyncTellsApplied, LinkEndTellsApplied, TellsApplied, UnlinkTellsApplied}
-use Rattle.law_windows.proofs.ToldDamage.Rects.{and-false}
 use Rattle.law_windows.proofs.ToldDamage.Telling.{told-unless, tree-told}
+use Rattle.law_desktop.proofs.Truth.{and-false}
 
 -- ---- each child has one link that lives, as it had
 

@@ -1,12 +1,9 @@
 -- Where nothing was asked, nothing is damaged.
-use Rattle.std.proofs.Common.{◌≡◌, ℕ, zero, suc, Bool, true, false, List, [], ◌∷◌, refl, ap, ◌∙◌}
+use Rattle.std.proofs.Common.{◌≡◌, ℕ, zero, suc, false, List, [], ◌∷◌, refl, ap, ◌∙◌}
 use Rattle.std.specs.Prelude.{◌&&◌, nat_lt}
 use Rattle.wl_surface.specs.Request.{Request}
 use Rattle.wl_surface.specs.State.{Values, between, height_of, is_damaged_by, width_of}
-
-pub and-false : (b : Bool) → (b && false) ≡ false
-and-false true = refl
-and-false false = refl
+use Rattle.law_desktop.proofs.Truth.{and-false}
 
 -- nothing was asked between a cut and itself
 pub none-between : (cut : ℕ) (rs : List Request) → between cut cut rs ≡ []

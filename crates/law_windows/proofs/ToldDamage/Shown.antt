@@ -15,6 +15,7 @@ use Rattle.spec_desktop.specs.Marks.{Applied}
 use Rattle.law_windows.specs.RepaintLaws.{IsAppliedBy}
 use Rattle.law_windows.specs.ToldLaws.{TellsApplied, is_told_at, is_told_of}
 use Rattle.law_windows.specs.ToldWindows.{BetweenIsApplied, IsAppliedTo, TellsWindows}
+use Rattle.law_windows.proofs.Lists.{each-map}
 
 -- ---- lists
 
@@ -25,10 +26,6 @@ each-append P (x ∷ xs) ys a b = (a.0, each-append P xs ys a.1 b)
 each-flat : {X Y : Type 0} (P : Y → Type 0) (f : X → List Y) → ((x : X) → AllByRecursion P (f x)) → (xs : List X) → AllByRecursion P (flat_map f xs)
 each-flat P f each [] = tt
 each-flat P f each (x ∷ xs) = rw (flat_map-cons f x xs) (each-append P (f x) (flat_map f xs) (each x) (each-flat P f each xs))
-
-each-map : {X : Type 0} (P Q : X → Type 0) → ((x : X) → P x → Q x) → (xs : List X) → AllByRecursion P xs → AllByRecursion Q xs
-each-map P Q f [] each = tt
-each-map P Q f (x ∷ xs) each = (f x each.0, each-map P Q f xs each.1)
 
 -- ---- the windows of a tree
 

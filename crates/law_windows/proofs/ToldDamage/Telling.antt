@@ -21,6 +21,7 @@ use Rattle.wl_surface.specs.Tree.{AreTold, IsTold, IsToldUnless, is_among, liste
 use Rattle.spec_desktop.specs.Moments.{is_applied_by}
 use Rattle.law_windows.specs.ToldLaws.{TellsApplied, is_told_of}
 use Rattle.law_windows.proofs.ToldDamage.Rects.{undamaged}
+use Rattle.law_desktop.proofs.Truth.{or-false}
 
 -- ---- what is told of one surface
 
@@ -46,10 +47,6 @@ is_said_by says n c = (c.surface == n) && says c.rects.items
 abbrev pub AreSaid : {A : Type 0} → ℕ → List (Change A) → Bool → Option Surface → Type 0
 AreSaid n changes true at = (x y : ℕ) → list_any (is_said_by (says_at x y at) n) changes ≡ said_at x y at
 AreSaid n changes false at = (says : List Rect → Bool) → list_any (is_said_by says n) changes ≡ false
-
-or-false : (b : Bool) → (b || false) ≡ b
-or-false true = refl
-or-false false = refl
 
 -- it is told once
 one-said : {A : Type 0} (n : ℕ) (at : Option Surface) (one : Option (Change A)) → AreApplied n at one

@@ -5,6 +5,8 @@ use Rattle.std.specs.List.{AllByRecursion as Each, list_all, list_any}
 use Rattle.std.proofs.lemmas.List.Folds.{list_any-append}
 use Rattle.wl_scene.proofs.Truth.{and-left, and-right, or-left, or-right}
 use Rattle.law_desktop.proofs.Marks.Stacks.{same-number}
+use Rattle.law_desktop.proofs.Lists.Left.{filter-append}
+use Rattle.law_desktop.proofs.Lists.Tests.{filter-none}
 use Rattle.std.proofs.lemmas.Bool.{or_left, or_right}
 use Rattle.spec_desktop.specs.Windows.{Window}
 use Rattle.law_windows.specs.RenamedWindows.{has_window}
@@ -15,19 +17,6 @@ filter-all : {X : Type 0} (p : X → Bool) (xs : List X) → list_all p xs ≡ t
 filter-all p [] all = refl
 filter-all p (x ∷ xs) all =
     ap (λ b. cond b (x ∷ filter p xs) (filter p xs)) (and-left (p x) (list_all p xs) all) ∙ ap (λ ys. x ∷ ys) (filter-all p xs (and-right (p x) (list_all p xs) all))
-
-filter-none : {X : Type 0} (p : X → Bool) (xs : List X) → list_any p xs ≡ false → filter p xs ≡ []
-filter-none p [] none = refl
-filter-none p (x ∷ xs) none =
-    ap (λ b. cond b (x ∷ filter p xs) (filter p xs)) (or-left (p x) (list_any p xs) none) ∙ filter-none p xs (or-right (p x) (list_any p xs) none)
-
-filter-append : {X : Type 0} (p : X → Bool) (xs ys : List X) → filter p (xs ++ ys) ≡ filter p xs ++ filter p ys
-filter-append p [] ys = refl
-filter-append p (x ∷ xs) ys = at (p x) (filter-append p xs ys)
-  where
-    at : (b : Bool) → filter p (xs ++ ys) ≡ filter p xs ++ filter p ys → cond b (x ∷ filter p (xs ++ ys)) (filter p (xs ++ ys)) ≡ cond b (x ∷ filter p xs) (filter p xs) ++ filter p ys
-    at true e = ap (λ zs. x ∷ zs) e
-    at false e = e
 
 append-none : {X : Type 0} (xs : List X) → xs ++ [] ≡ xs
 append-none [] = refl

@@ -17,13 +17,14 @@ use Rattle.law_desktop.proofs.PopupsByNames.Popped.{each-there}
 use Rattle.law_desktop.proofs.PopupsByNames.Rooted.{of-renamed}
 use Rattle.law_desktop.proofs.Truth.{and-left}
 use Rattle.law_desktop.proofs.Lists.Each.{Each}
+use Rattle.law_desktop.proofs.Lists.Tests.{each-all}
 use Rattle.spec_desktop.specs.Objects.{ById}
 use Rattle.spec_desktop.specs.Desktop.{Desktop, owned_in}
 use Rattle.spec_desktop.specs.Marks.{AreDistinct, is_same_surface}
 use Rattle.wl_requests.specs.declared.residents.Resident.{Resident as Kept}
-use Rattle.law_windows.proofs.RepaintLists.{all-second}
+use Rattle.law_windows.proofs.Lists.{all-second}
 use Rattle.law_windows.specs.Runs.Marks.{IsThereIn, NoneComes}
-use Rattle.law_windows.proofs.OneToplevel.Marked.{runs-are-there, so-each}
+use Rattle.law_windows.proofs.OneToplevel.Marked.{runs-are-there}
 use Rattle.wl_scene.specs.Roots.{HasRole, IsHeld}
 use Rattle.wl_shell.specs.Agreement.{IsKept}
 use Rattle.wl_shell.specs.InOrder.{AreRising}
@@ -212,7 +213,7 @@ pub run-fits : (c toplevel : ℕ) (d e : Desktop) (step : ChangesToplevel c topl
 run-fits c toplevel d e step comes =
     windows-fit c (owned_in d c).surfaces step.is
     (own-each c toplevel (owned_in e c).surfaces (owned_in d c).surfaces comes step.is
-    (so-each (has_toplevel c toplevel) step.is (all-second (has_toplevel c toplevel) step.was step.is step.together))
+    (each-all (has_toplevel c toplevel) step.is (all-second (has_toplevel c toplevel) step.was step.is step.together))
     (subst (λ (ws : List Window). Each (IsThereIn (owned_in e c).surfaces) ws) (sym step.is_of)
     (recursion_from_All (IsThereIn (owned_in e c).surfaces) (windows_with c toplevel e) (runs-are-there c toplevel e))))
     (left-distinct step.is step.above (right-distinct step.below (step.is ++ step.above) step.distinct_after))

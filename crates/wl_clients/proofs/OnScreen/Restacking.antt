@@ -24,7 +24,8 @@ use Rattle.law_desktop.proofs.Marks.Stacks.{equal-numbers, same-number}
 use Rattle.law_desktop.specs.Laws.{AreApart}
 use Rattle.law_desktop.specs.TreeStepsLaws.{IsRootOf}
 use Rattle.law_windows.specs.RenamedWindows.{told_by}
-use Rattle.law_windows.proofs.OneTree.Stacks.{find-none, none-lower}
+use Rattle.law_desktop.proofs.Lists.Tests.{find-none}
+use Rattle.law_desktop.proofs.RootsOf.Stacks.{none-lower}
 use Rattle.wl_scene.specs.StackedAgreement.{AreStacked}
 use Rattle.law_desktop.specs.Ordered.{OwnsOrdered}
 use Rattle.law_desktop.specs.Changes.{HasTrees}

@@ -21,19 +21,20 @@ use Rattle.law_desktop.proofs.Keeping.OwningTies.{named-there, number-of-name, r
 use Rattle.law_desktop.proofs.Twins.{kept-by-numbers}
 use Rattle.law_desktop.proofs.Truth.{and-left, differ}
 use Rattle.law_desktop.proofs.Lists.Each.{Each, each-map}
+use Rattle.law_desktop.proofs.Lists.Tests.{all-each, each-all}
 use Rattle.wl_paint.specs.Damage.{Damaged, has}
 use Rattle.spec_desktop.specs.Objects.{ById}
 use Rattle.spec_desktop.specs.Desktop.{Desktop, Resident, owned_in}
 use Rattle.spec_desktop.specs.Marks.{in_output}
 use Rattle.spec_desktop.specs.Moments.{marks_at_least, marks_at_most}
 use Rattle.spec_desktop.specs.Stacked.{all_windows}
-use Rattle.law_windows.proofs.RepaintLists.{all-first, all-second}
+use Rattle.law_windows.proofs.Lists.{all-first, all-second}
 use Rattle.law_windows.specs.Runs.Demands.{ChangesRun}
 use Rattle.law_windows.specs.Runs.Kept.{IsNumbered}
 use Rattle.law_windows.specs.Runs.Marks.{AddsRun, IsThereIn}
 use Rattle.law_windows.specs.Runs.Moves.{IsWhole, MovesAreMarked, shifted}
 use Rattle.law_windows.specs.Runs.Names.{root_placed, roots_placed}
-use Rattle.law_windows.proofs.OneToplevel.Marked.{adds-at-least, adds-at-most, all-so, so-each, there-each}
+use Rattle.law_windows.proofs.OneToplevel.Marked.{adds-at-least, adds-at-most, there-each}
 use Rattle.law_windows.proofs.OneToplevel.Renamed.{placed-roots-have-runs}
 use Rattle.law_windows.proofs.OneToplevel.Shifted.{run-is-of-all, stays-whole}
 use Rattle.law_windows.proofs.OneToplevel.Turned.{run-stays, run-was-told}
@@ -222,9 +223,9 @@ module _ (A : Type 0) (marked : MovesAreMarked A) (names : Names) (slots : Slots
         stacked-are-told nums (run_of c k now) step.is c f
         (subst (λ (ws : List Window). AreStacked nums (run_of c k now) ws) (run-is-of-all c surface e after.trees ∙ sym step.is_of)
         (run-is-stacked nums now (all_windows e) c surface k stacked-put numbered.named numbered.once))
-        (all-so (λ w. c == w.owner.client) step.is
+        (all-each (λ w. c == w.owner.client) step.is
         (each-map (λ w. has_toplevel c surface w ≡ true) (λ w. (c == w.owner.client) ≡ true) (λ w with_it. and-left (c == w.owner.client) (surface == w.owner.toplevel) with_it) step.is
-        (so-each (has_toplevel c surface) step.is (all-second (has_toplevel c surface) step.was step.is step.together)))) named-after
+        (each-all (has_toplevel c surface) step.is (all-second (has_toplevel c surface) step.was step.is step.together)))) named-after
 
     few-after : length (run_of c k now) ≤ 256
     few-after =

@@ -1,7 +1,7 @@
 use Rattle.std.proofs.Common.{Bool, List, ap, arith, false, pos, refl, subst, sym, true, ◌||◌, ◌≡◌, ◌∙◌}
 use Rattle.std.proofs.lemmas.List.{take_all}
 use Rattle.wl_paint.specs.Damage.{has}
-use Rattle.law_windows.proofs.RepaintLists.{any-mapped}
+use Rattle.law_windows.proofs.Lists.{any-mapped}
 use Rattle.wl_scene.proofs.Marked.{IsMarked, marked-more}
 use Rattle.wl_scene.specs.Repaint.{window_has}
 use Rattle.wl_clients.proofs.screen.marking.mark_kept.Goals as goal

@@ -1,8 +1,10 @@
 -- Lists of which some or all elements pass a test.
-use Rattle.std.proofs.Common.{◌≡◌, Bool, true, false, List, [], ◌∷◌, ◌++◌, cond, map, refl, ap, ◌∙◌}
+use Rattle.std.proofs.Common.{Bool, List, [], ap, cond, false, inl, inr, map, refl, true, ◌++◌, ◌∙◌, ◌∷◌, ◌≡◌}
 use Rattle.std.specs.Prelude.{◌&&◌, ◌||◌, filter}
 use Rattle.std.specs.List.{AllByRecursion, list_all, list_any}
-use Rattle.std.proofs.lemmas.Bool.{and_from, and_parts}
+use Rattle.std.proofs.lemmas.Bool.{and_from, and_parts, or_left, or_right}
+use Rattle.law_desktop.proofs.RootsOf.Away.{IsIn}
+use Rattle.law_desktop.proofs.Truth.{differ}
 
 pub all-first : {X : Type 0} (p : X → Bool) (xs ys : List X) → list_all p (xs ++ ys) ≡ true → list_all p xs ≡ true
 all-first p [] ys e = refl
@@ -76,3 +78,27 @@ each-left P f (x ∷ xs) each = at (f x) (each-left P f xs each.1)
     at : (b : Bool) → AllByRecursion P (filter f xs) → AllByRecursion P (cond b (x ∷ filter f xs) (filter f xs))
     at true more = (each.0, more)
     at false more = more
+
+pub any-in : {X : Type 0} (p : X → Bool) (x : X) (xs : List X) → IsIn x xs → p x ≡ true → list_any p xs ≡ true
+any-in p x [] among is = absurd among
+any-in p x (y ∷ ys) (inl same) is = or_left (p y) (list_any p ys) (ap p same ∙ is)
+any-in p x (y ∷ ys) (inr among) is = or_right (p y) (list_any p ys) (any-in p x ys among is)
+
+pub is-left : {X : Type 0} (p q : X → Bool) (x : X) (xs : List X) → IsIn x xs → q x ≡ true → p x ≡ true → list_any p (filter q xs) ≡ true
+is-left p q x [] among keeps is = absurd among
+is-left p q x (y ∷ ys) (inl same) keeps is =
+    ap (λ b. list_any p (cond b (y ∷ filter q ys) (filter q ys))) (ap q same ∙ keeps) ∙ or_left (p y) (list_any p (filter q ys)) (ap p same ∙ is)
+is-left p q x (y ∷ ys) (inr among) keeps is = at (q y) (is-left p q x ys among keeps is)
+  where
+    at : (b : Bool) → list_any p (filter q ys) ≡ true → list_any p (cond b (y ∷ filter q ys) (filter q ys)) ≡ true
+    at true later = or_right (p y) (list_any p (filter q ys)) later
+    at false later = later
+
+-- one of a list that passes is among it
+pub one-that : {X : Type 0} (P : Type 0) (p : X → Bool) (xs : List X) → list_any p xs ≡ true → ((x : X) → IsIn x xs → p x ≡ true → P) → P
+one-that P p [] e f = absurd (differ e)
+one-that P p (x ∷ xs) e f = at (p x) refl e (λ more. one-that P p xs more (λ y among is. f y (inr among) is))
+  where
+    at : (b : Bool) → p x ≡ b → (b || list_any p xs) ≡ true → (list_any p xs ≡ true → P) → P
+    at true is g later = f x (inl refl) is
+    at false is g later = later g
