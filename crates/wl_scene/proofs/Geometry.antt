@@ -1,5 +1,5 @@
 -- The corners of window geometries, by what is kept.
-use Rattle.std.proofs.Common.{◌≡◌, ℕ, suc, ℤ, ◌+ℤ◌, ◌-ℤ◌, List, [], ◌∷◌, Bool, true, false, Option, Some, None, refl, ap, ap₂, subst, sym, ◌∙◌}
+use Rattle.std.proofs.Common.{◌≡◌, ℕ, suc, ◌+ℤ◌, List, [], ◌∷◌, Bool, true, false, Option, Some, None, refl, ap, ap₂, subst, sym, ◌∙◌}
 use Rattle.std.specs.Prelude.{find, if◌then◌else◌, is_some, map}
 use Rattle.std.specs.Option.{option_and_then, option_map}
 use Rattle.wl_scene.specs.declared.scene.Toplevel.{Toplevel}
@@ -9,7 +9,7 @@ use Rattle.wl_shell.proofs.Ordered.{IsPoppedAs, popped-as}
 use Rattle.wl_shell.proofs.ShellsStanding.{IsThere}
 use Rattle.spec_desktop.specs.Popups.{corner_at_parent, corner_by_role, corner_of_xdg, geometry_at, geometry_corner_at, geometry_from, geometry_of_place, origin, placement_of, stacked_popup}
 use Rattle.spec_desktop.specs.Stacking.{Owned, Standing, geometry_since, is_of}
-use Rattle.spec_desktop.specs.Windows.{Place, StackedPopup, corner_at, geometry_corner, popup_place, start_of}
+use Rattle.spec_desktop.specs.Windows.{Place, StackedPopup, corner_at, geometry_corner, popup_place}
 use Rattle.wl_surface.specs.declared.state.Current.{Current}
 use Rattle.wl_surface.specs.State.{History, within_bounds}
 use Rattle.wl_surface.specs.Surface.{Surface}
@@ -43,12 +43,6 @@ place-found c s ts o e = ap (option_map (λ (t : Standing). t.place)) (find-stan
 
 -- ---- places
 
-pub popup-at : (at by start : Place) (p : StackedPopup) (x y : ℤ) → p.placement ≡ by → start_of p.geometry ≡ start → x ≡ within_bounds ((at.x +ℤ by.x) -ℤ start.x)
-    → y ≡ within_bounds ((at.y +ℤ by.y) -ℤ start.y) → record { x = x; y = y } ≡ popup_place at p
-popup-at at by start p x y eb es ex ey =
-    ap₂ (λ x y. record { x = x; y = y }) ex ey
-    ∙ ap₂ (λ (b s : Place). record { x = within_bounds ((at.x +ℤ b.x) -ℤ s.x); y = within_bounds ((at.y +ℤ b.y) -ℤ s.y) }) (sym eb) (sym es)
-
 -- the corner of a surface, from what is told of it
 pub corner-told : {A : Type 0} (current : Current A) (told : Option (Current A)) (place : Place) (s : Option Surface) → IsCurrentAt told s → told ≡ Some current
     → record { x = within_bounds (place.x +ℤ current.offset.x); y = within_bounds (place.y +ℤ current.offset.y) } ≡ corner_or place (option_map (λ (s : Surface). s.history) s)
@@ -58,14 +52,6 @@ corner-told {A} current told place s is there = by s (subst (λ (o : Option (Cur
         → record { x = within_bounds (place.x +ℤ current.offset.x); y = within_bounds (place.y +ℤ current.offset.y) } ≡ corner_or place (option_map (λ (s : Surface). s.history) s)
     by None is = absurd is
     by (Some s) is = ap₂ (λ x y. record { x = within_bounds (place.x +ℤ x); y = within_bounds (place.y +ℤ y) }) is.offset.0 is.offset.1
-
-pub corner-nowhere : {A : Type 0} (told : Option (Current A)) (place : Place) (s : Option Surface) → IsCurrentAt told s → told ≡ None
-    → place ≡ corner_or place (option_map (λ (s : Surface). s.history) s)
-corner-nowhere {A} told place s is there = by s (subst (λ (o : Option (Current A)). IsCurrentAt o s) there is)
-  where
-    by : (s : Option Surface) → IsCurrentAt {A = A} None s → place ≡ corner_or place (option_map (λ (s : Surface). s.history) s)
-    by None is = refl
-    by (Some s) is = absurd is
 
 -- ---- role objects
 

@@ -8,14 +8,7 @@ use Rattle.wl_scene.specs.declared.tree_window.TreeWindow.{TreeWindow}
 use Rattle.wl_scene.specs.declared.stacked.Stacked.{Stacked}
 use Rattle.wl_scene.specs.Stacked.{AreTogether, are_a_run, is_of, raised, replaced, stacked, run_of, without_run}
 use Rattle.wl_scene.proofs.StackedTogether.{front-map, none-among, none-map, none-without, others-placed, run-above, run-append, run-filter, run-front, run-placed}
-
-and-left : (a b : Bool) → (a && b) ≡ true → a ≡ true
-and-left true b h = refl
-and-left false b h = absurd (cc)
-
-and-right : (a b : Bool) → (a && b) ≡ true → b ≡ true
-and-right true b h = h
-and-right false b h = absurd (cc)
+use Rattle.wl_scene.proofs.Truth.{and-left, and-right}
 
 -- a window is stacked with its own toplevel, and with one alone
 pub is_of-own : (c r : ℕ) (w : TreeWindow) → is_of c r (stacked c r w) ≡ true

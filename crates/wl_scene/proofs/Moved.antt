@@ -1,9 +1,9 @@
 -- What is kept of the windows of the output goes on standing for those of the desktop where a toplevel comes to another place.
 use Rattle.std.proofs.Common.{◌≡◌, ℕ, zero, suc, Bool, true, false, Option, Some, None, List, [], ◌∷◌, ◌++◌, cond, flat_map, length, map, refl, ap, sym, subst, ◌∙◌, inl, inr, ◌⊎◌, eqb-true}
-use Rattle.std.specs.Prelude.{◌==◌, ◌&&◌, ◌||◌, filter, fold, not}
+use Rattle.std.specs.Prelude.{◌==◌, ◌&&◌, filter, fold, not}
 use Rattle.std.specs.List.{AllByRecursion as Each, list_all, list_any}
 use Rattle.std.proofs.lemmas.List.{append-nil}
-use Rattle.std.proofs.lemmas.List.Folds.{list_any-append}
+use Rattle.std.proofs.lemmas.Bool.{and_from, not-true, or_from}
 use Rattle.spec_desktop.specs.Objects.{ById}
 use Rattle.wl_surface.specs.Request.{Buffer, Child, Itself, Member}
 use Rattle.wl_surface.specs.State.{History, Values, applied, counting, order}
@@ -13,13 +13,13 @@ use Rattle.spec_desktop.specs.Windows.{Owner, Place, Root, StackedPopup, Window,
 use Rattle.spec_desktop.specs.Windows.{root_on, roots_of, shown_windows, stacked as stacked_with, stacked_on, surface_windows, tree, window_with}
 use Rattle.wl_scene.specs.declared.stacked.Stacked.{Stacked}
 use Rattle.wl_scene.specs.Stacked.{is_of, replaced, stacked, run_of}
-use Rattle.wl_scene.proofs.StackedTogether.{place-none}
+use Rattle.wl_scene.proofs.StackedTogether.{none-append, place-none}
 use Rattle.wl_scene.specs.StackedAgreement.{AreNumberedBy, AreNumberedOnce, AreStacked, has_toplevel, told_by}
 use Rattle.wl_scene.specs.StackedLaws.{stands_once}
 use Rattle.wl_scene.specs.Moved.{AreMoved, KeptRunIsAsLong, MovedTreesAreAsLong, RunsAreMoved, StackedMoved, TreesAreMoved, popups_at, run_at}
-use Rattle.wl_scene.proofs.Raised.{all-its, its, keep-all, none-its, not-so, windows-both, windows-first, windows_at}
+use Rattle.wl_scene.proofs.Raised.{all-its, its, keep-all, none-its, windows-both, windows-first, windows_at}
 use Rattle.wl_scene.proofs.Standing.{stacked-replaced, run-is-stacked, run-is-there}
-use Rattle.wl_scene.proofs.Truth.{and-both, and-left, and-right, differ, or-left, or-right}
+use Rattle.wl_scene.proofs.Truth.{and-left, and-right, differ, or-left, or-right}
 
 -- ---- the windows of a tree
 
@@ -147,18 +147,11 @@ runs-as-long owned client surface p q =
 
 each-all : (q : Window → Bool) (ws : List Window) → Each (λ w. q w ≡ true) ws → list_all q ws ≡ true
 each-all q [] each = refl
-each-all q (w ∷ ws) each = and-both (q w) (list_all q ws) each.0 (each-all q ws each.1)
-
-or-both : (a b : Bool) → a ≡ false → b ≡ false → (a || b) ≡ false
-or-both true b e f = absurd (differ (sym e))
-or-both false b e f = f
+each-all q (w ∷ ws) each = and_from (q w) (list_all q ws) each.0 (each-all q ws each.1)
 
 each-none : (q : Window → Bool) (ws : List Window) → Each (λ w. q w ≡ false) ws → list_any q ws ≡ false
 each-none q [] each = refl
-each-none q (w ∷ ws) each = or-both (q w) (list_any q ws) each.0 (each-none q ws each.1)
-
-any-both : {X : Type 0} (q : X → Bool) (xs ys : List X) → list_any q xs ≡ false → list_any q ys ≡ false → list_any q (xs ++ ys) ≡ false
-any-both q xs ys first others = list_any-append q xs ys ∙ or-both (list_any q xs) (list_any q ys) first others
+each-none q (w ∷ ws) each = or_from (q w) (list_any q ws) each.0 (each-none q ws each.1)
 
 filter-both : (q : Window → Bool) (ws vs : List Window) → filter q (ws ++ vs) ≡ filter q ws ++ filter q vs
 filter-both q [] vs = refl
@@ -195,7 +188,7 @@ module _ (client surface : ℕ) where
   among (s ∷ ss) once = at (test s) refl once (among ss)
     where
       later : test s ≡ false → (list_any (is_standing client surface) ss ≡ false) ⊎ Among ss → (list_any (is_standing client surface) (s ∷ ss) ≡ false) ⊎ Among (s ∷ ss)
-      later is (inl none) = inl (or-both (test s) (list_any (is_standing client surface) ss) is none)
+      later is (inl none) = inl (or_from (test s) (list_any (is_standing client surface) ss) is none)
       later is (inr a) =
           inr
           (record {
@@ -204,7 +197,7 @@ module _ (client surface : ℕ) where
             above = a.above;
             whole = ap (λ xs. s ∷ xs) a.whole;
             is_own = a.is_own;
-            none_below = or-both (test s) (list_any (is_standing client surface) a.below) is a.none_below;
+            none_below = or_from (test s) (list_any (is_standing client surface) a.below) is a.none_below;
             none_above = a.none_above;
           })
 
@@ -220,7 +213,7 @@ module _ (client surface : ℕ) where
             whole = refl;
             is_own = is;
             none_below = refl;
-            none_above = not-so (list_any (is_standing client surface) ss) alone;
+            none_above = not-true (list_any (is_standing client surface) ss) alone;
           })
       at false is rest more = later is (more rest)
 
@@ -229,7 +222,7 @@ module _ (client surface : ℕ) where
   none-there owned [] none = refl
   none-there owned (s ∷ ss) none =
       ap (list_any (has_toplevel client surface)) (windows-first owned s ss)
-      ∙ any-both (has_toplevel client surface) (windows_at owned s) (windows_on owned ss)
+      ∙ none-append (has_toplevel client surface) (windows_at owned s) (windows_on owned ss)
       (each-none (has_toplevel client surface) (windows_at owned s) (all-its client surface owned s false (or-left (test s) (list_any (is_standing client surface) ss) none)))
       (none-there owned ss (or-right (test s) (list_any (is_standing client surface) ss) none))
 
@@ -356,7 +349,7 @@ module _ (numbers : ℕ → ById ℕ) (all : List Stacked) (owned : ℕ → Owne
         at : (b : Bool) → list_any (has_toplevel client surface) was ≡ b → AreStacked numbers all-new (below ++ (is ++ above))
         at true some =
             stacked-replaced numbers all client surface k f below above was is are-whole with-was some
-            (any-both (has_toplevel client surface) below above none-below none-above) known once with-is named
+            (none-append (has_toplevel client surface) below above none-below none-above) known once with-is named
         at false none =
             let no-was : was ≡ [] = no-window was with-was none in
             let no-is : is ≡ [] =
@@ -365,7 +358,7 @@ module _ (numbers : ℕ → ById ℕ) (all : List Stacked) (owned : ℕ → Owne
             ∙ (ap length (sym (windows-at client surface owned a.own a.own.place a.is_own)) ∙ ap length no-was)) in
             let none-at-all : list_any (has_toplevel client surface) (windows_on owned standing) ≡ false =
             ap (list_any (has_toplevel client surface)) whole
-            ∙ any-both (has_toplevel client surface) below (was ++ above) none-below (any-both (has_toplevel client surface) was above none none-above) in
+            ∙ none-append (has_toplevel client surface) below (was ++ above) none-below (none-append (has_toplevel client surface) was above none none-above) in
             subst (λ (xs : List Stacked). AreStacked numbers xs (below ++ (is ++ above))) (sym (unchanged none-at-all))
             (subst (λ (ws : List Window). AreStacked numbers all (below ++ (ws ++ above))) (no-was ∙ sym no-is) are-whole)
 

@@ -1,31 +1,25 @@
 -- Where the windows of a toplevel stand, by their places.
 use Rattle.std.proofs.Common.{◌≡◌, ℕ, zero, suc, ◌+◌, ◌-◌, ◌<◌, ◌≤◌, List, ◌∷◌, ◌++◌, Bool, true, false, Some, None, refl, ap, ap₂, subst, sym, ◌∙◌, length, get_or, take, drop, arith, []}
-use Rattle.std.specs.Prelude.{pos, ◌&&◌, cond, filter, not}
+use Rattle.std.specs.Prelude.{pos, ◌&&◌, filter, not}
 use Rattle.std.specs.List.{list_all, list_any, position, position_or_len}
-use Rattle.std.proofs.lemmas.Bool.{ltb-false}
+use Rattle.std.proofs.lemmas.Bool.{ltb-false, or_from}
 use Rattle.std.proofs.lemmas.List.{append-nil, append_assoc, drop_at, length-append, take_at}
 use Rattle.std.proofs.lemmas.List.Quantifiers.{position-Some}
 use Rattle.std.proofs.lemmas.List.Sums.{fails_before_first}
 use Rattle.wl_store.specs.declared.transform.Transform.TheVariants.{Normal}
 use Rattle.wl_scene.specs.declared.stacked.Stacked.{Stacked}
 use Rattle.wl_scene.specs.Stacked.{IsRun, are_a_run, are_in_front, first_last, in_place, last_first}
-use Rattle.wl_scene.proofs.StackedTogether.{front-ends, front-rest, or-left, or-none, or-right, place-here, place-later, run-begun, run-behind}
+use Rattle.wl_scene.proofs.StackedTogether.{front-ends, front-rest, place-here, place-later, run-begun, run-behind}
+use Rattle.wl_scene.proofs.Truth.{and-left, and-right, or-left, or-right}
+use Rattle.wl_scene.proofs.Stacks.{not_there}
 
 -- ---- filters
-
-all-here : (a b : Bool) → (a && b) ≡ true → a ≡ true
-all-here true b h = refl
-all-here false b h = absurd (cc)
-
-all-rest : (a b : Bool) → (a && b) ≡ true → b ≡ true
-all-rest true b h = h
-all-rest false b h = absurd (cc)
 
 pub filter-none : {X : Type 0} (p : X → Bool) (xs : List X) → list_any p xs ≡ false → filter p xs ≡ []
 filter-none p [] h = refl
 filter-none p (x ∷ xs) h = rw (or-left (p x) (list_any p xs) h) (filter-none p xs (or-right (p x) (list_any p xs) h))
 
-filter-kept : {X : Type 0} (p : X → Bool) (xs : List X) → list_any p xs ≡ false → filter (λ y. not (p y)) xs ≡ xs
+pub filter-kept : {X : Type 0} (p : X → Bool) (xs : List X) → list_any p xs ≡ false → filter (λ y. not (p y)) xs ≡ xs
 filter-kept p [] h = refl
 filter-kept p (x ∷ xs) h = rw (or-left (p x) (list_any p xs) h) (ap (λ ys. x ∷ ys) (filter-kept p xs (or-right (p x) (list_any p xs) h)))
 
@@ -38,11 +32,11 @@ kept-below p (x ∷ xs) ys h = rw (or-left (p x) (list_any p xs) h) (ap (λ zs. 
 filter-front : {X : Type 0} (p : X → Bool) (xs ys : List X) → list_all p xs ≡ true → list_any p ys ≡ false → filter p (xs ++ ys) ≡ xs
 filter-front p [] ys h k = filter-none p ys k
 filter-front p (x ∷ xs) ys h k =
-    rw (all-here (p x) (list_all p xs) h) (ap (λ zs. x ∷ zs) (filter-front p xs ys (all-rest (p x) (list_all p xs) h) k))
+    rw (and-left (p x) (list_all p xs) h) (ap (λ zs. x ∷ zs) (filter-front p xs ys (and-right (p x) (list_all p xs) h) k))
 
 filter-behind : {X : Type 0} (p : X → Bool) (xs ys : List X) → list_all p xs ≡ true → list_any p ys ≡ false → filter (λ y. not (p y)) (xs ++ ys) ≡ ys
 filter-behind p [] ys h k = filter-kept p ys k
-filter-behind p (x ∷ xs) ys h k = rw (all-here (p x) (list_all p xs) h) (filter-behind p xs ys (all-rest (p x) (list_all p xs) h) k)
+filter-behind p (x ∷ xs) ys h k = rw (and-left (p x) (list_all p xs) h) (filter-behind p xs ys (and-right (p x) (list_all p xs) h) k)
 
 filter-above : {X : Type 0} (p : X → Bool) (xs ys : List X) → list_any p xs ≡ false → filter p (xs ++ ys) ≡ filter p ys
 filter-above p [] ys h = refl
@@ -82,17 +76,13 @@ front-split p (x ∷ xs) h = at (p x) refl (front-split p xs)
           behind = x ∷ xs;
           whole = refl;
           are_front = refl;
-          none_behind = or-none (p x) (list_any p xs) here (front-ends p x xs here h);
+          none_behind = or_from (p x) (list_any p xs) here (front-ends p x xs here h);
         }
 
 -- none passes where there is no place of the first
 none-fails : {X : Type 0} (p : X → Bool) (d : X) (xs : List X) → ((j : ℕ) → j < length xs → p (get_or xs j d) ≡ false) → list_any p xs ≡ false
 none-fails p d [] h = refl
-none-fails p d (x ∷ xs) h = or-none (p x) (list_any p xs) (h 0 (omega arith)) (none-fails p d xs (λ j less. h (suc j) (omega (arith, less))))
-
-not_there : (b : Bool) (n : ℕ) → cond b (Some n) None ≡ None → b ≡ false
-not_there true n e = cc
-not_there false n e = refl
+none-fails p d (x ∷ xs) h = or_from (p x) (list_any p xs) (h 0 (omega arith)) (none-fails p d xs (λ j less. h (suc j) (omega (arith, less))))
 
 pub absent : {X : Type 0} (p : X → Bool) (d : X) (xs : List X) → position p xs ≡ None → list_any p xs ≡ false
 absent p d xs e = none-fails p d xs (λ j less. fails_before_first p xs j d (omega (arith, beyond, less)))
@@ -121,7 +111,7 @@ at-later p k x xs here a = record {
   above = a.above;
   whole = ap (λ ys. x ∷ ys) a.whole;
   begins = ap suc a.begins;
-  none_below = or-none (p x) (list_any p a.below) here a.none_below;
+  none_below = or_from (p x) (list_any p a.below) here a.none_below;
   is_first = a.is_first;
   are_others = a.are_others;
   none_above = a.none_above;
@@ -279,7 +269,3 @@ run-raised p k n xs put r e =
     ∙ (turned-up k n r.below (r.first ∷ r.others) r.above r.begins r.counted
     ∙ (sym (raised-whole p r.below r.first r.others r.above r.none_below r.is_first r.are_others r.none_above)
     ∙ ap (λ (ys : List Stacked). filter (λ s. not (p s)) ys ++ filter p ys) (sym r.whole))))
-
-pub run-fits : (p : Stacked → Bool) (k n : ℕ) (xs : List Stacked) → IsRun p k n xs → k + n ≤ length xs
-run-fits p k n xs r =
-    omega (arith, ap length r.whole, length-append r.below ((r.first ∷ r.others) ++ r.above), length-append (r.first ∷ r.others) r.above, r.begins, r.counted)

@@ -3,6 +3,7 @@ use Rattle.std.proofs.Common.{◌≡◌, ℕ, zero, suc, ◌==◌, Bool, true, f
 use Rattle.std.specs.Prelude.{◌&&◌, filter, fold, not}
 use Rattle.std.specs.List.{AllByRecursion as Each, list_any}
 use Rattle.std.proofs.lemmas.List.{append-nil}
+use Rattle.std.proofs.lemmas.Bool.{not-true}
 use Rattle.wl_surface.specs.Request.{Buffer, Child, Itself, Member}
 use Rattle.wl_surface.specs.State.{History, Values, applied, counting, order}
 use Rattle.wl_surface.specs.Surfaces.{Link, Surfaces, history_in, link_at}
@@ -123,10 +124,6 @@ pub keep-none : (q : Window → Bool) (ws vs : List Window) → Each (λ w. q w 
 keep-none q [] vs each = refl
 keep-none q (w ∷ ws) vs each = ap (λ b. cond b (w ∷ filter q (ws ++ vs)) (filter q (ws ++ vs))) each.0 ∙ keep-none q ws vs each.1
 
-pub not-so : (b : Bool) → not b ≡ true → b ≡ false
-not-so true e = absurd (cc)
-not-so false e = refl
-
 module _ (client surface : ℕ) where
   abbrev pub its : Window → Bool
   its w = has_toplevel client surface w
@@ -175,7 +172,7 @@ module _ (client surface : ℕ) where
           → windows_on owned (cond b (ss ++ s ∷ []) (s ∷ raised_standing client surface ss))
           ≡ filter other (windows_on owned (s ∷ ss)) ++ filter its (windows_on owned (s ∷ ss))
       at true is more alone =
-          let none : list_any (is_standing client surface) ss ≡ false = not-so (list_any (is_standing client surface) ss) alone in
+          let none : list_any (is_standing client surface) ss ≡ false = not-true (list_any (is_standing client surface) ss) alone in
           let above : filter other (windows_on owned (s ∷ ss)) ≡ windows_on owned ss =
           ap (λ ws. filter other ws) (windows-first owned s ss)
           ∙ (keep-none other (windows_at owned s) (windows_on owned ss) (all-other owned s true is) ∙ all-left owned ss none) in

@@ -1,9 +1,8 @@
 -- The roots of a toplevel and its popups, by what is kept.
-use Rattle.std.proofs.Common.{◌≡◌, ◌≤◌, ◌<◌, ◌+◌, ℕ, ℤ, List, [], ◌∷◌, ◌++◌, Bool, true, false, Option, Some, None, refl, ap, ap₂, subst, sym, ◌∙◌, arith, map, length, drop}
+use Rattle.std.proofs.Common.{◌≡◌, ◌≤◌, ◌<◌, ◌+◌, ℕ, ℤ, List, [], ◌∷◌, ◌++◌, Bool, true, false, Option, Some, None, refl, ap, ap₂, subst, sym, ◌∙◌, arith, map, length}
 use Rattle.std.specs.Prelude.{◌&&◌, ◌-◌, IfSome, filter, find, fold, if◌then◌else◌, is_some, nat_lt, not}
 use Rattle.std.specs.Option.{option_and_then, option_map, option_map_or}
 use Rattle.std.proofs.lemmas.Bool.Decides.{nat_tests}
-use Rattle.std.proofs.Math.Seq.{drop-append_seam}
 use Rattle.std.proofs.lemmas.List.{append_assoc, length-append, length-map, map-append}
 use Rattle.wl_links.specs.Family.{Tied}
 use Rattle.wl_geom.specs.declared.rect.Rect.{Rect}
@@ -73,13 +72,6 @@ find-never o rs e = ap (λ (o : Option ℕ). find (is_root_of o) rs) e ∙ never
     never : (rs : List RootPlace) → find (is_root_of None) rs ≡ None
     never [] = refl
     never (r ∷ rs) = never rs
-
-pub root-listed : (surfaces : Surfaces) (p : StackedPopup) (r : Root) (rs : List Root) (surface : ℕ) (at place : Place) → p.surface ≡ surface
-    → stacked_on surfaces p rs ≡ root_on surfaces r p ∷ [] → at ≡ geometry_corner (corner_in surfaces r) r.geometry → place ≡ popup_place at p
-    → record { surface = surface; x = place.x; y = place.y } ∷ [] ≡ map told_root (stacked_on surfaces p rs)
-root-listed surfaces p r rs surface at place same is corner by =
-    let there : place ≡ popup_place (geometry_corner (corner_in surfaces r) r.geometry) p = by ∙ ap (λ (a : Place). popup_place a p) corner in
-    ap₂ (λ s (q : Place). record { surface = s; x = q.x; y = q.y } ∷ []) (sym same) there ∙ sym (ap (map told_root) is)
 
 -- the root of a popup, as it is told
 pub root-told : (surfaces : Surfaces) (p : StackedPopup) (r : Root) (surface : ℕ) (at place : Place) → p.surface ≡ surface → at ≡ geometry_corner (corner_in surfaces r) r.geometry
@@ -231,10 +223,6 @@ module _ (slots : Slots) (tied : Tied) (book : Book) (o : Owned) (held : IsHeld 
       }
 
 -- ---- what is added
-
--- those from a place on
-pub part-of : (had : List RootPlace) (rs : List Root) (old : List RootPlace) (before : ℕ) → length had ≡ before → old ≡ had ++ map told_root rs → drop before old ≡ map told_root rs
-part-of had rs old before len is = ap₂ (λ (n : ℕ) (xs : List RootPlace). drop n xs) (sym len) is ∙ drop-append_seam had (map told_root rs)
 
 module _ (surfaces : Surfaces) (p : StackedPopup) (rs : List Root) (had old more : List RootPlace) (was : old ≡ had ++ map told_root rs) (is : more ≡ map told_root (stacked_on surfaces p rs)) where
   pub added : (new : List RootPlace) → new ≡ old ++ more → new ≡ had ++ map told_root (stacked surfaces rs p)

@@ -12,20 +12,13 @@ use Rattle.wl_paint.specs.Damage.{Damaged, has}
 use Rattle.wl_scene.specs.Marking.{AddsPoints, IsAsLarge}
 use Rattle.wl_scene.specs.Repaint.{is_window_damaged, window_has}
 use Rattle.wl_scene.specs.declared.tree_window.TreeWindow.{TreeWindow}
+use Rattle.wl_scene.proofs.Truth.{and-left, and-right}
 
 -- ---- spans
 
 -- a span whose ends were held within the output's places
 pub span-held : (first end f e z : ℤ) → int_le f z ≡ int_le first z → int_lt z e ≡ int_lt z end → in_span f (e -ℤ f) z ≡ (int_le first z && int_lt z end)
 span-held first end f e z starts ends = grind (arith, ints)
-
-and-left : (a b : Bool) → (a && b) ≡ true → a ≡ true
-and-left true b e = refl
-and-left false b e = e
-
-and-right : (a b : Bool) → (a && b) ≡ true → b ≡ true
-and-right true b e = e
-and-right false b e = absurd (cc)
 
 pub four : (a b c d : Bool) → ((a && b) && (c && d)) ≡ ((a && c) && (b && d))
 four true true true d = refl

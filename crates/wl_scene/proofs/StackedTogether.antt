@@ -1,42 +1,24 @@
 -- What passes a test and stands in one run: what is left of it, what comes on top, and others in its place.
 use Rattle.std.proofs.Common.{◌≡◌, List, [], ◌∷◌, ◌++◌, Bool, true, false, refl, ap, map}
-use Rattle.std.specs.Prelude.{◌||◌, cond, filter, not}
+use Rattle.std.proofs.lemmas.Bool.{not-true, not_from_false, or_from}
+use Rattle.std.specs.Prelude.{cond, filter, not}
 use Rattle.std.specs.List.{list_any}
 use Rattle.wl_scene.specs.Stacked.{are_a_run, are_in_front, in_place}
-
-pub or-left : (a b : Bool) → (a || b) ≡ false → a ≡ false
-or-left true b h = absurd (cc)
-or-left false b h = refl
-
-pub or-right : (a b : Bool) → (a || b) ≡ false → b ≡ false
-or-right true b h = absurd (cc)
-or-right false b h = h
-
-pub or-none : (a b : Bool) → a ≡ false → b ≡ false → (a || b) ≡ false
-or-none true b h k = absurd (cc)
-or-none false b h k = k
-
-pub not-true : (a : Bool) → not a ≡ true → a ≡ false
-not-true true h = absurd (cc)
-not-true false h = refl
-
-pub is-not : (a : Bool) → a ≡ false → not a ≡ true
-is-not true h = absurd (cc)
-is-not false h = refl
+use Rattle.wl_scene.proofs.Truth.{or-left, or-right}
 
 -- ---- none
 
 -- a list of which none passes
 pub none-append : {X : Type 0} (p : X → Bool) (xs ys : List X) → list_any p xs ≡ false → list_any p ys ≡ false → list_any p (xs ++ ys) ≡ false
 none-append p [] ys h k = k
-none-append p (x ∷ xs) ys h k = or-none (p x) (list_any p (xs ++ ys)) (or-left (p x) (list_any p xs) h) (none-append p xs ys (or-right (p x) (list_any p xs) h) k)
+none-append p (x ∷ xs) ys h k = or_from (p x) (list_any p (xs ++ ys)) (or-left (p x) (list_any p xs) h) (none-append p xs ys (or-right (p x) (list_any p xs) h) k)
 
 pub none-filter : {X : Type 0} (p f : X → Bool) (xs : List X) → list_any p xs ≡ false → list_any p (filter f xs) ≡ false
 none-filter p f [] h = refl
 none-filter p f (x ∷ xs) h = at (f x) (or-left (p x) (list_any p xs) h) (none-filter p f xs (or-right (p x) (list_any p xs) h))
   where
     at : (b : Bool) → p x ≡ false → list_any p (filter f xs) ≡ false → list_any p (cond b (x ∷ filter f xs) (filter f xs)) ≡ false
-    at true here rest = or-none (p x) (list_any p (filter f xs)) here rest
+    at true here rest = or_from (p x) (list_any p (filter f xs)) here rest
     at false here rest = rest
 
 -- none passes of those that don't
@@ -47,7 +29,7 @@ none-without p (x ∷ xs) = at (p x) refl (none-without p xs)
     at : (b : Bool) → p x ≡ b → list_any p (filter (λ y. not (p y)) xs) ≡ false
         → list_any p (cond (not b) (x ∷ filter (λ y. not (p y)) xs) (filter (λ y. not (p y)) xs)) ≡ false
     at true here rest = rest
-    at false here rest = or-none (p x) (list_any p (filter (λ y. not (p y)) xs)) here rest
+    at false here rest = or_from (p x) (list_any p (filter (λ y. not (p y)) xs)) here rest
 
 -- none passes of those that pass a test apart from it
 pub none-among : {X : Type 0} (p q : X → Bool) (xs : List X) → ((x : X) → p x ≡ true → q x ≡ false) → list_any q (filter p xs) ≡ false
@@ -55,25 +37,25 @@ none-among p q [] apart = refl
 none-among p q (x ∷ xs) apart = at (p x) refl (none-among p q xs apart)
   where
     at : (b : Bool) → p x ≡ b → list_any q (filter p xs) ≡ false → list_any q (cond b (x ∷ filter p xs) (filter p xs)) ≡ false
-    at true here rest = or-none (q x) (list_any q (filter p xs)) (apart x here) rest
+    at true here rest = or_from (q x) (list_any q (filter p xs)) (apart x here) rest
     at false here rest = rest
 
 pub none-map : {X Y : Type 0} (p : Y → Bool) (f : X → Y) (xs : List X) → ((x : X) → p (f x) ≡ false) → list_any p (map f xs) ≡ false
 none-map p f [] h = refl
-none-map p f (x ∷ xs) h = or-none (p (f x)) (list_any p (map f xs)) (h x) (none-map p f xs h)
+none-map p f (x ∷ xs) h = or_from (p (f x)) (list_any p (map f xs)) (h x) (none-map p f xs h)
 
 -- ---- in front
 
 pub front-none : {X : Type 0} (p : X → Bool) (xs : List X) → list_any p xs ≡ false → are_in_front p xs ≡ true
 front-none p [] h = refl
-front-none p (x ∷ xs) h = rw (or-left (p x) (list_any p xs) h) (is-not (list_any p xs) (or-right (p x) (list_any p xs) h))
+front-none p (x ∷ xs) h = rw (or-left (p x) (list_any p xs) h) (not_from_false (list_any p xs) (or-right (p x) (list_any p xs) h))
 
 -- one more stands in front, or one that doesn't pass before others that don't
 pub front-more : {X : Type 0} (p : X → Bool) (x : X) (xs : List X) → p x ≡ true → are_in_front p xs ≡ true → are_in_front p (x ∷ xs) ≡ true
 front-more p x xs here h = rw here h
 
 pub front-other : {X : Type 0} (p : X → Bool) (x : X) (xs : List X) → p x ≡ false → list_any p xs ≡ false → are_in_front p (x ∷ xs) ≡ true
-front-other p x xs here h = rw here (is-not (list_any p xs) h)
+front-other p x xs here h = rw here (not_from_false (list_any p xs) h)
 
 pub front-rest : {X : Type 0} (p : X → Bool) (x : X) (xs : List X) → p x ≡ true → are_in_front p (x ∷ xs) ≡ true → are_in_front p xs ≡ true
 front-rest p x xs here h = rw here at h
@@ -191,7 +173,7 @@ none-placed p q new (x ∷ xs) none h = at (p x) refl (none-placed p q new xs no
     at true here more =
         rw (place-here p new x xs here)
         (none-append q new (filter (λ y. not (p y)) xs) none (none-filter q (λ y. not (p y)) xs (or-right (q x) (list_any q xs) h)))
-    at false here more = rw (place-later p new x xs here) (or-none (q x) (list_any q (in_place p new xs)) (or-left (q x) (list_any q xs) h) more)
+    at false here more = rw (place-later p new x xs here) (or_from (q x) (list_any q (in_place p new xs)) (or-left (q x) (list_any q xs) h) more)
 
 front-placed : {X : Type 0} (p q : X → Bool) (new xs : List X) → ((x : X) → p x ≡ true → q x ≡ false) → list_any q new ≡ false
     → are_in_front q xs ≡ true → are_in_front q (in_place p new xs) ≡ true

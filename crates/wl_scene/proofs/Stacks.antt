@@ -1,6 +1,6 @@
 -- What the calls on a scene make of its list.
 use Rattle.std.proofs.Common.{◌≡◌, ℕ, zero, suc, ◌<◌, ◌≤◌, List, [], ◌∷◌, ◌++◌, Bool, true, false, Some, None, refl, ap, sym, ◌∙◌, map, length, get_or, set, take, arith}
-use Rattle.std.specs.Prelude.{pos, ◌==◌, ◌&&◌, cond, filter, nat_lt}
+use Rattle.std.specs.Prelude.{pos, ◌==◌, cond, filter, nat_lt}
 use Rattle.std.specs.List.{position, position_or_len, remove}
 use Rattle.std.proofs.lemmas.Bool.{eqb-true}
 use Rattle.std.proofs.lemmas.List.{map-append, take-append-le, take_all}
@@ -11,6 +11,7 @@ use Rattle.wl_scene.specs.declared.scene.Toplevel.{Toplevel}
 use Rattle.spec_desktop.specs.Stacking.{Standing, is_of, moved_to, raised}
 use Rattle.wl_scene.specs.Kept.{standing_of}
 use Rattle.spec_desktop.specs.Windows.{Place}
+use Rattle.wl_scene.proofs.Truth.{and-left, and-right}
 
 -- to leave out, and then to see
 pub map-filter : {X Y : Type 0} (f : X → Y) (p : Y → Bool) (xs : List X) → map f (filter (λ x. p (f x)) xs) ≡ filter p (map f xs)
@@ -38,14 +39,6 @@ raised-at c s (x ∷ xs) zero h here before = rw here (map-append standing_of xs
 raised-at c s (x ∷ xs) (suc k) h here before =
     rw (before 0 (omega arith)) (ap (λ ys. standing_of x ∷ ys) (raised-at c s xs k (omega arith) here (λ j less. before (suc j) (omega arith))))
 
-and-left : (a b : Bool) → (a && b) ≡ true → a ≡ true
-and-left true b h = refl
-and-left false b h = h
-
-and-right : (a b : Bool) → (a && b) ≡ true → b ≡ true
-and-right true b h = h
-and-right false b h = absurd (cc)
-
 -- a toplevel that is of this surface, at another place
 this-at : (c s : ℕ) (place : Place) (t : Standing) → is_of c s t ≡ true → record t { place = place } ≡ record { client = c; surface = s; place = place }
 this-at c s place t h =
@@ -69,7 +62,7 @@ moved-none : (c s : ℕ) (place : Place) (xs : List Toplevel) → ((j : ℕ) →
 moved-none c s place [] none = refl
 moved-none c s place (x ∷ xs) none = rw (none 0 (omega arith)) (ap (λ ys. standing_of x ∷ ys) (moved-none c s place xs (λ j less. none (suc j) (omega arith))))
 
-not_there : (b : Bool) (n : ℕ) → cond b (Some n) None ≡ None → b ≡ false
+pub not_there : (b : Bool) (n : ℕ) → cond b (Some n) None ≡ None → b ≡ false
 not_there true n e = cc
 not_there false n e = refl
 

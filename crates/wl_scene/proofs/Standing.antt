@@ -8,7 +8,7 @@ use Rattle.spec_desktop.specs.Objects.{ById}
 use Rattle.spec_desktop.specs.Windows.{Window}
 use Rattle.wl_scene.specs.declared.stacked.Stacked.{Stacked}
 use Rattle.wl_scene.specs.Stacked.{in_place, is_of, replaced, stacked, without_run}
-use Rattle.wl_scene.proofs.Places.{placed-run}
+use Rattle.wl_scene.proofs.Places.{filter-kept, placed-run}
 use Rattle.wl_scene.specs.declared.tree_window.TreeWindow.{TreeWindow}
 use Rattle.wl_scene.specs.StackedAgreement.{AreNumberedOnce, AreStacked, IsNumberedBy, IsStacked, has_toplevel, told_as, told_by}
 use Rattle.wl_scene.specs.StackedLaws.{BothAreStacked, FirstAreStacked, StackedAreTold, StackedClientGone, StackedPushed, StackedRemoved}
@@ -171,12 +171,6 @@ apart q xs ys none =
     let either = sym (list_any-append q xs ys) ∙ none in
     (or-left (list_any q xs) (list_any q ys) either, or-right (list_any q xs) (list_any q ys) either)
 
-others-left : {X : Type 0} (q : X → Bool) (xs : List X) → list_any q xs ≡ false → filter (λ x. not (q x)) xs ≡ xs
-others-left q [] none = refl
-others-left q (x ∷ xs) none =
-    ap (λ b. cond (not b) (x ∷ filter (λ y. not (q y)) xs) (filter (λ y. not (q y)) xs)) (or-left (q x) (list_any q xs) none)
-    ∙ ap (λ ys. x ∷ ys) (others-left q xs (or-right (q x) (list_any q xs) none))
-
 all-gone : {X : Type 0} (q : X → Bool) (xs ys : List X) → list_all q xs ≡ true → filter (λ x. not (q x)) (xs ++ ys) ≡ filter (λ x. not (q x)) ys
 all-gone q [] ys every = refl
 all-gone q (x ∷ xs) ys every =
@@ -185,7 +179,7 @@ all-gone q (x ∷ xs) ys every =
 
 without-middle : {X : Type 0} (q : X → Bool) (below was above : List X) → list_any q below ≡ false → list_all q was ≡ true → list_any q above ≡ false
     → filter (λ x. not (q x)) (below ++ (was ++ above)) ≡ below ++ above
-without-middle q [] was above under every over = all-gone q was above every ∙ others-left q above over
+without-middle q [] was above under every over = all-gone q was above every ∙ filter-kept q above over
 without-middle q (x ∷ xs) was above under every over =
     ap (λ b. cond (not b) (x ∷ filter (λ y. not (q y)) (xs ++ (was ++ above))) (filter (λ y. not (q y)) (xs ++ (was ++ above)))) (or-left (q x) (list_any q xs) under)
     ∙ ap (λ ys. x ∷ ys) (without-middle q xs was above (or-right (q x) (list_any q xs) under) every over)

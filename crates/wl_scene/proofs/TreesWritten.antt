@@ -1,10 +1,10 @@
 -- Where the windows of each tree stand together, those of one are found from the lowest on.
-use Rattle.std.proofs.Common.{◌≡◌, ◌+◌, ◌-◌, ℕ, Bool, true, false, List, [], ◌∷◌, ◌++◌, cond, drop, flat_map, length, map, suc, take, refl, ap, sym, ◌∙◌, append_assoc, arith, inl, inr, ◌⊎◌}
+use Rattle.std.proofs.Common.{◌≡◌, ◌+◌, ◌-◌, ℕ, Bool, true, false, List, [], ◌∷◌, ◌++◌, cond, drop, length, suc, take, refl, ap, sym, ◌∙◌, arith}
 use Rattle.std.specs.Prelude.{◌==◌, ◌&&◌, ◌||◌, filter, not}
 use Rattle.std.specs.List.{list_all, list_any, position_or_len, prefix_len}
-use Rattle.std.proofs.lemmas.Bool.{and_parts, eqb-true}
+use Rattle.std.proofs.lemmas.Bool.{and_parts}
 use Rattle.std.proofs.lemmas.List.Elements.{filter-append}
-use Rattle.std.proofs.lemmas.List.{append-nil, length-append, length-drop, map-append, nil_from_length, take_all}
+use Rattle.std.proofs.lemmas.List.{append-nil, length-append, length-drop, nil_from_length, take_all}
 use Rattle.wl_scene.specs.declared.tree_window.TreeWindow.{TreeWindow}
 use Rattle.wl_scene.specs.Repaint.{AreTogether, tree_of}
 
