@@ -1,3 +1,4 @@
+pub mod Images
 pub mod Line
 pub mod Lines
 pub mod Pointer

@@ -1,8 +1,9 @@
-//! The lines of a recording, the side files that they name, and the texts of a report.
+//! The lines of a recording, the side files that they name, and what is written of a run: the texts of a report, and images.
 #![tactic(auto)]
 
 mod error;
 mod hex;
+mod image;
 mod line;
 mod lines;
 mod name;
@@ -14,6 +15,7 @@ mod side;
 mod word;
 
 pub use error::{ReplayError, Summary};
+pub use image::write_image;
 pub use line::{Line, parse};
 pub use lines::{LINE_LIMIT, LineError, read_line};
 pub use numbers::number;
