@@ -1,5 +1,5 @@
 -- The frame callbacks that are due, answered one after another.
-use Rattle.std.proofs.Common.{◌≡◌, ℕ, List, [], ◌∷◌, ◌++◌, Bool, true, false, Some, None, cond, map, refl, ap, subst, sym, ◌∙◌, arith}
+use Rattle.std.proofs.Common.{◌≡◌, ℕ, List, [], ◌∷◌, ◌++◌, Bool, true, false, Some, None, cond, map, refl, ap, subst, sym, ◌∙◌}
 use Rattle.std.specs.Prelude.{◌==◌, ◌||◌, filter, find, flat_map, fold, is_some, not}
 use Rattle.std.specs.List.{list_any}
 use Rattle.std.proofs.lemmas.List.Elements.{filter-append}
@@ -29,6 +29,8 @@ use Rattle.law_desktop.proofs.KeptRecords.Toplevels.Messages.{told-objects}
 use Rattle.law_desktop.proofs.Soundness.ObjectsHas.{has_callback}
 use Rattle.law_desktop.proofs.Soundness.ObjectsKeys.{objects-gone}
 use Rattle.law_desktop.proofs.Keeping.OwningSurfaces.{any-is}
+use Rattle.law_desktop.proofs.Truth.{or-right}
+use Rattle.law_desktop.proofs.Marks.Stacks.{same-number}
 use Rattle.wl_requests.proofs.Framing.{left-by, told-requests}
 
 -- ---- which count
@@ -94,14 +96,10 @@ any-none p (x ∷ xs) e = at (p x) e (any-none p xs)
     at true e later = absurd (true≢false e)
     at false e later = later e
 
-or-none : (a b : Bool) → (a || b) ≡ false → b ≡ false
-or-none true b e = absurd (true≢false e)
-or-none false b e = e
-
 apart-middle : (before after : List Callback) (c : Callback) → AreApartBy has_callback (before ++ c ∷ after) → AreApartBy has_callback (before ++ after)
 apart-middle [] after c apart = apart.1
 apart-middle (b ∷ bs) after c apart = (
-  λ key has. any-none (has_callback key) (bs ++ after) (or-none (has_callback key c) (list_any (has_callback key) (bs ++ after)) (sym (any-middle (has_callback key) bs after c)
+  λ key has. any-none (has_callback key) (bs ++ after) (or-right (has_callback key c) (list_any (has_callback key) (bs ++ after)) (sym (any-middle (has_callback key) bs after c)
       ∙ none-any (has_callback key) (bs ++ c ∷ after) (apart.0 key has))),
   apart-middle bs after c apart.1,
 )
@@ -117,13 +115,10 @@ none-middle (b ∷ bs) after c apart key has = at (has_callback key b) refl (non
         absurd (true≢false (sym any ∙ none-any (has_callback key) (bs ++ c ∷ after) (apart.0 key e)))
     at false e later = later
 
-same-id : (n : ℕ) → (n == n) ≡ true
-same-id n = grind (arith)
-
 -- the others are still there
 heard-middle : (before after : List Callback) (c : Callback) (objects : Objects) → AreHeard (before ++ c ∷ after) objects → AreHeard (before ++ after) (with_id c.id None objects)
 heard-middle before after c objects heard =
-    objects-gone WlCallback has_callback objects c.id (before ++ after) (none-middle before after c heard.0 c.id (same-id c.id)) (
+    objects-gone WlCallback has_callback objects c.id (before ++ after) (none-middle before after c heard.0 c.id (same-number c.id)) (
       apart-middle before after c heard.0,
       λ key any. heard.1 key (any-middle (has_callback key) before after c ∙ ap (λ b. has_callback key c || b) any ∙ or-true (has_callback key c)),
     )

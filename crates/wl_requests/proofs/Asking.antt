@@ -11,13 +11,12 @@ use Rattle.wl_proto.specs.declared.wl_seat.WlSeatRequest.TheVariants.{GetKeyboar
 use Rattle.wl_client.specs.Agreement.{IsPeer}
 use Rattle.wl_client.specs.First.{IsRefused, Passes, passing, passing_in}
 use Rattle.spec_desktop.specs.Objects.{Object, Objects, fits, object_of, objects_in}
-use Rattle.spec_desktop.specs.Peer.{Errs, Peer, QueuesOr, counted, ended, has_room, queued, with_rest}
+use Rattle.spec_desktop.specs.Peer.{Errs, Peer, counted, ended, with_rest}
 use Rattle.std.specs.List.{list_all}
 use Rattle.wl_proto.specs.Objects.{new_id_in, objects_in as objects_named}
 use Rattle.wl_proto.specs.declared.argument.NewId.{NewId}
 use Rattle.spec_desktop.specs.Judgement.{is_free, judged_at}
-use Rattle.spec_desktop.specs.Told.{code_number, display_error, error_told}
-use Rattle.spec_desktop.specs.declared.cause.Cause.TheVariants.{Protocol}
+use Rattle.spec_desktop.specs.Told.{display_error}
 use Rattle.wl_shell.specs.Popups.{is_toplevel}
 use Rattle.wl_shell.specs.Shell.{Effect, Maps, Unmaps, xdg_of}
 use Rattle.wl_table.specs.Objects.{Held}
@@ -28,6 +27,7 @@ use Rattle.spec_desktop.specs.declared.refusals.ErrorCode.TheVariants.{InvalidMe
 use Rattle.spec_desktop.specs.declared.refusals.Refusal.{Refusal}
 use Rattle.wl_client.proofs.Passing.{judged-passing, judged-refused}
 use Rattle.wl_client.proofs.Peers.{IsPeer-with_rest}
+use Rattle.wl_client.proofs.Taking.{Errs-rest}
 use Rattle.wl_requests.specs.declared.residents.Resident.{Resident as Kept}
 use Rattle.wl_requests.specs.declared.residents.Stacking.{Stacking}
 use Rattle.wl_requests.specs.declared.residents.Stacking.TheVariants.{Stays}
@@ -72,16 +72,6 @@ passing-peer v p object opcode size answer is e =
     ∙ ap (λ (rest : List ℕ). passing p.objects p.held opcode (take (size - 8) (drop 8 rest)) (p.objects object)) is.rest)
     ∙ e
 
--- its error is told whatever came after it
-errs-by : (room : Bool) (refusal : Refusal) (p q : Peer) (rest : List ℕ) → QueuesOr room (q ≡ ended (Protocol refusal.object (code_number refusal.code)) (queued (error_told refusal) p)) p q
-    → QueuesOr room (q ≡ ended (Protocol refusal.object (code_number refusal.code)) (queued (error_told refusal) (with_rest rest p))) (with_rest rest p) q
-errs-by false refusal p q rest h = h
-errs-by true refusal p q rest (inl h) = inl h
-errs-by true refusal p q rest (inr h) = inr h
-
-errs-dropped : (refusal : Refusal) (p q : Peer) (rest : List ℕ) → Errs refusal p q → Errs refusal (with_rest rest p) q
-errs-dropped refusal p q rest h = errs-by (has_room p.unsent (error_told refusal)) refusal p q rest h
-
 first-refused-by : {A : Type 0} (old new : Kept A) (c : ℕ) (r : Resident) (d : Desktop) (refusal : Refusal) (s : Split) → IsRefused s old.client refusal → IsResident old r
     → is_some new.client.ended ≡ true
     → (q : Peer) × Errs refusal r.peer q × IsPeer new.client q → TakesSo s c r d old new Stays
@@ -91,7 +81,7 @@ first-refused-by old new c r d refusal (Whole object opcode size) why is ended e
     judged-refused r.peer.objects r.peer.held (λ version m. demand_of nothing_left_out r object version m) opcode body (r.peer.objects object) refusal
     (passing-peer old.client r.peer object opcode size (Err refusal) is.peer why) in (
       refused-whole old new c (with_peer (with_rest (drop size r.peer.rest) r.peer) r) d (judge_all nothing_left_out r object opcode body) refusal judged ended
-          (errs.0, errs-dropped refusal r.peer errs.0 (drop size r.peer.rest) errs.1, errs.2),
+          (errs.0, Errs-rest refusal r.peer errs.0 (drop size r.peer.rest) errs.1, errs.2),
       subst (λ (j : Result Demand Refusal). StacksSo old r j Stays) (sym judged) tt,
     )
 first-refused-by old new c r d refusal Bad why is ended errs = refused-whole old new c r d (Err (display_error InvalidMethod)) refusal (ap (λ (f : Refusal). Err f) (sym why)) ended errs
@@ -228,5 +218,3 @@ module _ {A : Type 0} (old : Kept A) (r : Resident) (object version size target 
       subst (λ (s : Split). TakesAs done s c r d old new) (sym whole-first)
       (subst (λ (j : Result Demand Refusal). AnswersAs done j c left d old new) (sym demanded-first) (decided-from done old mid new c left d (demand_of nothing_left_out left object version m) objects
       (answers c left d there has (placed-behind placing object k c r left.peer d placed))))
-
--- ---- where there is no whole message

@@ -5,12 +5,10 @@ use Rattle.std.specs.List.{list_any}
 use Rattle.std.specs.Option.{option_map}
 use Rattle.std.proofs.Math.Path.{fun_ext}
 use Rattle.std.proofs.lemmas.Bool.{eqb-true}
-use Rattle.std.proofs.lemmas.Option.{none-some}
 use Rattle.wl_proto.specs.declared.interface.Interface.TheVariants.{WlSurface}
 use Rattle.spec_desktop.specs.Objects.{with_id}
-use Rattle.spec_desktop.specs.Peer.{Peer, Queues, QueuesOr, ended, has_room, queued}
+use Rattle.spec_desktop.specs.Peer.{Peer, Queues, QueuesOr, has_room, queued}
 use Rattle.spec_desktop.specs.Told.{Said}
-use Rattle.spec_desktop.specs.declared.cause.Cause.{Cause}
 use Rattle.wl_links.specs.Family.{Tied}
 use Rattle.wl_surface.specs.declared.frames.Waiting.{Waiting}
 use Rattle.wl_surface.specs.FrameRequests.{frames_of}
@@ -30,6 +28,7 @@ use Rattle.law_desktop.specs.RoleNames.{names_of}
 use Rattle.law_desktop.proofs.Keeping.FramingWaits.{framed-more, framed-same, is-new}
 use Rattle.law_desktop.proofs.Soundness.ObjectsCalls.{any-filtered, is_left}
 use Rattle.law_desktop.proofs.Keeping.OwningSurfaces.{surface-read, surfaces-changed, surfaces-made}
+use Rattle.law_desktop.proofs.EachClient.Told.{over}
 
 -- the surfaces of a client, by the numbers that its table names
 abbrev pub numbered : Held → Resident → Numbered
@@ -177,9 +176,6 @@ module _ (old new : Held) (r after : Resident) (slots : Slots) (tied : Tied) (is
       rw (changed-so (asking (Frame n)) (λ s. refl) (ap (λ (x : Names). x.surfaces) names) surfaces, calls, counted) more
 
 -- ---- what is told
-
-over : (cause : Cause) (p q : Peer) → q ≡ ended cause p → q.status ≡ None → ⊥
-over cause p q e alive = none-some cause (sym alive ∙ ap (λ (x : Peer). x.status) e)
 
 -- what is told to one that lives on counts no request
 pub told-requests : (events : List Said) (p q : Peer) → Queues events p q → q.status ≡ None → q.requests ≡ p.requests

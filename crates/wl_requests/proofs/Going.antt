@@ -1,10 +1,10 @@
 -- What goes with a surface: its frame callbacks, which are no objects that name a surface.
-use Rattle.std.proofs.Common.{◌≡◌, ℕ, List, [], ◌∷◌, ◌++◌, Bool, true, false, Option, Some, None, map, refl, ap, sym, ◌∙◌, eq-eqb}
+use Rattle.std.proofs.Common.{◌≡◌, ℕ, List, [], ◌∷◌, ◌++◌, Bool, true, false, Option, Some, None, map, refl, ap, sym, ◌∙◌}
 use Rattle.std.specs.Prelude.{◌==◌, ◌||◌, fold, if◌then◌else◌}
 use Rattle.std.specs.List.{list_any}
 use Rattle.std.specs.Option.{option_and_then, option_map}
 use Rattle.std.proofs.Math.Path.{fun_ext}
-use Rattle.std.proofs.lemmas.Bool.{eqb-true, true≢false}
+use Rattle.std.proofs.lemmas.Bool.{eqb-true}
 use Rattle.wl_proto.specs.declared.interface.Interface.{Interface}
 use Rattle.wl_proto.specs.declared.interface.Interface.TheVariants.{WlCallback, WlSurface, XdgPopup, XdgSurface, XdgToplevel}
 use Rattle.wl_table.specs.Objects.{Held, entry_of}
@@ -30,6 +30,7 @@ use Rattle.law_desktop.proofs.Keeping.OwningSurfaces.{surface-read}
 use Rattle.law_desktop.proofs.Lists.Left.{any-there}
 use Rattle.wl_requests.proofs.Framing.{numbered}
 use Rattle.wl_requests.proofs.Shelling.{entry-named}
+use Rattle.wl_requests.proofs.Trees.{turned}
 
 -- ---- the table
 
@@ -95,15 +96,6 @@ module _ (old new : Held) (id : ℕ) (calls : List ℕ) (heard : (other : ℕ) �
 
 -- ---- the callbacks
 
-turned : (a b : ℕ) → (a == b) ≡ (b == a)
-turned a b = at (a == b) (b == a) refl refl
-  where
-    at : (x y : Bool) → (a == b) ≡ x → (b == a) ≡ y → x ≡ y
-    at true true e f = refl
-    at false false e f = refl
-    at true false e f = absurd (true≢false (sym (eq-eqb b a (sym (eqb-true a b e))) ∙ f))
-    at false true e f = absurd (true≢false (sym (eq-eqb a b (sym (eqb-true b a f))) ∙ e))
-
 any-ids : (other : ℕ) (cs : List Callback) → list_any (λ i. other == i) (map (λ (c : Callback). c.id) cs) ≡ list_any (λ (c : Callback). c.id == other) cs
 any-ids other [] = refl
 any-ids other (c ∷ cs) = ap (λ b. b || list_any (λ i. other == i) (map (λ (x : Callback). x.id) cs)) (turned other c.id) ∙ ap (λ b. (c.id == other) || b) (any-ids other cs)
@@ -154,7 +146,3 @@ going-requests (c ∷ cs) p = going-requests cs (removed c.id p)
 pub going-status : (cs : List Callback) (p : Peer) → (fold (λ p callback. removed callback.id p) p cs).status ≡ p.status
 going-status [] p = refl
 going-status (c ∷ cs) p = going-status cs (removed c.id p)
-
-pub going-buffers : (cs : List Callback) (p : Peer) → (fold (λ p callback. removed callback.id p) p cs).buffers ≡ p.buffers
-going-buffers [] p = refl
-going-buffers (c ∷ cs) p = going-buffers cs (removed c.id p)

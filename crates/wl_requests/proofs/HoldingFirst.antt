@@ -1,5 +1,5 @@
 -- What is kept stands so after the first message, by the numbers from before it.
-use Rattle.std.proofs.Common.{◌≡◌, ◌≤◌, ℕ, arith, Bool, true, drop, Result, ap, refl, subst, sym}
+use Rattle.std.proofs.Common.{◌≡◌, ℕ, Bool, true, drop, Result, ap, refl, subst, sym}
 use Rattle.wl_client.specs.First.{Passes}
 use Rattle.law_desktop.specs.Ordered.{OwnsOrdered}
 use Rattle.spec_desktop.specs.Peer.{with_rest}
@@ -21,6 +21,7 @@ use Rattle.wl_requests.specs.declared.residents.Resident.{Resident as Kept}
 use Rattle.wl_requests.proofs.Asking.{demanded-first, dropped, placed-behind, whole-first}
 use Rattle.wl_requests.proofs.Holding.{held-so}
 use Rattle.wl_requests.proofs.Meeting.{ordered-peer}
+use Rattle.wl_requests.proofs.Framing.{no-more}
 use Rattle.wl_wire.specs.Wire.{split_of}
 use Rattle.wl_wire.specs.declared.header.Split.{Split}
 
@@ -38,9 +39,6 @@ pub held-message : {A : Type 0} (done : Bool) (old new : Kept A) (placing : Plac
     → HoldsAs done (λ r. demand_of nothing_left_out r object version n) old new → HoldsPlaced done placing k object (λ r. demand_of nothing_left_out r object version m) old new
 held-message done old new placing object version k m n told h = λ c r d its only placed so.
     subst (λ (x : Message). HoldsSo (demand_of nothing_left_out r object version x) c r d old new) (sym told) (h c r d its only so)
-
-no-more : (n : ℕ) → n ≤ n
-no-more n = omega arith
 
 -- it is taken first
 pub first-held : {A : Type 0} (old : Kept A) (r : Resident) (object version size target : ℕ) (m : Message) (passes : Passes old.client object version size target m) (is : IsResident old r)

@@ -14,6 +14,7 @@ use Rattle.spec_desktop.specs.Desktop.{Resident, Subsurface}
 use Rattle.spec_desktop.specs.Replies.{releases}
 use Rattle.spec_desktop.specs.Step.{is_number}
 use Rattle.law_desktop.proofs.KeptRecords.Toplevels.Releases.{none-released}
+use Rattle.law_desktop.proofs.Truth.{there-some}
 use Rattle.wl_surface.specs.Request.{AddChild, Request}
 use Rattle.wl_surface.specs.State.{applied, committed, held, values}
 use Rattle.wl_surface.specs.Surface.{Surface, asking, names, shows, with_role}
@@ -33,10 +34,6 @@ shows-asked : (number n : ℕ) (s : Surface) → s.history.cut ≤ committed s.h
 shows-asked number n s cut within =
     ap (λ (rs : List Request). names n (values rs).buffer || names n (held (asking (AddChild number) s).history).buffer) (applied-kept s.history (AddChild number) cut within)
     ∙ ap (λ (rs : List Request). names n (applied s.history).buffer || names n (values rs).buffer) (held-kept s.history.requests (AddChild number) refl within)
-
-some-there : {X : Type 0} (o : Option X) → is_some o ≡ true → (x : X) × (o ≡ Some x)
-some-there None e = absurd (cc)
-some-there (Some x) e = (x, refl)
 
 module _ (number child parent : ℕ) where
   -- the child has its role
@@ -104,7 +101,7 @@ module _ (number child parent : ℕ) where
         let found = any-found (λ key (s : Surface). s.id == key) (λ s. shows n s.history) all.surfaces is.apart busy in
         let x = found.0 in
         let there : surface_at x.id all ≡ Some x = found.2 x.id (eq-eqb x.id x.id refl) in
-        let its = some-there (numbers x.id) (is.numbered x.id ∙ ap is_some there) in
+        let its = there-some (numbers x.id) (is.numbered x.id ∙ ap is_some there) in
         let read : by_number numbers all its.0 ≡ Some x = surface-read numbers slots tied all is x.id its.0 its.1 ∙ there in
         let bounds = cut-bounds (kept_at slots its.0) x (subst (λ (o : Option Surface). StandsAt (kept_at slots its.0) o) read (is.stand its.0)) in
         found-any (λ s. s.id == x.id) (λ s. shows n s.history) (linked number child parent all).surfaces (asked (given x))

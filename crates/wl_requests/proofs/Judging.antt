@@ -1,6 +1,7 @@
 -- What is judged of a link that is asked for, by what is kept of a client.
 use Rattle.std.proofs.Common.{◌≡◌, ℕ, List, ◌∷◌, ◌++◌, Bool, true, false, Option, Some, None, Result, Ok, Err, refl, ap, ap₂, sym, subst, ◌∙◌, eq-eqb, eqb-true, Bor, []}
 use Rattle.std.proofs.lemmas.Option.{same_Some}
+use Rattle.std.proofs.lemmas.Bool.{or_left, or_right}
 use Rattle.std.specs.Prelude.{◌==◌, ◌||◌, IsErrAnd, find, if◌then◌else◌, is_some, slice_index_or}
 use Rattle.std.specs.Option.{option_and_then, option_copied}
 use Rattle.wl_links.specs.Family.{HangTogether, IsTooDeep, Tied, links_in}
@@ -38,6 +39,7 @@ use Rattle.wl_surface.specs.Trees.{is_bad_parent, is_too_deep, link_of, linked}
 use Rattle.wl_requests.specs.declared.residents.Resident.{Resident as Kept}
 use Rattle.wl_requests.specs.Linking.{AreTwo, IsJudged, IsJudgedBy, link_refused}
 use Rattle.wl_requests.proofs.Subsurfaces.{linked-subsurfaces}
+use Rattle.wl_requests.proofs.Linking.{child-by}
 
 -- ---- the refusals in their order
 
@@ -82,22 +84,10 @@ pub role-same : (o : Option Surface) → role_at o ≡ option_and_then (λ (s : 
 role-same None = refl
 role-same (Some s) = refl
 
-pub or-first : (a b : Bool) → a ≡ true → (a || b) ≡ true
-or-first true b e = refl
-or-first false b e = absurd (cc)
-
-pub or-second : (a b : Bool) → b ≡ true → (a || b) ≡ true
-or-second true b e = refl
-or-second false b e = e
-
 -- a wl_subsurface of this surface
 of-child : (o : Option ℕ) (child : ℕ) → is_of_child child o ≡ true → o ≡ Some child
 of-child None child e = absurd (cc)
 of-child (Some other) child e = ap Some (eqb-true other child e)
-
-child-of-found : (o : Option Subsurface) (child : ℕ) → option_and_then (λ (s : Subsurface). s.surface) o ≡ Some child → (s : Subsurface) × (o ≡ Some s) × (s.surface ≡ Some child)
-child-of-found None child e = absurd (cc)
-child-of-found (Some s) child e = (s, refl, e)
 
 -- ---- of two surfaces
 
@@ -137,7 +127,7 @@ module _ {A : Type 0} (v : Kept A) (names : Names) (r : Resident) (child below p
   has-some id here =
       let known = two.subsurfaces.known below id here in
       let same : known.0 ≡ child = two.owns.surfaces.once known.0 child below known.1 two.child_named in
-      let mine = child-of-found (find (λ s. s.id == id) r.subsurfaces) known.0 known.2 in
+      let mine = child-by (find (λ s. s.id == id) r.subsurfaces) known.0 known.2 in
       found-any (λ s. s.id == id) (λ s. is_of_child child s.surface) r.subsurfaces mine.0 mine.1
       (ap (is_of_child child) mine.2 ∙ eq-eqb known.0 child same)
 
@@ -195,13 +185,13 @@ module _ {A : Type 0} (v : Kept A) (names : Names) (r : Resident) (child below p
     taken-judged : is_too_deep all child parent ≡ false → (has_subsurface child r || is_some (xdg_of child r.owned.shell)) ≡ true → judged ≡ refuses object BadSurface
     taken-judged shallow has =
         ap₂ (λ (a b : Bool). judged_by object demand a b (is_bad_parent all child parent)) shallow
-        (or-second (is_no_subsurface (role_of r child)) (has_subsurface child r || is_some (xdg_of child r.owned.shell)) has)
+        (or_right (is_no_subsurface (role_of r child)) (has_subsurface child r || is_some (xdg_of child r.owned.shell)) has)
 
     pub one-judged : is_too_deep all child parent ≡ false → is_some (slice_index_or v.subsurfaces below None) ≡ true → judged ≡ refuses object BadSurface
-    one-judged shallow has = taken-judged shallow (or-first (has_subsurface child r) (is_some (xdg_of child r.owned.shell)) (sym has-is ∙ has))
+    one-judged shallow has = taken-judged shallow (or_left (has_subsurface child r) (is_some (xdg_of child r.owned.shell)) (sym has-is ∙ has))
 
     pub xdg-judged : is_too_deep all child parent ≡ false → is_some (kept_of v.owned.shell below) ≡ true → judged ≡ refuses object BadSurface
-    xdg-judged shallow has = taken-judged shallow (or-second (has_subsurface child r) (is_some (xdg_of child r.owned.shell)) (sym xdg-is ∙ has))
+    xdg-judged shallow has = taken-judged shallow (or_right (has_subsurface child r) (is_some (xdg_of child r.owned.shell)) (sym xdg-is ∙ has))
 
     -- else it is as the surfaces and links say
     pub linked-judged : is_some (slice_index_or v.subsurfaces below None) ≡ false → is_some (kept_of v.owned.shell below) ≡ false → (told : Result (Unit {0}) SurfaceError)

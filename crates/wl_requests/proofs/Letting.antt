@@ -3,7 +3,7 @@ use Rattle.std.proofs.Common.{◌≡◌, ◌<◌, ◌≤◌, ℕ, ◌+◌, zero,
 use Rattle.std.proofs.Common.{subst, sym, ◌∙◌, arith, slice_index_or}
 use Rattle.std.specs.Prelude.{◌==◌, ◌||◌, not, filter, find, fold, is_some}
 use Rattle.std.specs.List.{list_any}
-use Rattle.std.proofs.lemmas.Bool.{eqb-true, true≢false}
+use Rattle.std.proofs.lemmas.Bool.{eqb-true, or_parts, true≢false}
 use Rattle.std.proofs.lemmas.List.{drop_all}
 use Rattle.std.proofs.lemmas.List.Folds.{list_any-append}
 use Rattle.wl_client.proofs.Queueing.{over-now, queues-over, queues-then}
@@ -86,10 +86,6 @@ freed-more numbers i d shown less =
 
 -- ---- each of them once
 
-or-none : (a b : Bool) → (a || b) ≡ false → (a ≡ false) × (b ≡ false)
-or-none true b e = absurd (true≢false e)
-or-none false b e = (refl, e)
-
 found-number : (number : ℕ) (shown : List Buffer) (b : Buffer) → find (has number) shown ≡ Some b → b.number ≡ number
 found-number number [] b e = absurd (cc)
 found-number number (x ∷ xs) b e = at (x.number == number) refl e (found-number number xs b)
@@ -121,7 +117,7 @@ without-apart number (x ∷ xs) ys first second = at (x.number == number) first 
 freed-without : (number : ℕ) (numbers : List ℕ) (shown : List Buffer) → among numbers number ≡ false → without_buffer number (freed_of numbers shown) ≡ freed_of numbers shown
 freed-without number [] shown none = refl
 freed-without number (n ∷ ns) shown none =
-    let apart = or-none (n == number) (among ns number) none in
+    let apart = or_parts (n == number) (among ns number) none in
     without-apart number (listed (find (has n) shown)) (freed_of ns shown) (at (find (has n) shown) refl apart.0) (freed-without number ns shown apart.1)
   where
     at : (o : Option Buffer) → find (has n) shown ≡ o → (n == number) ≡ false → without_buffer number (listed o) ≡ listed o

@@ -15,6 +15,7 @@ use Rattle.law_desktop.specs.Reading.{kept_by}
 use Rattle.law_desktop.specs.Ordered.{OwnsOrdered}
 use Rattle.law_desktop.specs.Owning.{number_in, targets_in}
 use Rattle.law_desktop.proofs.Keeping.OwningTies.{number-of-name, renaming-of, stand-by}
+use Rattle.law_desktop.proofs.Truth.{there-some}
 use Rattle.spec_desktop.specs.Desktop.{Resident, Subsurface}
 use Rattle.spec_desktop.specs.WlSubsurface.{is_of_child, link_of_subsurface, living, subsurface_at}
 use Rattle.wl_surface.specs.Surfaces.{Link, link_at}
@@ -22,10 +23,6 @@ use Rattle.wl_surface.specs.Trees.{link_of}
 use Rattle.wl_requests.specs.declared.residents.Resident.{Resident as Kept}
 use Rattle.wl_requests.specs.Linking.{IsChildOf}
 use Rattle.wl_requests.specs.Residents.{IsResident}
-
-some-there : {X : Type 0} (o : Option X) → is_some o ≡ true → (x : X) × (o ≡ Some x)
-some-there None e = absurd (cc)
-some-there (Some x) e = (x, refl)
 
 -- the link that lives is found by its child
 live-some : (number : ℕ) (l : Link) (ls : List Link) → find (λ k. k.number == number) ls ≡ Some l → l.has_ended ≡ false
@@ -48,7 +45,7 @@ live-some number l (k ∷ ks) e lives = at (k.number == number) e (λ later. liv
     at false e rest = either (not k.has_ended && k.child == l.child) (find (λ k. not k.has_ended && k.child == l.child) ks) (rest e)
 
 -- the surface that a wl_subsurface has
-child-by : (o : Option Subsurface) (child : ℕ) → option_and_then (λ (s : Subsurface). s.surface) o ≡ Some child → (s : Subsurface) × (o ≡ Some s) × (s.surface ≡ Some child)
+pub child-by : (o : Option Subsurface) (child : ℕ) → option_and_then (λ (s : Subsurface). s.surface) o ≡ Some child → (s : Subsurface) × (o ≡ Some s) × (s.surface ≡ Some child)
 child-by None child e = absurd (cc)
 child-by (Some s) child e = (s, refl, e)
 
@@ -96,7 +93,7 @@ module _ {A : Type 0} (v : Kept A) (r : Resident) (is : IsResident v r) (orderly
       let finds = (finds-named (number_in numbers) v.owned.surfaces.states v.owned.surfaces.family r.owned.surfaces known.0 one.0 by-names one.1).0 in
       let ends = ends-there (number_in numbers) r.owned.surfaces (renaming-of numbers v.owned.surfaces.states v.owned.surfaces.family r.owned.surfaces is.owns.surfaces) one.0.number one.0 finds.here
       finds.lives in
-      let parent = some-there (numbers one.0.parent) (is.owns.surfaces.numbered one.0.parent ∙ ends.1) in
+      let parent = there-some (numbers one.0.parent) (is.owns.surfaces.numbered one.0.parent ∙ ends.1) in
       let mine = child-by (subsurface_at object r) known.0 known.2 in
       let its = orderly.order.links one.0.number one.0 (record { here = finds.here; lives = finds.lives }) in
       let first = found-by (λ surface (s : Subsurface). is_of_child surface s.surface) (λ s. s.id == object) known.0 r.subsurfaces mine.0 orderly.order.own.surfaces mine.1
@@ -128,7 +125,7 @@ module _ {A : Type 0} (v : Kept A) (r : Resident) (is : IsResident v r) (orderly
       never s l found here lives =
           let child = child-named r object s l orderly.order found (record { here = here; lives = lives }) in
           let known = is.subsurfaces.named object l.child (ap (option_and_then (λ (s : Subsurface). s.surface)) found ∙ child) in
-          let one = some-there (link_of l.child r.owned.surfaces) (live-some s.link l r.owned.surfaces.links here lives) in
+          let one = there-some (link_of l.child r.owned.surfaces) (live-some s.link l r.owned.surfaces.links here lives) in
           absurd (none-some (kept_by (number_in numbers) one.0) (sym (none _ _ is.subsurfaces known.0 known.2) ∙ kept-link l.child known.0 known.1
           ∙ ap (option_map (kept_by (number_in numbers))) one.1))
 

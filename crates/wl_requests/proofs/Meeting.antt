@@ -1,5 +1,5 @@
 -- What is demanded is done and told, as where nobody points.
-use Rattle.std.proofs.Common.{Bool, List, Result, ap, append-nil, arith, false, inl, inr, refl, subst, sym, true, ℕ, ◌++◌, ◌+◌, ◌∙◌, ◌≡◌, ◌≤◌}
+use Rattle.std.proofs.Common.{Bool, List, Result, ap, append-nil, false, inl, inr, refl, subst, sym, true, ℕ, ◌++◌, ◌∙◌, ◌≡◌, ◌≤◌}
 use Rattle.std.specs.Prelude.{Ok, Err}
 use Rattle.spec_desktop.specs.Peer.{Errs, LacksMemory, Peer, Queues, WantsOr, counted}
 use Rattle.spec_desktop.specs.Told.{Said}
@@ -23,6 +23,7 @@ use Rattle.law_desktop.proofs.KeptInOrder.Laws.{peers_keep_ordered}
 use Rattle.wl_requests.specs.declared.residents.Resident.{Resident as Kept}
 use Rattle.wl_requests.specs.declared.residents.Stacking.TheVariants.{Stays}
 use Rattle.wl_requests.specs.Residents.{AnswersAs, AnswersSo as AnswersWhole, IsLeft, MeetsAs, MeetsSo, StacksSo as StacksWhole}
+use Rattle.wl_requests.proofs.Framing.{one-more}
 
 -- ---- what dismisses no popup
 
@@ -48,9 +49,6 @@ abbrev pub ActsAs : {A : Type 0} → Bool → ℕ → Demand → Resident → De
 ActsAs true c demand r d old new =
     (q : Peer) × Queues (told_for c demand r d) (changed_for c demand r (unpointed d)).peer q × IsLeft old new (changed_for c demand r (unpointed d)) q
 ActsAs false c demand r d old new = (wants_memory demand ≡ true) × (q : Peer) × LacksMemory r.peer q × IsLeft old new (changed_for c demand r (unpointed d)) q
-
-pub one-more : (n : ℕ) → n ≤ n + 1
-one-more n = omega arith
 
 -- another peer with the same objects and buffers, and no fewer requests, leaves a client in order
 pub ordered-peer : (r : Resident) (p : Peer) → p.objects ≡ r.peer.objects → p.buffers ≡ r.peer.buffers → r.peer.requests ≤ p.requests → OwnsOrdered r → OwnsOrdered (with_peer p r)

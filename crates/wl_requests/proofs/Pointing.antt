@@ -1,5 +1,6 @@
 -- What is judged of wl_pointer.set_cursor, by what is kept, and what a surface that becomes a cursor leaves as it was.
 use Rattle.std.proofs.Common.{◌≡◌, ◌≢◌, ℕ, Bool, true, false, Option, Some, None, refl, ap, ap₂, sym, ◌∙◌}
+use Rattle.std.proofs.lemmas.Bool.{or_left, or_right}
 use Rattle.std.specs.Prelude.{◌||◌, Err, Ok, if◌then◌else◌, is_some}
 use Rattle.law_desktop.specs.Owning.{by_number}
 use Rattle.law_desktop.specs.RoleNames.{names_of}
@@ -19,7 +20,7 @@ use Rattle.wl_shell.specs.Kept.{kept_of}
 use Rattle.wl_shell.specs.Shell.{xdg_of}
 use Rattle.wl_requests.specs.declared.residents.Resident.{Resident as Kept}
 use Rattle.wl_requests.specs.Residents.{IsResident, IsSurface}
-use Rattle.wl_requests.proofs.Judging.{or-first, or-second, role-same}
+use Rattle.wl_requests.proofs.Judging.{role-same}
 
 -- ---- a role
 
@@ -60,13 +61,13 @@ module _ {A : Type 0} (v : Kept A) (r : Resident) (is : IsResident v r) (object 
   pub has-xdg : is_some (kept_of v.owned.shell number) ≡ true → cursor_set r object id ≡ Err (record { object = object; code = HasAnotherRole })
   has-xdg has =
       ap (λ (b : Bool). if b then refuses object HasAnotherRole else Ok (MakeCursor id))
-      (or-second (is_no_cursor (role_of r id)) (is_some (xdg_of id r.owned.shell)) (sym xdg-is ∙ has))
+      (or_right (is_no_cursor (role_of r id)) (is_some (xdg_of id r.owned.shell)) (sym xdg-is ∙ has))
 
   -- it has another role
   pub has-other : IsOther (role_at (by_number (names_of v.client.objects).surfaces r.owned.surfaces number)) → cursor_set r object id ≡ Err (record { object = object; code = HasAnotherRole })
   has-other other =
       ap (λ (b : Bool). if b then refuses object HasAnotherRole else Ok (MakeCursor id))
-      (or-first (is_no_cursor (role_of r id)) (is_some (xdg_of id r.owned.shell)) (other-role (role_of r id) (other.0, sym role-is ∙ other.1, other.2)))
+      (or_left (is_no_cursor (role_of r id)) (is_some (xdg_of id r.owned.shell)) (other-role (role_of r id) (other.0, sym role-is ∙ other.1, other.2)))
 
   -- it has neither
   pub is-made : is_some (kept_of v.owned.shell number) ≡ false → (IsOther (role_at (by_number (names_of v.client.objects).surfaces r.owned.surfaces number)) → ⊥)

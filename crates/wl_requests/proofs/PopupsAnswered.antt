@@ -181,14 +181,6 @@ touched-so touch number old new told is same none = subst (λ (t : Touch). IsTou
 
 -- ---- xdg_toplevel.destroy
 
--- one that lives lived before
-pub alive-before : (mid new : ClientView) → (is_some mid.ended ≡ true → new ≡ mid) → new.ended ≡ None → mid.ended ≡ None
-alive-before mid new over alive = at mid.ended refl
-  where
-    at : (o : Option Cause) → mid.ended ≡ o → mid.ended ≡ None
-    at None e = e
-    at (Some cause) e = sym (ap (λ (v : ClientView). v.ended) (over (ap is_some e))) ∙ alive
-
 -- the object is a toplevel, and its xdg_surface is known by it
 pub toplevel-there : {A : Type 0} (old new : Kept A) (object number : ℕ) (judged : Option Xdg → Result Demand Refusal) (c : ℕ) (d : Desktop) (r : Resident) → IsResident old r
     → IsToplevel old object number

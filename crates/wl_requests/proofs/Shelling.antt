@@ -28,7 +28,7 @@ use Rattle.wl_surface.specs.declared.role.Role.{Role}
 use Rattle.wl_surface.specs.declared.role.Role.TheVariants.{Toplevel as AsToplevel}
 use Rattle.wl_surface.specs.declared.error.SurfaceError.{SurfaceError}
 use Rattle.wl_shell.specs.Kept.{Kept as KeptXdg, changing, kept_of, making_refused}
-use Rattle.wl_shell.specs.Shell.{RoleObject, Shell, XdgSurface as Xdg, is_role, next_serial, xdg_at, xdg_with}
+use Rattle.wl_shell.specs.Shell.{RoleObject, Shell, XdgSurface as Xdg, is_role, next_serial, xdg_at}
 use Rattle.wl_shell.specs.declared.error.ShellError.{ShellError}
 use Rattle.wl_shell.specs.declared.error.ShellError.TheVariants as failed
 use Rattle.spec_desktop.specs.Stacking.{Owned}
@@ -41,12 +41,12 @@ use Rattle.law_desktop.specs.Owning.{AreKept, IsOwned, IsXdg, Names, asks_by, by
 use Rattle.law_desktop.specs.RoleNames.{names_of}
 use Rattle.law_desktop.specs.Owning.{with_toplevel, with_xdg}
 use Rattle.law_desktop.specs.Subsurfaces.{AreOfSurfaces}
-use Rattle.wl_requests.specs.Residents.{ActsFor, AnswersAs, AnswersSo as AnswersWhole, Does, IsFree, NewIsFree, IsResident, IsToplevel, IsXdgSurface, MeetsAs}
+use Rattle.wl_requests.specs.Residents.{ActsFor, AnswersAs, AnswersSo as AnswersWhole, Does, IsFree, NewIsFree, IsResident, IsXdgSurface, MeetsAs}
 use Rattle.spec_desktop.specs.Step.{answers_to, changed_by, configures_told, role_configured, takes_memory, toplevel_configured, toplevel_given, with_peer, xdg_configured}
 use Rattle.spec_desktop.specs.Demanding.{xdg_asked, xdg_demand}
 use Rattle.spec_desktop.specs.XdgShell.{configured_again, is_no_toplevel, role_of}
 use Rattle.wl_proto.specs.declared.xdg_surface.XdgSurfaceRequest.{XdgSurfaceRequest}
-use Rattle.wl_requests.proofs.Doing.{cut-bounds}
+use Rattle.wl_requests.proofs.Doing.{cut-bounds, gone}
 use Rattle.law_desktop.proofs.Keeping.Letting.{asked-keeps}
 use Rattle.wl_requests.proofs.Numbers.{left-from}
 use Rattle.wl_requests.proofs.Meeting.{AnswersSo}
@@ -56,8 +56,7 @@ use Rattle.law_desktop.proofs.KeptRecords.Toplevels.Releases.{requested-still}
 use Rattle.law_desktop.proofs.Keeping.OwningSurfaces.{surface-named, surface-read}
 use Rattle.wl_requests.proofs.Roles.{names_object, names-other-gone, names-toplevel-gone, names-xdg-gone}
 use Rattle.law_desktop.proofs.Keeping.OwningReads.{role-fits, role-read}
-use Rattle.law_desktop.proofs.Keeping.OwningXdg.{toplevel-named, xdg-named}
-use Rattle.law_desktop.proofs.OwnedPopups.Naming.{roles-named}
+use Rattle.law_desktop.proofs.Keeping.OwningXdg.{xdg-named}
 
 -- ---- objects that go
 
@@ -132,10 +131,6 @@ toplevel-gone old mid new id number only named holds =
 
 -- ---- what is judged
 
-gone : {X : Type 0} (o : Option X) → is_some o ≡ true → o ≡ None → ⊥
-gone None some none = cc
-gone (Some x) some none = cc
-
 -- it is refused
 pub refused : {A : Type 0} (old new : Kept A) (r : Resident) (judged : Result Ask Refusal) (refusal : Refusal) → judged ≡ Err refusal → is_some new.client.ended ≡ true → (q : Peer)
     × Errs refusal r.peer q × IsPeer new.client q → AnswersSo judged r old new
@@ -182,17 +177,6 @@ pub xdg-answered : {A : Type 0} (old new : Kept A) (object number version : ℕ)
 xdg-answered old new object number version request c d r is named answers =
     let one = xdg-named (names_of old.client.objects) old.owned.surfaces.states old.owned.surfaces.family (kept_of old.owned.shell) r.owned is.owns object number named in
     subst (λ (o : Option Xdg). AnswersWhole (xdg_asked r o version request) c r d old new) (sym one.4) (answers one.0 one.1 one.2 one.3 one.5)
-
--- the object is a toplevel
-pub toplevel-answered : {A : Type 0} (old new : Kept A) (object number : ℕ) (judged : Option Xdg → Result Demand Refusal) (c : ℕ) (d : Desktop) (r : Resident) → IsResident old r
-    → IsToplevel old object number
-    → ((k : KeptXdg) (x : Xdg) (h : History) → IsXdg (names_of old.client.objects) (kept_of old.owned.shell) r.owned number k x h → is_role object x.role ≡ true
-    → AnswersWhole (judged (Some x)) c r d old new)
-    → AnswersWhole (judged (xdg_with object r.owned.shell)) c r d old new
-toplevel-answered old new object number judged c d r is named answers =
-    let one = toplevel-named (names_of old.client.objects) old.owned.surfaces.states old.owned.surfaces.family (kept_of old.owned.shell) r.owned is.owns object number
-    (roles-named.toplevel old.client.objects object number named) in
-    subst (λ (o : Option Xdg). AnswersWhole (judged o) c r d old new) (sym one.4) (answers one.0 one.1 one.2 one.3 one.5)
 
 -- what the shell answered is told
 pub told-ok : (judged : Result Ask Refusal) (ask : Ask) (refusal : ShellError → Refusal) (answer told : Result (Unit {0}) ShellError) → judged ≡ asks_by {X = Unit {0}} (λ u. ask) refusal answer
@@ -424,7 +408,3 @@ counted-does old mid new r ask is only same kept peer told does =
 pub surface-counted : (old mid : ClientView) (id number : ℕ) → mid ≡ record old { requests = mid.requests } → targets_in WlSurface old.objects id ≡ Some number
     → targets_in WlSurface mid.objects id ≡ Some number
 surface-counted old mid id number only named = ap (λ (held : Held). targets_in WlSurface held id) (objects-counted old mid only) ∙ named
-
-pub absent-kept : {X : Type 0} (o : Option X) → is_some o ≡ false → o ≡ None
-absent-kept None e = refl
-absent-kept (Some x) e = absurd (cc)

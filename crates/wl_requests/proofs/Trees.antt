@@ -190,7 +190,7 @@ destroy-lets-go r then left id s freed shown one apart found are keeps is =
 
 -- ---- a buffer more is looked at, whose store goes with the others
 
-turned : (m n : ℕ) → (m == n) ≡ (n == m)
+pub turned : (m n : ℕ) → (m == n) ≡ (n == m)
 turned m n = truth (m == n) (n == m) (λ e. eq-eqb n m (sym (eqb-true m n e))) (λ e. eq-eqb m n (sym (eqb-true n m e)))
 
 without-last : (x b : Buffer) (h : Bool) → without_buffer x.number (cond h [] (b ∷ [])) ≡ cond ((x.number == b.number) || h) [] (b ∷ [])

@@ -10,8 +10,9 @@ use Rattle.spec_desktop.specs.Desktop.{Resident}
 use Rattle.law_desktop.specs.RoleNames.{names_of}
 use Rattle.spec_desktop.specs.WlSubsurface.{refuses}
 use Rattle.law_desktop.proofs.Keeping.OwningReads.{destroyed-by}
+use Rattle.law_desktop.proofs.Truth.{none-there}
 use Rattle.wl_requests.proofs.Counting.{counted-told}
-use Rattle.wl_requests.proofs.Shelling.{absent-kept, counted-on, objects-counted, refused-as, surface-counted}
+use Rattle.wl_requests.proofs.Shelling.{counted-on, objects-counted, refused-as, surface-counted}
 use Rattle.spec_desktop.specs.Peer.{counted}
 use Rattle.spec_desktop.specs.Step.{with_peer}
 use Rattle.wl_requests.specs.Holding.{HoldsSo}
@@ -38,7 +39,7 @@ returns-clause-answers g c = λ named client r on is only.
     subst (λ (j : Result Demand Refusal). AnswersAs (is_some c.destroy_surface.result) j client r on v c.destroy_surface.new.self) (sym judged)
     (counted-told v (record v { client = c.count.new.self }) c.destroy_surface.new.self c.destroy_surface.result client r on (λ (q : Resident). EndSurface id) is only
     c.count.ensures.only refl refl (c.count.ensures.counts r.peer is.peer)
-    (c.destroy_surface.ensures.does (surface-counted v.client c.count.new.self id c.args.surface c.count.ensures.only named) (absent-kept _ there)))
+    (c.destroy_surface.ensures.does (surface-counted v.client c.count.new.self id c.args.surface c.count.ensures.only named) (none-there _ there)))
 
 pub returns-then-has_xdg_surface-clause-touched : goal.returns-then-has_xdg_surface-clause-touched
 returns-then-has_xdg_surface-clause-touched g c = rw c.of.ensures tt
@@ -73,5 +74,5 @@ returns-clause-holds g c = λ named client r on is only done.
     ∙ ap (λ (b : Bool). if b then refuses id SurfaceHasRoleObject else Ok (EndSurface id)) there in
     subst (λ (j : Result Demand Refusal). HoldsSo j client r on v c.destroy_surface.new.self) (sym judged)
     (held-so v mid c.destroy_surface.new.self (Ok (EndSurface id)) client r on (objects-counted v.client c.count.new.self c.count.ensures.only)
-    (c.destroy_surface.ensures.holds (surface-counted v.client c.count.new.self id c.args.surface c.count.ensures.only named) (absent-kept _ there) client (with_peer (counted r.peer) r) on
+    (c.destroy_surface.ensures.holds (surface-counted v.client c.count.new.self id c.args.surface c.count.ensures.only named) (none-there _ there) client (with_peer (counted r.peer) r) on
     (counted-on v mid r is c.count.ensures.only refl refl (c.count.ensures.counts r.peer is.peer)) (counted-ordered r only) done))

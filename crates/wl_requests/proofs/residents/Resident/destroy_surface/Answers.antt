@@ -40,12 +40,13 @@ use Rattle.law_desktop.proofs.Keeping.OwningAsks.{owned-destroyed}
 use Rattle.law_desktop.proofs.Keeping.OwningSurfaces.{surface-named}
 use Rattle.law_desktop.proofs.Keeping.OwningXdg.{xdg-of-none}
 use Rattle.law_desktop.proofs.Keeping.Trees.{once-freed}
+use Rattle.law_desktop.proofs.OneBuffer.Messages.{callbacks-buffers}
 use Rattle.wl_requests.specs.Freed.{is_freed_in}
 use Rattle.wl_requests.specs.Touching.{Destroys, IsMade}
 use Rattle.wl_requests.proofs.Calls.{calls-here, destroy-called}
 use Rattle.wl_requests.proofs.Doing.{had-by, kept-there, lacked, one-let}
 use Rattle.wl_requests.proofs.Framing.{left-by}
-use Rattle.wl_requests.proofs.Going.{are-heard, asked-read, going-buffers, going-removed, going-requests, going-status, going-told, surface-gone-with}
+use Rattle.wl_requests.proofs.Going.{are-heard, asked-read, going-removed, going-requests, going-status, going-told, surface-gone-with}
 use Rattle.wl_requests.proofs.Numbers.{keeps-gone}
 use Rattle.wl_requests.proofs.Meeting.{meets-as}
 use Rattle.wl_requests.proofs.Subsurfaces.{gone-subsurfaces}
@@ -120,7 +121,7 @@ returns-clause-does g c = λ named bare client r on is only.
     let those = c.in-Some.ensures.lets_go.those in
     let rel = releases-freed r made freed shown (are-one r only.order.buffers) called.frees released c.in-Some.ensures.lets_go.rising
     (λ thing. those r is.peer thing
-    ∙ ap (λ (f : ById Made). list_any (λ b. (b.object == thing) && is_same_buffer b.number (option_map (λ (m : Made). m.number) (f b.object))) gone) (sym (going-buffers cs after.peer))) in
+    ∙ ap (λ (f : ById Made). list_any (λ b. (b.object == thing) && is_same_buffer b.number (option_map (λ (m : Made). m.number) (f b.object))) gone) (sym (callbacks-buffers cs after.peer))) in
     let queues = rw c.deref-3.ensures.value at c.tell_releases.ensures.queues in
     let next = told-all c.remove_with.new.self c.tell_releases.new.self.client telling releasing made.peer told.0
     (going-status cs after.peer ∙ sym is.peer.status ∙ is.lives) first_told told.2 queues c.tell_releases.ensures.ended in

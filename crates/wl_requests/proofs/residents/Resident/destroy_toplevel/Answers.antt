@@ -3,8 +3,9 @@ use Rattle.wl_shell.specs.Kept.{Kept as KeptXdg, changing, kept_without_role}
 use Rattle.spec_desktop.specs.Peer.{counted}
 use Rattle.law_desktop.specs.RoleNames.{names_of}
 use Rattle.spec_desktop.specs.Demanding.{toplevel_destroyed}
-use Rattle.wl_requests.proofs.PopupsAnswered.{alive-before, toplevel-ends, toplevel-there}
+use Rattle.wl_requests.proofs.PopupsAnswered.{toplevel-ends, toplevel-there}
 use Rattle.wl_requests.proofs.Shelling.{toplevel-gone}
+use Rattle.wl_requests.proofs.Trees.{lived}
 use Rattle.wl_requests.proofs.residents.Resident.destroy_toplevel.Goals as goal
 
 pub returns-clause-answers : goal.returns-clause-answers
@@ -19,5 +20,5 @@ returns-clause-answers g c = λ named client r d is ordered.
     c.dismiss_popups.ensures.dismisses c.dismiss_popups.ensures.ended c.dismiss_popups.ensures.surfaces c.dismiss_popups.ensures.subsurfaces
     (c.destroy_toplevel.ensures ∙ ap (λ (ks : ℕ → Option KeptXdg). changing number kept_without_role ks) c.orphan.ensures)
     (λ alive.
-    let lives : c.remove.new.self.ended ≡ None = alive-before c.remove.new.self c.dismiss_popups.new.self.client c.dismiss_popups.ensures.ended alive in
+    let lives : c.remove.new.self.ended ≡ None = lived c.remove.new.self c.dismiss_popups.new.self.client c.dismiss_popups.ensures.ended alive in
     ap names_of (c.dismiss_popups.ensures.table alive) ∙ toplevel-gone v.client c.count.new.self c.remove.new.self object number c.count.ensures.only named (c.remove.ensures.table lives)))
