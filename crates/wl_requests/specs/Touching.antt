@@ -2,7 +2,7 @@
 -- wl_surface.commit and destroy; wl_subsurface.set_desync and destroy; xdg-shell.xml, xdg_popup.destroy).
 use Rattle.std.specs.Prelude.{ℕ, ◌≡◌, Option, Some, None, List, []}
 use Rattle.wl_surface.specs.declared.surfaces.Surfaces.{Surfaces as KeptSurfaces}
-use Rattle.wl_surface.specs.KeptSurfaces.{IsLink, Stand}
+use Rattle.wl_surface.specs.Linked.{IsLink, Stand}
 use Rattle.wl_surface.specs.Tree.{IsCommitTold, IsDesyncTold, IsEndTold, IsTold}
 use Rattle.law_desktop.specs.Named.{Makes, MakesBy}
 use Rattle.wl_surface.specs.declared.applied.Applied.{Applied}
