@@ -25,7 +25,7 @@ use Rattle.wl_clients.specs.View.{DeskView, OwnedView}
 -- that ended owns nothing.
 pub record IsSeat (v : ClientView) (o : OwnedView) (r : Resident) : Type 0 where
   pub peer : IsPeer v r.peer
-  pub owns : IsOwned (names_of v.objects) o.states o.family (kept_of o.shell) r.owned
+  pub owns : IsOwned (names_of v.objects) o.surfaces o.family (kept_of o.shell) r.owned
   pub frames : AreFramed o.surfaces.frames (by_number (targets_in WlSurface v.objects) r.owned.surfaces) (r.peer.requests + 1) r.callbacks
   pub subsurfaces : AreOfSurfaces o.subsurfaces (targets_in WlSurface v.objects) r.subsurfaces
   pub ended : is_some r.peer.status ≡ true → OwnsNothing r

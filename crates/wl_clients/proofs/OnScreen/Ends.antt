@@ -200,8 +200,8 @@ nameless-seat v o r seat gone =
       roles = λ id. owns.toplevels id;
     }
   where
-    owns : IsOwned (names_of v.objects) o.states o.family (kept_of o.shell) nothing_owned
-    owns = subst (λ (x : Resident). IsOwned (names_of v.objects) o.states o.family (kept_of o.shell) x.owned) (seat.ended gone) seat.owns
+    owns : IsOwned (names_of v.objects) o.surfaces o.family (kept_of o.shell) nothing_owned
+    owns = subst (λ (x : Resident). IsOwned (names_of v.objects) o.surfaces o.family (kept_of o.shell) x.owned) (seat.ended gone) seat.owns
 
     none-there : (n : Option ℕ) → is_some n ≡ false → n ≡ None
     none-there None e = refl
