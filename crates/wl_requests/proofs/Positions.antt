@@ -143,7 +143,7 @@ module _ {A : Type 0} (old new : Kept A) (c : ℕ) (r : Resident) (d : Desktop) 
       let kept = old.owned.surfaces in
       let there = surface-named numbers kept.states kept.family r.owned.surfaces is.owns.surfaces its.link.parent its.above its.parent in
       let read = surface-read numbers kept.states kept.family r.owned.surfaces is.owns.surfaces its.link.parent its.above its.parent ∙ there.1 in
-      let bounds = cut-bounds (kept_at kept.surfaces its.above) there.0 (subst (λ (o : Option Surface). StandsAt (kept_at kept.surfaces its.above) o) read (is.owns.surfaces.stand its.above)) in
+      let bounds = cut-bounds (kept_at kept.states its.above) there.0 (subst (λ (o : Option Surface). StandsAt (kept_at kept.states its.above) o) read (is.owns.surfaces.stand its.above)) in
       let none = asked-keeps request plain keeps its.link.parent counted_of there.0 there.1 bounds.0 bounds.1 in
       let after = asked_of its.link.parent request counted_of in
       let untold = requested-still its.link.parent request plain counted_of there.0 (counted-ordered r orderly).order.known.apart there.1 bounds.0 bounds.1 in
@@ -153,7 +153,7 @@ module _ {A : Type 0} (old new : Kept A) (c : ℕ) (r : Resident) (d : Desktop) 
         inr (subst (λ (es : List Said). Queues es (changed_by (AskSurface its.link.parent request) counted_of).peer (counted r.peer)) (sym untold) (sym (ap (λ (q : Resident). q.peer) none))),
         subst (λ (x : Resident). IsLeft old new x (counted r.peer)) (sym none)
             (left-so after owned
-            (framed-asked kept.surfaces.frames old.client.objects old.client.objects r after refl
+            (framed-asked kept.states.frames old.client.objects old.client.objects r after refl
             (one-more r.peer.requests) is.frames kept.states kept.family is.owns.surfaces its.link.parent its.above
             request no_frames plain its.parent refl refl)
             refl),
