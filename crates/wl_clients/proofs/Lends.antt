@@ -1,9 +1,11 @@
 -- What is kept of a client, and the window that is lent of one of the output.
-use Rattle.std.proofs.Common.{◌≡◌, ℕ, zero, suc, ◌<◌, ◌≤◌, ◌-◌, List, Option, Some, None, true, false, refl, ap, sym, ◌∙◌, map, length, get_or, arith}
+use Rattle.std.proofs.Common.{◌≡◌, ℕ, zero, suc, ◌<◌, ◌≤◌, ◌-◌, List, Option, Some, None, true, false, refl, ap, sym, subst, ◌∙◌, map, length, get_or, set, Vec, arith}
 use Rattle.std.specs.Prelude.{nat_lt, slice_get}
 use Rattle.std.specs.Option.{option_map}
+use Rattle.std.specs.Vec.{with_item}
+use Rattle.std.proofs.Math.Nat.{ℕ_set}
 use Rattle.std.proofs.lemmas.Bool.Decides.{nat_tests}
-use Rattle.std.proofs.lemmas.List.{length-map}
+use Rattle.std.proofs.lemmas.List.{length-map, set-get_or}
 use Rattle.std.proofs.lemmas.Option.{slice_get-get_or, slice_get-map}
 use Rattle.wl_geom.specs.Region.{Area}
 use Rattle.wl_surface.specs.Kept.{counting_of}
@@ -75,3 +77,18 @@ pub lent-at : (lent : Stacked → Window) (all : List Stacked) (k : ℕ) (stacke
 lent-at lent all k stacked window within e =
     let less : k < length all = rw length-map at within in
     slice_get-map lent all k ∙ ap (λ (o : Option Stacked). option_map lent o) (slice_get-get_or all k stacked less) ∙ ap Some (sym e)
+
+-- ---- a client is lent to be changed
+
+abbrev of-items : {X Z : Type 0} (v : Vec X Z) (xs : List X) → v.len ≡ length xs → Vec X Z
+of-items v xs e = record { ptr = v.ptr; len = v.len; cap = v.cap; alloc = v.alloc; items = xs; ok = (e, v.ok.1); small = v.small }
+
+same-items : {X Z : Type 0} (v : Vec X Z) (xs ys : List X) → xs ≡ ys → (e : v.len ≡ length xs) (f : v.len ≡ length ys) → of-items v xs e ≡ of-items v ys f
+same-items {X} v xs ys same e f =
+    subst (λ (zs : List X). (g : v.len ≡ length zs) → of-items v xs e ≡ of-items v zs g) same
+    (λ g. ap (λ (h : v.len ≡ length xs). of-items v xs h) (ℕ_set v.len (length xs) e g)) f
+
+-- an element put in its own place changes nothing
+pub put-same : {X Z : Type 0} (v : Vec X Z) (k : ℕ) (x : X) → x ≡ get_or v.items k x → with_item v k x ≡ v
+put-same v k x same =
+    same-items v (set v.items k x) v.items (ap (λ y. set v.items k y) same ∙ set-get_or v.items k x) (with_item v k x).ok.0 v.ok.0

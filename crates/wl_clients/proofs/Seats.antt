@@ -1,5 +1,5 @@
 -- The clients of a desk by their places and numbers: who is here, what is kept of it, and the same with another at its place.
-use Rattle.std.proofs.Common.{◌≡◌, ℕ, ◌+◌, suc, zero, ◌<◌, List, [], ◌∷◌, Bool, true, length, map, Option, Some, None, get_or, set, refl, subst, sym, ◌∙◌, ap, arith, ◌⊎◌, inl, inr}
+use Rattle.std.proofs.Common.{◌≡◌, ℕ, ◌+◌, ◌-◌, suc, zero, ◌<◌, List, [], ◌∷◌, Bool, true, length, map, Option, Some, None, get_or, set, refl, subst, sym, ◌∙◌, ap, arith, ◌⊎◌, inl, inr}
 use Rattle.std.specs.Prelude.{◌||◌}
 use Rattle.std.specs.Option.{option_map}
 use Rattle.std.proofs.lemmas.List.{set-get_or}
@@ -43,6 +43,12 @@ found rs ws c k slot v same place look is =
 pub here-of : {A : Type 0} (rs : List (Option (Kept A))) (c : ℕ) (v : Kept A) → Some v ≡ resident_at rs c → (k : ℕ) × IsHere rs c k v
 here-of rs zero v e = absurd (cc)
 here-of rs (suc k) v e = (k, record { number = refl; within = at-some rs k v (sym e); here = sym e })
+
+pub here-at : {A : Type 0} (rs : List (Option (Kept A))) (c : ℕ) (v : Kept A) → Some v ≡ resident_at rs c → IsHere rs c (c - 1) v
+here-at rs zero v e = absurd (cc)
+here-at rs (suc k) v e =
+    let same : suc k - 1 ≡ k = omega arith in
+    subst (λ n. IsHere rs (suc k) n v) (sym same) (record { number = refl; within = at-some rs k v (sym e); here = sym e })
 
 -- it is the one with its number
 pub here-is : {A : Type 0} (rs : List (Option (Kept A))) (c k : ℕ) (v w : Kept A) → IsHere rs c k v → Some w ≡ resident_at rs c → w ≡ v

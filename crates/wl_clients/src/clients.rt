@@ -1,7 +1,7 @@
 //! All clients, by number, with their toplevels and the windows of these.
 
 ghost use Rattle.std.specs.Prelude.{◌≡◌, ◌↔◌, ◌&&◌, ◌||◌, ℕ, ◌+◌, ◌<◌, ◌≤◌, Option, is_some, length, pos, IfOk, IfSome, IfNone, IsErrOf, OnOk, OnErr, false, true, Result, Ok, Err, None, Some};
-ghost use Rattle.std.specs.Option.{option_copied};
+ghost use Rattle.std.specs.Option.{option_copied, option_copied_mut};
 ghost use Rattle.wl_client.specs.Agreement.{output_of};
 ghost use Rattle.wl_paint.specs.Damage.{has};
 ghost use Rattle.wl_paint.specs.Frame.{color_at, is_side};
@@ -16,7 +16,8 @@ ghost use Rattle.wl_clients.specs.Framing.{MarksIfEnds, WasTold};
 ghost use Rattle.wl_clients.specs.Leading.{LeadsBy, LeadsQuietly, Led};
 ghost use Rattle.wl_clients.specs.Pointing.{AsksOfPointer, IsLatest};
 ghost use Rattle.wl_clients.specs.Touching.{ChangesNoWindow};
-ghost use Rattle.wl_clients.specs.Residents.{resident_at};
+ghost use Rattle.std.specs.Borrow.{sem};
+ghost use Rattle.wl_clients.specs.Residents.{lends_resident, resident_at};
 ghost use Rattle.law_desktop.specs.Pointed.Pointed.{asked};
 ghost use Rattle.wl_clients.specs.Agreement.{numbers_in};
 ghost use Rattle.wl_clients.specs.Painting.{IsOpaqueAsSaid};
@@ -139,10 +140,7 @@ impl<A: Allocator + Copy> Clients<A> {
         ensures damage { self.new.damage ≡ self.old.damage }
         ensures output { self.new.desk.output ≡ self.old.desk.output }
     {
-        let Some(k) = place_of(&self.residents, client) else {
-            return Ok(());
-        };
-        let Some(resident) = &mut self.residents[k] else {
+        let Some(resident) = resident_mut(&mut self.residents, client) else {
             return Ok(());
         };
         keep_in(resident, piece)
@@ -171,10 +169,7 @@ impl<A: Allocator + Copy> Clients<A> {
         };
         let asked = resident.asked();
         let grabbing = self.grabbing(client, &asked, latest);
-        let Some(k) = place_of(&self.residents, client) else {
-            return None;
-        };
-        let Some(resident) = &mut self.residents[k] else {
+        let Some(resident) = resident_mut(&mut self.residents, client) else {
             return None;
         };
         self.screen
@@ -202,10 +197,7 @@ impl<A: Allocator + Copy> Clients<A> {
         ensures output { self.new.desk.output ≡ self.old.desk.output }
     {
         let alloc = *self.residents.allocator();
-        let Some(k) = place_of(&self.residents, client) else {
-            return;
-        };
-        let Some(resident) = &mut self.residents[k] else {
+        let Some(resident) = resident_mut(&mut self.residents, client) else {
             return;
         };
         self.screen.end(resident, client, cause, alloc);
@@ -234,10 +226,7 @@ impl<A: Allocator + Copy> Clients<A> {
         ensures output { self.new.desk.output ≡ self.old.desk.output }
     {
         let alloc = *self.residents.allocator();
-        let Some(k) = place_of(&self.residents, client) else {
-            return;
-        };
-        let Some(resident) = &mut self.residents[k] else {
+        let Some(resident) = resident_mut(&mut self.residents, client) else {
             return;
         };
         self.screen.tell_frames(resident, client, time, alloc);
@@ -252,10 +241,7 @@ impl<A: Allocator + Copy> Clients<A> {
         ensures nothing { MarksNothing self.old self.new }
         ensures output { self.new.desk.output ≡ self.old.desk.output }
     {
-        let Some(k) = place_of(&self.residents, client) else {
-            return Stored::NoClient;
-        };
-        let Some(resident) = &mut self.residents[k] else {
+        let Some(resident) = resident_mut(&mut self.residents, client) else {
             return Stored::NoClient;
         };
         crate::screen::store(resident, store, at, bytes)
@@ -295,10 +281,7 @@ impl<A: Allocator + Copy> Clients<A> {
         ensures output { self.new.desk.output ≡ self.old.desk.output }
     {
         let alloc = *self.residents.allocator();
-        let Some(k) = place_of(&self.residents, client) else {
-            return false;
-        };
-        let Some(resident) = &mut self.residents[k] else {
+        let Some(resident) = resident_mut(&mut self.residents, client) else {
             return false;
         };
         self.screen.gone(resident, client, alloc)
@@ -313,10 +296,7 @@ impl<A: Allocator + Copy> Clients<A> {
         ensures nothing { MarksNothing self.old self.new }
         ensures output { self.new.desk.output ≡ self.old.desk.output }
     {
-        let Some(k) = place_of(&self.residents, client) else {
-            return false;
-        };
-        let Some(resident) = &mut self.residents[k] else {
+        let Some(resident) = resident_mut(&mut self.residents, client) else {
             return false;
         };
         crate::screen::sent(resident, count)
@@ -434,11 +414,25 @@ fn keep_in<A: Allocator + Copy>(resident: &mut Resident<A>, piece: &[u8]) -> Res
     resident.client.keep(piece)
 }
 
-/// Where the client of this number stands, if it is the number of a place.
-pub(crate) fn place_of<A: Allocator>(
-    residents: &[Option<Resident<A>>],
+/// The client of this number, with what it owns, lent to be changed: client c lies at index c - 1.
+pub(crate) fn resident_mut<A: Allocator>(
+    residents: &mut Vec<Option<Resident<A>>, A>,
     client: ClientNo,
-) -> Option<usize>
+) -> Option<&mut Resident<A>>
+    ensures* lends { sem 𝓛 (lends_resident A.row A.Allocator residents.entry client result) }
+    ensures value { option_copied_mut result ≡ resident_at residents.old.items client }
+{
+    let Some(index) = client.checked_sub(1) else {
+        return None;
+    };
+    let Some(slot) = residents.get_mut(index as usize) else {
+        return None;
+    };
+    slot.as_mut()
+}
+
+/// Where the client of this number stands, if it is the number of a place.
+fn place_of<A: Allocator>(residents: &[Option<Resident<A>>], client: ClientNo) -> Option<usize>
     ensures some { IfSome result (λ k. (client ≡ k + 1) × (k < length residents.now)) }
     ensures none { IfNone result (resident_at residents.now client ≡ None) }
 {

@@ -17,7 +17,7 @@ ghost use Rattle.wl_clients.specs.Holders.{IsFirstHolder, IsReleasedBy, MarksRel
 ghost use Rattle.wl_clients.specs.Midway.{IsMid};
 ghost use Rattle.wl_clients.specs.Pointing.{IsLatest};
 
-use crate::clients::{Clients, place_of};
+use crate::clients::{Clients, resident_mut};
 use crate::screen::Screen;
 use spec_desktop::ClientNo;
 use std::alloc::Allocator;
@@ -115,10 +115,7 @@ impl<A: Allocator + Copy> Clients<A> {
         ensures sides { IsAsLarge self.old.damage self.new.damage }
         ensures output { self.new.desk.output ≡ self.old.desk.output }
     {
-        let Some(k) = place_of(&self.residents, client) else {
-            return;
-        };
-        let Some(resident) = &mut self.residents[k] else {
+        let Some(resident) = resident_mut(&mut self.residents, client) else {
             return;
         };
         release_of(&mut self.screen, resident, client);

@@ -12,7 +12,8 @@ ghost use Rattle.wl_clients.specs.Moving.{with_moved};
 ghost use Rattle.wl_clients.specs.Raising.{with_raised};
 ghost use Rattle.wl_clients.specs.Midway.{IsMid};
 
-use crate::clients::{Clients, place_of};
+use crate::clients::Clients;
+use crate::windows::resident_of;
 use spec_desktop::ClientNo;
 use std::alloc::Allocator;
 use wl_surface::SurfaceNo;
@@ -48,10 +49,7 @@ impl<A: Allocator + Copy> Clients<A> {
         ensures output { self.new.desk.output ≡ self.old.desk.output }
         ensures sides { IsAsLarge self.old.damage self.new.damage }
     {
-        let Some(k) = place_of(&self.residents, client) else {
-            return;
-        };
-        let Some(resident) = &self.residents[k] else {
+        let Some(resident) = resident_of(&self.residents, client) else {
             return;
         };
         self.screen.move_tree(resident, client, toplevel, x, y);

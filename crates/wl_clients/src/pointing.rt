@@ -28,7 +28,7 @@ ghost use Rattle.wl_clients.specs.Feeding.{rest_in};
 ghost use Rattle.wl_clients.specs.Midway.{IsMid, MidBeginsAndEnds, MidIsNumberedOnce, MidNamesSurfaces, first_struck, is_refused};
 ghost use Rattle.wl_clients.specs.Pointing.{IsToldAt, IsToldBy, windows_numbered};
 
-use crate::clients::{Clients, place_of};
+use crate::clients::{Clients, resident_mut};
 use crate::screen::Screen;
 use crate::windows::{Owners, resident_of};
 use spec_desktop::ClientNo;
@@ -158,10 +158,7 @@ impl<A: Allocator + Copy> Clients<A> {
         ensures numbers { numbers_in self.new.desk.clients ≡ numbers_in self.old.desk.clients }
         ensures rests { (c : ℕ) → length (rest_in c self.new.desk) ≤ length (rest_in c self.old.desk) }
     {
-        let Some(k) = place_of(&self.residents, client) else {
-            return;
-        };
-        let Some(resident) = &mut self.residents[k] else {
+        let Some(resident) = resident_mut(&mut self.residents, client) else {
             return;
         };
         tell_to(resident, pointers, event);
@@ -192,10 +189,7 @@ impl<A: Allocator + Copy> Clients<A> {
         ensures rests { (c : ℕ) → length (rest_in c self.new.desk) ≤ length (rest_in c self.old.desk) }
     {
         let alloc = *self.residents.allocator();
-        let Some(k) = place_of(&self.residents, client) else {
-            return;
-        };
-        let Some(resident) = &mut self.residents[k] else {
+        let Some(resident) = resident_mut(&mut self.residents, client) else {
             return;
         };
         end_for_refusal(&mut self.screen, resident, client, alloc);

@@ -1,4 +1,4 @@
-use Rattle.std.proofs.Common.{ap, refl, ◌∙◌}
+use Rattle.std.proofs.Common.{ap, refl, ◌∙◌, sym, ◌-◌}
 use Rattle.std.proofs.lemmas.List.{length-set}
 use Rattle.wl_clients.specs.Agreement.{numbers_in}
 use Rattle.wl_clients.specs.View.{MarkedDesk, pile_of}
@@ -7,41 +7,23 @@ use Rattle.wl_clients.proofs.Looks.{mid-absent}
 use Rattle.wl_clients.proofs.Midway.{is-alive, least-ended, mid-ended, most-ended, refused}
 use Rattle.wl_clients.proofs.Opened.{open_all}
 use Rattle.wl_clients.proofs.Rests.{rest-no-more, rest-unput}
-use Rattle.wl_clients.proofs.Seats.{as-large, empty-slot, found, still}
+use Rattle.wl_clients.proofs.Seats.{as-large, here-at}
 use Rattle.wl_clients.proofs.clients.Clients.end_refused.Goals as goal
 
 -- nobody is there
 pub returns-in_default-clause-ends : goal.returns-in_default-clause-ends
 returns-in_default-clause-ends g c = λ t ts d own mid.
-    absurd (mid-absent c.self.inside.output c.self.inside.residents.items (pile_of c.self.inside.screen) c.self.inside.screen.damage _ c.args.self.now c.args.client c.deref.ensures.value
-    c.in_default.ensures.none c.self.view_is t ts d own mid)
+    absurd (mid-absent c.self.inside.output c.self.inside.residents.items (pile_of c.self.inside.screen) c.self.inside.screen.damage _ c.args.self.now c.args.client refl (sym c.in_default.ensures.value) c.self.view_is t ts d
+    own mid)
 
 pub returns-in_default-clause-marks : goal.returns-in_default-clause-marks
 returns-in_default-clause-marks g c = λ t ts d own mid.
-    absurd (mid-absent c.self.inside.output c.self.inside.residents.items (pile_of c.self.inside.screen) c.self.inside.screen.damage _ c.args.self.now c.args.client c.deref.ensures.value
-    c.in_default.ensures.none c.self.view_is t ts d own mid)
+    absurd (mid-absent c.self.inside.output c.self.inside.residents.items (pile_of c.self.inside.screen) c.self.inside.screen.damage _ c.args.self.now c.args.client refl (sym c.in_default.ensures.value) c.self.view_is t ts d
+    own mid)
 
 pub returns-in_default-clause-most : goal.returns-in_default-clause-most
 returns-in_default-clause-most g c = λ t ts d own mid.
-    absurd (mid-absent c.self.inside.output c.self.inside.residents.items (pile_of c.self.inside.screen) c.self.inside.screen.damage _ c.args.self.now c.args.client c.deref.ensures.value
-    c.in_default.ensures.none c.self.view_is t ts d own mid)
-
-pub returns-in_default-index_mut-clause-ends : goal.returns-in_default-index_mut-clause-ends
-returns-in_default-index_mut-clause-ends g c = λ t ts d own mid.
-    let e = (empty-slot _ _ _ _ _ c.deref.ensures.value c.in-Some.ensures.some c.index_mut.ensures.value c.in_default-index_mut.is) in
-    absurd (mid-absent c.self.inside.output c.self.inside.residents.items (pile_of c.self.inside.screen) c.self.inside.screen.damage _ c.args.self.now c.args.client refl e.0 c.self.view_is t ts d
-    own mid)
-
-pub returns-in_default-index_mut-clause-marks : goal.returns-in_default-index_mut-clause-marks
-returns-in_default-index_mut-clause-marks g c = λ t ts d own mid.
-    let e = (empty-slot _ _ _ _ _ c.deref.ensures.value c.in-Some.ensures.some c.index_mut.ensures.value c.in_default-index_mut.is) in
-    absurd (mid-absent c.self.inside.output c.self.inside.residents.items (pile_of c.self.inside.screen) c.self.inside.screen.damage _ c.args.self.now c.args.client refl e.0 c.self.view_is t ts d
-    own mid)
-
-pub returns-in_default-index_mut-clause-most : goal.returns-in_default-index_mut-clause-most
-returns-in_default-index_mut-clause-most g c = λ t ts d own mid.
-    let e = (empty-slot _ _ _ _ _ c.deref.ensures.value c.in-Some.ensures.some c.index_mut.ensures.value c.in_default-index_mut.is) in
-    absurd (mid-absent c.self.inside.output c.self.inside.residents.items (pile_of c.self.inside.screen) c.self.inside.screen.damage _ c.args.self.now c.args.client refl e.0 c.self.view_is t ts d
+    absurd (mid-absent c.self.inside.output c.self.inside.residents.items (pile_of c.self.inside.screen) c.self.inside.screen.damage _ c.args.self.now c.args.client refl (sym c.in_default.ensures.value) c.self.view_is t ts d
     own mid)
 
 -- it ends
@@ -49,24 +31,24 @@ pub returns-clause-ends : goal.returns-clause-ends
 returns-clause-ends g c = λ t ts d own mid.
     let rs = c.self.inside.residents.items in
     let pile = pile_of c.self.inside.screen in
-    let v = c.in-Some-index_mut.resident in
-    let is = found _ _ _ _ _ _ c.deref.ensures.value c.in-Some.ensures.some c.index_mut.ensures.value c.in-Some-index_mut.is in
+    let v = c.in-Some.resident.now in
+    let is = here-at c.self.inside.residents.items c.args.client c.in-Some.resident.now c.in-Some.ensures.value in
     let m = rw (← c.self.view_is) at mid in
-    let cause = refused c.self.inside.output rs pile c.args.client c.in-Some.k v is t ts d own m in
-    let alive = is-alive c.self.inside.output rs pile c.args.client c.in-Some.k v is t ts d own m in
-    mid-ended c.self.inside.output rs pile c.args.client c.in-Some.k v is t ts d own m c.end_for_refusal.new.resident (pile_of c.end_for_refusal.new.screen)
+    let cause = refused c.self.inside.output rs pile c.args.client (c.args.client - 1) v is t ts d own m in
+    let alive = is-alive c.self.inside.output rs pile c.args.client (c.args.client - 1) v is t ts d own m in
+    mid-ended c.self.inside.output rs pile c.args.client (c.args.client - 1) v is t ts d own m c.end_for_refusal.new.resident (pile_of c.end_for_refusal.new.screen)
     (c.end_for_refusal.ensures.ends t.cause cause alive (numbers_in (client_views (open_all rs))) d d)
 
 pub returns-clause-marks : goal.returns-clause-marks
 returns-clause-marks g c = λ t ts d own mid.
     let rs = c.self.inside.residents.items in
     let pile = pile_of c.self.inside.screen in
-    let v = c.in-Some-index_mut.resident in
-    let is = found _ _ _ _ _ _ c.deref.ensures.value c.in-Some.ensures.some c.index_mut.ensures.value c.in-Some-index_mut.is in
+    let v = c.in-Some.resident.now in
+    let is = here-at c.self.inside.residents.items c.args.client c.in-Some.resident.now c.in-Some.ensures.value in
     let m = rw (← c.self.view_is) at mid in
-    let cause = refused c.self.inside.output rs pile c.args.client c.in-Some.k v is t ts d own m in
-    let alive = is-alive c.self.inside.output rs pile c.args.client c.in-Some.k v is t ts d own m in
-    rw (← c.self.view_is) (least-ended c.self.inside.output rs pile c.args.client c.in-Some.k v is t ts d own m c.end_for_refusal.new.resident (pile_of c.end_for_refusal.new.screen)
+    let cause = refused c.self.inside.output rs pile c.args.client (c.args.client - 1) v is t ts d own m in
+    let alive = is-alive c.self.inside.output rs pile c.args.client (c.args.client - 1) v is t ts d own m in
+    rw (← c.self.view_is) (least-ended c.self.inside.output rs pile c.args.client (c.args.client - 1) v is t ts d own m c.end_for_refusal.new.resident (pile_of c.end_for_refusal.new.screen)
     (c.end_for_refusal.ensures.ends t.cause cause alive (numbers_in (client_views (open_all rs))) d d)
     c.self.inside.screen.damage c.end_for_refusal.new.screen.damage (c.end_for_refusal.ensures.marks t.cause cause alive))
 
@@ -74,32 +56,31 @@ pub returns-clause-most : goal.returns-clause-most
 returns-clause-most g c = λ t ts d own mid.
     let rs = c.self.inside.residents.items in
     let pile = pile_of c.self.inside.screen in
-    let v = c.in-Some-index_mut.resident in
-    let is = found _ _ _ _ _ _ c.deref.ensures.value c.in-Some.ensures.some c.index_mut.ensures.value c.in-Some-index_mut.is in
+    let v = c.in-Some.resident.now in
+    let is = here-at c.self.inside.residents.items c.args.client c.in-Some.resident.now c.in-Some.ensures.value in
     let m = rw (← c.self.view_is) at mid in
-    let cause = refused c.self.inside.output rs pile c.args.client c.in-Some.k v is t ts d own m in
-    let alive = is-alive c.self.inside.output rs pile c.args.client c.in-Some.k v is t ts d own m in
-    rw (← c.self.view_is) (most-ended c.self.inside.output rs pile c.args.client c.in-Some.k v is t ts d own m c.end_for_refusal.new.resident (pile_of c.end_for_refusal.new.screen)
+    let cause = refused c.self.inside.output rs pile c.args.client (c.args.client - 1) v is t ts d own m in
+    let alive = is-alive c.self.inside.output rs pile c.args.client (c.args.client - 1) v is t ts d own m in
+    rw (← c.self.view_is) (most-ended c.self.inside.output rs pile c.args.client (c.args.client - 1) v is t ts d own m c.end_for_refusal.new.resident (pile_of c.end_for_refusal.new.screen)
     (c.end_for_refusal.ensures.ends t.cause cause alive (numbers_in (client_views (open_all rs))) d d)
     c.self.inside.screen.damage c.end_for_refusal.new.screen.damage (c.end_for_refusal.ensures.marks t.cause cause alive) c.self.invariant.1)
 
-pub returns-in_default-index_mut-clause-rests : goal.returns-in_default-index_mut-clause-rests
-returns-in_default-index_mut-clause-rests g c =
+pub returns-in_default-clause-rests : goal.returns-in_default-clause-rests
+returns-in_default-clause-rests g c =
     let pile = pile_of c.self.inside.screen in
-    let e = (empty-slot _ _ _ _ _ c.deref.ensures.value c.in-Some.ensures.some c.index_mut.ensures.value c.in_default-index_mut.is) in
-    rest-unput c.args.self.now _ (still c.self.inside.output c.self.inside.residents.items pile c.self.inside.screen.damage _ _ e.1 c.self.view_is)
+    rest-unput c.args.self.now _ c.self.view_is
 
 pub returns-clause-rests : goal.returns-clause-rests
 returns-clause-rests g c = λ other.
-    rw (← c.self.view_is) (rest-no-more c.self.inside.output c.self.inside.residents.items (pile_of c.self.inside.screen) _ c.args.client c.in-Some.k c.in-Some-index_mut.resident
-    (found _ _ _ _ _ _ c.deref.ensures.value c.in-Some.ensures.some c.index_mut.ensures.value c.in-Some-index_mut.is) c.end_for_refusal.new.resident
+    rw (← c.self.view_is) (rest-no-more c.self.inside.output c.self.inside.residents.items (pile_of c.self.inside.screen) _ c.args.client (c.args.client - 1) c.in-Some.resident.now
+    (here-at c.self.inside.residents.items c.args.client c.in-Some.resident.now c.in-Some.ensures.value) c.end_for_refusal.new.resident
     c.end_for_refusal.ensures.rest other)
 
-pub returns-in_default-index_mut-clause-sides : goal.returns-in_default-index_mut-clause-sides
-returns-in_default-index_mut-clause-sides g c = as-large _ _ c.self.view_is
+pub returns-in_default-clause-sides : goal.returns-in_default-clause-sides
+returns-in_default-clause-sides g c = as-large _ _ c.self.view_is
 
-pub returns-in_default-index_mut-clause-output : goal.returns-in_default-index_mut-clause-output
-returns-in_default-index_mut-clause-output g c = ap (λ (m : MarkedDesk). m.desk.output) c.self.view_is
+pub returns-in_default-clause-output : goal.returns-in_default-clause-output
+returns-in_default-clause-output g c = ap (λ (m : MarkedDesk). m.desk.output) c.self.view_is
 
 pub returns-clause-sides : goal.returns-clause-sides
 returns-clause-sides g c = rw (← c.self.view_is) c.end_for_refusal.ensures.sides

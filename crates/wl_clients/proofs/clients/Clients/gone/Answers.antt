@@ -1,4 +1,4 @@
-use Rattle.std.proofs.Common.{false, ap, refl, ◌∙◌}
+use Rattle.std.proofs.Common.{false, ap, refl, ◌∙◌, sym, ◌-◌}
 use Rattle.std.proofs.lemmas.List.{length-set}
 use Rattle.spec_desktop.specs.Act.{Leave, IsLeft}
 use Rattle.spec_desktop.specs.declared.answers.Done.TheVariants as gave
@@ -7,73 +7,49 @@ use Rattle.wl_clients.proofs.Calls.{Changes-none, changes}
 use Rattle.wl_clients.proofs.Leading.{steps-led}
 use Rattle.wl_clients.proofs.Marks.{adds-within, leaves-marked, nobody-adds, own-adds, own-most, sized}
 use Rattle.wl_clients.proofs.Steps.{leaves-away, steps-nobody, steps-whole}
-use Rattle.wl_clients.proofs.Seats.{as-large, empty-slot, found, missing, still, was-marked}
+use Rattle.wl_clients.proofs.Seats.{as-large, here-at, missing, was-marked}
 use Rattle.wl_clients.proofs.clients.Clients.gone.Goals as goal
 
 pub returns-in_default-clause-step : goal.returns-in_default-clause-step
 returns-in_default-clause-step g c =
     let pile = pile_of c.self.inside.screen in
-    steps-nobody c.args.client c.args.self.now c.args.self.now (missing c.self.inside.output c.self.inside.residents.items pile c.self.inside.screen.damage _ _ _
-    c.deref.ensures.value c.in_default.ensures.none c.self.view_is) refl (Leave c.args.client) tt (gave.Gone false)
-    (λ d free a. Changes-none IsLeft (gave.Gone false) _ d _ free a)
+    steps-nobody c.args.client _ _ (missing c.self.inside.output c.self.inside.residents.items pile c.self.inside.screen.damage _ _ _ refl (sym c.in_default.ensures.value) c.self.view_is) c.self.view_is
+    (Leave c.args.client) tt (gave.Gone false) (λ d free a. Changes-none IsLeft (gave.Gone false) _ d _ free a)
 
 pub returns-in_default-clause-marks : goal.returns-in_default-clause-marks
 returns-in_default-clause-marks g c =
     let pile = pile_of c.self.inside.screen in
-    leaves-marked c.args.client _ c.args.self.now.desk c.args.self.now.damage c.args.self.now.damage
-    (nobody-adds c.args.client c.args.self.now
-    (missing c.self.inside.output c.self.inside.residents.items pile c.self.inside.screen.damage _ _ _ c.deref.ensures.value c.in_default.ensures.none c.self.view_is)
-    c.args.self.now.damage refl)
-
-pub returns-in_default-index_mut-clause-step : goal.returns-in_default-index_mut-clause-step
-returns-in_default-index_mut-clause-step g c =
-    let pile = pile_of c.self.inside.screen in
-    let e = (empty-slot _ _ _ _ _ c.deref.ensures.value c.in-Some.ensures.some c.index_mut.ensures.value c.in_default-index_mut.is) in
-    steps-nobody c.args.client _ _ (missing c.self.inside.output c.self.inside.residents.items pile c.self.inside.screen.damage _ _ _ refl e.0 c.self.view_is) (still
-    c.self.inside.output c.self.inside.residents.items pile c.self.inside.screen.damage _ _ e.1 c.self.view_is)
-    (Leave c.args.client) tt (gave.Gone false) (λ d free a. Changes-none IsLeft (gave.Gone false) _ d _ free a)
-
-pub returns-in_default-index_mut-clause-marks : goal.returns-in_default-index_mut-clause-marks
-returns-in_default-index_mut-clause-marks g c =
-    let pile = pile_of c.self.inside.screen in
-    let e = (empty-slot _ _ _ _ _ c.deref.ensures.value c.in-Some.ensures.some c.index_mut.ensures.value c.in_default-index_mut.is) in
     leaves-marked c.args.client _ c.args.self.now.desk c.args.self.now.damage c.self.inside.screen.damage
     (nobody-adds c.args.client c.args.self.now
-    (missing c.self.inside.output c.self.inside.residents.items pile c.self.inside.screen.damage _ _ _ refl e.0 c.self.view_is)
+    (missing c.self.inside.output c.self.inside.residents.items pile c.self.inside.screen.damage _ _ _ refl (sym c.in_default.ensures.value) c.self.view_is)
     c.self.inside.screen.damage (ap (λ (m : MarkedDesk). m.damage) c.self.view_is))
 
 pub returns-in_default-clause-within : goal.returns-in_default-clause-within
-returns-in_default-clause-within g c = λ d a x y wide high marked. was-marked c.args.self.now c.args.self.now _ x y refl marked
+returns-in_default-clause-within g c = λ d a x y wide high marked. was-marked _ _ _ x y c.self.view_is marked
 
 pub returns-in_default-clause-most : goal.returns-in_default-clause-most
-returns-in_default-clause-most g c = λ d e a step b x y wide high marked. was-marked c.args.self.now c.args.self.now _ x y refl marked
+returns-in_default-clause-most g c = λ d e a step b x y wide high marked. was-marked _ _ _ x y c.self.view_is marked
 
-pub returns-in_default-index_mut-clause-within : goal.returns-in_default-index_mut-clause-within
-returns-in_default-index_mut-clause-within g c = λ d a x y wide high marked. was-marked _ _ _ x y c.self.view_is marked
+pub returns-in_default-clause-sides : goal.returns-in_default-clause-sides
+returns-in_default-clause-sides g c = as-large _ _ c.self.view_is
 
-pub returns-in_default-index_mut-clause-most : goal.returns-in_default-index_mut-clause-most
-returns-in_default-index_mut-clause-most g c = λ d e a step b x y wide high marked. was-marked _ _ _ x y c.self.view_is marked
-
-pub returns-in_default-index_mut-clause-sides : goal.returns-in_default-index_mut-clause-sides
-returns-in_default-index_mut-clause-sides g c = as-large _ _ c.self.view_is
-
-pub returns-in_default-index_mut-clause-output : goal.returns-in_default-index_mut-clause-output
-returns-in_default-index_mut-clause-output g c = ap (λ (m : MarkedDesk). m.desk.output) c.self.view_is
+pub returns-in_default-clause-output : goal.returns-in_default-clause-output
+returns-in_default-clause-output g c = ap (λ (m : MarkedDesk). m.desk.output) c.self.view_is
 
 pub returns-clause-step : goal.returns-clause-step
 returns-clause-step g c =
     let pile = pile_of c.self.inside.screen in
     steps-whole (Leave c.args.client) tt _ _ _ (λ d a.
-    changes c.self.inside.output c.self.inside.residents.items pile c.args.client c.in-Some.k c.in-Some-index_mut.resident
-    (found _ _ _ _ _ _ c.deref.ensures.value c.in-Some.ensures.some c.index_mut.ensures.value c.in-Some-index_mut.is) d (rw (← c.self.view_is) at a.matches)
+    changes c.self.inside.output c.self.inside.residents.items pile c.args.client (c.args.client - 1) c.in-Some.resident.now
+    (here-at c.self.inside.residents.items c.args.client c.in-Some.resident.now c.in-Some.ensures.value) d (rw (← c.self.view_is) at a.matches)
     IsLeft (gave.Gone false) (gave.Gone c.gone.result) c.gone.new.resident (pile_of c.gone.new.self) c.gone.ensures.changes)
 
 pub returns-clause-marks : goal.returns-clause-marks
 returns-clause-marks g c =
     let pile = pile_of c.self.inside.screen in
     leaves-marked c.args.client _ c.args.self.now.desk c.args.self.now.damage c.gone.new.self.damage (λ d a.
-    rw (← c.self.view_is) (own-adds c.self.inside.output c.self.inside.residents.items pile c.args.client c.in-Some.k c.in-Some-index_mut.resident
-    (found _ _ _ _ _ _ c.deref.ensures.value c.in-Some.ensures.some c.index_mut.ensures.value c.in-Some-index_mut.is) d (rw (← c.self.view_is) at a)
+    rw (← c.self.view_is) (own-adds c.self.inside.output c.self.inside.residents.items pile c.args.client (c.args.client - 1) c.in-Some.resident.now
+    (here-at c.self.inside.residents.items c.args.client c.in-Some.resident.now c.in-Some.ensures.value) d (rw (← c.self.view_is) at a)
     c.self.inside.screen.damage c.gone.new.self.damage c.gone.ensures.marks))
 
 pub returns-clause-within : goal.returns-clause-within
@@ -81,8 +57,8 @@ returns-clause-within g c =
     let pile = pile_of c.self.inside.screen in
     λ d a.
     rw (← c.self.view_is) (adds-within c.args.client d c.self.inside.screen.damage c.gone.new.self.damage
-    (own-adds c.self.inside.output c.self.inside.residents.items pile c.args.client c.in-Some.k c.in-Some-index_mut.resident
-    (found _ _ _ _ _ _ c.deref.ensures.value c.in-Some.ensures.some c.index_mut.ensures.value c.in-Some-index_mut.is) d (rw (← c.self.view_is) at a)
+    (own-adds c.self.inside.output c.self.inside.residents.items pile c.args.client (c.args.client - 1) c.in-Some.resident.now
+    (here-at c.self.inside.residents.items c.args.client c.in-Some.resident.now c.in-Some.ensures.value) d (rw (← c.self.view_is) at a)
     c.self.inside.screen.damage c.gone.new.self.damage c.gone.ensures.marks))
 
 pub returns-clause-most : goal.returns-clause-most
@@ -108,11 +84,6 @@ pub returns-in_default-clause-leads : goal.returns-in_default-clause-leads
 returns-in_default-clause-leads g c =
     steps-led (Leave c.args.client) refl (λ other piece e. absurd (cc)) _ _ _ _ _
     (returns-in_default-clause-step g c) (returns-in_default-clause-marks g c) (returns-in_default-clause-most g c)
-
-pub returns-in_default-index_mut-clause-leads : goal.returns-in_default-index_mut-clause-leads
-returns-in_default-index_mut-clause-leads g c =
-    steps-led (Leave c.args.client) refl (λ other piece e. absurd (cc)) _ _ _ _ _
-    (returns-in_default-index_mut-clause-step g c) (returns-in_default-index_mut-clause-marks g c) (returns-in_default-index_mut-clause-most g c)
 
 pub returns-clause-leads : goal.returns-clause-leads
 returns-clause-leads g c =

@@ -1,6 +1,6 @@
 use Rattle.spec_desktop.specs.Act.{Store, IsStored}
 use Rattle.spec_desktop.specs.declared.answers.Stored.TheVariants as stored
-use Rattle.std.proofs.Common.{ap, refl, ◌∙◌}
+use Rattle.std.proofs.Common.{ap, refl, ◌∙◌, sym, ◌-◌}
 use Rattle.std.proofs.lemmas.List.{length-set}
 use Rattle.spec_desktop.specs.declared.answers.Done.TheVariants as gave
 use Rattle.wl_clients.specs.View.{MarkedDesk, pile_of}
@@ -8,51 +8,37 @@ use Rattle.wl_clients.proofs.Calls.{Changes-none, changes}
 use Rattle.wl_clients.proofs.Leading.{still-led}
 use Rattle.wl_clients.proofs.Marks.{steps-still}
 use Rattle.wl_clients.proofs.Steps.{steps-nobody, steps-whole}
-use Rattle.wl_clients.proofs.Seats.{as-large, empty-slot, found, missing, none-marked, still}
+use Rattle.wl_clients.proofs.Seats.{as-large, here-at, missing, none-marked}
 use Rattle.wl_clients.proofs.Still.{stored-still}
 use Rattle.wl_clients.proofs.clients.Clients.store.Goals as goal
 
 pub returns-in_default-clause-step : goal.returns-in_default-clause-step
 returns-in_default-clause-step g c =
     let pile = pile_of c.self.inside.screen in
-    steps-nobody c.args.client c.args.self.now c.args.self.now (missing c.self.inside.output c.self.inside.residents.items pile c.self.inside.screen.damage _ _ _
-    c.deref.ensures.value c.in_default.ensures.none c.self.view_is) refl (Store c.args.client c.args.store c.args.at c.args.bytes.now) tt (gave.Store stored.NoClient)
-    (λ d free a. Changes-none (IsStored c.args.store c.args.at c.args.bytes.now) (gave.Store stored.NoClient) _ d _ free a)
-
-pub returns-in_default-clause-marks : goal.returns-in_default-clause-marks
-returns-in_default-clause-marks g c =
-    steps-still c.args.self.now.desk c.args.self.now.damage c.args.self.now.damage refl
-    (Store c.args.client c.args.store c.args.at c.args.bytes.now) _ (stored-still c.args.client c.args.store c.args.at c.args.bytes.now _)
-
-pub returns-in_default-index_mut-clause-step : goal.returns-in_default-index_mut-clause-step
-returns-in_default-index_mut-clause-step g c =
-    let pile = pile_of c.self.inside.screen in
-    let e = (empty-slot _ _ _ _ _ c.deref.ensures.value c.in-Some.ensures.some c.index_mut.ensures.value c.in_default-index_mut.is) in
-    steps-nobody c.args.client _ _ (missing c.self.inside.output c.self.inside.residents.items pile c.self.inside.screen.damage _ _ _ refl e.0 c.self.view_is) (still
-    c.self.inside.output c.self.inside.residents.items pile c.self.inside.screen.damage _ _ e.1 c.self.view_is)
+    steps-nobody c.args.client _ _ (missing c.self.inside.output c.self.inside.residents.items pile c.self.inside.screen.damage _ _ _ refl (sym c.in_default.ensures.value) c.self.view_is) c.self.view_is
     (Store c.args.client c.args.store c.args.at c.args.bytes.now) tt (gave.Store stored.NoClient) (λ d free a. Changes-none (IsStored c.args.store c.args.at c.args.bytes.now)
     (gave.Store stored.NoClient) _ d _ free a)
 
-pub returns-in_default-index_mut-clause-marks : goal.returns-in_default-index_mut-clause-marks
-returns-in_default-index_mut-clause-marks g c =
+pub returns-in_default-clause-marks : goal.returns-in_default-clause-marks
+returns-in_default-clause-marks g c =
     steps-still c.args.self.now.desk c.args.self.now.damage c.self.inside.screen.damage (ap (λ (m : MarkedDesk). m.damage) c.self.view_is)
     (Store c.args.client c.args.store c.args.at c.args.bytes.now) _ (stored-still c.args.client c.args.store c.args.at c.args.bytes.now _)
 
-pub returns-in_default-index_mut-clause-sides : goal.returns-in_default-index_mut-clause-sides
-returns-in_default-index_mut-clause-sides g c = as-large _ _ c.self.view_is
+pub returns-in_default-clause-sides : goal.returns-in_default-clause-sides
+returns-in_default-clause-sides g c = as-large _ _ c.self.view_is
 
-pub returns-in_default-index_mut-clause-nothing : goal.returns-in_default-index_mut-clause-nothing
-returns-in_default-index_mut-clause-nothing g c = none-marked _ _ c.self.view_is
+pub returns-in_default-clause-nothing : goal.returns-in_default-clause-nothing
+returns-in_default-clause-nothing g c = none-marked _ _ c.self.view_is
 
-pub returns-in_default-index_mut-clause-output : goal.returns-in_default-index_mut-clause-output
-returns-in_default-index_mut-clause-output g c = ap (λ (m : MarkedDesk). m.desk.output) c.self.view_is
+pub returns-in_default-clause-output : goal.returns-in_default-clause-output
+returns-in_default-clause-output g c = ap (λ (m : MarkedDesk). m.desk.output) c.self.view_is
 
 pub returns-clause-step : goal.returns-clause-step
 returns-clause-step g c =
     let pile = pile_of c.self.inside.screen in
     steps-whole (Store c.args.client c.args.store c.args.at c.args.bytes.now) tt _ _ _ (λ d a.
-    changes c.self.inside.output c.self.inside.residents.items pile c.args.client c.in-Some.k c.in-Some-index_mut.resident
-    (found _ _ _ _ _ _ c.deref.ensures.value c.in-Some.ensures.some c.index_mut.ensures.value c.in-Some-index_mut.is) d (rw (← c.self.view_is) at a.matches)
+    changes c.self.inside.output c.self.inside.residents.items pile c.args.client (c.args.client - 1) c.in-Some.resident.now
+    (here-at c.self.inside.residents.items c.args.client c.in-Some.resident.now c.in-Some.ensures.value) d (rw (← c.self.view_is) at a.matches)
     (IsStored c.args.store c.args.at c.args.bytes.now) (gave.Store stored.NoClient) (gave.Store c.store.result) c.store.new.resident pile (c.store.ensures.changes
     c.args.client pile))
 
@@ -78,13 +64,8 @@ invariant_of-self-2 g c = (length-set _ _ _ ∙ c.self.invariant.0, c.self.invar
 
 pub returns-in_default-clause-leads : goal.returns-in_default-clause-leads
 returns-in_default-clause-leads g c =
-    still-led (Store c.args.client c.args.store c.args.at c.args.bytes.now) refl (λ other piece e. absurd (cc)) _ _ _ _ _ refl
-    (returns-in_default-clause-step g c) (returns-in_default-clause-marks g c)
-
-pub returns-in_default-index_mut-clause-leads : goal.returns-in_default-index_mut-clause-leads
-returns-in_default-index_mut-clause-leads g c =
     still-led (Store c.args.client c.args.store c.args.at c.args.bytes.now) refl (λ other piece e. absurd (cc)) _ _ _ _ _ (ap (λ (m : MarkedDesk). m.damage) c.self.view_is)
-    (returns-in_default-index_mut-clause-step g c) (returns-in_default-index_mut-clause-marks g c)
+    (returns-in_default-clause-step g c) (returns-in_default-clause-marks g c)
 
 pub returns-clause-leads : goal.returns-clause-leads
 returns-clause-leads g c =

@@ -1,4 +1,4 @@
-use Rattle.std.proofs.Common.{None, ap, refl, subst, sym, ◌∙◌}
+use Rattle.std.proofs.Common.{None, ap, refl, subst, sym, ◌∙◌, ◌-◌}
 use Rattle.std.proofs.lemmas.List.{length-set}
 use Rattle.wl_clients.specs.Agreement.{numbers_in}
 use Rattle.wl_clients.specs.View.{MarkedDesk, pile_of}
@@ -9,7 +9,7 @@ use Rattle.wl_clients.proofs.Grabbing.{latest-here}
 use Rattle.wl_clients.proofs.Kept.{both-then, idles, none-then, rest-less, serves-through, some-then}
 use Rattle.wl_clients.proofs.Leading.{message-led}
 use Rattle.wl_clients.proofs.Steps.{idles-nobody, idles-whole, through-whole}
-use Rattle.wl_clients.proofs.Seats.{as-large, empty-slot, found, here-is, missing, still}
+use Rattle.wl_clients.proofs.Seats.{as-large, here-at, here-is, missing}
 use Rattle.wl_clients.proofs.Untouched.{no-window}
 use Rattle.wl_clients.proofs.clients.Clients.take.Goals as goal
 
@@ -21,21 +21,19 @@ returns-in_default-clause-more g c =
     idles-nobody c.args.client c.args.self.now c.args.self.now (missing c.self.inside.output c.self.inside.residents.items pile c.self.inside.screen.damage _ _ _
     c.deref.ensures.value (sym {b = resident_at c.deref.result.now c.args.client} c.in_default.ensures) c.self.view_is) refl
 
-pub returns-in_default-index_mut-clause-more : goal.returns-in_default-index_mut-clause-more
-returns-in_default-index_mut-clause-more g c =
+pub returns-in_default-resident_mut-clause-more : goal.returns-in_default-resident_mut-clause-more
+returns-in_default-resident_mut-clause-more g c =
     let pile = pile_of c.self.inside.screen in
-    let e = (empty-slot _ _ _ _ _ c.deref-2.ensures.value c.in-Some-place_of.ensures.some c.index_mut.ensures.value c.in_default-index_mut.is) in
-    idles-nobody c.args.client _ _ (missing c.self.inside.output c.self.inside.residents.items pile c.self.inside.screen.damage _ _ _ refl e.0 c.self.view_is) (still
-    c.self.inside.output c.self.inside.residents.items pile c.self.inside.screen.damage _ _ e.1 c.self.view_is)
+    idles-nobody c.args.client _ _ (missing c.self.inside.output c.self.inside.residents.items pile c.self.inside.screen.damage _ _ _ refl (sym c.in_default-resident_mut.ensures.value) c.self.view_is) c.self.view_is
 
-pub returns-in_default-index_mut-clause-rests : goal.returns-in_default-index_mut-clause-rests
-returns-in_default-index_mut-clause-rests g c = ap (λ (m : MarkedDesk). m.damage) c.self.view_is
+pub returns-in_default-resident_mut-clause-rests : goal.returns-in_default-resident_mut-clause-rests
+returns-in_default-resident_mut-clause-rests g c = ap (λ (m : MarkedDesk). m.damage) c.self.view_is
 
-pub returns-in_default-index_mut-clause-sides : goal.returns-in_default-index_mut-clause-sides
-returns-in_default-index_mut-clause-sides g c = as-large _ _ c.self.view_is
+pub returns-in_default-resident_mut-clause-sides : goal.returns-in_default-resident_mut-clause-sides
+returns-in_default-resident_mut-clause-sides g c = as-large _ _ c.self.view_is
 
-pub returns-in_default-index_mut-clause-output : goal.returns-in_default-index_mut-clause-output
-returns-in_default-index_mut-clause-output g c = ap (λ (m : MarkedDesk). m.desk.output) c.self.view_is
+pub returns-in_default-resident_mut-clause-output : goal.returns-in_default-resident_mut-clause-output
+returns-in_default-resident_mut-clause-output g c = ap (λ (m : MarkedDesk). m.desk.output) c.self.view_is
 
 -- ---- no whole message is there
 
@@ -44,8 +42,8 @@ returns-clause-more g c =
     let pile = pile_of c.self.inside.screen in
     none-then c.serve.result (λ none. idles-whole c.args.client _ _ (λ d a.
     let idle = c.serve.ensures.idle none in
-    idles c.self.inside.output c.self.inside.residents.items pile c.args.client c.in-Some-place_of.k c.in-Some-index_mut.resident
-    (found _ _ _ _ _ _ c.deref-2.ensures.value c.in-Some-place_of.ensures.some c.index_mut.ensures.value c.in-Some-index_mut.is) d (rw (← c.self.view_is) at a)
+    idles c.self.inside.output c.self.inside.residents.items pile c.args.client (c.args.client - 1) c.in-Some-resident_mut.resident.now
+    (here-at c.self.inside.residents.items c.args.client c.in-Some-resident_mut.resident.now c.in-Some-resident_mut.ensures.value) d (rw (← c.self.view_is) at a)
     c.serve.new.resident (pile_of c.serve.new.self) idle.0 idle.1 idle.3))
 
 pub returns-clause-rests : goal.returns-clause-rests
@@ -57,8 +55,8 @@ pub returns-clause-less : goal.returns-clause-less
 returns-clause-less g c =
     let pile = pile_of c.self.inside.screen in
     some-then c.serve.result c.serve.ensures.asks (λ some taken asks.
-    rw (← c.self.view_is) (rest-less c.self.inside.output c.self.inside.residents.items pile (pile_of c.serve.new.self) c.args.client c.in-Some-place_of.k c.in-Some-index_mut.resident
-    (found _ _ _ _ _ _ c.deref-2.ensures.value c.in-Some-place_of.ensures.some c.index_mut.ensures.value c.in-Some-index_mut.is) c.serve.new.resident (c.serve.ensures.less some)))
+    rw (← c.self.view_is) (rest-less c.self.inside.output c.self.inside.residents.items pile (pile_of c.serve.new.self) c.args.client (c.args.client - 1) c.in-Some-resident_mut.resident.now
+    (here-at c.self.inside.residents.items c.args.client c.in-Some-resident_mut.resident.now c.in-Some-resident_mut.ensures.value) c.serve.new.resident (c.serve.ensures.less some)))
 
 pub returns-clause-sides : goal.returns-clause-sides
 returns-clause-sides g c = rw (← c.self.view_is) c.serve.ensures.sides
@@ -76,16 +74,16 @@ invariant_of-self g c = (length-set _ _ _ ∙ c.self.invariant.0, c.self.invaria
 pub returns-clause-asks : goal.returns-clause-asks
 returns-clause-asks g c = some-then c.serve.result c.serve.ensures.asks (λ some taken asks d a.
     let pile = pile_of c.self.inside.screen in
-    rw (← c.self.view_is) (message-asks c.self.inside.output c.self.inside.residents.items pile c.args.client c.in-Some-place_of.k c.in-Some-index_mut.resident
-    (found _ _ _ _ _ _ c.deref-2.ensures.value c.in-Some-place_of.ensures.some c.index_mut.ensures.value c.in-Some-index_mut.is) d (rw (← c.self.view_is) at a.matches) asks.0 _ asks.1))
+    rw (← c.self.view_is) (message-asks c.self.inside.output c.self.inside.residents.items pile c.args.client (c.args.client - 1) c.in-Some-resident_mut.resident.now
+    (here-at c.self.inside.residents.items c.args.client c.in-Some-resident_mut.resident.now c.in-Some-resident_mut.ensures.value) d (rw (← c.self.view_is) at a.matches) asks.0 _ asks.1))
 
 pub returns-clause-leads : goal.returns-clause-leads
 returns-clause-leads g c = some-then c.serve.result c.serve.ensures.asks (λ some taken asks d a latest.
     let pile = pile_of c.self.inside.screen in
     message-led c.args.client _ c.args.self.now.damage c.serve.new.self.damage d
     (through-whole c.args.client _ _ c.args.self.now.damage c.serve.new.self.damage d a
-    (rw (← c.self.view_is) (serves-through c.self.inside.output c.self.inside.residents.items pile c.args.client c.in-Some-place_of.k c.in-Some-index_mut.resident
-    (found _ _ _ _ _ _ c.deref-2.ensures.value c.in-Some-place_of.ensures.some c.index_mut.ensures.value c.in-Some-index_mut.is) d (rw (← c.self.view_is) at a.matches)
+    (rw (← c.self.view_is) (serves-through c.self.inside.output c.self.inside.residents.items pile c.args.client (c.args.client - 1) c.in-Some-resident_mut.resident.now
+    (here-at c.self.inside.residents.items c.args.client c.in-Some-resident_mut.resident.now c.in-Some-resident_mut.ensures.value) d (rw (← c.self.view_is) at a.matches)
     c.serve.new.resident (pile_of c.serve.new.self) c.self.inside.screen.damage c.serve.new.self.damage a.ordered
     (λ r width height seated ordered. c.serve.ensures.through some
     (numbers_in (client_views c.self.inside.residents.items)) d d r width height seated ordered
@@ -95,21 +93,21 @@ returns-clause-leads g c = some-then c.serve.result c.serve.ensures.asks (λ som
 pub returns-clause-seat : goal.returns-clause-seat
 returns-clause-seat g c = some-then c.serve.result c.serve.ensures.seat (λ some taken seat id new lacks e b.
     let pile = pile_of c.self.inside.screen in
-    over-there c.self.inside.output c.self.inside.residents.items pile (pile_of c.serve.new.self) c.args.client c.in-Some-place_of.k c.in-Some-index_mut.resident
-    (found _ _ _ _ _ _ c.deref-2.ensures.value c.in-Some-place_of.ensures.some c.index_mut.ensures.value c.in-Some-index_mut.is) c.serve.new.resident e
+    over-there c.self.inside.output c.self.inside.residents.items pile (pile_of c.serve.new.self) c.args.client (c.args.client - 1) c.in-Some-resident_mut.resident.now
+    (here-at c.self.inside.residents.items c.args.client c.in-Some-resident_mut.resident.now c.in-Some-resident_mut.ensures.value) c.serve.new.resident e
     (seat id new lacks) b.matches)
 
 pub serve-requires : goal.serve-requires
 serve-requires g c =
     let rs = c.self.inside.residents.items in
-    subst (λ v. IsAsked v.client c.asked-asked.result) (here-is rs c.args.client c.in-Some-place_of.k c.in-Some-index_mut.resident c.in-Some.resident.now
-    (found _ _ _ _ _ _ c.deref-2.ensures.value c.in-Some-place_of.ensures.some c.index_mut.ensures.value c.in-Some-index_mut.is)
+    subst (λ v. IsAsked v.client c.asked-asked.result) (here-is rs c.args.client (c.args.client - 1) c.in-Some-resident_mut.resident.now c.in-Some.resident.now
+    (here-at c.self.inside.residents.items c.args.client c.in-Some-resident_mut.resident.now c.in-Some-resident_mut.ensures.value)
     (c.in-Some.ensures ∙ ap (λ rs. resident_at rs c.args.client) c.deref.ensures.value)) c.asked-asked.ensures
 
 pub returns-clause-untouched : goal.returns-clause-untouched
 returns-clause-untouched g c =
     let rs = c.self.inside.residents.items in
-    let put = found _ _ _ _ _ _ c.deref-2.ensures.value c.in-Some-place_of.ensures.some c.index_mut.ensures.value c.in-Some-index_mut.is in
+    let put = here-at c.self.inside.residents.items c.args.client c.in-Some-resident_mut.resident.now c.in-Some-resident_mut.ensures.value in
     both-then c.serve.result c.serve.ensures.asks c.serve.ensures.untouched (λ taken asks by untouched d a.
-    no-window c.self.inside.output rs (pile_of c.self.inside.screen) c.args.client c.in-Some-place_of.k c.in-Some-index_mut.resident put d (rw (← c.self.view_is) at a.matches)
+    no-window c.self.inside.output rs (pile_of c.self.inside.screen) c.args.client (c.args.client - 1) c.in-Some-resident_mut.resident.now put d (rw (← c.self.view_is) at a.matches)
     a.ordered asks.0 c.asked-asked.result (serve-requires g c) (by untouched))
