@@ -2,7 +2,7 @@
 
 ghost use Rattle.std.specs.Prelude.{◌≡◌, ◌⊎◌, IfErr};
 ghost use Rattle.std.specs.Io.KnownBytes.{Keeps};
-ghost use Rattle.wl_server.specs.Telling.{images_in};
+ghost use Rattle.wl_recording.specs.Images.{images_in};
 
 use crate::fault::Fault;
 use std::io::{BufWriter, ErrorKind, Write};

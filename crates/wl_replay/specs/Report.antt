@@ -1,7 +1,6 @@
 -- What a recording leads to, and the report and the images that tell of it.
 use Rattle.std.specs.Prelude.{◌≡◌, ◌+◌, ℕ, ℤ, Bool, Option, Some, None, Result, Ok, Err, List, [], ◌∷◌, ◌++◌, length, ◌⊎◌, ◌≤◌, ⊤}
 use Rattle.std.specs.Io.KnownBytes.{Appends, IsAtEnd}
-use Rattle.std.specs.Option.{option_and_then}
 use Rattle.wl_session.specs.View.{SessionView}
 use Rattle.wl_session.specs.Damage.{count_points, has}
 use Rattle.spec_desktop.specs.Desktop.{Desktop}
@@ -118,10 +117,6 @@ pub data Reads (first : Option (List ℕ)) : List (List ℕ) → Option (List �
   none : Reads first [] first
   more : (lines : List (List ℕ)) (mid last : Option (List ℕ)) (line : List ℕ) → Reads first lines mid → TakesLine mid last line
       → length line ≤ 140000 → Reads first (lines ++ line ∷ []) last
-
--- The bytes that a writer of images holds, where there is one and they are known.
-abbrev pub images_in : {P : Type 0} → (P → Option (List ℕ)) → Option P → Option (List ℕ)
-images_in contents writer = option_and_then contents writer
 
 -- At most 1,000,000 lines were read, what they lead to was told in a report and in images, no side file failed, and this is
 -- left to be read.

@@ -6,7 +6,8 @@ ghost use Rattle.wl_session.specs.Frame.{is_side};
 ghost use Rattle.wl_session.specs.Agreeing.{Agrees};
 ghost use Rattle.spec_desktop.specs.Desktop.{Desktop};
 ghost use Rattle.wl_recording.specs.Lines.{TakesLine};
-ghost use Rattle.wl_replay.specs.Report.{FailsAt, IsLackingLine, IsPlayed, StopsAs, TakesOne, images_in};
+ghost use Rattle.wl_recording.specs.Images.{images_in};
+ghost use Rattle.wl_replay.specs.Report.{FailsAt, IsLackingLine, IsPlayed, StopsAs, TakesOne};
 ghost use Rattle.wl_recording.specs.Side.{files_of};
 ghost use Rattle.wl_replay.specs.Told.{Counts, IsFirst, Stage, Stands};
 

@@ -6,7 +6,8 @@ ghost use Rattle.wl_session.specs.Image.{image_of};
 ghost use Rattle.wl_session.specs.Agreeing.{Agrees};
 ghost use Rattle.spec_desktop.specs.Desktop.{Desktop};
 ghost use Rattle.wl_recording.specs.Line.{meaning};
-ghost use Rattle.wl_replay.specs.Report.{LacksAsked, TellsBytes, TellsConnect, TellsGone, TellsLine, TellsStep, TellsTick, absent_text, images_in};
+ghost use Rattle.wl_recording.specs.Images.{images_in};
+ghost use Rattle.wl_replay.specs.Report.{LacksAsked, TellsBytes, TellsConnect, TellsGone, TellsLine, TellsStep, TellsTick, absent_text};
 ghost use Rattle.wl_recording.specs.Side.{files_of};
 ghost use Rattle.wl_replay.specs.Told.{Counts, IsSilent, Leads};
 
@@ -16,8 +17,10 @@ use crate::storing::store;
 use crate::tell::tell_clients;
 use std::alloc::Allocator;
 use std::io::Write;
-use wl_recording::{Line, SideFiles, write_client, write_frame, write_full, write_none};
-use wl_session::{ConnectError, Fed, Framebuffer, Session, write_ppm};
+use wl_recording::{
+    Line, SideFiles, write_client, write_frame, write_full, write_image, write_none,
+};
+use wl_session::{ConnectError, Fed, Session};
 
 /// How many frames a line showed, and how many clients it connected.
 #[derive(Clone, Copy, Debug, PartialEq, Eq)]
@@ -188,7 +191,7 @@ fn tick<A: Allocator + Copy, W: Write, P: Write>(
     let frame = session.tick(time);
     let count = frame.damage.count();
     write_frame(time, count, writer).map_err(write_failed)?;
-    write_image(frame.pixels, ppm)
+    write_image(frame.pixels, ppm).map_err(write_failed)
 }
 
 /// Says so where no client had the number.
@@ -199,20 +202,5 @@ fn write_absent<W: Write>(client: u32, before: Fed, writer: &mut W) -> Result<()
     match before {
         Fed::NoClient => write_none(client, writer).map_err(write_failed),
         Fed::Alive | Fed::Ended(_) => Ok(()),
-    }
-}
-
-/// Appends the image of a frame, where images are wanted.
-fn write_image<A: Allocator, P: Write>(
-    frame: &Framebuffer<A>,
-    ppm: &mut Option<P>,
-) -> Result<(), StepError>
-    ensures told { OnOk result (Appends (images_in P.contents ppm.old) (images_in P.contents ppm.new)
-        (image_of frame.now.width frame.now.height frame.now.pixels)) }
-    ensures kind { IfErr result (λ e. e ≡ StepError.Write) }
-{
-    match ppm {
-        Some(ppm) => write_ppm(frame, ppm).map_err(write_failed),
-        None => Ok(()),
     }
 }

@@ -421,3 +421,9 @@ painted-none n told none = ap (λ (k : ℕ). if_painted k told) none
 pub ok-kept : {T E X D : Type 0} (r : Result T E) (s : Result X D) (x : X) (P : Type 0) → OnOk r P → is_ok s ≡ is_ok r → s ≡ Ok x → P
 ok-kept (Ok y) s x P holds same is = holds
 ok-kept (Err e) s x P holds same is = absurd (true≢false (sym (ap is_ok is) ∙ same))
+
+-- for a result that is returned as it was mapped
+pub on-ok-kept : {T E X D : Type 0} (r : Result T E) (s : Result X D) (P : Type 0) → OnOk r P → is_ok s ≡ is_ok r → OnOk s P
+on-ok-kept (Ok y) (Ok x) P holds same = holds
+on-ok-kept (Err e) (Ok x) P holds same = absurd (true≢false same)
+on-ok-kept r (Err e) P holds same = tt

@@ -1,7 +1,6 @@
 -- What is told of events, one after another: the lines of the report, and the images.
 use Rattle.std.specs.Prelude.{ℕ, zero, suc, Option, Result, Ok, Err, List, [], ◌∷◌, ◌++◌}
 use Rattle.std.specs.Io.KnownBytes.{Appends}
-use Rattle.std.specs.Option.{option_and_then}
 use Rattle.spec_desktop.specs.Act.{Act, Connect, Feed, Store, Leave, Tick, Send, Close, Motion, Button, peer_at, status_of}
 use Rattle.spec_desktop.specs.Desktop.{Desktop}
 use Rattle.spec_desktop.specs.Happenings.{Happening, Message, Receive, Single, Starve}
@@ -91,10 +90,6 @@ pictured (Receive client piece) before after = []
 pictured (Message client) before after = []
 pictured (Starve client) before after = []
 pictured (Single act done) before after = picture_of act before after
-
--- The bytes that a writer of images holds, where there is one and they are known.
-abbrev pub images_in : {P : Type 0} → (P → Option (List ℕ)) → Option P → Option (List ℕ)
-images_in contents writer = option_and_then contents writer
 
 -- ---- what is told of what a session does
 

@@ -5,7 +5,8 @@ ghost use Rattle.wl_recording.specs.Side.{files_of};
 ghost use Rattle.wl_server.specs.Acting.{IsServed, Takes};
 ghost use Rattle.wl_server.specs.Due.{left_at};
 ghost use Rattle.wl_server.specs.Phases.{IsTurn, Serves, StartsServing, StartsTurn};
-ghost use Rattle.wl_server.specs.Telling.{IsToldOf, Tells, images_in};
+ghost use Rattle.wl_recording.specs.Images.{images_in};
+ghost use Rattle.wl_server.specs.Telling.{IsToldOf, Tells};
 ghost use Rattle.wl_server.specs.Ways.{serving, ways};
 
 use crate::accepting::accept_all;

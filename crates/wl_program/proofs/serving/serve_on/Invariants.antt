@@ -1,6 +1,7 @@
 use Rattle.wl_recording.specs.Side.{files_of}
 use Rattle.wl_server.specs.Acting.{InTurn}
-use Rattle.wl_server.specs.Telling.{Tells, images_in}
+use Rattle.wl_recording.specs.Images.{images_in}
+use Rattle.wl_server.specs.Telling.{Tells}
 use Rattle.wl_server.specs.Ways.{serving, ways}
 use Rattle.wl_program.proofs.Served.{TurnAt}
 use Rattle.wl_program.proofs.serving.serve_on.Given as goal

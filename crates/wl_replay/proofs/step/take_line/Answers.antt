@@ -1,5 +1,6 @@
 use Rattle.wl_recording.specs.Line.{meaning}
-use Rattle.wl_replay.specs.Report.{TellsAll, TellsLine, images_in}
+use Rattle.wl_recording.specs.Images.{images_in}
+use Rattle.wl_replay.specs.Report.{TellsAll, TellsLine}
 use Rattle.wl_recording.specs.Side.{files_of}
 use Rattle.wl_replay.specs.Told.{Counts}
 use Rattle.wl_replay.proofs.Outcomes.{ok_kept}

@@ -7,9 +7,9 @@ use Rattle.wl_session.specs.Damage.{Damaged, count_points, has}
 use Rattle.wl_session.specs.Frame.{Image}
 use Rattle.wl_session.specs.Image.{image_of}
 use Rattle.wl_recording.specs.Text.{frame_line}
-use Rattle.wl_replay.specs.Report.{images_in}
+use Rattle.wl_recording.specs.Images.{images_in}
 use Rattle.wl_replay.specs.Told.{Stage}
-use Rattle.wl_replay.proofs.Outcomes.{ok_kept}
+use Rattle.wl_replay.proofs.Outcomes.{ok_kept, on_ok_kept}
 use Rattle.wl_replay.proofs.Stages.{after, seen-on, stands-on, steps-on}
 use Rattle.wl_replay.proofs.step.tick.Goals as goal
 
@@ -17,7 +17,8 @@ pub returns-clause-told : goal.returns-clause-told
 returns-clause-told g c =
     let wrote = ok_kept c.write_frame.result c.map_err.result _ _ c.write_frame.ensures c.map_err.ensures.variant c.in_ok-map_err.was in
     let next = c.tick-frame.follows.holds-at-none in
-    on_ok_weaker c.write_image.result
+    on_ok_kept c.write_image.result c.map_err-2.result _
+    (on_ok_weaker c.write_image.result
     (λ shown. λ old stands.
     let course = next.2 old.now.desktop stands.desk in
     let damage : c.tick-frame.result.damage.now ≡ old.now.damage = c.tick-frame.ensures.damage ∙ stands.damage in
@@ -39,4 +40,5 @@ returns-clause-told g c =
         refl,
       ),
     ))
-    c.write_image.ensures.told
+    c.write_image.ensures)
+    c.map_err-2.ensures.variant

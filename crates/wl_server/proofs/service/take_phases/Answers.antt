@@ -3,7 +3,7 @@ use Rattle.wl_recording.specs.Side.{files_of}
 use Rattle.wl_server.specs.declared.seat.Seat.{Seat}
 use Rattle.wl_server.specs.Phases.{AcceptsAll, Serves, StartsServing}
 use Rattle.wl_server.specs.Seats.{Seated}
-use Rattle.wl_server.specs.Telling.{images_in}
+use Rattle.wl_recording.specs.Images.{images_in}
 use Rattle.wl_server.specs.Ways.{Serving, serving, ways}
 use Rattle.wl_server.proofs.Joining.{closes-begun}
 use Rattle.wl_server.proofs.Taking.{Takes-is}

@@ -10,8 +10,8 @@ use Rattle.wl_session.specs.Frame.{Image}
 use Rattle.wl_session.specs.Image.{image_of}
 use Rattle.wl_server.specs.Phases.{Shows}
 use Rattle.wl_server.proofs.Taking.{Takes-one}
-use Rattle.wl_server.specs.Telling.{images_in}
-use Rattle.wl_server.proofs.Telling.{Tells-one, ok-kept, painted-none, painted-some}
+use Rattle.wl_recording.specs.Images.{images_in}
+use Rattle.wl_server.proofs.Telling.{Tells-one, ok-kept, on-ok-kept, painted-none, painted-some}
 use Rattle.wl_server.proofs.showing.show.Goals as goal
 
 pub returns-then-count-eq0-clause-taken : goal.returns-then-count-eq0-clause-taken
@@ -41,7 +41,8 @@ returns-clause-told g c =
     let next = c.tick-frame.follows.holds-at-none in
     let counts = c.count-count.ensures ∙ ap (λ (m : Damaged). count_points m.width m.height (has m)) c.tick-frame.ensures.damage in
     let some : 0 < c.count-count.result = omega arith in
-    on_ok_weaker c.write_image.result
+    on-ok-kept c.write_image.result c.map_err-2.result _
+    (on_ok_weaker c.write_image.result
     (λ shown. Tells-one (Shows c.args.time) (Tick c.args.time) gave.Tick _ _ _ _ _ _ (λ hs is. is) next.2 (λ d e es. refl)
     (λ d e agrees. (
       subst (Appends (g.W.Write.contents c.args.report.now) (g.W.Write.contents c.write_frame.new.writer)) (sym (painted-some _ _ (subst (λ (n : ℕ). 0 < n) counts some)))
@@ -49,4 +50,5 @@ returns-clause-told g c =
       subst (Appends (images_in g.P.Write.contents c.args.ppm.now) (images_in g.P.Write.contents c.write_image.new.ppm)) (sym (painted-some _ _ (subst (λ (n : ℕ). 0 < n) counts some)))
           (subst (λ (i : Image). Appends (images_in g.P.Write.contents c.args.ppm.now) (images_in g.P.Write.contents c.write_image.new.ppm) (image_of i.width i.height i.pixels)) (sym next.1) shown),
     )))
-    c.write_image.ensures
+    c.write_image.ensures)
+    c.map_err-2.ensures.variant

@@ -1,6 +1,6 @@
 use Rattle.std.proofs.Common.{◌≡◌, Ok, refl, ap, arith}
 use Rattle.std.proofs.lemmas.Result.{err_from_is_err_and}
-use Rattle.wl_replay.specs.Report.{images_in}
+use Rattle.wl_recording.specs.Images.{images_in}
 use Rattle.wl_replay.proofs.Playing.{PlayedTo-none, PlayedTo-more, IsPlayed-end, StopsAs-line, StopsAs-past}
 use Rattle.wl_replay.proofs.player.Player.play.Goals as goal
 

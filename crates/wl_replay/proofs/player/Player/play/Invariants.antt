@@ -1,5 +1,5 @@
 use Rattle.std.proofs.Common.{◌≤◌}
-use Rattle.wl_replay.specs.Report.{images_in}
+use Rattle.wl_recording.specs.Images.{images_in}
 use Rattle.wl_recording.specs.Side.{files_of}
 use Rattle.wl_replay.specs.Told.{Stage, Stands}
 use Rattle.wl_replay.proofs.Playing.{PlayedTo}
