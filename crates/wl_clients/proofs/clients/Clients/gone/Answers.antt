@@ -78,7 +78,7 @@ invariant_of-self-2 g c =
     (length-set _ _ _ ∙ c.self.invariant.0, (c.gone.ensures.marks.0.width ∙ c.self.invariant.1.0, c.gone.ensures.marks.0.height ∙ c.self.invariant.1.1))
 
 pub invariant_of-self : goal.invariant_of-self
-invariant_of-self g c = (length-set _ _ _ ∙ c.self.invariant.0, c.self.invariant.1)
+invariant_of-self g c = c.self.invariant
 
 pub returns-in_default-clause-leads : goal.returns-in_default-clause-leads
 returns-in_default-clause-leads g c =

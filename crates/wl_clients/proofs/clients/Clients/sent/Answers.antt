@@ -54,7 +54,7 @@ pub returns-clause-output : goal.returns-clause-output
 returns-clause-output g c = ap (λ (m : MarkedDesk). m.desk.output) c.self.view_is
 
 pub invariant_of-self : goal.invariant_of-self
-invariant_of-self g c = (length-set _ _ _ ∙ c.self.invariant.0, c.self.invariant.1)
+invariant_of-self g c = c.self.invariant
 
 pub invariant_of-self-2 : goal.invariant_of-self-2
 invariant_of-self-2 g c = (length-set _ _ _ ∙ c.self.invariant.0, c.self.invariant.1)

@@ -69,7 +69,7 @@ invariant_of-self-2 g c =
     (length-set _ _ _ ∙ c.self.invariant.0, (c.serve.ensures.sides.width ∙ c.self.invariant.1.0, c.serve.ensures.sides.height ∙ c.self.invariant.1.1))
 
 pub invariant_of-self : goal.invariant_of-self
-invariant_of-self g c = (length-set _ _ _ ∙ c.self.invariant.0, c.self.invariant.1)
+invariant_of-self g c = c.self.invariant
 
 pub returns-clause-asks : goal.returns-clause-asks
 returns-clause-asks g c = some-then c.serve.result c.serve.ensures.asks (λ some taken asks d a.
@@ -110,4 +110,5 @@ returns-clause-untouched g c =
     let put = here-at c.self.inside.residents.items c.args.client c.in-Some-resident_mut.resident.now c.in-Some-resident_mut.ensures.value in
     both-then c.serve.result c.serve.ensures.asks c.serve.ensures.untouched (λ taken asks by untouched d a.
     no-window c.self.inside.output rs (pile_of c.self.inside.screen) c.args.client (c.args.client - 1) c.in-Some-resident_mut.resident.now put d (rw (← c.self.view_is) at a.matches)
-    a.ordered asks.0 c.asked-asked.result (serve-requires g c) (by untouched))
+    a.ordered asks.0 c.asked-asked.result (subst (λ v. IsAsked v.client c.asked-asked.result) (here-is rs c.args.client (c.args.client - 1) c.in-Some-resident_mut.resident.now
+    c.in-Some.resident.now put (c.in-Some.ensures ∙ ap (λ rs. resident_at rs c.args.client) c.deref.ensures.value)) c.asked-asked.ensures) (by untouched))

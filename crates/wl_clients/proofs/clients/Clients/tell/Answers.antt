@@ -61,7 +61,7 @@ returns-clause-numbers g c =
     (here-at c.self.inside.residents.items c.args.client c.in-Some.resident.now c.in-Some.ensures.value) c.tell_to.new.resident c.tell_to.ensures.table)
 
 pub invariant_of-self : goal.invariant_of-self
-invariant_of-self g c = (length-set _ _ _ ∙ c.self.invariant.0, c.self.invariant.1)
+invariant_of-self g c = c.self.invariant
 
 pub invariant_of-self-2 : goal.invariant_of-self-2
 invariant_of-self-2 g c = (length-set _ _ _ ∙ c.self.invariant.0, c.self.invariant.1)

@@ -39,4 +39,4 @@ invariant_of-self-2 g c =
     (length-set _ _ _ ∙ c.self.invariant.0, (c.tell_frames.ensures.sides.width ∙ c.self.invariant.1.0, c.tell_frames.ensures.sides.height ∙ c.self.invariant.1.1))
 
 pub invariant_of-self : goal.invariant_of-self
-invariant_of-self g c = (length-set _ _ _ ∙ c.self.invariant.0, c.self.invariant.1)
+invariant_of-self g c = c.self.invariant
