@@ -2,7 +2,7 @@
 
 wlframe and tools/check prove crates by it, tools/unproved makes the program by it, and bench/ measures proofs by it; no other file names any of this.
 `rt check` and `rt run` would do without it. But they prove one crate after another, and to see whether a library is up to date they take a sum of what
-is below it along each way through crates.txt: 2,941 for the program, which takes minutes before anything is proved.
+is below it along each way through crates.txt: 3,000 for the program, which takes minutes before anything is proved.
 
 The libraries that a crate is proved over are those that tools/build.py keeps.
 """
